@@ -1,0 +1,11 @@
+pub mod NodeLemmas
+pub mod HalfLemmas
+pub mod ChangeLemmas
+pub mod ClimbLemmas
+pub mod MapLemmas
+pub mod UnderLemmas
+pub mod OrderLemmas
+pub mod PrefixLemmas
+pub mod FaultLemmas
+pub mod LookupLemmas
+pub mod RegistryLemmas

@@ -1,0 +1,78 @@
+-- Batches of operations on a registry, and what may be wrong with one.
+use Rattle.coniks_proof.specs.declared.values.TheConstants.{MAX_KEY, MAX_NAME}
+use Rattle.std.specs.Prelude.{ℕ, ◌+◌, ◌<◌, List, [], ◌∷◌, ◌++◌, length, Bool, true, false, not, ◌&&◌, nat_lt, nat_le, map, Option, Some, None, if◌then◌else◌}
+use Rattle.std.specs.List.{list_any}
+use Rattle.std.specs.Str.{bytes_eq}
+use Rattle.coniks_proof.specs.Registry.{Registered, Registry, has_name, overlaid}
+
+-- registers a name that is absent, or changes the key of one that is present
+pub data Kind : Type 0 where
+  register : Kind
+  change : Kind
+
+pub record Operation : Type 0 where
+  pub kind : Kind
+  pub name : List ℕ
+  pub key : List ℕ
+  pub opening : List ℕ
+
+-- what an operation binds
+abbrev pub bound_by : Operation → Registered
+bound_by op = record { name = op.name; key = op.key; opening = op.opening }
+
+-- the registry after a batch
+abbrev pub after : Registry → List Operation → Registry
+after registry ops = overlaid registry (map bound_by ops)
+
+-- what may be wrong with an operation
+pub data Fault : Type 0 where
+  name_length : Fault
+  key_length : Fault
+  name_twice : Fault
+  name_taken : Fault
+  name_unknown : Fault
+  index_clash : Fault
+
+-- from 1 to `most` bytes
+abbrev pub fits : ℕ → List ℕ → Bool
+fits most bytes = nat_lt 0 (length bytes) && nat_le (length bytes) most
+
+-- another name among these has the name's index
+abbrev pub clashes : (List ℕ → List ℕ) → List Registered → List ℕ → Bool
+clashes of bound name = list_any (λ b. bytes_eq (of b.name) (of name) && not (bytes_eq b.name name)) bound
+
+-- the fault of an operation of a kind, on a name that is present or not
+abbrev pub kind_fault : Kind → Bool → Option Fault
+kind_fault register true = Some name_taken
+kind_fault register false = None
+kind_fault change true = None
+kind_fault change false = Some name_unknown
+
+-- the first that there is
+abbrev pub or_else : Option Fault → Option Fault → Option Fault
+or_else (Some fault) other = Some fault
+or_else None other = other
+
+-- the first fault that applies to an operation, after earlier operations of its batch bound these
+abbrev pub fault_of : (List ℕ → List ℕ) → Registry → List Registered → Operation → Option Fault
+fault_of of registry earlier op =
+    if not (fits MAX_NAME op.name) then Some name_length
+    else (if not (fits MAX_KEY op.key) then Some key_length
+    else (if has_name earlier op.name then Some name_twice
+    else or_else (kind_fault op.kind (has_name registry op.name))
+    (if clashes of (registry ++ earlier) op.name then Some index_clash else None)))
+
+-- an operation at a place, where it has a fault
+abbrev pub placed : ℕ → Option Fault → Option (ℕ × Fault) → Option (ℕ × Fault)
+placed place (Some fault) later = Some (place, fault)
+placed place None later = later
+
+-- the first operation with a fault, from a place on, and its first fault
+abbrev pub fault_from : (List ℕ → List ℕ) → Registry → List Registered → ℕ → List Operation → Option (ℕ × Fault)
+fault_from of registry earlier place [] = None
+fault_from of registry earlier place (op ∷ ops) =
+    placed place (fault_of of registry earlier op) (fault_from of registry (earlier ++ bound_by op ∷ []) (place + 1) ops)
+
+-- the first operation of a batch with a fault, and its first fault
+abbrev pub first_fault : (List ℕ → List ℕ) → Registry → List Operation → Option (ℕ × Fault)
+first_fault of registry ops = fault_from of registry [] 0 ops

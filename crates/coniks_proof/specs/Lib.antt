@@ -1,0 +1,12 @@
+pub mod Bits
+pub mod Preimages
+pub mod Entries
+pub mod Tree
+pub mod Changes
+pub mod Paths
+pub mod Maps
+pub mod Proofs
+pub mod Faults
+pub mod Registry
+pub mod Batches
+pub use Rattle.sha2.specs.Sha256

@@ -1,0 +1,68 @@
+-- Registries: what each registered name is bound to, and the map that the tree holds of it.
+use Rattle.coniks_proof.specs.declared.values.TheConstants.{MAX_KEY, MAX_NAME}
+use Rattle.std.specs.Prelude.{◌≡◌, ◌<◌, ◌≤◌, ℕ, List, [], ◌∷◌, ◌++◌, length, Bool, false, not, map, filter, Option, option_map}
+use Rattle.std.specs.List.{list_any, find}
+use Rattle.std.specs.Str.{bytes_eq}
+use Rattle.coniks_proof.specs.Preimages.{commitment_preimage}
+use Rattle.coniks_proof.specs.Entries.{Entry}
+use Rattle.coniks_proof.specs.Tree.{root}
+
+-- a name, the key that it is bound to, and the opening of the commitment to both
+pub record Registered : Type 0 where
+  pub name : List ℕ
+  pub key : List ℕ
+  pub opening : List ℕ
+
+-- each name once, in an order of no account
+abbrev pub Registry : Type 0
+Registry = List Registered
+
+-- the registry binds the name
+abbrev pub has_name : Registry → List ℕ → Bool
+has_name registry name = list_any (λ b. bytes_eq b.name name) registry
+
+-- what the registry binds the name to
+abbrev pub bound_to : Registry → List ℕ → Option Registered
+bound_to registry name = find (λ b. bytes_eq b.name name) registry
+
+-- the key that the registry binds the name to
+abbrev pub key_of : Registry → List ℕ → Option (List ℕ)
+key_of registry name = option_map (λ b. b.key) (bound_to registry name)
+
+-- the registry with this binding in place of what its name had
+abbrev pub rebound : Registry → Registered → Registry
+rebound registry b = filter (λ c. not (bytes_eq c.name b.name)) registry ++ b ∷ []
+
+-- the registry overwritten by these bindings, one after the other
+abbrev pub overlaid : Registry → List Registered → Registry
+overlaid registry [] = registry
+overlaid registry (b ∷ bs) = overlaid (rebound registry b) bs
+
+-- the commitment to a name and its key
+abbrev pub commitment_to : (List ℕ → List ℕ) → Registered → List ℕ
+commitment_to hash b = hash (commitment_preimage b.opening b.name b.key)
+
+-- the entry of a binding, where `of` gives each name its index
+abbrev pub entry_of : (List ℕ → List ℕ) → (List ℕ → List ℕ) → Registered → Entry Registered
+entry_of hash of b = record { index = of b.name; commitment = commitment_to hash b; behind = b }
+
+-- the map that the tree holds of a registry
+abbrev pub entries_of : (List ℕ → List ℕ) → (List ℕ → List ℕ) → Registry → List (Entry Registered)
+entries_of hash of registry = map (entry_of hash of) registry
+
+-- the root of a registry
+abbrev pub root_of : (List ℕ → List ℕ) → (List ℕ → List ℕ) → List ℕ → Registry → List ℕ
+root_of hash of nonce registry = root hash nonce (entries_of hash of registry)
+
+-- neither empty nor longer than `most`
+abbrev pub IsLength : ℕ → List ℕ → Type 0
+IsLength most bytes = (0 < length bytes) × (length bytes ≤ most)
+
+-- names and keys are within their limits
+abbrev pub AreWithin : Registry → Type 0
+AreWithin [] = Unit {0}
+AreWithin (b ∷ bs) = IsLength MAX_NAME b.name × IsLength MAX_KEY b.key × AreWithin bs
+
+-- no name of the registry has the index
+abbrev pub IsFree : (List ℕ → List ℕ) → Registry → List ℕ → Type 0
+IsFree of registry index = (name : List ℕ) → of name ≡ index → has_name registry name ≡ false

@@ -1,0 +1,114 @@
+//! Hashes of 32 bytes, and the four hash calls of the tree.
+
+ghost use Rattle.std.specs.Prelude.{◌≡◌, ◌++◌, ◌<◌, ◌≤◌, List, ℕ, length, flat_map};
+ghost use Rattle.coniks_proof.specs.Preimages.{empty_preimage, inner_preimage, leaf_preimage, commitment_preimage};
+ghost use Rattle.sha2.specs.Sha256.{sha256};
+
+use crate::bits::Prefix;
+use crate::values::{Digest, Index, MAX_KEY, MAX_LEVEL, MAX_NAME, Nonce, Opening};
+use sha2::{Digest as _, Sha256};
+
+/// A hash of 32 bytes: a function of the message, however it is cut into pieces.
+pub trait Hash32 {
+    /// The hash of a message.
+    ghost digest_of: { Self → List ℕ → List ℕ };
+
+    /// The hash of the pieces, taken as one message.
+    fn hash(&self, pieces: &[&[u8]]) -> Digest
+        ensures { result.0 ≡ digest_of self.now (flat_map (λ piece. piece.now) pieces.now) };
+}
+
+/// SHA-256 (FIPS 180-4).
+#[derive(Clone, Copy, Debug, Drop)]
+pub struct Sha256Hash;
+
+impl Hash32 for Sha256Hash {
+    ghost digest_of = { λ h message. sha256 message };
+
+    fn hash(&self, pieces: &[&[u8]]) -> Digest {
+        let mut hasher = Sha256::new();
+        for piece in pieces {
+            hasher.update(*piece);
+        }
+        Digest(hasher.finalize())
+    }
+}
+
+/// 32 zero bytes for everything: a hash with collisions, for tests.
+#[derive(Clone, Copy, Debug, Drop)]
+pub struct Flat;
+
+impl Hash32 for Flat {
+    ghost use Rattle.coniks_proof.specs.Preimages.{zeros};
+
+    ghost digest_of = { λ h message. zeros };
+
+    fn hash(&self, _pieces: &[&[u8]]) -> Digest {
+        Digest([0; 32])
+    }
+}
+
+/// The tag of an empty node's preimage.
+const EMPTY_TAG: u8 = 0x45;
+
+/// The tag of a leaf's preimage.
+const LEAF_TAG: u8 = 0x4C;
+
+/// The tag of an interior node's preimage.
+const INNER_TAG: u8 = 0x49;
+
+/// The tag of a commitment's preimage.
+const COMMITMENT_TAG: u8 = 0x43;
+
+/// The hash of an empty node, which stands for a prefix that begins no index of the tree (CONIKS, section 3.1).
+pub fn empty_hash<H: Hash32>(h: &H, nonce: &Nonce, prefix: &Prefix) -> Digest
+    ensures { result.0 ≡ H.digest_of h.now (empty_preimage nonce.now.0 prefix.now) }
+{
+    let level = (prefix.len() as u16).to_be_bytes();
+    h.hash(&[&[EMPTY_TAG], &nonce.0, prefix.bytes(), &level])
+}
+
+/// The hash of a leaf, which stands for one index of the tree, at a level of at most 256.
+pub fn leaf_hash<'a, H: Hash32>(
+    h: &H,
+    nonce: &'a Nonce,
+    index: &'a Index,
+    level: usize,
+    commitment: &'a Digest,
+) -> Digest
+    requires { level ≤ MAX_LEVEL }
+    ensures { result.0 ≡ H.digest_of h.now (leaf_preimage nonce.now.0 index.now.0 level commitment.now.0) }
+{
+    let level = (level as u16).to_be_bytes();
+    h.hash(&[&[LEAF_TAG], &nonce.0, &index.0, &level, &commitment.0])
+}
+
+/// The hash of an interior node over its children.
+pub fn inner_hash<H: Hash32>(h: &H, left: &Digest, right: &Digest) -> Digest
+    ensures { result.0 ≡ H.digest_of h.now (inner_preimage left.now.0 right.now.0) }
+{
+    h.hash(&[&[INNER_TAG], &left.0, &right.0])
+}
+
+/// The commitment to a name of at most 255 bytes and its key of at most 4,096 (CONIKS, section 3.1).
+pub fn commit_hash<'a, H: Hash32>(
+    h: &H,
+    opening: &'a Opening,
+    name: &'a [u8],
+    key: &'a [u8],
+) -> Digest
+    requires name { length name.now ≤ MAX_NAME }
+    requires key { length key.now ≤ MAX_KEY }
+    ensures { result.0 ≡ H.digest_of h.now (commitment_preimage opening.now.0 name.now key.now) }
+{
+    let name_length = (name.len() as u16).to_be_bytes();
+    let key_length = (key.len() as u32).to_be_bytes();
+    h.hash(&[
+        &[COMMITMENT_TAG],
+        &opening.0,
+        &name_length,
+        name,
+        &key_length,
+        key,
+    ])
+}

@@ -1,0 +1,49 @@
+//! Laws of the definitions, each the contract of a function that only reads.
+
+ghost use Rattle.std.specs.Prelude.{◌↔◌, ◌≡◌, List, ℕ, Bool, true};
+ghost use Rattle.coniks_proof.specs.Entries.{Entry};
+ghost use Rattle.coniks_proof.specs.Maps.{IsMap, SameEntries};
+ghost use Rattle.coniks_proof.specs.Faults.{Has};
+ghost use Rattle.coniks_proof.specs.Proofs.{Accepts, answer_of};
+ghost use Rattle.coniks_proof.specs.declared.checker.CheckFault.{CheckFault};
+ghost use Rattle.coniks_proof.specs.Registry.{AreWithin, IsLength, Registry, entries_of, has_name, key_of, root_of};
+ghost use Rattle.coniks_proof.specs.Paths.{IsPath, end_of, siblings};
+ghost use Rattle.coniks_proof.specs.Tree.{node};
+
+use crate::hashing::Hash32;
+use crate::paths::Proof;
+use crate::values::{Digest, Index, MAX_NAME, Nonce};
+
+/// The path to a name's index is accepted, under the root of its registry, with exactly the key that the name is bound
+/// to, or as absence where it is bound to none. The premise is that no other registered name has the name's index.
+pub fn path_is_accepted<H: Hash32>(h: &H, nonce: &Nonce, root: &Digest, name: &[u8], proof: &Proof)
+    ensures { (of : List ℕ → List ℕ) (registry : Registry) → IsMap (entries_of (H.digest_of h.now) of registry) → AreWithin registry
+        → root.now.0 ≡ root_of (H.digest_of h.now) of nonce.now.0 registry
+        → IsPath (H.digest_of h.now) nonce.now.0 (entries_of (H.digest_of h.now) of registry) (of name.now) proof.now
+        → ((other : List ℕ) → has_name registry other ≡ true → of other ≡ of name.now → other ≡ name.now)
+        → IsLength MAX_NAME name.now
+        → Accepts (H.digest_of h.now) nonce.now.0 root.now.0 (of name.now) name.now proof.now (key_of registry name.now) }
+{}
+
+/// What a node, its path's siblings and its path's end are doesn't depend on the order of the entries.
+pub fn order_is_of_no_account<T>()
+    ensures node { (hash : List ℕ → List ℕ) (nonce : List ℕ) (prefix : List Bool) (es fs : List (Entry T)) → IsMap es → IsMap fs → SameEntries es fs
+        → node hash nonce prefix es ≡ node hash nonce prefix fs }
+    ensures siblings { (hash : List ℕ → List ℕ) (nonce : List ℕ) (prefix : List Bool) (index : List ℕ) (es fs : List (Entry T)) → IsMap es → IsMap fs → SameEntries es fs
+        → siblings hash nonce prefix index es ≡ siblings hash nonce prefix index fs }
+    ensures end { (prefix : List Bool) (index : List ℕ) (es fs : List (Entry T)) → IsMap es → IsMap fs → SameEntries es fs
+        → end_of prefix index es ≡ end_of prefix index fs }
+{}
+
+/// A proof is accepted exactly where it has no fault.
+pub fn no_fault_is_accepted<H: Hash32>(
+    h: &H,
+    nonce: &Nonce,
+    root: &Digest,
+    index: &Index,
+    name: &[u8],
+    proof: &Proof,
+)
+    ensures { ((fault : CheckFault) → Has (H.digest_of h.now) nonce.now.0 root.now.0 index.now.0 name.now proof.now fault → ⊥)
+        ↔ (Accepts (H.digest_of h.now) nonce.now.0 root.now.0 index.now.0 name.now proof.now (answer_of proof.now.end)) }
+{}

@@ -1,0 +1,25 @@
+//! Bits, hashes, commitments and authentication paths of a CONIKS key directory, and the checker of its proofs.
+//!
+//! A directory keeps a Merkle binary prefix tree over the indices of its names (Melara, Blankstein, Bonneau, Felten,
+//! Freedman: CONIKS, USENIX Security 2015, section 3). This crate has what all others speak of: the values of 32 bytes,
+//! the hashes of nodes and commitments, the proof that an authentication path is, and the check that accepts it.
+#![tactic(auto)]
+
+pub mod bits;
+pub mod bytes;
+pub mod checker;
+pub mod hashing;
+pub mod laws;
+pub mod paths;
+#[cfg(test)]
+mod tests;
+pub mod values;
+
+pub use bits::{Prefix, bit};
+pub use bytes::{Binding, Bytes, Digests};
+pub use checker::{CheckFault, check};
+pub use hashing::{Flat, Hash32, Sha256Hash, commit_hash, empty_hash, inner_hash, leaf_hash};
+pub use paths::{Answer, End, Proof};
+pub use values::{
+    Digest, Head, Index, MAX_KEY, MAX_LEVEL, MAX_NAME, MAX_OPERATIONS, Nonce, Opening,
+};
