@@ -1,0 +1,105 @@
+use Rattle.std.proofs.Common.{◌≡◌, ◌≢◌, ℕ, ◌+◌, ◌%◌, ◌^◌, List, [], ◌++◌, take, arith, ap, ◌∙◌, subst, ◌&&◌}
+use Rattle.std.proofs.lemmas.Result.{err_from_is_err_and}
+use Rattle.std.proofs.lemmas.Grind.{common_steps}
+use Rattle.std.proofs.lemmas.List.{length-take, length-append}
+use Rattle.coniks_lines.specs.Runs.{AnswersLine, FailsAt}
+use Rattle.coniks_lines.proofs.KnownLemmas.{Takes-then, Takes-end}
+use Rattle.coniks_lines.proofs.RunsLemmas.{ReadsOn, AnswersWhole-then, ReadsOn-then, ReadsOn-end, fails_in_chunk, fails_at_last, ends_empty, ends_with_line, AnswersAll-same}
+use Rattle.coniks_lines.proofs.engine.read_lines.Goals as goal
+use Rattle.coniks_lines.proofs.engine.read_lines.Goals.{then-not-is_empty+in_ok-accepted, else-not-is_empty}
+
+pub returns-in_err-accepted-clause-err : goal.returns-in_err-accepted-clause-err
+returns-in_err-accepted-clause-err g c =
+    let p = err_from_is_err_and c.from_residual.result c.from_residual.ensures.1 in
+    let answer = g.M.LineMachine.answer in
+    let state = g.M.LineMachine.state in
+    let sink = g.W.ByteOut.sink in
+    let source = g.R.ByteIn.source in
+    let loop = c.loop-reads in
+    let bytes = loop.invariant.0 in
+    let inv = loop.invariant.1 in
+    let e = c.in_err-accepted.field-0.0 in
+    let new = sink c.answer_line.new.writer in
+    let at_line = subst (λ (line : List ℕ). FailsAt answer (state loop.machine) line (sink loop.writer) new e) c.deref.ensures.value c.in_err-accepted.ensures.err in
+    let some : loop.held.items ≢ [] = grind (arith, common_steps) in
+    let ends : (source c.read.new.self).ends ≡ (((source loop.reader).ends + 1) % 2 ^ 64) = grind (arith, common_steps) in
+    let ended = ReadsOn-end (source c.args.reader.now) (source loop.reader) (source c.read.new.self) inv.reads_on ends (c.in-Ok.ensures.none_left c.if-count-eq0.true) in
+    rw (p.1, p.2) (record {
+      bytes = bytes;
+      read = Takes-end (source c.args.reader.now) (source loop.reader) (source c.read.new.self) bytes c.read.new.buffer c.in-Ok.count inv.taken c.in-Ok.ensures.taken c.if-count-eq0.true;
+      fails = fails_at_last answer (state c.args.machine.now) (state loop.machine) loop.held.items bytes (source c.args.reader.now) (source c.read.new.self) (sink c.args.writer.now) (sink loop.writer) new loop.all e some ended inv.answers at_line;
+    })
+
+pub returns-then-count-eq0-clause-ok : goal.returns-then-count-eq0-clause-ok
+returns-then-count-eq0-clause-ok g c =
+    let answer = g.M.LineMachine.answer in
+    let state = g.M.LineMachine.state in
+    let sink = g.W.ByteOut.sink in
+    let source = g.R.ByteIn.source in
+    let loop = c.loop-reads in
+    let bytes = loop.invariant.0 in
+    let inv = loop.invariant.1 in
+    let start = state c.args.machine.now in
+    let old = sink c.args.writer.now in
+    let ends : (source c.read.new.self).ends ≡ (((source loop.reader).ends + 1) % 2 ^ 64) = grind (arith, common_steps) in
+    let failed : (source c.read.new.self).failed ≡ (source loop.reader).failed = grind (arith, common_steps) in
+    record {
+      bytes = bytes;
+      read = Takes-end (source c.args.reader.now) (source loop.reader) (source c.read.new.self) bytes c.read.new.buffer c.in-Ok.count inv.taken c.in-Ok.ensures.taken c.if-count-eq0.true;
+      at_end = ReadsOn-end (source c.args.reader.now) (source loop.reader) (source c.read.new.self) inv.reads_on ends (c.in-Ok.ensures.none_left c.if-count-eq0.true);
+      none_failed = failed ∙ inv.reads_on.none_failed;
+      answers = elim c.if-not-is_empty.branch [
+        | then-not-is_empty+in_ok-accepted w ↦
+            let new = w.answer_line.new in
+            let some : loop.held.items ≢ [] = grind (arith, common_steps, w.if-not-is_empty.true) in
+            let line = subst (λ (l : List ℕ). AnswersLine answer (state loop.machine) l (sink loop.writer) (sink new.writer) (state new.machine) w.in_ok-accepted.accepted) w.deref.ensures.value w.in_ok-accepted.ensures.ok in
+            let it = ends_with_line answer start (state loop.machine) (state new.machine) loop.held.items bytes old (sink loop.writer) (sink new.writer) loop.all w.in_ok-accepted.accepted some inv.answers line in
+            AnswersAll-same answer start (state new.machine) (state c.if-not-is_empty.machine) bytes old (sink new.writer) (sink c.if-not-is_empty.writer) (loop.all && w.in_ok-accepted.accepted) c.if-not-is_empty.all it
+            (ap state w.machine-is) (ap sink w.writer-is) w.all-is
+        | else-not-is_empty w ↦
+            let none : loop.held.items ≡ [] = grind (arith, common_steps, w.if-not-is_empty.false) in
+            let it = ends_empty answer start (state loop.machine) loop.held.items bytes old (sink loop.writer) loop.all none inv.answers in
+            AnswersAll-same answer start (state loop.machine) (state c.if-not-is_empty.machine) bytes old (sink loop.writer) (sink c.if-not-is_empty.writer) loop.all c.if-not-is_empty.all it
+            (ap state w.machine-is) (ap sink w.writer-is) w.all-is
+      ];
+    }
+
+pub returns-in_err-accepted-2-clause-err : goal.returns-in_err-accepted-2-clause-err
+returns-in_err-accepted-2-clause-err g c =
+    let p = err_from_is_err_and c.from_residual-in_err-accepted-2.result c.from_residual-in_err-accepted-2.ensures.1 in
+    let answer = g.M.LineMachine.answer in
+    let state = g.M.LineMachine.state in
+    let sink = g.W.ByteOut.sink in
+    let source = g.R.ByteIn.source in
+    let loop = c.loop-reads in
+    let bytes = loop.invariant.0 in
+    let inv = loop.invariant.1 in
+    let chunk = take c.in-Ok.count c.read.new.buffer in
+    rw (p.1, p.2) (record {
+      bytes = bytes ++ chunk;
+      read = Takes-then (source c.args.reader.now) (source loop.reader) (source c.read.new.self) bytes chunk inv.taken c.in-Ok.ensures.taken;
+      fails = fails_in_chunk answer (state c.args.machine.now) (state loop.machine) loop.held.items bytes chunk (source c.args.reader.now) (source c.read.new.self)
+          (sink c.args.writer.now) (sink loop.writer) (sink c.take_chunk.new.writer) loop.all c.in_err-accepted-2.field-0.0 inv.answers c.in_err-accepted-2.ensures.err;
+    })
+
+pub loop-reads-preserved : goal.loop-reads-preserved
+loop-reads-preserved g c =
+    let answer = g.M.LineMachine.answer in
+    let state = g.M.LineMachine.state in
+    let sink = g.W.ByteOut.sink in
+    let source = g.R.ByteIn.source in
+    let loop = c.loop-reads in
+    let bytes = loop.invariant.0 in
+    let inv = loop.invariant.1 in
+    let chunk = take c.in-Ok.count c.read.new.buffer in
+    let told = c.in_ok-accepted-2.ensures in
+    let new = c.take_chunk.new in
+    let on : ReadsOn (source loop.reader) (source c.read.new.self) = grind (arith, common_steps) in (
+      bytes ++ chunk,
+      record {
+        taken = Takes-then (source c.args.reader.now) (source loop.reader) (source c.read.new.self) bytes chunk inv.taken c.in-Ok.ensures.taken;
+        enough = omega (arith, length-append bytes chunk, length-take c.in-Ok.count c.read.new.buffer, inv.enough, c.in-Ok.ensures.count, c.if-count-eq0.false);
+        answers = AnswersWhole-then answer (state c.args.machine.now) (state loop.machine) (state new.machine) [] loop.held.items new.held.items bytes chunk (sink c.args.writer.now) (sink loop.writer) (sink new.writer) loop.all c.in_ok-accepted-2.accepted inv.answers told.ok;
+        reads_on = ReadsOn-then (source c.args.reader.now) (source loop.reader) (source c.read.new.self) inv.reads_on on;
+      },
+    )

@@ -1,0 +1,250 @@
+//! The engine: a machine that answers lines, and the loop that feeds it.
+ghost use Rattle.std.specs.Prelude.{◌≡◌, ℕ, ◌+◌, ◌<◌, ◌^◌, ◌++◌, [], List, length, take, IfOk, OnOk, OnErr, IfErr, Some};
+ghost use Rattle.coniks_lines.specs.Known.{Appends};
+ghost use Rattle.coniks_lines.specs.Lines.{whole_after, lines_of};
+ghost use Rattle.coniks_lines.specs.Machine.{Answer};
+ghost use Rattle.coniks_lines.specs.Runs.{WritesOn, CannotWrite, AnswersLine, AnswersWhole, AnswersAll, WritesPart, FailsAt, FailsAmong, EndsWell, EndsBadly};
+ghost use Rattle.coniks_lines.specs.declared.fault.RunFault.TheVariants.{Write};
+
+use crate::bytes::{ByteIn, ByteOut};
+use crate::fault::RunFault;
+use memchr::memchr;
+use std::alloc::{AllocError, Global};
+
+/// What ends a line.
+const NEWLINE: u8 = b'\n';
+
+/// How many bytes a read asks for.
+const CHUNK: usize = 64 * 1024;
+
+/// A run gives up after so many reads.
+const MAX_READS: u64 = 1 << 63;
+
+/// A machine that answers one line at a time.
+///
+/// Contracts see a machine as a state and a function, `answer`, that gives for a state and a line
+/// the text of the answer, whether the line was accepted, and the state after it.
+pub trait LineMachine {
+    /// What the answer to a line depends on.
+    ghost State: { Type 0 };
+
+    /// The state of the machine.
+    ghost state: { Self → State };
+
+    /// The answer to a line: its text, whether the line was accepted, and the state after it.
+    ghost answer: { State → List ℕ → Answer State };
+
+    /// Adds the answer's text to `out`, without a newline, and tells whether the line was accepted.
+    /// The line comes without its newline.
+    ///
+    /// # Errors
+    ///
+    /// `AllocError` where memory is refused: `out` and the machine's state are then open.
+    fn step(&mut self, line: &[u8], out: &mut Vec<u8>) -> Result<bool, AllocError>
+        ensures text { OnOk result (out.new.items ≡ out.old.items ++ (answer (state self.old) line.now).text) }
+        ensures accepted { IfOk result (λ accepted. accepted ≡ (answer (state self.old) line.now).accepted) }
+        ensures state { OnOk result (state self.new ≡ (answer (state self.old) line.now).state) };
+}
+
+/// Answers the lines of the reader one after another, each by the text of its answer, a newline and
+/// a flush, until a read answers 0. Tells whether each line was accepted.
+///
+/// A line is what stands before a newline, a carriage return included; what stands after the last
+/// newline is a line where it has at least one byte. A line that is refused is answered like any
+/// other, and the run goes on. The reader is read 64 KiB at a time. A line may have any length that
+/// memory holds: one that lies whole in what one read gave isn't copied, another is copied once.
+///
+/// The `failures` of both streams must be below 2^64 - 1.
+///
+/// # Errors
+///
+/// The run ends at the first fault.
+///
+/// - `Read` where a read failed, or 2^63 reads met no end: each line read with its newline is answered.
+/// - `Write` where a write or a flush failed or a write took 0 bytes: a beginning of the answers was
+///   written.
+/// - `OutOfMemory` where memory was refused: of the lines read with their newline the first ones are
+///   answered, and no more was written.
+pub fn run_lines<M: LineMachine, R: ByteIn, W: ByteOut>(
+    alloc: Global,
+    machine: &mut M,
+    reader: &mut R,
+    writer: &mut W,
+) -> Result<bool, RunFault>
+    requires reads { (R.source reader.old).failed + 1 < 2 ^ 64 }
+    requires writes { (W.sink writer.old).failed + 1 < 2 ^ 64 }
+    ensures ok { IfOk result (EndsWell M.answer (M.state machine.old)
+        (R.source reader.old) (R.source reader.new)
+        (W.sink writer.old) (W.sink writer.new)
+        (M.state machine.new)) }
+    ensures err { IfErr result (EndsBadly M.answer (M.state machine.old)
+        (R.source reader.old) (R.source reader.new)
+        (W.sink writer.old) (W.sink writer.new)) }
+
+    // Where the reader tells its bytes: after Ok each of them is answered,
+    // and after a fault a beginning of what answers them was written.
+    ensures all_of { (input : List ℕ) → (R.source reader.old).left ≡ Some input
+        → IfOk result (AnswersAll M.answer (M.state machine.old) input
+        (W.sink writer.old) (W.sink writer.new)
+        (M.state machine.new)) }
+    ensures part_of { (input : List ℕ) → (R.source reader.old).left ≡ Some input
+        → OnErr result (WritesPart M.answer (M.state machine.old) (lines_of input)
+        (W.sink writer.old) (W.sink writer.new)) }
+{
+    let Ok(mut buffer) = vec![in alloc; 0; CHUNK] else {
+        return Err(RunFault::OutOfMemory);
+    };
+    read_lines(alloc, machine, reader, writer, &mut buffer)
+}
+
+/// The loop of `run_lines`: reads into the buffer, and answers the lines that end in what was read.
+fn read_lines<M: LineMachine, R: ByteIn, W: ByteOut>(
+    alloc: Global,
+    machine: &mut M,
+    reader: &mut R,
+    writer: &mut W,
+    buffer: &mut [u8],
+) -> Result<bool, RunFault>
+    requires room { 0 < length buffer.old }
+    requires reads { (R.source reader.old).failed + 1 < 2 ^ 64 }
+    requires writes { (W.sink writer.old).failed + 1 < 2 ^ 64 }
+    ensures ok { IfOk result (EndsWell M.answer (M.state machine.old)
+        (R.source reader.old) (R.source reader.new)
+        (W.sink writer.old) (W.sink writer.new)
+        (M.state machine.new)) }
+    ensures err { IfErr result (EndsBadly M.answer (M.state machine.old)
+        (R.source reader.old) (R.source reader.new)
+        (W.sink writer.old) (W.sink writer.new)) }
+{
+    let mut held = Vec::new(alloc);
+    let mut out = Vec::new(alloc);
+    let mut all = true;
+    for _reads in 0..MAX_READS {
+        let Ok(count) = reader.read(buffer) else {
+            return Err(RunFault::Read);
+        };
+        if count == 0 {
+            if !held.is_empty() {
+                let accepted = answer_line(machine, &held, &mut out, writer)?;
+                all &= accepted;
+            }
+            return Ok(all);
+        }
+        let accepted = take_chunk(machine, &buffer[..count], &mut held, &mut out, writer)?;
+        all &= accepted;
+    }
+    Err(RunFault::Read)
+}
+
+/// Answers each line that ends in the chunk, and holds what stands after the last newline.
+fn take_chunk<M: LineMachine, W: ByteOut>(
+    machine: &mut M,
+    chunk: &[u8],
+    held: &mut Vec<u8>,
+    out: &mut Vec<u8>,
+    writer: &mut W,
+) -> Result<bool, RunFault>
+    requires { (W.sink writer.old).failed + 1 < 2 ^ 64 }
+    ensures ok { IfOk result (AnswersWhole M.answer (M.state machine.old) held.old.items chunk.now
+        (W.sink writer.old) (W.sink writer.new)
+        (M.state machine.new) held.new.items) }
+    ensures err { IfErr result (FailsAmong M.answer (M.state machine.old) (whole_after held.old.items chunk.now)
+        (W.sink writer.old) (W.sink writer.new)) }
+{
+    let mut all = true;
+    let mut start = 0;
+    while let Some(ahead) = memchr(NEWLINE, &chunk[start..]) {
+        let accepted = end_line(machine, &chunk[start..start + ahead], held, out, writer)?;
+        all &= accepted;
+        start += ahead + 1;
+    }
+    if held.extend_from_slice(&chunk[start..]).is_err() {
+        return Err(RunFault::OutOfMemory);
+    }
+    Ok(all)
+}
+
+/// Answers the line that is held and ends with this part, and then holds nothing. A line of which
+/// nothing was held is answered as it stands, with no copy.
+fn end_line<M: LineMachine, W: ByteOut>(
+    machine: &mut M,
+    part: &[u8],
+    held: &mut Vec<u8>,
+    out: &mut Vec<u8>,
+    writer: &mut W,
+) -> Result<bool, RunFault>
+    requires { (W.sink writer.old).failed + 1 < 2 ^ 64 }
+    ensures ok { IfOk result (AnswersLine M.answer (M.state machine.old) (held.old.items ++ part.now)
+        (W.sink writer.old) (W.sink writer.new)
+        (M.state machine.new)) }
+    ensures none_held { OnOk result (held.new.items ≡ []) }
+    ensures err { IfErr result (FailsAt M.answer (M.state machine.old) (held.old.items ++ part.now)
+        (W.sink writer.old) (W.sink writer.new)) }
+{
+    if held.is_empty() {
+        return answer_line(machine, part, out, writer);
+    }
+    if held.extend_from_slice(part).is_err() {
+        return Err(RunFault::OutOfMemory);
+    }
+    let accepted = answer_line(machine, held, out, writer)?;
+    held.clear();
+    Ok(accepted)
+}
+
+/// Answers one line: its text, a newline and a flush. `out` is a buffer, whatever it held before.
+fn answer_line<M: LineMachine, W: ByteOut>(
+    machine: &mut M,
+    line: &[u8],
+    out: &mut Vec<u8>,
+    writer: &mut W,
+) -> Result<bool, RunFault>
+    requires { (W.sink writer.old).failed + 1 < 2 ^ 64 }
+    ensures ok { IfOk result (AnswersLine M.answer (M.state machine.old) line.now
+        (W.sink writer.old) (W.sink writer.new)
+        (M.state machine.new)) }
+    ensures err { IfErr result (FailsAt M.answer (M.state machine.old) line.now
+        (W.sink writer.old) (W.sink writer.new)) }
+{
+    out.clear();
+    let Ok(accepted) = machine.step(line, out) else {
+        return Err(RunFault::OutOfMemory);
+    };
+    if out.push(NEWLINE).is_err() {
+        return Err(RunFault::OutOfMemory);
+    }
+    write_all(writer, out)?;
+    if writer.flush().is_err() {
+        return Err(RunFault::Write);
+    }
+    Ok(accepted)
+}
+
+/// Writes all the bytes, by as many writes as that takes, and doesn't flush.
+///
+/// The writer's `failures` must be below 2^64 - 1.
+///
+/// # Errors
+///
+/// `Write` where a write failed or took 0 bytes: a beginning of the bytes was written.
+pub fn write_all<W: ByteOut>(writer: &mut W, bytes: &[u8]) -> Result<(), RunFault>
+    requires { (W.sink writer.old).failed + 1 < 2 ^ 64 }
+    ensures ok { OnOk result (Appends (W.sink writer.old) bytes.now (W.sink writer.new)) }
+    ensures writes_on { OnOk result (WritesOn (W.sink writer.old) (W.sink writer.new)) }
+    ensures flushes { OnOk result ((W.sink writer.new).flushes ≡ (W.sink writer.old).flushes) }
+    ensures err { IfErr result (λ e. e ≡ Write) }
+    ensures part { OnErr result ((n : ℕ) × Appends (W.sink writer.old) (take n bytes.now) (W.sink writer.new)) }
+    ensures because { OnErr result (CannotWrite (W.sink writer.old) (W.sink writer.new)) }
+{
+    let mut done = 0;
+    while done < bytes.len() {
+        let Ok(count) = writer.write(&bytes[done..]) else {
+            return Err(RunFault::Write);
+        };
+        if count == 0 {
+            return Err(RunFault::Write);
+        }
+        done += count;
+    }
+    Ok(())
+}

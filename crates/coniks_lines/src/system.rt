@@ -1,0 +1,104 @@
+//! Streams of the system, of whose bytes contracts know nothing.
+ghost use Rattle.std.specs.Prelude.{◌≡◌};
+
+use crate::bytes::{ByteIn, ByteOut, Failed};
+use std::io::{Read, Write};
+
+/// Reads from a reader of std, as standard input: `SystemIn::new(rt.stdin())`. A read that a signal
+/// cuts short before its first byte is one that failed.
+#[derive(Drop)]
+pub struct SystemIn<R> {
+    reader: R,
+    failures: u64,
+    ends: u64,
+}
+
+impl<R: Read + Drop> SystemIn<R> {
+    /// A source of the reader's bytes, of which no read has failed yet.
+    pub fn new(reader: R) -> Self
+        ensures { (⟦<SystemIn<R> as ByteIn>⟧.source result).failed ≡ 0 }
+    {
+        SystemIn {
+            reader,
+            failures: 0,
+            ends: 0,
+        }
+    }
+}
+
+impl<R: Read + Drop> ByteIn for SystemIn<R> {
+    ghost use Rattle.std.specs.Prelude.{None};
+    ghost use Rattle.coniks_lines.specs.Known.{Source};
+
+    ghost source = { λ s. record { left = None; failed = s.failures; ends = s.ends } };
+
+    fn read(&mut self, buffer: &mut [u8]) -> Result<usize, Failed> {
+        let Ok(count) = self.reader.read(buffer) else {
+            self.failures += 1;
+            return Err(Failed);
+        };
+        if count == 0 {
+            self.ends = self.ends.wrapping_add(1);
+        }
+        Ok(count)
+    }
+
+    fn failures(&self) -> u64 {
+        self.failures
+    }
+}
+
+/// Writes to a writer of std, as standard output and error: `SystemOut::new(rt.stdout())`,
+/// `SystemOut::new(rt.stderr())`. A write that a signal cuts short before its first byte is one that failed.
+#[derive(Drop)]
+pub struct SystemOut<W> {
+    writer: W,
+    failures: u64,
+    stalls: u64,
+    flushes: u64,
+}
+
+impl<W: Write + Drop> SystemOut<W> {
+    /// A sink for the writer, of which no write or flush has failed yet.
+    pub fn new(writer: W) -> Self
+        ensures { (⟦<SystemOut<W> as ByteOut>⟧.sink result).failed ≡ 0 }
+    {
+        SystemOut {
+            writer,
+            failures: 0,
+            stalls: 0,
+            flushes: 0,
+        }
+    }
+}
+
+impl<W: Write + Drop> ByteOut for SystemOut<W> {
+    ghost use Rattle.std.specs.Prelude.{None};
+    ghost use Rattle.coniks_lines.specs.Known.{Sink};
+
+    ghost sink = { λ s. record { written = None; failed = s.failures; stalls = s.stalls; flushes = s.flushes } };
+
+    fn write(&mut self, bytes: &[u8]) -> Result<usize, Failed> {
+        let Ok(count) = self.writer.write(bytes) else {
+            self.failures += 1;
+            return Err(Failed);
+        };
+        if count == 0 {
+            self.stalls = self.stalls.wrapping_add(1);
+        }
+        Ok(count)
+    }
+
+    fn flush(&mut self) -> Result<(), Failed> {
+        if self.writer.flush().is_err() {
+            self.failures += 1;
+            return Err(Failed);
+        }
+        self.flushes = self.flushes.wrapping_add(1);
+        Ok(())
+    }
+
+    fn failures(&self) -> u64 {
+        self.failures
+    }
+}

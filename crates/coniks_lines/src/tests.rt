@@ -1,0 +1,5 @@
+//! Runs over memory, over streams that give and take little at a time, and over streams that fail.
+
+mod machine;
+mod runs;
+mod streams;
