@@ -1,0 +1,20 @@
+-- The numbers below n, drawn each once.
+use Rattle.std.specs.Prelude.{◌≡◌, ℕ, ◌+◌, ◌==◌, ltb, if◌then◌else◌, List, [], ◌∷◌}
+
+-- how often x stands in the list
+abbrev pub times : ℕ → List ℕ → ℕ
+times x [] = 0
+times x (y ∷ ys) = (if y == x then 1 else 0) + times x ys
+
+-- how often x stands in all lists together
+abbrev pub times_over : ℕ → List (List ℕ) → ℕ
+times_over x [] = 0
+times_over x (l ∷ ls) = times x l + times_over x ls
+
+-- 1 for a number below n, and 0 for any other
+abbrev pub once_below : ℕ → ℕ → ℕ
+once_below x n = if ltb x n then 1 else 0
+
+-- the numbers below n stand in the lists, each once over all lists, none is left out, and no other number stands there
+abbrev pub Draws : List (List ℕ) → ℕ → Type 0
+Draws lists n = (x : ℕ) → times_over x lists ≡ once_below x n

@@ -1,0 +1,9 @@
+pub mod Blocks
+pub mod BoardRule
+pub mod Boards
+pub mod ClaimsRule
+pub mod Drawers
+pub mod Draws
+pub mod Gathered
+pub mod HeadWords
+pub mod Lists
