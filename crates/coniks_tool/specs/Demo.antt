@@ -1,0 +1,11 @@
+-- The demonstration index.
+use Rattle.std.specs.Prelude.{ℕ, List, ◌∷◌, ◌++◌}
+use Rattle.coniks_proof.specs.Sha256.{sha256}
+
+-- the byte that stands before what an index is hashed from
+abbrev pub index_tag : ℕ
+index_tag = 0x56
+
+-- the index of a name under a key: SHA-256 of the tag, the key and the name
+abbrev pub demo_index : List ℕ → List ℕ → List ℕ
+demo_index key name = sha256 (index_tag ∷ key ++ name)

@@ -1,0 +1,16 @@
+pub mod Batch
+pub mod Choice
+pub mod Demo
+pub mod History
+pub mod Holders
+pub mod Keydir
+pub mod Leaves
+pub mod Machine
+pub mod Members
+pub mod Operations
+pub mod Overlaying
+pub mod Plain
+pub mod Program
+pub mod Records
+pub mod Replies
+pub mod Script

@@ -1,0 +1,38 @@
+-- What a line and its members say: JSON is RFC 8259, hexadecimal digits and base64 are RFC 4648.
+use Rattle.std.specs.Prelude.{ℕ, List, Option, Some, None, option_and_then, is_some, if◌then◌else◌}
+use Rattle.std.specs.Result.{result_ok}
+use Rattle.std.specs.Str.{is_utf8}
+use Rattle.serde_json.specs.Data.{Data, Items}
+use Rattle.serde_json.specs.Read.{read}
+use Rattle.serde_json.specs.Find.{get, as_str, as_number, as_u64, as_object, as_array}
+use Rattle.hex.specs.Hex.{decode_sized}
+use Rattle.base64.specs.GeneralPurpose.{decode_of}
+use Rattle.base64.specs.Engines.{standard}
+
+-- a value, where it is an object
+abbrev pub if_object : Data → Option Data
+if_object value = if is_some (as_object value) then Some value else None
+
+-- the object that a line is: the line is UTF-8, and a JSON text (RFC 8259) whose value is an object
+abbrev pub object_in : List ℕ → Option Data
+object_in line = if is_utf8 line then option_and_then if_object (read line) else None
+
+-- the text of a member
+abbrev pub text_in : List ℕ → Data → Option (List ℕ)
+text_in name within = option_and_then as_str (get name within)
+
+-- the number of a member, written as a whole number from 0 to 2^64 - 1
+abbrev pub number_in : List ℕ → Data → Option ℕ
+number_in name within = option_and_then as_u64 (option_and_then as_number (get name within))
+
+-- the elements of a member that is an array
+abbrev pub array_in : List ℕ → Data → Option Items
+array_in name within = option_and_then as_array (get name within)
+
+-- the n bytes of a member, in 2n hexadecimal digits of either case (RFC 4648, section 8)
+abbrev pub digits_in : ℕ → List ℕ → Data → Option (List ℕ)
+digits_in n name within = option_and_then (λ text. result_ok (decode_sized text n)) (text_in name within)
+
+-- the bytes of a member, in base64 of the standard alphabet with its padding (RFC 4648, section 4)
+abbrev pub base64_in : List ℕ → Data → Option (List ℕ)
+base64_in name within = option_and_then (λ text. result_ok (decode_of standard text)) (text_in name within)

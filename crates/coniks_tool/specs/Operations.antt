@@ -1,0 +1,51 @@
+-- The operations of a batch line.
+use Rattle.std.specs.Prelude.{ℕ, ◌+◌, List, [], ◌∷◌, codes, map, Option, Some, None, option_map, option_and_then, Result, Ok, Err, Vec, if◌then◌else◌}
+use Rattle.std.specs.Str.{bytes_eq}
+use Rattle.std.specs.declared.alloc.Global.{Global}
+use Rattle.serde_json.specs.Data.{Data, Items, no_items, item}
+use Rattle.coniks_proof.specs.Batches.{Kind, register, change, Operation}
+use Rattle.coniks_tool.specs.Batch.{operation_of}
+use Rattle.coniks_tool.specs.Members.{text_in, digits_in, base64_in}
+use Rattle.coniks_tool.specs.declared.batch.Op.{Op}
+
+-- the kind that a text names
+abbrev pub kind_named : List ℕ → Option Kind
+kind_named text = if bytes_eq text (codes "register") then Some register else (if bytes_eq text (codes "change") then Some change else None)
+
+-- the kind of an element
+abbrev pub kind_in : Data → Option Kind
+kind_in element = option_and_then kind_named (text_in (codes "op") element)
+
+-- the operation of these parts
+abbrev pub operation_with : List ℕ → List ℕ → Kind → List ℕ → Operation
+operation_with key name kind opening = record { kind = kind; name = name; key = key; opening = opening }
+
+-- the operation that an element is: `key` in base64, `name`, `op`, and `opening` in 64 digits
+abbrev pub operation_in : Data → Option Operation
+operation_in element =
+    option_and_then (λ key. option_and_then (λ name. option_and_then (λ kind. option_map (operation_with key name kind)
+    (digits_in 32 (codes "opening") element)) (kind_in element)) (text_in (codes "name") element)) (base64_in (codes "key") element)
+
+-- an operation before others
+abbrev pub with_first : Operation → Result (List Operation) ℕ → Result (List Operation) ℕ
+with_first op (Ok ops) = Ok (op ∷ ops)
+with_first op (Err place) = Err place
+
+-- what stands at a place and after it; a place with no operation is at fault
+abbrev pub at_place : ℕ → Option Operation → Result (List Operation) ℕ → Result (List Operation) ℕ
+at_place place None others = Err place
+at_place place (Some op) others = with_first op others
+
+-- the operations of elements that stand from a place on, or the first place with none
+abbrev pub operations_from : ℕ → Items → Result (List Operation) ℕ
+operations_from place no_items = Ok []
+operations_from place (item element others) = at_place place (operation_in element) (operations_from (place + 1) others)
+
+-- the operations of an array, or the place of the first element that is none
+abbrev pub operations_in : Items → Result (List Operation) ℕ
+operations_in elements = operations_from 0 elements
+
+-- what was read, as the definitions of batches see it
+abbrev pub operations_read : Result (Vec Op Global) ℕ → Result (List Operation) ℕ
+operations_read (Ok ops) = Ok (map operation_of ops.items)
+operations_read (Err place) = Err place

@@ -1,0 +1,148 @@
+-- What is printed for a line.
+use Rattle.std.specs.Prelude.{ℕ, List, codes, Bool, true, false}
+use Rattle.serde_json.specs.Data.{Data, string, number, unsigned, object, member, no_members}
+use Rattle.serde_json.specs.Written.{compact_text}
+use Rattle.hex.specs.Hex.{encode_lower}
+use Rattle.coniks_proof.specs.Batches.{Fault, name_length, key_length, name_twice, name_taken, name_unknown, index_clash}
+use Rattle.coniks_tool.specs.Batch.{fault_is}
+use Rattle.coniks_tool.specs.declared.reply.Member.{Member}
+use Rattle.coniks_tool.specs.declared.reply.Member.TheVariants.{Key, Nonce, Policy, Epoch, Ops}
+use Rattle.coniks_tool.specs.declared.reply.Reply.{Reply}
+use Rattle.coniks_tool.specs.declared.reply.Reply.TheVariants as reply
+
+-- what comes of a line: a reply in numbers, byte lists and the faults of batches
+pub data Outcome : Type 0 where
+  -- the registry is open
+  opened : Outcome
+  -- a batch was installed
+  installed : (epoch : ℕ) (root : List ℕ) → Outcome
+  -- the line isn't a JSON object
+  not_json : Outcome
+  -- the line has no known command
+  no_command : Outcome
+  -- a member is missing, of another kind or of a wrong text
+  bad_member : Member → Outcome
+  -- the element of `ops` at this place is no operation
+  bad_operation : (place : ℕ) → Outcome
+  -- the registry isn't open yet
+  not_open : Outcome
+  -- the registry is open already
+  already_open : Outcome
+  -- a batch has too many operations
+  batch_too_long : Outcome
+  -- the operation at this place is at fault
+  bad_batch : (place : ℕ) → Fault → Outcome
+  -- the epoch isn't later than the latest one
+  epoch_not_later : (latest : ℕ) → Outcome
+
+-- a reply, without the forms that the code gives to numbers and digests
+abbrev pub outcome_of : Reply → Outcome
+outcome_of reply.Opened = opened
+outcome_of (reply.Installed epoch root) = installed epoch root.0
+outcome_of reply.NotJson = not_json
+outcome_of reply.NoCommand = no_command
+outcome_of (reply.BadMember m) = bad_member m
+outcome_of (reply.BadOperation place) = bad_operation place
+outcome_of reply.NotOpen = not_open
+outcome_of reply.AlreadyOpen = already_open
+outcome_of reply.BatchTooLong = batch_too_long
+outcome_of (reply.BadBatch place fault) = bad_batch place (fault_is fault)
+outcome_of (reply.EpochNotLater latest) = epoch_not_later latest
+
+-- a member's name
+abbrev pub member_name : Member → List ℕ
+member_name Key = codes "key"
+member_name Nonce = codes "nonce"
+member_name Policy = codes "policy"
+member_name Epoch = codes "epoch"
+member_name Ops = codes "ops"
+
+-- the name of an operation's fault
+abbrev pub fault_name : Fault → List ℕ
+fault_name name_length = codes "NameLength"
+fault_name key_length = codes "KeyLength"
+fault_name name_twice = codes "NameTwice"
+fault_name name_taken = codes "NameTaken"
+fault_name name_unknown = codes "NameUnknown"
+fault_name index_clash = codes "IndexClash"
+
+-- bytes in lower case hexadecimal digits
+abbrev pub digits : List ℕ → Data
+digits bytes = string (encode_lower bytes)
+
+-- {"fault":NAME}
+abbrev pub fault_data : List ℕ → Data
+fault_data name = object (member (codes "fault") (string name) no_members)
+
+-- {"fault":NAME,"position":NUM}
+abbrev pub placed_fault_data : List ℕ → ℕ → Data
+placed_fault_data name place =
+    object
+    (member (codes "fault") (string name)
+    (member (codes "position") (number (unsigned place)) no_members))
+
+-- {"fault":"Member","member":NAME}
+abbrev pub bad_member_data : List ℕ → Data
+bad_member_data name =
+    object
+    (member (codes "fault") (string (codes "Member"))
+    (member (codes "member") (string name) no_members))
+
+-- {"fault":"Member","member":"ops","position":NUM}
+abbrev pub bad_operation_data : ℕ → Data
+bad_operation_data place =
+    object
+    (member (codes "fault") (string (codes "Member"))
+    (member (codes "member") (string (codes "ops"))
+    (member (codes "position") (number (unsigned place)) no_members)))
+
+-- {"fault":"EpochNotLater","latest":NUM}
+abbrev pub epoch_not_later_data : ℕ → Data
+epoch_not_later_data latest =
+    object
+    (member (codes "fault") (string (codes "EpochNotLater"))
+    (member (codes "latest") (number (unsigned latest)) no_members))
+
+-- {"ok":"open"}
+abbrev pub opened_data : Data
+opened_data = object (member (codes "ok") (string (codes "open")) no_members)
+
+-- {"epoch":NUM,"ok":"batch","root":DIGITS}
+abbrev pub installed_data : ℕ → List ℕ → Data
+installed_data epoch root =
+    object
+    (member (codes "epoch") (number (unsigned epoch))
+    (member (codes "ok") (string (codes "batch"))
+    (member (codes "root") (digits root) no_members)))
+
+-- the object that is printed
+abbrev pub reply_data : Outcome → Data
+reply_data opened = opened_data
+reply_data (installed epoch root) = installed_data epoch root
+reply_data not_json = fault_data (codes "Json")
+reply_data no_command = fault_data (codes "Command")
+reply_data (bad_member m) = bad_member_data (member_name m)
+reply_data (bad_operation place) = bad_operation_data place
+reply_data not_open = fault_data (codes "NotOpen")
+reply_data already_open = fault_data (codes "AlreadyOpen")
+reply_data batch_too_long = fault_data (codes "BatchTooLong")
+reply_data (bad_batch place fault) = placed_fault_data (fault_name fault) place
+reply_data (epoch_not_later latest) = epoch_not_later_data latest
+
+-- the text of a reply: JSON (RFC 8259) with no white space
+abbrev pub reply_text : Outcome → List ℕ
+reply_text outcome = compact_text (reply_data outcome)
+
+-- the line was accepted
+abbrev pub is_accepted : Outcome → Bool
+is_accepted opened = true
+is_accepted (installed epoch root) = true
+is_accepted not_json = false
+is_accepted no_command = false
+is_accepted (bad_member m) = false
+is_accepted (bad_operation place) = false
+is_accepted not_open = false
+is_accepted already_open = false
+is_accepted batch_too_long = false
+is_accepted (bad_batch place fault) = false
+is_accepted (epoch_not_later latest) = false

@@ -1,0 +1,19 @@
+//! What the program's words ask for.
+
+use clap::Error;
+
+/// What the words ask for.
+#[derive(Clone, Copy, Debug, PartialEq, Eq)]
+pub enum Settings {
+    /// Answer the lines of the standard input.
+    Run,
+}
+
+/// Why the words ask for nothing.
+#[derive(Debug, Drop)]
+pub enum WordsFault {
+    /// `clap` refused them, or they ask for help.
+    Clap(Error),
+    /// Memory ran out.
+    OutOfMemory,
+}

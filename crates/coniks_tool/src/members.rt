@@ -1,0 +1,80 @@
+//! A line of JSON and its members.
+
+ghost use Rattle.std.specs.Prelude.{◌≡◌, IfOk, option_map};
+ghost use Rattle.serde_json.specs.View.{view, items_view};
+ghost use Rattle.coniks_tool.specs.Members.{object_in, text_in, number_in, array_in, digits_in, base64_in};
+
+use base64::DecodeAllocError;
+use base64::engine::general_purpose::STANDARD;
+use serde_json::Value;
+use std::alloc::{AllocError, Global};
+
+/// The object that a line is. `None`: the line isn't UTF-8, isn't a JSON text, nests deeper than
+/// 127 or is another value. A carriage return at the line's end is white space.
+pub fn read_object(alloc: Global, line: &[u8]) -> Result<Option<Value>, AllocError>
+    ensures { IfOk result (λ object. option_map view object ≡ object_in line.now) }
+{
+    match Value::from_slice(alloc, line) {
+        Ok(value) => {
+            if value.is_object() {
+                return Ok(Some(value));
+            }
+            Ok(None)
+        }
+        Err(error) => {
+            if error.is_memory() {
+                return Err(AllocError);
+            }
+            Ok(None)
+        }
+    }
+}
+
+/// The text of a member. Of a member that stands twice the last one counts, here and below.
+pub fn text<'v>(object: &'v Value, name: &str) -> Option<&'v str>
+    ensures { option_map (λ text. text.now) result ≡ text_in name.now (view object.now) }
+{
+    object.get(name)?.as_str()
+}
+
+/// The number of a member that is written as a whole number from 0 to 2^64 - 1: `1.0`, `1e3` and
+/// `-0` aren't.
+pub fn number(object: &Value, name: &str) -> Option<u64>
+    ensures { result ≡ number_in name.now (view object.now) }
+{
+    object.get(name)?.as_u64()
+}
+
+/// The elements of a member that is an array.
+pub fn array<'v>(object: &'v Value, name: &str) -> Option<&'v [Value]>
+    ensures { option_map (λ elements. items_view elements.now) result ≡ array_in name.now (view object.now) }
+{
+    let elements = object.get(name)?.as_array()?;
+    Some(elements.as_slice())
+}
+
+/// The 32 bytes of a member, in 64 hexadecimal digits of either case.
+pub fn digits32(object: &Value, name: &str) -> Option<[u8; 32]>
+    ensures { result ≡ digits_in 32 name.now (view object.now) }
+{
+    let digits = text(object, name)?;
+    let mut bytes = [0; 32];
+    if hex::decode_to_slice(digits, &mut bytes).is_err() {
+        return None;
+    }
+    Some(bytes)
+}
+
+/// The bytes of a member, in base64 of the standard alphabet with its padding.
+pub fn base64(alloc: Global, object: &Value, name: &str) -> Result<Option<Vec<u8>>, AllocError>
+    ensures { IfOk result (λ bytes. option_map (λ found. found.items) bytes ≡ base64_in name.now (view object.now)) }
+{
+    let Some(text) = text(object, name) else {
+        return Ok(None);
+    };
+    match STANDARD.decode(alloc, text.as_bytes()) {
+        Ok(bytes) => Ok(Some(bytes)),
+        Err(DecodeAllocError::OutOfMemory) => Err(AllocError),
+        Err(DecodeAllocError::DecodeError(_)) => Ok(None),
+    }
+}

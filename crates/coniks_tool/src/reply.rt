@@ -1,0 +1,166 @@
+//! What a line is answered by, and its text.
+
+ghost use Rattle.std.specs.Prelude.{◌≡◌, ◌++◌, IfOk, OnOk, OnErr};
+ghost use Rattle.serde_json.specs.View.{view};
+ghost use Rattle.coniks_tool.specs.Batch.{fault_is};
+ghost use Rattle.coniks_tool.specs.Replies.{outcome_of, reply_data, reply_text, member_name, fault_name, fault_data, placed_fault_data, bad_member_data, bad_operation_data, epoch_not_later_data, opened_data, installed_data};
+
+use crate::batch::OpFault;
+use coniks_proof::Digest;
+use serde_json::{Value, json};
+use std::alloc::{AllocError, Global};
+
+/// A member of a line.
+#[derive(Clone, Copy, Debug, PartialEq, Eq)]
+pub enum Member {
+    Key,
+    Nonce,
+    Policy,
+    Epoch,
+    Ops,
+}
+
+/// What a line is answered by.
+#[derive(Debug, Drop)]
+pub enum Reply {
+    /// The registry is open.
+    Opened,
+    /// A batch was installed.
+    Installed { epoch: u64, root: Digest },
+    /// The line isn't a JSON object.
+    NotJson,
+    /// The line has no known command.
+    NoCommand,
+    /// A member is missing, of another kind or of a wrong text.
+    BadMember(Member),
+    /// The element of `ops` at this place is no operation.
+    BadOperation(usize),
+    /// The registry isn't open yet.
+    NotOpen,
+    /// The registry is open already.
+    AlreadyOpen,
+    /// A batch has too many operations.
+    BatchTooLong,
+    /// The operation at this place is at fault.
+    BadBatch { position: usize, fault: OpFault },
+    /// The epoch isn't later than the latest one.
+    EpochNotLater { latest: u64 },
+}
+
+impl Reply {
+    ghost use Rattle.coniks_tool.specs.Replies.{is_accepted};
+
+    /// Whether the line was accepted.
+    pub fn is_accepted(&self) -> bool
+        ensures { result ≡ is_accepted (outcome_of self.now) }
+    {
+        match self {
+            Reply::Opened | Reply::Installed { .. } => true,
+            Reply::NotJson
+            | Reply::NoCommand
+            | Reply::BadMember(_)
+            | Reply::BadOperation(_)
+            | Reply::NotOpen
+            | Reply::AlreadyOpen
+            | Reply::BatchTooLong
+            | Reply::BadBatch { .. }
+            | Reply::EpochNotLater { .. } => false,
+        }
+    }
+}
+
+/// Adds the text of a reply, with no newline: an object with its members in the order of their
+/// names' bytes, no white space, and lower case hexadecimal digits.
+pub fn print(alloc: Global, reply: &Reply, out: &mut Vec<u8>) -> Result<(), AllocError>
+    ensures ok { OnOk result (out.new.items ≡ out.old.items ++ reply_text (outcome_of reply.now)) }
+    ensures err { OnErr result (out.new.items ≡ out.old.items) }
+{
+    let text = value_of(alloc, reply)?.to_vec(alloc)?;
+    out.extend_from_slice(&text)
+}
+
+fn value_of(alloc: Global, reply: &Reply) -> Result<Value, AllocError>
+    ensures { IfOk result (λ value. view value ≡ reply_data (outcome_of reply.now)) }
+{
+    match reply {
+        Reply::Opened => opened(alloc),
+        Reply::Installed { epoch, root } => installed(alloc, *epoch, root),
+        Reply::NotJson => fault(alloc, "Json"),
+        Reply::NoCommand => fault(alloc, "Command"),
+        Reply::BadMember(member) => bad_member(alloc, member_text(*member)),
+        Reply::BadOperation(place) => bad_operation(alloc, *place),
+        Reply::NotOpen => fault(alloc, "NotOpen"),
+        Reply::AlreadyOpen => fault(alloc, "AlreadyOpen"),
+        Reply::BatchTooLong => fault(alloc, "BatchTooLong"),
+        Reply::BadBatch { position, fault } => placed_fault(alloc, fault_text(*fault), *position),
+        Reply::EpochNotLater { latest } => epoch_not_later(alloc, *latest),
+    }
+}
+
+fn member_text(member: Member) -> &'static str
+    ensures { result.now ≡ member_name member }
+{
+    match member {
+        Member::Key => "key",
+        Member::Nonce => "nonce",
+        Member::Policy => "policy",
+        Member::Epoch => "epoch",
+        Member::Ops => "ops",
+    }
+}
+
+fn fault_text(fault: OpFault) -> &'static str
+    ensures { result.now ≡ fault_name (fault_is fault) }
+{
+    match fault {
+        OpFault::NameLength => "NameLength",
+        OpFault::KeyLength => "KeyLength",
+        OpFault::NameTwice => "NameTwice",
+        OpFault::NameTaken => "NameTaken",
+        OpFault::NameUnknown => "NameUnknown",
+        OpFault::IndexClash => "IndexClash",
+    }
+}
+
+fn opened(alloc: Global) -> Result<Value, AllocError>
+    ensures { IfOk result (λ value. view value ≡ opened_data) }
+{
+    json!(in alloc; {"ok": "open"})
+}
+
+fn installed(alloc: Global, epoch: u64, root: &Digest) -> Result<Value, AllocError>
+    ensures { IfOk result (λ value. view value ≡ installed_data epoch root.now.0) }
+{
+    let root = hex::encode(alloc, &root.0)?;
+    json!(in alloc; {"epoch": epoch, "ok": "batch", "root": root})
+}
+
+fn fault(alloc: Global, name: &str) -> Result<Value, AllocError>
+    ensures { IfOk result (λ value. view value ≡ fault_data name.now) }
+{
+    json!(in alloc; {"fault": name})
+}
+
+fn placed_fault(alloc: Global, name: &str, position: usize) -> Result<Value, AllocError>
+    ensures { IfOk result (λ value. view value ≡ placed_fault_data name.now position) }
+{
+    json!(in alloc; {"fault": name, "position": position})
+}
+
+fn bad_member(alloc: Global, name: &str) -> Result<Value, AllocError>
+    ensures { IfOk result (λ value. view value ≡ bad_member_data name.now) }
+{
+    json!(in alloc; {"fault": "Member", "member": name})
+}
+
+fn bad_operation(alloc: Global, position: usize) -> Result<Value, AllocError>
+    ensures { IfOk result (λ value. view value ≡ bad_operation_data position) }
+{
+    json!(in alloc; {"fault": "Member", "member": "ops", "position": position})
+}
+
+fn epoch_not_later(alloc: Global, latest: u64) -> Result<Value, AllocError>
+    ensures { IfOk result (λ value. view value ≡ epoch_not_later_data latest) }
+{
+    json!(in alloc; {"fault": "EpochNotLater", "latest": latest})
+}

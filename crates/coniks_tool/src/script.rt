@@ -1,0 +1,185 @@
+//! The machine of `run`, and its engine.
+
+ghost use Rattle.std.specs.Prelude.{◌≡◌, ◌<◌, ◌+◌, ◌^◌, ℕ, List, None, Some, IfOk, IfErr, OnOk, OnErr, codes, map};
+ghost use Rattle.serde_json.specs.View.{view};
+ghost use Rattle.coniks_lines.specs.Lines.{lines_of};
+ghost use Rattle.coniks_lines.specs.Runs.{AnswersAll, EndsBadly, EndsWell, WritesPart};
+ghost use Rattle.coniks_tool.specs.Batch.{operation_of};
+ghost use Rattle.coniks_tool.specs.Members.{array_in, digits_in, number_in, text_in};
+ghost use Rattle.coniks_tool.specs.Replies.{outcome_of};
+ghost use Rattle.coniks_tool.specs.Script.{State, batch_turn, batch_with, command_turn, open_turn, open_with, script_answer, turn};
+ghost use Rattle.coniks_tool.specs.Machine.{state_of};
+
+use crate::batch::Op;
+use crate::demo::DemoIndex;
+use crate::members::{array, digits32, number, read_object, text};
+use crate::operations::read_ops;
+use crate::plain::{CommitFault, PlainDirectory};
+use crate::reply::{Member, Reply, print};
+use coniks_lines::{ByteIn, ByteOut, LineMachine, RunFault, run_lines};
+use coniks_proof::{Digest, Nonce};
+use serde_json::Value;
+use std::alloc::{AllocError, Global};
+
+/// An opened directory, and the digest of its policy.
+#[derive(Drop)]
+pub struct Open {
+    directory: PlainDirectory<DemoIndex>,
+    policy: Digest,
+}
+
+/// Answers the lines of a script: nothing is open before a line opens a directory.
+#[derive(Drop)]
+pub struct Script {
+    alloc: Global,
+    open: Option<Open>,
+}
+
+impl Script {
+    /// Opens a directory, once.
+    fn open_with(&mut self, key: [u8; 32], nonce: [u8; 32], policy: [u8; 32]) -> Reply
+        ensures reply { outcome_of result ≡ (open_with (state_of self.old.open) key nonce policy).outcome }
+        ensures state { state_of self.new.open ≡ (open_with (state_of self.old.open) key nonce policy).state }
+    {
+        if self.open.is_some() {
+            return Reply::AlreadyOpen;
+        }
+        let directory = PlainDirectory::new(self.alloc, DemoIndex::new(key), Nonce(nonce));
+        self.open = Some(Open {
+            directory,
+            policy: Digest(policy),
+        });
+        Reply::Opened
+    }
+
+    fn open(&mut self, object: &Value) -> Reply
+        ensures reply { outcome_of result ≡ (open_turn (state_of self.old.open) (digits_in 32 (codes "key") (view object.now))
+            (digits_in 32 (codes "nonce") (view object.now)) (digits_in 32 (codes "policy") (view object.now))).outcome }
+        ensures state { state_of self.new.open ≡ (open_turn (state_of self.old.open) (digits_in 32 (codes "key") (view object.now))
+            (digits_in 32 (codes "nonce") (view object.now)) (digits_in 32 (codes "policy") (view object.now))).state }
+    {
+        let Some(key) = digits32(object, "key") else {
+            return Reply::BadMember(Member::Key);
+        };
+        let Some(nonce) = digits32(object, "nonce") else {
+            return Reply::BadMember(Member::Nonce);
+        };
+        let Some(policy) = digits32(object, "policy") else {
+            return Reply::BadMember(Member::Policy);
+        };
+        self.open_with(key, nonce, policy)
+    }
+
+    /// Installs a batch that was read.
+    fn install(&mut self, epoch: u64, ops: &[Op]) -> Result<Reply, AllocError>
+        ensures reply { IfOk result (λ reply. outcome_of reply ≡ (batch_with (state_of self.old.open) epoch (map operation_of ops.now)).outcome) }
+        ensures state { OnOk result (state_of self.new.open ≡ (batch_with (state_of self.old.open) epoch (map operation_of ops.now)).state) }
+    {
+        let Some(mut open) = self.open.take() else {
+            return Ok(Reply::NotOpen);
+        };
+        let committed = open.directory.commit(epoch, ops);
+        self.open = Some(open);
+        match committed {
+            Ok(root) => Ok(Reply::Installed { epoch, root }),
+            Err(CommitFault::BatchTooLong) => Ok(Reply::BatchTooLong),
+            Err(CommitFault::At { position, fault }) => Ok(Reply::BadBatch { position, fault }),
+            Err(CommitFault::EpochNotLater { latest }) => Ok(Reply::EpochNotLater { latest }),
+            Err(CommitFault::OutOfMemory) => Err(AllocError),
+        }
+    }
+
+    fn batch(&mut self, object: &Value) -> Result<Reply, AllocError>
+        ensures reply { IfOk result (λ reply. outcome_of reply ≡ (batch_turn (state_of self.old.open) (number_in (codes "epoch") (view object.now)) (array_in (codes "ops") (view object.now))).outcome) }
+        ensures state { OnOk result (state_of self.new.open ≡ (batch_turn (state_of self.old.open) (number_in (codes "epoch") (view object.now)) (array_in (codes "ops") (view object.now))).state) }
+    {
+        let Some(epoch) = number(object, "epoch") else {
+            return Ok(Reply::BadMember(Member::Epoch));
+        };
+        let Some(elements) = array(object, "ops") else {
+            return Ok(Reply::BadMember(Member::Ops));
+        };
+        match read_ops(self.alloc, elements)? {
+            Ok(ops) => Ok(self.install(epoch, &ops)?),
+            Err(place) => Ok(Reply::BadOperation(place)),
+        }
+    }
+
+    fn command(&mut self, object: &Value) -> Result<Reply, AllocError>
+        ensures reply { IfOk result (λ reply. outcome_of reply ≡ (command_turn (state_of self.old.open) (view object.now) (text_in (codes "cmd") (view object.now))).outcome) }
+        ensures state { OnOk result (state_of self.new.open ≡ (command_turn (state_of self.old.open) (view object.now) (text_in (codes "cmd") (view object.now))).state) }
+    {
+        let Some(name) = text(object, "cmd") else {
+            return Ok(Reply::NoCommand);
+        };
+        if name == "open" {
+            return Ok(self.open(object));
+        }
+        if name == "batch" {
+            return Ok(self.batch(object)?);
+        }
+        Ok(Reply::NoCommand)
+    }
+
+    fn reply(&mut self, line: &[u8]) -> Result<Reply, AllocError>
+        ensures reply { IfOk result (λ reply. outcome_of reply ≡ (turn (state_of self.old.open) line.now).outcome) }
+        ensures state { OnOk result (state_of self.new.open ≡ (turn (state_of self.old.open) line.now).state) }
+    {
+        match read_object(self.alloc, line)? {
+            Some(object) => Ok(self.command(&object)?),
+            None => Ok(Reply::NotJson),
+        }
+    }
+}
+
+impl LineMachine for Script {
+    ghost use Rattle.coniks_tool.specs.Script.{State, script_answer};
+    ghost use Rattle.coniks_tool.specs.Machine.{state_of};
+
+    ghost State = { State };
+
+    ghost state = { λ s. state_of s.open };
+
+    ghost answer = { script_answer };
+
+    fn step(&mut self, line: &[u8], out: &mut Vec<u8>) -> Result<bool, AllocError> {
+        let reply = self.reply(line)?;
+        print(self.alloc, &reply, out)?;
+        Ok(reply.is_accepted())
+    }
+}
+
+/// Answers each line of the reader by one line and one flush, until a read answers 0: `open` and `batch` over a
+/// directory that keeps a plain registry for each epoch. Tells whether each line was accepted.
+///
+/// # Errors
+///
+/// Those of `run_lines`.
+pub fn run_script<R: ByteIn, W: ByteOut>(
+    alloc: Global,
+    reader: &mut R,
+    writer: &mut W,
+) -> Result<bool, RunFault>
+    requires reads { (R.source reader.old).failed + 1 < 2 ^ 64 }
+    requires writes { (W.sink writer.old).failed + 1 < 2 ^ 64 }
+    ensures ok { IfOk result (λ all. (state : State) × EndsWell script_answer None
+        (R.source reader.old) (R.source reader.new)
+        (W.sink writer.old) (W.sink writer.new)
+        state all) }
+    ensures err { IfErr result (EndsBadly script_answer None
+        (R.source reader.old) (R.source reader.new)
+        (W.sink writer.old) (W.sink writer.new)) }
+
+    // Where the reader tells its bytes: after Ok each of them is answered, and after a fault a beginning of what
+    // answers them was written.
+    ensures all_of { (input : List ℕ) → (R.source reader.old).left ≡ Some input
+        → IfOk result (λ all. (state : State) × AnswersAll script_answer None input
+        (W.sink writer.old) (W.sink writer.new)
+        state all) }
+    ensures part_of { (input : List ℕ) → (R.source reader.old).left ≡ Some input
+        → OnErr result (WritesPart script_answer None (lines_of input)
+        (W.sink writer.old) (W.sink writer.new)) }
+{
+    let mut script = Script { alloc, open: None };
+    run_lines(alloc, &mut script, reader, writer)
+}

@@ -1,0 +1,115 @@
+//! The whole program over its streams.
+
+ghost use Rattle.std.specs.Prelude.{◌≡◌, ◌≢◌, ◌⊎◌, ◌<◌, ◌≤◌, ◌+◌, ◌^◌, [], IfOk, map, true};
+ghost use Rattle.clap.specs.Words.{fault_of, kind_of, takes};
+ghost use Rattle.coniks_lines.specs.declared.fault.RunFault.{RunFault as Fault};
+ghost use Rattle.coniks_tool.specs.Keydir.{keydir};
+ghost use Rattle.coniks_tool.specs.Program.{fault_line, AsksForHelp, EndsFor, HasMistake, IfRefused, IsExplained, Tells};
+
+use crate::choice::{Settings, WordsFault};
+use crate::script::run_script;
+use crate::telling::tell;
+use crate::words::settings;
+use clap::Error;
+use coniks_lines::{ByteIn, ByteOut, RunFault};
+use std::alloc::Global;
+use std::convert::AsStr;
+
+/// What came of the words.
+#[derive(Drop)]
+enum Ending {
+    /// A run ended, or help was shown. Whether all was accepted.
+    Done(bool),
+    /// `clap` refused the words, and says why.
+    Refused(String),
+}
+
+/// Does what the words ask for, of which the first is the program's name, and answers the status.
+///
+/// 0: the run accepted every line, or help was asked for, which goes to `writer`. 1: the run
+/// refused a line. 2: `clap` refused the words; its text goes to `errors`. 3: a read or a write
+/// failed, or memory ran out; `errors` gets a line that says which. A failure of `errors` changes
+/// no status.
+pub fn program<S: AsStr, R: ByteIn, W: ByteOut, E: ByteOut>(
+    alloc: Global,
+    words: &[S],
+    reader: &mut R,
+    writer: &mut W,
+    errors: &mut E,
+) -> u8
+    requires reads { (R.source reader.old).failed + 1 < 2 ^ 64 }
+    requires writes { (W.sink writer.old).failed + 1 < 2 ^ 64 }
+    requires tells { (E.sink errors.old).failed + 1 < 2 ^ 64 }
+    ensures status { result ≤ 3 }
+
+    // What `clap` finds in the words decides between a run, help and a refusal.
+    ensures done { result ≡ 0 → (fault_of keydir (map S.text words.entry.now) ≡ []) ⊎ AsksForHelp (fault_of keydir (map S.text words.entry.now)) }
+    ensures ran { result ≡ 1 → fault_of keydir (map S.text words.entry.now) ≡ [] }
+    ensures refused { result ≡ 2 → HasMistake (fault_of keydir (map S.text words.entry.now)) }
+    ensures taken { takes keydir (map S.text words.entry.now) ≡ true → result ≢ 2 }
+
+    // Nothing is told where the run ends well. Refused words leave input and output alone.
+    ensures quiet { result ≤ 1 → E.sink errors.new ≡ E.sink errors.old }
+    ensures unread { result ≡ 2 → R.source reader.new ≡ R.source reader.old }
+    ensures unwritten { result ≡ 2 → W.sink writer.new ≡ W.sink writer.old }
+    ensures told { result ≡ 3 → (fault : Fault) × Tells (E.sink errors.old) (fault_line fault) (E.sink errors.new) }
+{
+    match obey(alloc, words, reader, writer) {
+        Ok(Ending::Done(true)) => 0,
+        Ok(Ending::Done(false)) => 1,
+        Ok(Ending::Refused(text)) => {
+            let _ = tell(errors, text.as_str());
+            2
+        }
+        Err(fault) => {
+            let _ = tell(errors, fault_text(fault));
+            3
+        }
+    }
+}
+
+fn obey<S: AsStr, R: ByteIn, W: ByteOut>(
+    alloc: Global,
+    words: &[S],
+    reader: &mut R,
+    writer: &mut W,
+) -> Result<Ending, RunFault>
+    requires reads { (R.source reader.old).failed + 1 < 2 ^ 64 }
+    requires writes { (W.sink writer.old).failed + 1 < 2 ^ 64 }
+    ensures found { IfOk result (EndsFor (fault_of keydir (map S.text words.entry.now))) }
+    ensures taken { IfOk result (λ ending. IfRefused ending (takes keydir (map S.text words.entry.now) ≢ true)) }
+    ensures unread { IfOk result (λ ending. IfRefused ending (R.source reader.new ≡ R.source reader.old)) }
+    ensures unwritten { IfOk result (λ ending. IfRefused ending (W.sink writer.new ≡ W.sink writer.old)) }
+{
+    match settings(alloc, words) {
+        Ok(Settings::Run) => Ok(Ending::Done(run_script(alloc, reader, writer)?)),
+        Err(WordsFault::Clap(error)) => explain(alloc, error, writer),
+        Err(WordsFault::OutOfMemory) => Err(RunFault::OutOfMemory),
+    }
+}
+
+/// Shows help, or says why the words are refused.
+fn explain<W: ByteOut>(alloc: Global, error: Error, writer: &mut W) -> Result<Ending, RunFault>
+    requires { (W.sink writer.old).failed + 1 < 2 ^ 64 }
+    ensures kind { IfOk result (IsExplained (kind_of error)) }
+    ensures unwritten { IfOk result (λ ending. IfRefused ending (W.sink writer.new ≡ W.sink writer.old)) }
+{
+    let Ok(text) = error.to_string(alloc) else {
+        return Err(RunFault::OutOfMemory);
+    };
+    if error.use_stderr() {
+        return Ok(Ending::Refused(text));
+    }
+    tell(writer, text.as_str())?;
+    Ok(Ending::Done(true))
+}
+
+fn fault_text(fault: RunFault) -> &'static str
+    ensures { result.now ≡ fault_line fault }
+{
+    match fault {
+        RunFault::Read => "keydir: read failed\n",
+        RunFault::Write => "keydir: write failed\n",
+        RunFault::OutOfMemory => "keydir: out of memory\n",
+    }
+}

@@ -1,0 +1,7 @@
+mod limits;
+mod program;
+mod reading;
+mod registry;
+mod replies;
+mod scripts;
+mod streams;
