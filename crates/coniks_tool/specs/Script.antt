@@ -40,8 +40,8 @@ open_with (Some o) key nonce policy = refused (Some o) already_open
 
 -- `open`, by its members in the order of reading
 abbrev pub open_turn : State → Option (List ℕ) → Option (List ℕ) → Option (List ℕ) → Turn
-open_turn s None nonce policy = refused s (bad_member Key)
-open_turn s (Some key) None policy = refused s (bad_member Nonce)
+open_turn s None _ _ = refused s (bad_member Key)
+open_turn s (Some key) None _ = refused s (bad_member Nonce)
 open_turn s (Some key) (Some nonce) None = refused s (bad_member Policy)
 open_turn s (Some key) (Some nonce) (Some policy) = open_with s key nonce policy
 

@@ -32,20 +32,20 @@ pub struct Open {
 #[derive(Drop)]
 pub struct Script {
     alloc: Global,
-    open: Option<Open>,
+    opened: Option<Open>,
 }
 
 impl Script {
     /// Opens a directory, once.
     fn open_with(&mut self, key: [u8; 32], nonce: [u8; 32], policy: [u8; 32]) -> Reply
-        ensures reply { outcome_of result ≡ (open_with (state_of self.old.open) key nonce policy).outcome }
-        ensures state { state_of self.new.open ≡ (open_with (state_of self.old.open) key nonce policy).state }
+        ensures reply { outcome_of result ≡ (open_with (state_of self.old.opened) key nonce policy).outcome }
+        ensures state { state_of self.new.opened ≡ (open_with (state_of self.old.opened) key nonce policy).state }
     {
-        if self.open.is_some() {
+        if self.opened.is_some() {
             return Reply::AlreadyOpen;
         }
         let directory = PlainDirectory::new(self.alloc, DemoIndex::new(key), Nonce(nonce));
-        self.open = Some(Open {
+        self.opened = Some(Open {
             directory,
             policy: Digest(policy),
         });
@@ -53,9 +53,9 @@ impl Script {
     }
 
     fn open(&mut self, object: &Value) -> Reply
-        ensures reply { outcome_of result ≡ (open_turn (state_of self.old.open) (digits_in 32 (codes "key") (view object.now))
+        ensures reply { outcome_of result ≡ (open_turn (state_of self.old.opened) (digits_in 32 (codes "key") (view object.now))
             (digits_in 32 (codes "nonce") (view object.now)) (digits_in 32 (codes "policy") (view object.now))).outcome }
-        ensures state { state_of self.new.open ≡ (open_turn (state_of self.old.open) (digits_in 32 (codes "key") (view object.now))
+        ensures state { state_of self.new.opened ≡ (open_turn (state_of self.old.opened) (digits_in 32 (codes "key") (view object.now))
             (digits_in 32 (codes "nonce") (view object.now)) (digits_in 32 (codes "policy") (view object.now))).state }
     {
         let Some(key) = digits32(object, "key") else {
@@ -72,14 +72,14 @@ impl Script {
 
     /// Installs a batch that was read.
     fn install(&mut self, epoch: u64, ops: &[Op]) -> Result<Reply, AllocError>
-        ensures reply { IfOk result (λ reply. outcome_of reply ≡ (batch_with (state_of self.old.open) epoch (map operation_of ops.now)).outcome) }
-        ensures state { OnOk result (state_of self.new.open ≡ (batch_with (state_of self.old.open) epoch (map operation_of ops.now)).state) }
+        ensures reply { IfOk result (λ reply. outcome_of reply ≡ (batch_with (state_of self.old.opened) epoch (map operation_of ops.now)).outcome) }
+        ensures state { OnOk result (state_of self.new.opened ≡ (batch_with (state_of self.old.opened) epoch (map operation_of ops.now)).state) }
     {
-        let Some(mut open) = self.open.take() else {
+        let Some(mut opened) = self.opened.take() else {
             return Ok(Reply::NotOpen);
         };
-        let committed = open.directory.commit(epoch, ops);
-        self.open = Some(open);
+        let committed = opened.directory.commit(epoch, ops);
+        self.opened = Some(opened);
         match committed {
             Ok(root) => Ok(Reply::Installed { epoch, root }),
             Err(CommitFault::BatchTooLong) => Ok(Reply::BatchTooLong),
@@ -90,8 +90,8 @@ impl Script {
     }
 
     fn batch(&mut self, object: &Value) -> Result<Reply, AllocError>
-        ensures reply { IfOk result (λ reply. outcome_of reply ≡ (batch_turn (state_of self.old.open) (number_in (codes "epoch") (view object.now)) (array_in (codes "ops") (view object.now))).outcome) }
-        ensures state { OnOk result (state_of self.new.open ≡ (batch_turn (state_of self.old.open) (number_in (codes "epoch") (view object.now)) (array_in (codes "ops") (view object.now))).state) }
+        ensures reply { IfOk result (λ reply. outcome_of reply ≡ (batch_turn (state_of self.old.opened) (number_in (codes "epoch") (view object.now)) (array_in (codes "ops") (view object.now))).outcome) }
+        ensures state { OnOk result (state_of self.new.opened ≡ (batch_turn (state_of self.old.opened) (number_in (codes "epoch") (view object.now)) (array_in (codes "ops") (view object.now))).state) }
     {
         let Some(epoch) = number(object, "epoch") else {
             return Ok(Reply::BadMember(Member::Epoch));
@@ -106,8 +106,8 @@ impl Script {
     }
 
     fn command(&mut self, object: &Value) -> Result<Reply, AllocError>
-        ensures reply { IfOk result (λ reply. outcome_of reply ≡ (command_turn (state_of self.old.open) (view object.now) (text_in (codes "cmd") (view object.now))).outcome) }
-        ensures state { OnOk result (state_of self.new.open ≡ (command_turn (state_of self.old.open) (view object.now) (text_in (codes "cmd") (view object.now))).state) }
+        ensures reply { IfOk result (λ reply. outcome_of reply ≡ (command_turn (state_of self.old.opened) (view object.now) (text_in (codes "cmd") (view object.now))).outcome) }
+        ensures state { OnOk result (state_of self.new.opened ≡ (command_turn (state_of self.old.opened) (view object.now) (text_in (codes "cmd") (view object.now))).state) }
     {
         let Some(name) = text(object, "cmd") else {
             return Ok(Reply::NoCommand);
@@ -122,8 +122,8 @@ impl Script {
     }
 
     fn reply(&mut self, line: &[u8]) -> Result<Reply, AllocError>
-        ensures reply { IfOk result (λ reply. outcome_of reply ≡ (turn (state_of self.old.open) line.now).outcome) }
-        ensures state { OnOk result (state_of self.new.open ≡ (turn (state_of self.old.open) line.now).state) }
+        ensures reply { IfOk result (λ reply. outcome_of reply ≡ (turn (state_of self.old.opened) line.now).outcome) }
+        ensures state { OnOk result (state_of self.new.opened ≡ (turn (state_of self.old.opened) line.now).state) }
     {
         match read_object(self.alloc, line)? {
             Some(object) => Ok(self.command(&object)?),
@@ -138,7 +138,7 @@ impl LineMachine for Script {
 
     ghost State = { State };
 
-    ghost state = { λ s. state_of s.open };
+    ghost state = { λ s. state_of s.opened };
 
     ghost answer = { script_answer };
 
@@ -180,6 +180,9 @@ pub fn run_script<R: ByteIn, W: ByteOut>(
         → OnErr result (WritesPart script_answer None (lines_of input)
         (W.sink writer.old) (W.sink writer.new)) }
 {
-    let mut script = Script { alloc, open: None };
+    let mut script = Script {
+        alloc,
+        opened: None,
+    };
     run_lines(alloc, &mut script, reader, writer)
 }
