@@ -9,3 +9,4 @@ pub mod PrefixLemmas
 pub mod FaultLemmas
 pub mod LookupLemmas
 pub mod RegistryLemmas
+pub mod BackedLemmas

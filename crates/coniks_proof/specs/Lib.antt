@@ -7,6 +7,7 @@ pub mod Paths
 pub mod Maps
 pub mod Proofs
 pub mod Faults
+pub mod Collisions
 pub mod Registry
 pub mod Batches
 pub use Rattle.sha2.specs.Sha256

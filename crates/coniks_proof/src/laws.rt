@@ -1,7 +1,7 @@
 //! Laws of the definitions, each the contract of a function that only reads.
 
-ghost use Rattle.std.specs.Prelude.{◌↔◌, ◌≡◌, List, ℕ, Bool, true};
-ghost use Rattle.coniks_proof.specs.Entries.{Entry};
+ghost use Rattle.std.specs.Prelude.{◌↔◌, ◌≡◌, List, ℕ, Bool, true, map};
+ghost use Rattle.coniks_proof.specs.Entries.{Entry, backed_by};
 ghost use Rattle.coniks_proof.specs.Maps.{IsMap, SameEntries};
 ghost use Rattle.coniks_proof.specs.Faults.{Has};
 ghost use Rattle.coniks_proof.specs.Proofs.{Accepts, answer_of};
@@ -33,6 +33,17 @@ pub fn order_is_of_no_account<T>()
         → siblings hash nonce prefix index es ≡ siblings hash nonce prefix index fs }
     ensures end { (prefix : List Bool) (index : List ℕ) (es fs : List (Entry T)) → IsMap es → IsMap fs → SameEntries es fs
         → end_of prefix index es ≡ end_of prefix index fs }
+{}
+
+/// What a node and its path's siblings are doesn't depend on what stands behind the commitments, and a path ends with
+/// what it ends with and what stands behind that.
+pub fn what_stands_behind_is_of_no_account<T, U>()
+    ensures node { (of : T → U) (hash : List ℕ → List ℕ) (nonce : List ℕ) (prefix : List Bool) (entries : List (Entry T))
+        → node hash nonce prefix (map (backed_by of) entries) ≡ node hash nonce prefix entries }
+    ensures siblings { (of : T → U) (hash : List ℕ → List ℕ) (nonce : List ℕ) (prefix : List Bool) (index : List ℕ) (entries : List (Entry T))
+        → siblings hash nonce prefix index (map (backed_by of) entries) ≡ siblings hash nonce prefix index entries }
+    ensures end { (of : T → U) (prefix : List Bool) (index : List ℕ) (entries : List (Entry T))
+        → end_of prefix index (map (backed_by of) entries) ≡ map (backed_by of) (end_of prefix index entries) }
 {}
 
 /// A proof is accepted exactly where it has no fault.

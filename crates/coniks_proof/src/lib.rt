@@ -8,6 +8,7 @@
 pub mod bits;
 pub mod bytes;
 pub mod checker;
+pub mod collision;
 pub mod hashing;
 pub mod laws;
 pub mod paths;
@@ -18,6 +19,7 @@ pub mod values;
 pub use bits::{Prefix, bit};
 pub use bytes::{Binding, Bytes, Digests};
 pub use checker::{CheckFault, check};
+pub use collision::Collision;
 pub use hashing::{Flat, Hash32, Sha256Hash, commit_hash, empty_hash, inner_hash, leaf_hash};
 pub use paths::{Answer, End, Proof};
 pub use values::{
