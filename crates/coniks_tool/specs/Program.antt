@@ -7,6 +7,8 @@ use Rattle.coniks_lines.specs.Known.{Sink, Appends, next_count}
 use Rattle.coniks_lines.specs.Runs.{IsBeginning, WritesOn, CannotWrite}
 use Rattle.coniks_lines.specs.declared.fault.RunFault.{RunFault}
 use Rattle.coniks_lines.specs.declared.fault.RunFault.TheVariants.{Read, Write, OutOfMemory}
+use Rattle.coniks_tool.specs.declared.choice.Unread.{Unread}
+use Rattle.coniks_tool.specs.declared.choice.Unread.TheVariants as unread
 use Rattle.coniks_tool.specs.declared.statuses.Ending.{Ending}
 use Rattle.coniks_tool.specs.declared.statuses.Ending.TheVariants.{Done, Refused}
 
@@ -15,6 +17,16 @@ abbrev pub fault_line : RunFault → List ℕ
 fault_line Read = codes "keydir: read failed\n"
 fault_line Write = codes "keydir: write failed\n"
 fault_line OutOfMemory = codes "keydir: out of memory\n"
+
+-- the line that tells why there are no words
+abbrev pub unread_line : Unread → List ℕ
+unread_line unread.NotText = codes "keydir: a word is not UTF-8\n"
+unread_line unread.OutOfMemory = fault_line OutOfMemory
+
+-- the status where there are no words
+abbrev pub unread_status : Unread → ℕ
+unread_status unread.NotText = 2
+unread_status unread.OutOfMemory = 3
 
 -- a text was written, and one flush followed
 pub record TellsWhole (old : Sink) (text : List ℕ) (new : Sink) : Type 0 where

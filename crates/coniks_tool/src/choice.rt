@@ -17,3 +17,12 @@ pub enum WordsFault {
     /// Memory ran out.
     OutOfMemory,
 }
+
+/// Why the program's words can't be had.
+#[derive(Clone, Copy, Debug, PartialEq, Eq)]
+pub enum Unread {
+    /// A word isn't UTF-8.
+    NotText,
+    /// Memory ran out.
+    OutOfMemory,
+}

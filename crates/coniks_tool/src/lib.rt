@@ -21,12 +21,12 @@ mod telling;
 mod tests;
 mod words;
 
-pub use choice::{Settings, WordsFault};
+pub use choice::{Settings, Unread, WordsFault};
 pub use coniks_lines::{
     ByteIn, ByteOut, Failed, MemoryIn, MemoryOut, RunFault, SystemIn, SystemOut,
 };
 pub use demo::DemoIndex;
 pub use script::run_script;
 pub use source::IndexSource;
-pub use statuses::program;
+pub use statuses::{program, unread_words};
 pub use words::settings;

@@ -4,9 +4,9 @@ ghost use Rattle.std.specs.Prelude.{◌≡◌, ◌≢◌, ◌⊎◌, ◌<◌, �
 ghost use Rattle.clap.specs.Words.{fault_of, kind_of, takes};
 ghost use Rattle.coniks_lines.specs.declared.fault.RunFault.{RunFault as Fault};
 ghost use Rattle.coniks_tool.specs.Keydir.{keydir};
-ghost use Rattle.coniks_tool.specs.Program.{fault_line, AsksForHelp, EndsFor, HasMistake, IfRefused, IsExplained, Tells};
+ghost use Rattle.coniks_tool.specs.Program.{fault_line, unread_line, unread_status, AsksForHelp, EndsFor, HasMistake, IfRefused, IsExplained, Tells};
 
-use crate::choice::{Settings, WordsFault};
+use crate::choice::{Settings, Unread, WordsFault};
 use crate::script::run_script;
 use crate::telling::tell;
 use crate::words::settings;
@@ -65,6 +65,29 @@ pub fn program<S: AsStr, R: ByteIn, W: ByteOut, E: ByteOut>(
             let _ = tell(errors, fault_text(fault));
             3
         }
+    }
+}
+
+/// Tells why there are no words to do anything about, and answers the status: 2 for a word that
+/// isn't UTF-8, 3 where memory ran out. A failure of `errors` changes no status.
+pub fn unread_words<E: ByteOut>(why: Unread, errors: &mut E) -> u8
+    requires { (E.sink errors.old).failed + 1 < 2 ^ 64 }
+    ensures status { result ≡ unread_status why }
+    ensures told { Tells (E.sink errors.old) (unread_line why) (E.sink errors.new) }
+{
+    let _ = tell(errors, unread_text(why));
+    match why {
+        Unread::NotText => 2,
+        Unread::OutOfMemory => 3,
+    }
+}
+
+fn unread_text(why: Unread) -> &'static str
+    ensures { result.now ≡ unread_line why }
+{
+    match why {
+        Unread::NotText => "keydir: a word is not UTF-8\n",
+        Unread::OutOfMemory => fault_text(RunFault::OutOfMemory),
     }
 }
 

@@ -1,15 +1,19 @@
 //! The program `keydir`: its words and streams, handed to `coniks_tool::program`.
 #![tactic(auto)]
 
-use coniks_tool::{SystemIn, SystemOut, program};
+use coniks_tool::{SystemIn, SystemOut, Unread, program, unread_words};
+use std::env;
+use std::io::ErrorKind;
 use std::process::ExitCode;
-use std::{env, io};
 
-fn main(rt: HostRuntime) -> io::Result<ExitCode> {
-    let words: Vec<String> = env::args(&rt)?.collect(rt.alloc())?;
+fn main(rt: HostRuntime) -> ExitCode {
+    let mut errors = SystemOut::new(rt.stderr());
+    let words = match words(&rt) {
+        Ok(words) => words,
+        Err(why) => return ExitCode::from(unread_words(why, &mut errors)),
+    };
     let mut reader = SystemIn::new(rt.stdin());
     let mut writer = SystemOut::new(rt.stdout());
-    let mut errors = SystemOut::new(rt.stderr());
     let status = program(
         rt.alloc(),
         words.as_slice(),
@@ -17,5 +21,14 @@ fn main(rt: HostRuntime) -> io::Result<ExitCode> {
         &mut writer,
         &mut errors,
     );
-    Ok(ExitCode::from(status))
+    ExitCode::from(status)
+}
+
+/// The words that the program was called with.
+fn words(rt: &HostRuntime) -> Result<Vec<String>, Unread> {
+    match env::args(rt) {
+        Ok(words) => words.collect(rt.alloc()).or(Err(Unread::OutOfMemory)),
+        Err(error) if error.kind() == ErrorKind::OutOfMemory => Err(Unread::OutOfMemory),
+        Err(_) => Err(Unread::NotText),
+    }
 }

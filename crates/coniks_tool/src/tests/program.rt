@@ -1,5 +1,5 @@
-use crate::program;
 use crate::tests::streams::{FailIn, ShortOut};
+use crate::{Unread, program, unread_words};
 use coniks_lines::{MemoryIn, MemoryOut};
 use std::alloc::{AllocError, Global};
 use std::test::Fail;
@@ -161,4 +161,18 @@ fn failing_errors(rt: HostRuntime) {
             assert_eq!(rt; errors.bytes.len() as u64, calls);
         }
     }
+}
+
+#[test]
+fn no_words(rt: HostRuntime) -> Result<(), Fail> {
+    let cases = [
+        (Unread::NotText, 2, "keydir: a word is not UTF-8\n"),
+        (Unread::OutOfMemory, 3, "keydir: out of memory\n"),
+    ];
+    for (why, status, text) in cases {
+        let mut errors = MemoryOut::new(rt.alloc());
+        assert_eq!(rt; unread_words(why, &mut errors), status, "{text}");
+        assert!(rt; errors.bytes() == text.as_bytes(), "{text}");
+    }
+    Ok(())
 }
