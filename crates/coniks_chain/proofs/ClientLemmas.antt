@@ -1,0 +1,112 @@
+-- Two clients: what their runs have in common.
+use Rattle.std.proofs.Common.{◌≡◌, ◌≢◌, ℕ, zero, suc, ◌<◌, ◌≤◌, List, [], ◌∷◌, length, Bool, Option, Some, None, refl, sym, ap, subst, ◌∙◌, ◌⊎◌, inl, inr, ⊎_elim, arith, get_or}
+use Rattle.std.specs.List.{slice_get}
+use Rattle.std.specs.Option.{option_map}
+use Rattle.std.proofs.lemmas.Option.{slice_get_within, slice_get-get_or, slice_get-map, same_Some}
+use Rattle.std.proofs.lemmas.Bool.{cases_lt}
+use Rattle.coniks_proof.specs.declared.paths.Proof.{Proof}
+use Rattle.coniks_proof.specs.Proofs.{Accepts, answer_of}
+use Rattle.coniks_chain.specs.declared.entry.Entry.{Entry}
+use Rattle.coniks_chain.specs.declared.auditor.AuditFault.TheVariants.{NotLater}
+use Rattle.coniks_chain.specs.Chain.{Follows, before_of, before_at, GoodChain}
+use Rattle.coniks_chain.specs.Watch.{IsSoundRun, entries_of}
+use Rattle.coniks_chain.specs.Clients.{TwoClients}
+use Rattle.coniks_chain.proofs.ChainLemmas.{row}
+
+-- equality of entries is decided
+abbrev Decided : {A : Type 0} → A → A → Type 0
+Decided x y = (x ≡ y) ⊎ (x ≢ y)
+
+decide_ℕ : (m n : ℕ) → Decided m n
+decide_ℕ m n = ⊎_elim (λ (less : m < n). inr (λ (e : m ≡ n). omega arith)) (λ (le : n ≤ m). ⊎_elim (λ (more : n < m). inr (λ (e : m ≡ n). omega arith)) (λ (ge : m ≤ n). inl (omega arith)) (cases_lt n m)) (cases_lt m n)
+
+decide_list : {A : Type 0} → ((x y : A) → Decided x y) → (xs ys : List A) → Decided xs ys
+decide_list each [] [] = inl refl
+decide_list each [] (y ∷ ys) = inr (λ e. cc)
+decide_list each (x ∷ xs) [] = inr (λ e. cc)
+decide_list each (x ∷ xs) (y ∷ ys) = ⊎_elim
+    (λ head. ⊎_elim (λ tail. inl cc) (λ apart. inr (λ e. apart (cc))) (decide_list each xs ys))
+    (λ apart. inr (λ e. apart (cc)))
+    (each x y)
+
+-- part by part
+both : {A B : Type 0} (f : A → B) (x y : A) → Decided (f x) (f y) → ((f x ≡ f y) → Decided x y) → Decided x y
+both f x y part rest = ⊎_elim rest (λ apart. inr (λ e. apart (ap f e))) part
+
+abbrev made : ℕ → ℕ → ℕ → List ℕ → List ℕ → List ℕ → List ℕ → List ℕ → Entry
+made v t p r l n q s = record { body = record { version = v; t = t; t_prev = p; root = record { 0 = r }; previous = record { 0 = l }; nonce = record { 0 = n }; policy = q }; signature = record { 0 = s } }
+
+same_parts : (v v' t t' p p' : ℕ) (r r' l l' n n' q q' s s' : List ℕ) → v ≡ v' → t ≡ t' → p ≡ p' → r ≡ r' → l ≡ l' → n ≡ n' → q ≡ q' → s ≡ s' → made v t p r l n q s ≡ made v' t' p' r' l' n' q' s'
+same_parts v v' t t' p p' r r' l l' n n' q q' s s' e₁ e₂ e₃ e₄ e₅ e₆ e₇ e₈ = cc
+
+decide_entry : (x y : Entry) → Decided x y
+decide_entry x y =
+    both (λ e. e.body.version) x y (decide_ℕ x.body.version y.body.version) (λ e₁.
+    both (λ e. e.body.t) x y (decide_ℕ x.body.t y.body.t) (λ e₂.
+    both (λ e. e.body.t_prev) x y (decide_ℕ x.body.t_prev y.body.t_prev) (λ e₃.
+    both (λ e. e.body.root.0) x y (decide_list decide_ℕ x.body.root.0 y.body.root.0) (λ e₄.
+    both (λ e. e.body.previous.0) x y (decide_list decide_ℕ x.body.previous.0 y.body.previous.0) (λ e₅.
+    both (λ e. e.body.nonce.0) x y (decide_list decide_ℕ x.body.nonce.0 y.body.nonce.0) (λ e₆.
+    both (λ e. e.body.policy) x y (decide_list decide_ℕ x.body.policy y.body.policy) (λ e₇.
+    both (λ e. e.signature.0) x y (decide_list decide_ℕ x.signature.0 y.signature.0) (λ e₈. inl (same_parts _ _ _ _ _ _ _ _ _ _ _ _ _ _ _ _ e₁ e₂ e₃ e₄ e₅ e₆ e₇ e₈)))))))))
+
+-- in a good chain later entries have greater epochs
+pub increasing : (hash : List ℕ → List ℕ) (verdict : List ℕ → List ℕ → Bool) (xs : List Entry) (i j : ℕ) (e f : Entry) → GoodChain hash verdict xs → slice_get xs i ≡ Some e → slice_get xs j ≡ Some f → i < j → e.body.t < f.body.t
+increasing hash verdict xs i zero e f good at_i at_j less = absurd (omega arith)
+increasing hash verdict xs i (suc m) e f good at_i at_j less =
+    let within = slice_get_within xs (suc m) f at_j in
+    let short : m < length xs = omega arith in
+    let d = get_or xs m f in
+    let at : slice_get xs m ≡ Some d = slice_get-get_or xs m f short in
+    let before : before_at hash None xs (suc m) ≡ Some (before_of hash d) = ap (option_map (before_of hash)) at in
+    let later : d.body.t < f.body.t = row verdict (Some (before_of hash d)) f (subst (λ b. Follows verdict b f) before (good (suc m) f at_j)) NotLater in
+    ⊎_elim
+    (λ (more : i < m). let earlier = increasing hash verdict xs i m e d good at_i at more in omega arith)
+    (λ (le : m ≤ i).
+    let here : m ≡ i = omega arith in
+    let same : d ≡ e = same_Some d e (sym at ∙ ap (slice_get xs) here ∙ at_i) in
+    subst (λ x. x.body.t < f.body.t) same later)
+    (cases_lt i m)
+
+-- one epoch stands at one place
+pub one_place : (hash : List ℕ → List ℕ) (verdict : List ℕ → List ℕ → Bool) (xs : List Entry) (i j : ℕ) (e f : Entry) → GoodChain hash verdict xs → slice_get xs i ≡ Some e → slice_get xs j ≡ Some f → e.body.t ≡ f.body.t → e ≡ f
+one_place hash verdict xs i j e f good at_i at_j epoch = ⊎_elim
+    (λ (less : i < j). let more = increasing hash verdict xs i j e f good at_i at_j less in absurd (omega arith))
+    (λ (le : j ≤ i). ⊎_elim
+    (λ (less : j < i). let more = increasing hash verdict xs j i f e good at_j at_i less in absurd (omega arith))
+    (λ (ge : i ≤ j). let place : i ≡ j = omega arith in same_Some e f (sym at_i ∙ ap (slice_get xs) place ∙ at_j))
+    (cases_lt j i))
+    (cases_lt i j)
+
+item_of : (items : List (Entry × Proof)) (k : ℕ) (e : Entry) (found : Option (Entry × Proof)) → slice_get items k ≡ found → option_map (λ item. item.0) found ≡ Some e → (item : Entry × Proof) × (slice_get items k ≡ Some item) × (item.0 ≡ e)
+item_of items k e None at is = absurd (cc)
+item_of items k e (Some item) at is = (item, at, same_Some item.0 e is)
+
+-- the entries of a sound run from the start are a good chain
+pub run_good : (hash : List ℕ → List ℕ) (verdict : List ℕ → List ℕ → Bool) (name index : List ℕ) (items : List (Entry × Proof)) → IsSoundRun hash verdict None name index items → GoodChain hash verdict (entries_of items)
+run_good hash verdict name index items sound = λ k e at.
+    let found = item_of items k e (slice_get items k) refl (sym (slice_get-map (λ item. item.0) items k) ∙ at) in
+    subst (λ x. Follows verdict (before_at hash None (entries_of items) k) x) found.2 (sound k found.0 found.1).follows
+
+entry_at : (items : List (Entry × Proof)) (k : ℕ) (item : Entry × Proof) → slice_get items k ≡ Some item → slice_get (entries_of items) k ≡ Some item.0
+entry_at items k item at = slice_get-map (λ x. x.0) items k ∙ ap (option_map (λ x. x.0)) at
+
+pub two_clients : TwoClients
+two_clients hash verdict index name_a name_b link a b at_a at_b both_are =
+    let good_a = run_good hash verdict name_a index a both_are.sound_a in
+    let good_b = run_good hash verdict name_b index b both_are.sound_b in
+    ⊎_elim
+    (λ (same : entries_of a ≡ entries_of b).
+    let stands_b : slice_get (entries_of a) both_are.place_b ≡ Some at_b.0 = ap (λ l. slice_get l both_are.place_b) same ∙ entry_at b both_are.place_b at_b both_are.stands_b in
+    let one : at_a.0 ≡ at_b.0 = one_place hash verdict (entries_of a) both_are.place_a both_are.place_b at_a.0 at_b.0 good_a (entry_at a both_are.place_a at_a both_are.stands_a) stands_b both_are.epoch in
+    inr (
+      same,
+      one,
+      record {
+        accepted_a = (both_are.sound_a both_are.place_a at_a both_are.stands_a).accepted;
+        accepted_b = subst (λ (e : Entry). Accepts hash e.body.nonce.0 e.body.root.0 index name_b at_b.1 (answer_of at_b.1.end)) (sym one) (both_are.sound_b both_are.place_b at_b both_are.stands_b).accepted;
+        differ = both_are.answers;
+      },
+    ))
+    (λ apart. inl (record { good_a = good_a; good_b = good_b; ends_a = both_are.ends_a; ends_b = both_are.ends_b; differ = apart }))
+    (decide_list decide_entry (entries_of a) (entries_of b))

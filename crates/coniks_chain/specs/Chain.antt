@@ -1,0 +1,88 @@
+-- When an entry may follow another, and good chains (CONIKS, section 3: each signed tree root names the hash of the one before).
+use Rattle.std.specs.Prelude.{◌≡◌, ◌<◌, ℕ, suc, zero, List, [], ◌∷◌, take, Bool, true, Option, Some, None, IfNone, IfSome, slice_get}
+use Rattle.std.specs.Option.{option_map}
+use Rattle.coniks_proof.specs.declared.values.Head.{Head}
+use Rattle.coniks_proof.specs.Preimages.{zeros}
+use Rattle.coniks_chain.specs.declared.entry.Entry.{Entry}
+use Rattle.coniks_chain.specs.declared.auditor.Before.{Before}
+use Rattle.coniks_chain.specs.declared.auditor.AuditFault.{AuditFault}
+use Rattle.coniks_chain.specs.declared.auditor.AuditFault.TheVariants.{Version, FirstEpoch, NotLater, PreviousEpoch, PreviousLink, NonceChanged, Verdict}
+use Rattle.coniks_chain.specs.Entries.{body_bytes, link_preimage}
+
+-- of an entry, what its successor is compared with
+abbrev pub before_of : (List ℕ → List ℕ) → Entry → Before
+before_of hash entry = record { t = entry.body.t; link = record { 0 = hash (link_preimage entry) }; version = entry.body.version; nonce = entry.body.nonce }
+
+-- the epoch that an entry has to name as the one before it
+abbrev pub epoch_before : Option Before → ℕ
+epoch_before None = 0
+epoch_before (Some before) = before.t
+
+-- the link that an entry has to name as the one before it
+abbrev pub link_before : Option Before → List ℕ
+link_before None = zeros
+link_before (Some before) = before.link.0
+
+-- what an entry has to meet so that it hasn't this fault
+abbrev pub Meets : (List ℕ → List ℕ → Bool) → Option Before → Entry → AuditFault → Type 0
+Meets verdict before entry Version = entry.body.version ≡ 1
+Meets verdict before entry FirstEpoch = IfNone before (0 < entry.body.t)
+Meets verdict before entry NotLater = IfSome before (λ b. b.t < entry.body.t)
+Meets verdict before entry PreviousEpoch = entry.body.t_prev ≡ epoch_before before
+Meets verdict before entry PreviousLink = entry.body.previous.0 ≡ link_before before
+Meets verdict before entry NonceChanged = IfSome before (λ b. entry.body.nonce.0 ≡ b.nonce.0)
+Meets verdict before entry Verdict = verdict (body_bytes entry.body) entry.signature.0 ≡ true
+
+-- an entry has none of these faults
+abbrev pub MeetsAll : (List ℕ → List ℕ → Bool) → Option Before → Entry → List AuditFault → Type 0
+MeetsAll verdict before entry [] = Unit {0}
+MeetsAll verdict before entry (fault ∷ rest) = Meets verdict before entry fault × MeetsAll verdict before entry rest
+
+-- the faults in the order in which they are judged
+abbrev pub faults : List AuditFault
+faults = Version ∷ FirstEpoch ∷ NotLater ∷ PreviousEpoch ∷ PreviousLink ∷ NonceChanged ∷ Verdict ∷ []
+
+-- the place of a fault among them
+abbrev pub place_of : AuditFault → ℕ
+place_of Version = 0
+place_of FirstEpoch = 1
+place_of NotLater = 2
+place_of PreviousEpoch = 3
+place_of PreviousLink = 4
+place_of NonceChanged = 5
+place_of Verdict = 6
+
+-- the entry has no fault after what is before it
+pub record Follows (verdict : List ℕ → List ℕ → Bool) (before : Option Before) (entry : Entry) : Type 0 where
+  pub rows : MeetsAll verdict before entry faults
+
+-- the entry has this fault and none before it in the order
+pub record IsFirstFault (verdict : List ℕ → List ℕ → Bool) (before : Option Before) (entry : Entry) (fault : AuditFault) : Type 0 where
+  pub here : ¬ Meets verdict before entry fault
+  pub earlier : MeetsAll verdict before entry (take (place_of fault) faults)
+
+-- what stands just before place k of some entries, where `start` stands before the first of them
+abbrev pub before_at : (List ℕ → List ℕ) → Option Before → List Entry → ℕ → Option Before
+before_at hash start entries zero = start
+before_at hash start entries (suc k) = option_map (before_of hash) (slice_get entries k)
+
+-- the head of what stands there, if anything does
+abbrev pub head_of : Option Before → Option Head
+head_of before = option_map (λ b. record { epoch = b.t; link = b.link }) before
+
+-- each of the first n entries follows the entry just before it
+abbrev pub ContinuesTo : (List ℕ → List ℕ) → (List ℕ → List ℕ → Bool) → Option Before → List Entry → ℕ → Type 0
+ContinuesTo hash verdict start entries n = (k : ℕ) (entry : Entry) → k < n → slice_get entries k ≡ Some entry → Follows verdict (before_at hash start entries k) entry
+
+-- each entry follows the entry just before it, the first one what stood before
+abbrev pub Continues : (List ℕ → List ℕ) → (List ℕ → List ℕ → Bool) → Option Before → List Entry → Type 0
+Continues hash verdict start entries = (k : ℕ) (entry : Entry) → slice_get entries k ≡ Some entry → Follows verdict (before_at hash start entries k) entry
+
+-- a good chain: each entry follows the one just before it, and nothing stands before the first
+abbrev pub GoodChain : (List ℕ → List ℕ) → (List ℕ → List ℕ → Bool) → List Entry → Type 0
+GoodChain hash verdict entries = Continues hash verdict None entries
+
+-- the first place at which an entry doesn't follow, and its first fault
+pub record IsFirstRefused (hash : List ℕ → List ℕ) (verdict : List ℕ → List ℕ → Bool) (start : Option Before) (entries : List Entry) (place : ℕ) (fault : AuditFault) : Type 0 where
+  pub earlier : ContinuesTo hash verdict start entries place
+  pub here : (entry : Entry) × (slice_get entries place ≡ Some entry) × IsFirstFault verdict (before_at hash start entries place) entry fault

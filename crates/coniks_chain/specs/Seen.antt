@@ -1,0 +1,39 @@
+-- What a client sees, and how often.
+use Rattle.std.specs.Prelude.{ℕ, ◌+◌, List, Bool, true, false, Option, Some, None, if◌then◌else◌}
+use Rattle.std.specs.Str.{bytes_eq}
+use Rattle.coniks_chain.specs.declared.seen.Seen.{Seen}
+use Rattle.coniks_chain.specs.declared.seen.Seen.TheVariants.{Same, Changed, Absent}
+use Rattle.coniks_chain.specs.declared.seen.Tally.{Tally}
+
+-- what the client sees: the expectation, then the answer
+abbrev pub seen_of : Option (List ℕ) → Option (List ℕ) → Seen
+seen_of None None = Same
+seen_of (Some want) None = Absent
+seen_of None (Some key) = Changed
+seen_of (Some want) (Some key) = if bytes_eq key want then Same else Changed
+
+-- the expected answer was seen
+abbrev pub is_same : Seen → Bool
+is_same Same = true
+is_same Changed = false
+is_same Absent = false
+
+-- another key was seen
+abbrev pub is_changed : Seen → Bool
+is_changed Same = false
+is_changed Changed = true
+is_changed Absent = false
+
+-- no key was seen where one was expected
+abbrev pub is_absent : Seen → Bool
+is_absent Same = false
+is_absent Changed = false
+is_absent Absent = true
+
+-- 1 where it is so, else 0
+abbrev pub one_if : Bool → ℕ
+one_if b = if b then 1 else 0
+
+-- a tally that counts one more
+abbrev pub counted : Tally → Seen → Tally
+counted tally seen = record { same = tally.same + one_if (is_same seen); changed = tally.changed + one_if (is_changed seen); absent = tally.absent + one_if (is_absent seen) }

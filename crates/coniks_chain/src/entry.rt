@@ -1,0 +1,136 @@
+//! A signed entry, its bytes and its link.
+
+ghost use Rattle.std.specs.Prelude.{◌≡◌, ◌++◌, ◌≤◌, ◌+◌, length, take};
+ghost use Rattle.coniks_chain.specs.Entries.{IsBody, IsEntry, body_bytes, link_preimage};
+
+use coniks_proof::{Digest, Hash32, Nonce};
+
+/// What the directory says of one epoch: the signed tree root (CONIKS, section 3).
+#[derive(Clone, Copy, Debug, PartialEq, Eq)]
+pub struct Body {
+    /// The version of the format, which is 1 in a good chain.
+    pub version: u8,
+    /// The epoch, from 1 on.
+    pub t: u64,
+    /// The epoch of the entry before, 0 for the first.
+    pub t_prev: u64,
+    /// The root of the tree at this epoch.
+    pub root: Digest,
+    /// The link of the entry before, 32 zero bytes for the first.
+    pub previous: Digest,
+    /// The nonce under which the tree is hashed.
+    pub nonce: Nonce,
+    /// The digest of the directory's policy. Nothing is asked of it.
+    pub policy: [u8; 32],
+}
+
+/// What a signer gave for the bytes of a body.
+#[derive(Clone, Copy, Debug, PartialEq, Eq)]
+pub struct Signature(pub [u8; 64]);
+
+/// A body with its signature.
+#[derive(Clone, Copy, Debug, PartialEq, Eq)]
+pub struct Entry {
+    pub body: Body,
+    pub signature: Signature,
+}
+
+/// The tag of what is hashed to a link.
+pub(crate) const LINK_TAG: u8 = 0x53;
+
+/// Promises that an array has its length.
+fn full<const N: usize>(bytes: &[u8; N])
+    ensures { length bytes.now ≡ N }
+{
+    let _ = bytes;
+}
+
+/// Writes a part behind the first `at` bytes. Nothing is said of the bytes after the part.
+fn put(bytes: &mut [u8], at: usize, part: &[u8])
+    requires { at + length part.now ≤ length bytes.old }
+    ensures { take (at + length part.now) bytes.new ≡ take at bytes.old ++ part.now }
+{
+    bytes[at..at + part.len()].copy_from_slice(part);
+}
+
+/// The bytes of a slice as an array.
+fn part<const N: usize>(bytes: &[u8]) -> [u8; N]
+    requires { length bytes.now ≡ N }
+    ensures { result ≡ bytes.now }
+{
+    let mut array = [0; N];
+    array.copy_from_slice(bytes);
+    array
+}
+
+impl Body {
+    /// The 145 bytes that are signed: version, epoch, epoch before, root, link before, nonce and policy, the numbers
+    /// with their most significant byte first.
+    #[tactic(auto, unfolding(crate::specs::Entries::body_bytes))]
+    pub fn bytes(&self) -> [u8; 145]
+        ensures { result ≡ body_bytes self.now }
+    {
+        let mut bytes = [0; 145];
+        bytes[0] = self.version;
+        put(&mut bytes, 1, &self.t.to_be_bytes());
+        put(&mut bytes, 9, &self.t_prev.to_be_bytes());
+        put(&mut bytes, 17, &self.root.0);
+        put(&mut bytes, 49, &self.previous.0);
+        put(&mut bytes, 81, &self.nonce.0);
+        put(&mut bytes, 113, &self.policy);
+        bytes
+    }
+
+    /// The one body that has these bytes. Any 145 bytes are a body's, whatever the version.
+    pub fn read(bytes: &[u8; 145]) -> Body
+        ensures bytes { body_bytes result ≡ bytes.now }
+        ensures same { (body : Body) → IsBody body → body_bytes body ≡ bytes.now → result ≡ body }
+    {
+        Body {
+            version: bytes[0],
+            t: u64::from_be_bytes(part(&bytes[1..9])),
+            t_prev: u64::from_be_bytes(part(&bytes[9..17])),
+            root: Digest(part(&bytes[17..49])),
+            previous: Digest(part(&bytes[49..81])),
+            nonce: Nonce(part(&bytes[81..113])),
+            policy: part(&bytes[113..145]),
+        }
+    }
+
+    /// Promises that the numbers and arrays have the sizes of their types.
+    pub fn known(&self)
+        ensures { IsBody self.now }
+    {
+        let _t = self.t;
+        let _t_prev = self.t_prev;
+        full(&self.root.0);
+        full(&self.previous.0);
+        full(&self.nonce.0);
+        full(&self.policy);
+    }
+}
+
+impl Entry {
+    /// Promises that the numbers and arrays have the sizes of their types.
+    pub fn known(&self)
+        ensures { IsEntry self.now }
+    {
+        self.body.known();
+        full(&self.signature.0);
+    }
+}
+
+/// The hash of three pieces, taken as one message.
+fn hash_of_three<'a, H: Hash32>(h: &H, a: &'a [u8], b: &'a [u8], c: &'a [u8]) -> Digest
+    ensures { result.0 ≡ H.digest_of h.now (a.now ++ b.now ++ c.now) }
+{
+    h.hash(&[a, b, c])
+}
+
+/// The link of an entry, by which the next entry names it: the hash of a tag, the body's bytes and the signature, 210
+/// bytes in all.
+pub fn link<H: Hash32>(h: &H, entry: &Entry) -> Digest
+    ensures { result.0 ≡ H.digest_of h.now (link_preimage entry.now) }
+{
+    hash_of_three(h, &[LINK_TAG], &entry.body.bytes(), &entry.signature.0)
+}

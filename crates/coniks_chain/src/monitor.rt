@@ -1,0 +1,134 @@
+//! A client's monitor of one name.
+
+ghost use Rattle.std.specs.Prelude.{◌≡◌, Some, None, OnOk, OnErr, IfOk, IfErr, length};
+ghost use Rattle.coniks_proof.specs.Proofs.{answer_of, said};
+ghost use Rattle.coniks_chain.specs.Chain.{before_at, before_of};
+ghost use Rattle.coniks_chain.specs.Seen.{seen_of};
+ghost use Rattle.coniks_chain.specs.Watch.{IsFirstStepFault, IsFirstUnsound, IsSoundRun, IsSoundStep, Watched, entries_of, tally_of};
+
+use crate::auditor::Auditor;
+use crate::entry::Entry;
+use crate::seen::{MonitorFault, Seen, Tally};
+use crate::signer::Verify;
+use coniks_proof::{Answer, Bytes, Hash32, Index, Proof, check};
+use std::marker::Model;
+
+/// Watches one name over a chain, for a client that expects a key of it, or none (CONIKS, section 4).
+#[derive(Drop)]
+pub struct Monitor<H> {
+    auditor: Auditor<H>,
+    name: Bytes,
+    index: Index,
+    expected: Option<Bytes>,
+}
+
+impl<H> Model for Monitor<H> {
+    ghost use Rattle.coniks_chain.specs.Watch.{Watched};
+
+    ghost Value = { Watched H };
+
+    ghost view = { λ m. record { hasher = m.auditor.0; before = m.auditor.1; name = m.name; index = m.index.0; expected = m.expected } };
+}
+
+/// An answer, against the expected key.
+fn seen(expected: &Option<Bytes>, answer: &Answer) -> Seen
+    ensures { result ≡ seen_of expected.now (said answer.now) }
+{
+    match (expected, answer) {
+        (None, Answer::Absent) => Seen::Same,
+        (Some(_), Answer::Absent) => Seen::Absent,
+        (None, Answer::Key(_)) => Seen::Changed,
+        (Some(want), Answer::Key(key)) => {
+            if *key == want.as_slice() {
+                Seen::Same
+            } else {
+                Seen::Changed
+            }
+        }
+    }
+}
+
+impl<H: Hash32 + Drop> Monitor<H> {
+    /// A monitor that has seen no entry. A name of no bytes or of more than 255 is taken, and then no proof is accepted.
+    pub fn new(h: H, name: Bytes, index: Index, expected: Option<Bytes>) -> Self
+        ensures { result ≡ record { hasher = h; before = None; name = name; index = index.0; expected = expected } }
+    {
+        Monitor {
+            auditor: Auditor::new(h),
+            name,
+            index,
+            expected,
+        }
+    }
+
+    /// Sets the key that is expected, or that none is. Nothing else changes it.
+    pub fn expect(&mut self, expected: Option<Bytes>)
+        ensures { self.new ≡ record self.old { expected = expected } }
+    {
+        self.expected = expected;
+    }
+
+    /// Audits an entry, then checks the proof for the monitor's name against the entry's root and nonce. After a
+    /// refusal by either the monitor is as it was. It takes no memory.
+    pub fn step<V: Verify>(
+        &mut self,
+        entry: &Entry,
+        proof: &Proof,
+        verify: &V,
+    ) -> Result<Seen, MonitorFault>
+        ensures ok { OnOk result (IsSoundStep (H.digest_of self.old.hasher) (V.verdict_of verify.now) self.old.before self.old.name self.old.index entry.now proof.now (answer_of proof.now.end)) }
+        ensures seen { IfOk result (λ seen. seen ≡ seen_of self.old.expected (answer_of proof.now.end)) }
+        ensures kept { OnOk result (self.new ≡ record self.old { before = Some (before_of (H.digest_of self.old.hasher) entry.now) }) }
+        ensures err { IfErr result (IsFirstStepFault (H.digest_of self.old.hasher) (V.verdict_of verify.now) self.old.before self.old.name self.old.index entry.now proof.now) }
+        ensures unchanged { OnErr result (self.new ≡ self.old) }
+    {
+        if let Err(fault) = self.auditor.judge(entry, verify) {
+            return Err(MonitorFault::Audit(fault));
+        }
+        let body = &entry.body;
+        match check(
+            self.auditor.hasher(),
+            &body.nonce,
+            &body.root,
+            &self.index,
+            self.name.as_slice(),
+            proof,
+        ) {
+            Ok(answer) => {
+                let seen = seen(&self.expected, &answer);
+                self.auditor.keep(entry);
+                Ok(seen)
+            }
+            Err(fault) => Err(MonitorFault::Check(fault)),
+        }
+    }
+
+    /// Steps over entries with their proofs, and counts what was seen; or stops at the first that isn't accepted, with
+    /// its place, from 0, and its fault. It takes no memory.
+    pub fn run<V: Verify>(
+        &mut self,
+        items: &[(Entry, Proof)],
+        verify: &V,
+    ) -> Result<Tally, (usize, MonitorFault)>
+        ensures ok { OnOk result (IsSoundRun (H.digest_of self.old.hasher) (V.verdict_of verify.now) self.old.before self.old.name self.old.index items.now) }
+        ensures tally { IfOk result (λ tally. tally ≡ tally_of self.old.expected items.now) }
+        ensures kept { OnOk result (self.new ≡ record self.old { before = before_at (H.digest_of self.old.hasher) self.old.before (entries_of items.now) (length items.now) }) }
+        ensures err { IfErr result (λ refused. IsFirstUnsound (H.digest_of self.old.hasher) (V.verdict_of verify.now) self.old.before self.old.name self.old.index items.now refused.0 refused.1) }
+
+        // The monitor stands where the steps before the refused one left it.
+        ensures stands { IfErr result (λ refused. self.new ≡ record self.old { before = before_at (H.digest_of self.old.hasher) self.old.before (entries_of items.now) refused.0 }) }
+    {
+        let mut tally = Tally {
+            same: 0,
+            changed: 0,
+            absent: 0,
+        };
+        for (i, item) in items.iter().enumerate() {
+            match self.step(&item.0, &item.1, verify) {
+                Ok(seen) => tally.count(seen),
+                Err(fault) => return Err((i, fault)),
+            }
+        }
+        Ok(tally)
+    }
+}
