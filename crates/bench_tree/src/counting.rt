@@ -1,0 +1,35 @@
+//! A hash that counts how often it is called.
+
+ghost use Rattle.sha2.specs.Sha256.{sha256};
+
+use coniks_proof::{Digest, Hash32, Sha256Hash};
+use std::cell::Cell;
+
+/// SHA-256, and how many times it was called.
+#[derive(Drop)]
+pub struct Counting {
+    calls: Cell<u64>,
+}
+
+impl Counting {
+    /// A hash that wasn't called yet.
+    pub fn new() -> Counting {
+        Counting {
+            calls: Cell::new(0),
+        }
+    }
+
+    /// How many times it was called, modulo 2^64.
+    pub fn calls(&self) -> u64 {
+        self.calls.get()
+    }
+}
+
+impl Hash32 for Counting {
+    ghost digest_of = { λ h message. sha256 message };
+
+    fn hash(&self, pieces: &[&[u8]]) -> Digest {
+        self.calls.set(self.calls.get().wrapping_add(1));
+        Sha256Hash.hash(pieces)
+    }
+}

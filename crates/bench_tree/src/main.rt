@@ -1,0 +1,33 @@
+//! What an epoch costs: registers pseudo-random indices in batches, and prints how many nodes and hashes that took.
+//!
+//! Without words it registers 1,000 indices in batches of 64, and prints the same each time. With the words INDICES and
+//! BATCH it registers so many in batches of so many, and prints seconds and resident memory too.
+#![tactic(auto)]
+
+mod counting;
+mod measure;
+mod plan;
+mod registering;
+
+use crate::measure::print_cost;
+use crate::plan::plan_of;
+use crate::registering::Registry;
+use anyhow::Result;
+use std::env;
+use std::time::Instant;
+
+fn main(rt: HostRuntime) -> Result<()> {
+    let words: Vec<String> = env::args(&rt)?.collect(rt.alloc())?;
+    let plan = plan_of(words.as_slice())?;
+    let start = Instant::now(&rt)?;
+    let mut registry = Registry::new(rt.alloc());
+    registry.register_all(&plan)?;
+    let counts = registry.counts(rt.alloc())?;
+    println!(rt; "indices: {}", plan.indices)?;
+    println!(rt; "batches: {}", plan.batches())?;
+    println!(rt; "{counts}")?;
+    if plan.is_measured {
+        print_cost(&rt, start.elapsed(&rt)?)?;
+    }
+    Ok(())
+}

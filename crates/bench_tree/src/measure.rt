@@ -1,0 +1,27 @@
+//! What a run takes of time and memory.
+
+use anyhow::Result;
+use std::rt::Files;
+use std::time::Duration;
+use std::{fs, io};
+
+/// How much memory the process has in use, as Linux tells it; nothing where it doesn't.
+fn resident<R: Files + AllocGlobal>(rt: &R) -> io::Result<Option<String>> {
+    let status = fs::read_to_string(rt, "/proc/self/status")?;
+    for line in status.lines() {
+        if let Some(size) = line.strip_prefix("VmRSS:") {
+            return Ok(Some(String::from_str(rt.alloc(), size.trim())?));
+        }
+    }
+    Ok(None)
+}
+
+/// Prints the time that a run took, and the memory that is in use.
+pub fn print_cost<R: Files + AllocGlobal + Print>(rt: &R, time: Duration) -> Result<()> {
+    println!(rt; "seconds: {}.{:03}", time.as_secs(), time.subsec_millis())?;
+    match resident(rt)? {
+        Some(size) => println!(rt; "resident memory: {size}")?,
+        None => println!(rt; "resident memory: unknown")?,
+    }
+    Ok(())
+}

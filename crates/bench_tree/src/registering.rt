@@ -1,0 +1,173 @@
+//! A registry of pseudo-random indices, an epoch for each batch.
+
+ghost use Rattle.std.specs.Prelude.{◌≡◌, ◌++◌, ◌<◌, ◌≤◌, ◌+◌, List, length, IfOk, IfSome, Some, slice_get};
+ghost use Rattle.coniks_tree.specs.Parts.{AllPlaced, Fits, Placed};
+ghost use Rattle.coniks_tree.specs.Table.{Extends};
+ghost use Rattle.coniks_tree.specs.declared.part.Part.{Entry};
+ghost use Rattle.coniks_tree.specs.declared.table.Record.{Record};
+
+use crate::counting::Counting;
+use crate::plan::Plan;
+use coniks_proof::{
+    Binding, Bytes, Digest, Hash32, Index, Nonce, Opening, Prefix, Sha256Hash, commit_hash,
+};
+use coniks_tree::{Change, OutOfMemory, Part, Record, RecordNo, Root, Tree};
+use std::alloc::{AllocError, Global};
+use std::fmt;
+
+const NONCE: Nonce = Nonce([0x11; 32]);
+
+const OPENING: Opening = Opening([0x22; 32]);
+
+/// How much was made, and the latest root's hash.
+#[derive(Drop)]
+pub struct Counts {
+    nodes: usize,
+    hashes: u64,
+    root: String,
+}
+
+impl fmt::Display for Counts {
+    fn fmt<W: fmt::Write>(&self, f: &mut fmt::Formatter<W>) -> fmt::Result {
+        let nodes = self.nodes;
+        let hashes = self.hashes;
+        let root = &self.root;
+        write!(f, "nodes: {nodes}\nhashes: {hashes}\nroot: {root}")
+    }
+}
+
+/// The indices of these numbers, which are SHA-256 of their 8 bytes, in increasing order.
+fn indices_of(alloc: Global, from: u64, to: u64) -> Result<Vec<(Index, u64)>, AllocError> {
+    let mut indices = Vec::new(alloc);
+    for number in from..to {
+        let index = Index(Sha256Hash.hash(&[&number.to_be_bytes()]).0);
+        indices.push((index, number))?;
+    }
+    indices.sort()?;
+    Ok(indices)
+}
+
+/// The record of a number: its name is the number's 8 bytes and its key the index's 32 bytes.
+fn record_of<H: Hash32>(
+    alloc: Global,
+    h: &H,
+    index: Index,
+    number: u64,
+) -> Result<Record, AllocError> {
+    let name = number.to_be_bytes();
+    let commitment = commit_hash(h, &OPENING, &name, &index.0);
+    let name = Bytes::copy_of(alloc, &name)?;
+    let key = Bytes::copy_of(alloc, &index.0)?;
+    Ok(Record {
+        index,
+        binding: Binding { name, key },
+        opening: OPENING,
+        commitment,
+    })
+}
+
+/// The records of these numbers, in the order of their indices.
+fn records_of<H: Hash32>(
+    alloc: Global,
+    h: &H,
+    from: u64,
+    to: u64,
+) -> Result<Vec<Record>, AllocError> {
+    let mut records = Vec::new(alloc);
+    for (index, number) in &indices_of(alloc, from, to)? {
+        records.push(record_of(alloc, h, *index, *number)?)?;
+    }
+    Ok(records)
+}
+
+/// The change that puts a record into the tree, which is to stand at a place.
+fn change_to(place: usize, new: &Record) -> Change
+    ensures { (all : List Record) → slice_get all place ≡ Some new.now → Placed all (Entry result) }
+{
+    Change {
+        index: new.index,
+        commitment: new.commitment,
+        place: RecordNo(place),
+    }
+}
+
+/// The changes that put records into the tree, which are to stand from a place on.
+fn changes_to(alloc: Global, first: usize, records: &[Record]) -> Result<Vec<Change>, AllocError>
+    ensures { IfOk result (λ changes. (old : List Record) → length old ≡ first → AllPlaced (old ++ records.now) changes.items) }
+{
+    let mut changes = Vec::new(alloc);
+    for (position, new) in records.iter().enumerate() {
+        let place = first.checked_add(position).ok_or(AllocError)?;
+        changes.push(change_to(place, new))?;
+    }
+    Ok(changes)
+}
+
+/// What the latest root shows; nothing where the tree has no such root.
+fn part_before(tree: &Tree, latest: Option<Root>) -> Part
+    ensures fits { Fits (length tree.now.nodes.items) 0 result }
+    ensures placed { (all : List Record) → Extends tree.now.records.items all → Placed all result }
+{
+    match latest {
+        Some(root) if root.0 < tree.nodes() => tree.part_at(root, &Prefix::root()),
+        _ => Part::Nothing,
+    }
+}
+
+/// A tree that gains an epoch for each batch, by a hash that counts.
+#[derive(Drop)]
+pub struct Registry {
+    alloc: Global,
+    hash: Counting,
+    tree: Tree,
+    latest: Option<Root>,
+}
+
+impl Registry {
+    /// A registry of nothing.
+    pub fn new(alloc: Global) -> Registry {
+        Registry {
+            alloc,
+            hash: Counting::new(),
+            tree: Tree::new(alloc),
+            latest: None,
+        }
+    }
+
+    /// Registers what a plan says.
+    pub fn register_all(&mut self, plan: &Plan) -> Result<(), OutOfMemory> {
+        for number in 0..plan.batches() {
+            let from = number.saturating_mul(plan.batch);
+            let to = plan.indices.min(from.saturating_add(plan.batch));
+            self.register(from, to)?;
+        }
+        Ok(())
+    }
+
+    /// Registers these numbers in one epoch.
+    fn register(&mut self, from: u64, to: u64) -> Result<(), OutOfMemory> {
+        let records = records_of(self.alloc, &self.hash, from, to)?;
+        let changes = changes_to(self.alloc, self.tree.records(), &records)?;
+        let part = part_before(&self.tree, self.latest);
+        let part = self
+            .tree
+            .grow(&self.hash, &NONCE, part, &Prefix::root(), &changes)?;
+        self.tree.reserve(&part, records.len())?;
+        let root = self.tree.attach(&self.hash, &NONCE, part, records);
+        self.latest = Some(root);
+        Ok(())
+    }
+
+    /// How much was made until now.
+    pub fn counts(&self, alloc: Global) -> Result<Counts, AllocError> {
+        let root = match self.latest {
+            Some(root) if root.0 < self.tree.nodes() => self.tree.node_hash(root),
+            _ => Digest([0; 32]),
+        };
+        Ok(Counts {
+            nodes: self.tree.nodes(),
+            hashes: self.hash.calls(),
+            root: hex::encode(alloc, &root.0)?,
+        })
+    }
+}

@@ -1,0 +1,4 @@
+pub mod TableLemmas
+pub mod PartLemmas
+pub mod PushLemmas
+pub mod PathLemmas

@@ -1,0 +1,227 @@
+-- Parts: their hashes.
+use Rattle.std.proofs.Common.{◌≡◌, ℕ, zero, suc, ◌+◌, ◌-◌, ◌<◌, ◌≤◌, List, [], ◌∷◌, ◌++◌, length, Bool, true, false, refl, sym, ap, subst, ◌∙◌, arith, Some, slice_get, take, drop, length-take-le, ◌*◌}
+use Rattle.coniks_proof.specs.Bits.{child}
+use Rattle.coniks_proof.specs.Entries.{half, under}
+use Rattle.coniks_proof.specs.Preimages.{empty_preimage, leaf_preimage, inner_preimage}
+use Rattle.coniks_proof.specs.Tree.{node}
+use Rattle.coniks_proof.proofs.NodeLemmas.{node-empty, node-leaf, node-inner, length-child}
+use Rattle.coniks_proof.proofs.HalfLemmas.{length-halves, all_left, all_right}
+use Rattle.std.specs.Str.{bytes_eq}
+use Rattle.std.specs.List.{take-map, drop-map}
+use Rattle.std.proofs.Math.Seq.{take-append_seam, drop-append_seam}
+use Rattle.std.proofs.lemmas.List.{nil_from_length, take_more}
+use Rattle.std.proofs.lemmas.Option.{slice_get_within, get_or_from_slice_get}
+use Rattle.coniks_proof.proofs.UnderLemmas.{under-child}
+use Rattle.coniks_proof.specs.Changes.{overwritten, AreInOrder, AreApart}
+use Rattle.coniks_proof.proofs.ChangeLemmas.{overwritten-empty, overwritten-same, overwritten-one, half-overwritten, apart-last, apart-halves, IsSplit, in_order-split}
+use Rattle.coniks_tree.specs.Table.{Numbered, hash_of_node}
+use Rattle.coniks_tree.specs.Parts.{Stands, Fits, node_count, entry_of_change, weight_of, entries_of, is_made, Placed, AllPlaced}
+use Rattle.coniks_tree.proofs.TableLemmas.{Shows-hash}
+use Rattle.coniks_tree.specs.declared.table.Node.{Node}
+use Rattle.coniks_tree.specs.declared.table.Root.{Root}
+use Rattle.coniks_tree.specs.declared.table.Record.{Record}
+use Rattle.coniks_tree.specs.declared.part.Change.{Change}
+use Rattle.coniks_tree.specs.declared.part.Part.{Part, Nothing, Entry, Kept, Made'}
+
+-- the tree that parts speak of: hash, nonce, nodes and records
+pub hash_nothing : (hash : List ℕ → List ℕ) (nonce : List ℕ) (nodes : List Node) (records : List Record) (part : Part) (p : List Bool) (es : List Numbered) (x : List ℕ)
+    → part ≡ Nothing → x ≡ hash (empty_preimage nonce p) → Stands hash nonce nodes records part p es → x ≡ node hash nonce p es
+hash_nothing hash nonce nodes records part p es x is x-is s =
+    let none : es ≡ [] = subst (λ q. Stands hash nonce nodes records q p es) is s in
+    x-is ∙ sym (node-empty ℕ hash nonce p) ∙ ap (node hash nonce p) (sym none)
+
+pub hash_entry : (hash : List ℕ → List ℕ) (nonce : List ℕ) (nodes : List Node) (records : List Record) (part : Part) (p : List Bool) (es : List Numbered) (x : List ℕ) (c : Change) (level : ℕ)
+    → part ≡ Entry c → level ≡ length p → x ≡ hash (leaf_preimage nonce c.index.0 level c.commitment.0) → Stands hash nonce nodes records part p es → x ≡ node hash nonce p es
+hash_entry hash nonce nodes records part p es x c level is level-is x-is s =
+    let one : es ≡ entry_of_change c ∷ [] = subst (λ q. Stands hash nonce nodes records q p es) is s in
+    x-is ∙ ap (λ l. hash (leaf_preimage nonce c.index.0 l c.commitment.0)) level-is ∙ sym (node-leaf hash nonce p (entry_of_change c)) ∙ ap (node hash nonce p) (sym one)
+
+pub hash_kept : (hash : List ℕ → List ℕ) (nonce : List ℕ) (nodes : List Node) (records : List Record) (part : Part) (p : List Bool) (es : List Numbered) (root : Root) (v : Node)
+    → part ≡ Kept root → slice_get nodes root.0 ≡ Some v → Stands hash nonce nodes records part p es → (hash_of_node v).0 ≡ node hash nonce p es
+hash_kept hash nonce nodes records part p es root v is at s =
+    Shows-hash hash nonce nodes records root.0 p es v (subst (λ q. Stands hash nonce nodes records q p es) is s).0 at
+
+-- the hash of a node over two nodes
+pub hash_made : (hash : List ℕ → List ℕ) (nonce : List ℕ) (p q r : List Bool) (es : List Numbered) (d x y : List ℕ)
+    → length p < 256 → 2 ≤ length es → q ≡ child p false → r ≡ child p true → d ≡ hash (inner_preimage x y)
+    → x ≡ node hash nonce q (half false (length p) es) → y ≡ node hash nonce r (half true (length p) es) → d ≡ node hash nonce p es
+hash_made hash nonce p q r es d x y short many q-is r-is d-is x-is y-is =
+    let inner = node-inner hash nonce p es short many in
+    let x-at : x ≡ node hash nonce (child p false) (half false (length p) es) = x-is ∙ ap (λ z. node hash nonce z (half false (length p) es)) q-is in
+    let y-at : y ≡ node hash nonce (child p true) (half true (length p) es) = y-is ∙ ap (λ z. node hash nonce z (half true (length p) es)) r-is in
+    d-is ∙ ap (λ z. hash (inner_preimage z y)) x-at ∙ ap (λ z. hash (inner_preimage (node hash nonce (child p false) (half false (length p) es)) z)) y-at ∙ sym inner
+
+-- a part below the root has at least as many entries as its weight
+pub weight-Stands : (hash : List ℕ → List ℕ) (nonce : List ℕ) (nodes : List Node) (records : List Record) (part : Part) (p : List Bool) (b : Bool) (es : List Numbered)
+    → Stands hash nonce nodes records part (child p b) es → weight_of part ≤ length es
+weight-Stands hash nonce nodes records Nothing p b es s = omega arith
+weight-Stands hash nonce nodes records (Entry c) p b es s = omega (arith, ap length s)
+weight-Stands hash nonce nodes records (Kept root) p b es s = s.1 (omega (arith, length-child p b))
+weight-Stands hash nonce nodes records (Made' ptr d lh rh count left right) p b es s = s.0
+
+pub join_many : (hash : List ℕ → List ℕ) (nonce : List ℕ) (nodes : List Node) (records : List Record) (left right : Part) (p : List Bool) (es : List Numbered) → 2 ≤ weight_of left + weight_of right
+    → Stands hash nonce nodes records left (child p false) (half false (length p) es) → Stands hash nonce nodes records right (child p true) (half true (length p) es) → 2 ≤ length es
+join_many hash nonce nodes records left right p es heavy sl sr =
+    omega (arith, length-halves (length p) es, weight-Stands hash nonce nodes records left p false _ sl, weight-Stands hash nonce nodes records right p true _ sr)
+
+pub join_left : (hash : List ℕ → List ℕ) (nonce : List ℕ) (nodes : List Node) (records : List Record) (left right : Part) (p : List Bool) (es : List Numbered) → weight_of left ≡ 1 → weight_of right ≡ 0
+    → Stands hash nonce nodes records left (child p false) (half false (length p) es) → Stands hash nonce nodes records right (child p true) (half true (length p) es) → Stands hash nonce nodes records left p es
+join_left hash nonce nodes records (Entry c) Nothing p es one none sl sr = sym (all_left (length p) es sr) ∙ sl
+join_left hash nonce nodes records Nothing right p es one none sl sr = absurd (omega arith)
+join_left hash nonce nodes records (Kept root) right p es one none sl sr = absurd (omega arith)
+join_left hash nonce nodes records (Made' ptr d lh rh count l r) right p es one none sl sr = absurd (omega arith)
+join_left hash nonce nodes records (Entry c) (Entry c') p es one none sl sr = absurd (omega arith)
+join_left hash nonce nodes records (Entry c) (Kept root) p es one none sl sr = absurd (omega arith)
+join_left hash nonce nodes records (Entry c) (Made' ptr d lh rh count l r) p es one none sl sr = absurd (omega arith)
+
+pub join_right : (hash : List ℕ → List ℕ) (nonce : List ℕ) (nodes : List Node) (records : List Record) (left right : Part) (p : List Bool) (es : List Numbered) → weight_of left ≡ 0 → weight_of right ≤ 1
+    → Stands hash nonce nodes records left (child p false) (half false (length p) es) → Stands hash nonce nodes records right (child p true) (half true (length p) es) → Stands hash nonce nodes records right p es
+join_right hash nonce nodes records Nothing Nothing p es none few sl sr = sym (all_right (length p) es sl) ∙ sr
+join_right hash nonce nodes records Nothing (Entry c) p es none few sl sr = sym (all_right (length p) es sl) ∙ sr
+join_right hash nonce nodes records Nothing (Kept root) p es none few sl sr = absurd (omega arith)
+join_right hash nonce nodes records Nothing (Made' ptr d lh rh count l r) p es none few sl sr = absurd (omega arith)
+join_right hash nonce nodes records (Entry c) right p es none few sl sr = absurd (omega arith)
+join_right hash nonce nodes records (Kept root) right p es none few sl sr = absurd (omega arith)
+join_right hash nonce nodes records (Made' ptr d lh rh count l r) right p es none few sl sr = absurd (omega arith)
+
+-- a part of no more than one entry fits above
+pub Fits-above : (n level : ℕ) (part : Part) → level < 256 → weight_of part ≤ 1 → Fits n level part
+Fits-above n level Nothing short few = omega arith
+Fits-above n level (Entry c) short few = omega arith
+Fits-above n level (Kept root) short few = absurd (omega arith)
+Fits-above n level (Made' ptr d lh rh count l r) short few = absurd (omega arith)
+
+-- a change that leaves no other entry
+pub replaced-Nothing : (hash : List ℕ → List ℕ) (nonce : List ℕ) (nodes : List Node) (records : List Record) (part : Part) (p : List Bool) (es : List Numbered) (new : Numbered)
+    → part ≡ Nothing → Stands hash nonce nodes records part p es → overwritten es (new ∷ []) ≡ new ∷ []
+replaced-Nothing hash nonce nodes records part p es new is s =
+    let none : es ≡ [] = subst (λ q. Stands hash nonce nodes records q p es) is s in
+    ap (λ xs. overwritten xs (new ∷ [])) none ∙ overwritten-empty (new ∷ [])
+
+pub replaced-Entry : (hash : List ℕ → List ℕ) (nonce : List ℕ) (nodes : List Node) (records : List Record) (part : Part) (p : List Bool) (es : List Numbered) (new : Numbered) (c : Change) (index : List ℕ) (same : Bool)
+    → part ≡ Entry c → Stands hash nonce nodes records part p es → new.index ≡ index → same ≡ bytes_eq index c.index.0 → same ≡ true → overwritten es (new ∷ []) ≡ new ∷ []
+replaced-Entry hash nonce nodes records part p es new c index same is s new-is same-is true-is =
+    let one : es ≡ entry_of_change c ∷ [] = subst (λ q. Stands hash nonce nodes records q p es) is s in
+    ap (λ xs. overwritten xs (new ∷ [])) one ∙ overwritten-same (entry_of_change c) new (ap (λ i. bytes_eq i c.index.0) new-is ∙ sym same-is ∙ true-is)
+
+-- the changes with the first one named
+pub with_first : (cs : List Change) (first : Change) → slice_get cs 0 ≡ Some first → (rest : List Change) × (cs ≡ first ∷ rest)
+with_first [] first at = cc
+with_first (c ∷ cs) first at = let same : c ≡ first = cc in (cs, ap (λ x. x ∷ cs) same)
+
+-- the changes of a part at the last level leave one entry
+pub only_last : (es : List Numbered) (cs : List Change) (first : Change) (level : ℕ) → slice_get cs 0 ≡ Some first → level ≡ 256 → AreApart level (overwritten es (entries_of cs)) → overwritten es (entries_of cs) ≡ entry_of_change first ∷ []
+only_last es cs first level at last apart =
+    let named = with_first cs first at in
+    let shape : entries_of cs ≡ entry_of_change first ∷ entries_of named.0 = ap entries_of named.1 in
+    let apart' : AreApart 256 (overwritten es (entry_of_change first ∷ entries_of named.0)) = subst (λ xs. AreApart 256 (overwritten es xs)) shape (subst (λ l. AreApart l (overwritten es (entries_of cs))) last apart) in
+    ap (overwritten es) shape ∙ overwritten-one es (entry_of_change first) (entries_of named.0) (apart-last _ apart')
+
+-- one change
+pub only_first : (cs : List Change) (first : Change) → slice_get cs 0 ≡ Some first → length cs ≡ 1 → entries_of cs ≡ entry_of_change first ∷ []
+only_first cs first at one =
+    let named = with_first cs first at in
+    let rest : named.0 ≡ [] = nil_from_length named.0 (omega (arith, ap length named.1)) in
+    ap entries_of named.1 ∙ ap (λ xs. entry_of_change first ∷ entries_of xs) rest
+
+-- the changes that go left come first
+pub changes_left : (cs : List Change) (k cut : ℕ) → k < 256 → AreInOrder k (entries_of cs) → cut ≡ length (half false k (entries_of cs)) → entries_of (take cut cs) ≡ half false k (entries_of cs)
+changes_left cs k cut short ordered cut-is =
+    let parts = (in_order-split k (entries_of cs) short ordered).parts in
+    sym (take-map entry_of_change cut cs) ∙ ap (λ n. take n (entries_of cs)) cut-is ∙ ap (take (length (half false k (entries_of cs)))) parts
+    ∙ take-append_seam (half false k (entries_of cs)) (half true k (entries_of cs))
+
+pub changes_right : (cs : List Change) (k cut : ℕ) → k < 256 → AreInOrder k (entries_of cs) → cut ≡ length (half false k (entries_of cs)) → entries_of (drop cut cs) ≡ half true k (entries_of cs)
+changes_right cs k cut short ordered cut-is =
+    let parts = (in_order-split k (entries_of cs) short ordered).parts in
+    sym (drop-map entry_of_change cut cs) ∙ ap (λ n. drop n (entries_of cs)) cut-is ∙ ap (drop (length (half false k (entries_of cs)))) parts
+    ∙ drop-append_seam (half false k (entries_of cs)) (half true k (entries_of cs))
+
+split_side : (b : Bool) (k : ℕ) (es : List Numbered) → IsSplit k es → AreInOrder (suc k) (half b k es)
+split_side true k es s = s.right
+split_side false k es s = s.left
+
+-- one side of a part that grew
+pub grown_side : (hash : List ℕ → List ℕ) (nonce : List ℕ) (nodes : List Node) (records : List Record) (before after : Part) (b : Bool) (p q : List Bool) (es cs : List Numbered) (some : List Numbered)
+    → q ≡ child p b → length p < 256 → some ≡ half b (length p) cs → AreInOrder (length p) cs → AreApart (length p) (overwritten es cs)
+    → (AreInOrder (length q) some → AreApart (length q) (overwritten (half b (length p) es) some)
+    → Stands hash nonce nodes records before q (half b (length p) es) → Stands hash nonce nodes records after q (overwritten (half b (length p) es) some))
+    → Stands hash nonce nodes records before (child p b) (half b (length p) es)
+    → Stands hash nonce nodes records after (child p b) (half b (length p) (overwritten es cs))
+grown_side hash nonce nodes records before after b p q es cs some q-is short some-is ordered apart grown s =
+    let deeper : suc (length p) ≡ length q = sym (ap length q-is ∙ length-child p b) in
+    let whole : half b (length p) (overwritten es cs) ≡ overwritten (half b (length p) es) some = half-overwritten b (length p) es cs ∙ ap (overwritten (half b (length p) es)) (sym some-is) in
+    let ordered' : AreInOrder (length q) some = subst (λ k. AreInOrder k some) deeper (subst (AreInOrder (suc (length p))) (sym some-is) (split_side b (length p) cs (in_order-split (length p) cs short ordered))) in
+    let apart' : AreApart (length q) (overwritten (half b (length p) es) some) = subst (λ k. AreApart k (overwritten (half b (length p) es) some)) deeper (subst (AreApart (suc (length p))) whole (apart-halves b (length p) (overwritten es cs) short apart)) in
+    let s' = grown ordered' apart' (subst (λ z. Stands hash nonce nodes records before z (half b (length p) es)) (sym q-is) s) in
+    subst (λ z. Stands hash nonce nodes records after z (half b (length p) (overwritten es cs))) q-is
+    (subst (Stands hash nonce nodes records after q) (sym whole) s')
+
+-- a part that is no new subtree takes one node at most
+pub count-unmade : (part : Part) → is_made part ≡ false → node_count part ≤ 1
+count-unmade Nothing old = omega arith
+count-unmade (Entry c) old = omega arith
+count-unmade (Kept root) old = omega arith
+count-unmade (Made' ptr d lh rh count l r) old = cc
+
+-- how many nodes one side takes that grew
+count_side : (before after : Part) (h n : ℕ) → is_made before ≡ false → (n ≡ 0 → after ≡ before) → (is_made before ≡ false → 0 < n → node_count after ≤ 1 + 2 * (h * n)) → node_count after ≤ 1 + 2 * (h * n)
+count_side before after h zero old same more = omega (arith, count-unmade before old, ap node_count (same refl))
+count_side before after h (suc n) old same more = more old (omega arith)
+
+count_sum : (h l r a b joined : ℕ) → a ≤ 1 + 2 * (h * l) → b ≤ 1 + 2 * (h * r) → joined ≤ a + b + 1 → 0 < l + r → joined ≤ 1 + 2 * ((h + 1) * (l + r))
+count_sum h l r a b joined ha hb hj some = omega arith
+
+-- how many nodes a part takes that grew
+pub count_grown : (left left' right right' : Part) (level l r all joined : ℕ) → level < 256 → is_made left ≡ false → is_made right ≡ false → l + r ≡ all → 0 < all
+    → (l ≡ 0 → left' ≡ left) → (is_made left ≡ false → 0 < l → node_count left' ≤ 1 + 2 * ((255 - level) * l))
+    → (r ≡ 0 → right' ≡ right) → (is_made right ≡ false → 0 < r → node_count right' ≤ 1 + 2 * ((255 - level) * r))
+    → joined ≤ node_count left' + node_count right' + 1 → joined ≤ 1 + 2 * ((256 - level) * all)
+count_grown left left' right right' level l r all joined short old-l old-r all-is some same-l more-l same-r more-r join =
+    let a = count_side left left' (255 - level) l old-l same-l more-l in
+    let b = count_side right right' (255 - level) r old-r same-r more-r in
+    let here : 256 - level ≡ (255 - level) + 1 = omega arith in
+    subst (λ z. joined ≤ 1 + 2 * (z * all)) (sym here)
+    (subst (λ z. joined ≤ 1 + 2 * (((255 - level) + 1) * z)) all-is (count_sum (255 - level) l r (node_count left') (node_count right') joined a b join (omega arith)))
+
+-- the prefix and the entries one level down
+pub down : (hash : List ℕ → List ℕ) (nonce : List ℕ) (nodes : List Node) (records : List Record) (part : Part) (prefix : List Bool) (level : ℕ) (b : Bool) (es : List Numbered)
+    → slice_get prefix level ≡ Some b → Stands hash nonce nodes records part (child (take level prefix) b) (half b level (under (take level prefix) es))
+    → Stands hash nonce nodes records part (take (level + 1) prefix) (under (take (level + 1) prefix) es)
+down hash nonce nodes records part prefix level b es at s =
+    let within = slice_get_within prefix level b at in
+    let longer : take (level + 1) prefix ≡ child (take level prefix) b =
+    take_more prefix level b within ∙ ap (λ x. take level prefix ++ x ∷ []) (get_or_from_slice_get prefix level b b at) in
+    let sized : length (take level prefix) ≡ level = length-take-le level prefix (omega arith) in
+    let below : under (take (level + 1) prefix) es ≡ half b level (under (take level prefix) es) =
+    ap (λ q. under q es) longer ∙ under-child (take level prefix) b es ∙ ap (λ k. half b k (under (take level prefix) es)) sized in
+    subst (λ q. Stands hash nonce nodes records part q (under (take (level + 1) prefix) es)) (sym longer)
+    (subst (Stands hash nonce nodes records part (child (take level prefix) b)) (sym below) s)
+
+pub AllPlaced-take : (all : List Record) (n : ℕ) (cs : List Change) → AllPlaced all cs → AllPlaced all (take n cs)
+AllPlaced-take all zero cs placed = tt
+AllPlaced-take all (suc n) [] placed = tt
+AllPlaced-take all (suc n) (c ∷ cs) placed = (placed.0, AllPlaced-take all n cs placed.1)
+
+pub AllPlaced-drop : (all : List Record) (n : ℕ) (cs : List Change) → AllPlaced all cs → AllPlaced all (drop n cs)
+AllPlaced-drop all zero cs placed = placed
+AllPlaced-drop all (suc n) [] placed = tt
+AllPlaced-drop all (suc n) (c ∷ cs) placed = AllPlaced-drop all n cs placed.1
+
+pub AllPlaced-first : (all : List Record) (cs : List Change) (first : Change) → slice_get cs 0 ≡ Some first → AllPlaced all cs → Placed all (Entry first)
+AllPlaced-first all cs first at placed = let named = with_first cs first at in (subst (AllPlaced all) named.1 placed).0
+
+pub AllPlaced-push : (all : List Record) (cs : List Change) (c : Change) → AllPlaced all cs → Placed all (Entry c) → AllPlaced all (cs ++ c ∷ [])
+AllPlaced-push all [] c placed here = (here, tt)
+AllPlaced-push all (d ∷ cs) c placed here = (placed.0, AllPlaced-push all cs c placed.1 here)
+
+-- what stands in a list stands that much further on where it follows another
+get-behind : (old new : List Record) (n k : ℕ) → n ≡ length old + k → slice_get (old ++ new) n ≡ slice_get new k
+get-behind [] new n k is = ap (slice_get new) (omega (arith, is))
+get-behind (r ∷ old) new zero k is = absurd (omega (arith, is))
+get-behind (r ∷ old) new (suc n) k is = get-behind old new n k (omega (arith, is))
+
+-- one more of the changes for records that follow others
+pub AllPlaced-next : (old new : List Record) (cs : List Change) (c : Change) (n k : ℕ) (r : Record) → n ≡ length old + k → slice_get new k ≡ Some r
+    → ((all : List Record) → slice_get all n ≡ Some r → Placed all (Entry c)) → AllPlaced (old ++ new) cs → AllPlaced (old ++ new) (cs ++ c ∷ [])
+AllPlaced-next old new cs c n k r is at placed each = AllPlaced-push (old ++ new) cs c each (placed (old ++ new) (get-behind old new n k is ∙ at))

@@ -1,0 +1,120 @@
+-- A table with one more node.
+use Rattle.std.proofs.Common.{◌≡◌, ℕ, zero, suc, ◌<◌, ◌≤◌, List, [], ◌∷◌, ◌++◌, length, Bool, true, false, refl, ap, subst, ◌∙◌, arith, Some, slice_get, inl, inr, ◌⊎◌}
+use Rattle.coniks_proof.specs.Bits.{child}
+use Rattle.coniks_proof.specs.Entries.{half}
+use Rattle.coniks_proof.specs.Tree.{node}
+use Rattle.coniks_tree.specs.Table.{Numbered, NodeFits, Shows, shows_inner, IsTable, Extends}
+use Rattle.coniks_tree.specs.Parts.{Stands, Fits, entry_of_change}
+use Rattle.coniks_proof.specs.Bits.{turns}
+use Rattle.coniks_proof.specs.Maps.{IsMap, SameEntries}
+use Rattle.coniks_proof.proofs.MapLemmas.{node-same, same_as_none, same_as_one, IsMap-filter, SameEntries-filter}
+use Rattle.coniks_tree.proofs.TableLemmas.{Shows-extended, Shows-same, many_in}
+use Rattle.coniks_tree.specs.declared.table.Node.{Node}
+use Rattle.coniks_tree.specs.declared.table.Node.TheVariants.{Leaf, Inner}
+use Rattle.coniks_tree.specs.declared.table.Record.{Record}
+use Rattle.coniks_tree.specs.declared.part.Subtree.{Subtree}
+use Rattle.coniks_tree.specs.declared.part.Part.{Part, Nothing, Entry, Kept, Made'}
+
+-- a table with more nodes at its end has what it had
+pub Extends-append : {T : Type 0} (xs ys : List T) → Extends xs (xs ++ ys)
+Extends-append [] ys k v at = cc
+Extends-append (x ∷ xs) ys zero v at = at
+Extends-append (x ∷ xs) ys (suc k) v at = Extends-append xs ys k v at
+
+pub Extends-trans : {T : Type 0} (xs ys zs : List T) → Extends xs ys → Extends ys zs → Extends xs zs
+Extends-trans xs ys zs first second k v at = second k v (first k v at)
+
+pub get-last : {T : Type 0} (xs : List T) (x : T) → slice_get (xs ++ x ∷ []) (length xs) ≡ Some x
+get-last [] x = refl
+get-last (y ∷ xs) x = get-last xs x
+
+pub Fits-more : (n m level : ℕ) (part : Part) → n ≤ m → Fits n level part → Fits m level part
+Fits-more n m level Nothing more f = f
+Fits-more n m level (Entry c) more f = f
+Fits-more n m level (Kept root) more f = omega arith
+Fits-more n m level (Made' ptr d lh rh count l r) more f = (f.0, f.1, Fits-more n m (suc level) l more f.2, Fits-more n m (suc level) r more f.3)
+
+pub Stands-extended : (hash : List ℕ → List ℕ) (nonce : List ℕ) (nodes nodes' : List Node) (records : List Record) → Extends nodes nodes' → (part : Part) (p : List Bool) (es : List Numbered)
+    → Stands hash nonce nodes records part p es → Stands hash nonce nodes' records part p es
+Stands-extended hash nonce nodes nodes' records more Nothing p es s = s
+Stands-extended hash nonce nodes nodes' records more (Entry c) p es s = s
+Stands-extended hash nonce nodes nodes' records more (Kept root) p es s = (Shows-extended hash nonce nodes nodes' records records more (λ k v at. at) root.0 p es s.0, s.1)
+Stands-extended hash nonce nodes nodes' records more (Made' ptr d lh rh count l r) p es s =
+    (s.0, s.1, s.2, s.3, Stands-extended hash nonce nodes nodes' records more l (child p false) _ s.4, Stands-extended hash nonce nodes nodes' records more r (child p true) _ s.5)
+
+-- what stands in a list with one more at its end
+pub get-push : {T : Type 0} (xs : List T) (x : T) (k : ℕ) (v : T) → slice_get (xs ++ x ∷ []) k ≡ Some v → (slice_get xs k ≡ Some v) ⊎ ((k ≡ length xs) × (x ≡ v))
+get-push [] x zero v at = inr (refl, cc)
+get-push [] x (suc k) v at = cc
+get-push (y ∷ xs) x zero v at = inl at
+get-push (y ∷ xs) x (suc k) v at = elim (get-push xs x k v at) [ inl h ↦ inl h | inr h ↦ inr (ap suc h.0, h.1) ]
+
+pub IsTable-push : (nodes : List Node) (records : List Record) (new : Node) → NodeFits (length nodes) records new → IsTable nodes records → IsTable (nodes ++ new ∷ []) records
+IsTable-push nodes records new fits table = record {
+  lower = λ n l r d at. elim (get-push nodes new n (Inner l r d) at) [
+    | inl old ↦ table.lower n l r d old
+    | inr last ↦ let f : NodeFits (length nodes) records (Inner l r d) = subst (NodeFits (length nodes) records) last.1 fits in (omega (arith, f.0, last.0), omega (arith, f.1, last.0))
+  ];
+  stored = λ n place d at. elim (get-push nodes new n (Leaf place d) at) [
+    | inl old ↦ table.stored n place d old
+    | inr last ↦ subst (NodeFits (length nodes) records) last.1 fits
+  ];
+}
+
+-- what a new subtree stands for
+abbrev pub StandsMade : (List ℕ → List ℕ) → List ℕ → List Node → List Record → Subtree → List Bool → List Numbered → Type 0
+StandsMade hash nonce nodes records m p es =
+    (2 ≤ length es) × (m.hash.0 ≡ node hash nonce p es)
+    × (m.left_hash.0 ≡ node hash nonce (child p false) (half false (length p) es)) × (m.right_hash.0 ≡ node hash nonce (child p true) (half true (length p) es))
+    × Stands hash nonce nodes records m.left (child p false) (half false (length p) es) × Stands hash nonce nodes records m.right (child p true) (half true (length p) es)
+
+-- a new subtree, appended
+pub made_shown : (hash : List ℕ → List ℕ) (nonce : List ℕ) (nodes0 nodes1 nodes2 nodes3 : List Node) (records : List Record) (p : List Bool) (es : List Numbered) (m : Subtree) (left right n : ℕ)
+    → Extends nodes0 nodes1 → Extends nodes1 nodes2 → Extends nodes2 nodes3 → slice_get nodes3 n ≡ Some (Inner left right m.hash) → length p < 256
+    → StandsMade hash nonce nodes0 records m p es
+    → (m.left_hash.0 ≡ node hash nonce (child p false) (half false (length p) es)
+    → Stands hash nonce nodes0 records m.left (child p false) (half false (length p) es) → Shows hash nonce nodes1 records left (child p false) (half false (length p) es))
+    → (m.right_hash.0 ≡ node hash nonce (child p true) (half true (length p) es)
+    → Stands hash nonce nodes1 records m.right (child p true) (half true (length p) es) → Shows hash nonce nodes2 records right (child p true) (half true (length p) es))
+    → Shows hash nonce nodes3 records n p es
+made_shown hash nonce nodes0 nodes1 nodes2 nodes3 records p es m left right n e01 e12 e23 at short s shown-left shown-right =
+    let l1 = shown-left s.2 s.4 in
+    let l3 = Shows-extended hash nonce nodes1 nodes3 records records (Extends-trans nodes1 nodes2 nodes3 e12 e23) (λ k v h. h) left (child p false) _ l1 in
+    let s1 = Stands-extended hash nonce nodes0 nodes1 records e01 m.right (child p true) _ s.5 in
+    let r2 = shown-right s.3 s1 in
+    let r3 = Shows-extended hash nonce nodes2 nodes3 records records e23 (λ k v h. h) right (child p true) _ r2 in
+    shows_inner n p es m.hash left right at short s.0 s.1 l3 r3
+
+-- a part stands for what it stood for once there are more records
+pub Stands-records : (hash : List ℕ → List ℕ) (nonce : List ℕ) (nodes : List Node) (records records' : List Record) → Extends records records' → (part : Part) (p : List Bool) (es : List Numbered)
+    → Stands hash nonce nodes records part p es → Stands hash nonce nodes records' part p es
+Stands-records hash nonce nodes records records' more Nothing p es s = s
+Stands-records hash nonce nodes records records' more (Entry c) p es s = s
+Stands-records hash nonce nodes records records' more (Kept root) p es s = (Shows-extended hash nonce nodes nodes records records' (λ k v at. at) more root.0 p es s.0, s.1)
+Stands-records hash nonce nodes records records' more (Made' ptr d lh rh count l r) p es s =
+    (s.0, s.1, s.2, s.3, Stands-records hash nonce nodes records records' more l (child p false) _ s.4, Stands-records hash nonce nodes records records' more r (child p true) _ s.5)
+
+half_map : (b : Bool) (k : ℕ) (es : List Numbered) → IsMap es → IsMap (half b k es)
+half_map b k es map = IsMap-filter (λ e. turns b k e.index) es map
+
+half_same : (b : Bool) (k : ℕ) (es fs : List Numbered) → SameEntries es fs → SameEntries (half b k es) (half b k fs)
+half_same b k es fs same = SameEntries-filter (λ e. turns b k e.index) es fs same
+
+-- a part stands for a map and not an order of its entries
+pub Stands-same : (hash : List ℕ → List ℕ) (nonce : List ℕ) (nodes : List Node) (records : List Record) (part : Part) (p : List Bool) (es fs : List Numbered)
+    → IsMap es → IsMap fs → SameEntries es fs → Stands hash nonce nodes records part p es → Stands hash nonce nodes records part p fs
+Stands-same hash nonce nodes records Nothing p es fs me mf same s = same_as_none fs (subst (λ xs. SameEntries xs fs) s same)
+Stands-same hash nonce nodes records (Entry c) p es fs me mf same s = same_as_one (entry_of_change c) fs mf (subst (λ xs. SameEntries xs fs) s same)
+Stands-same hash nonce nodes records (Kept root) p es fs me mf same s =
+    (Shows-same hash nonce nodes records root.0 p es fs me mf same s.0, λ below. many_in es fs me mf same (s.1 below))
+Stands-same hash nonce nodes records (Made' ptr d lh rh count l r) p es fs me mf same s =
+    let k = length p in
+    let at : (b : Bool) → node hash nonce (child p b) (half b k es) ≡ node hash nonce (child p b) (half b k fs) =
+    λ b. node-same hash nonce (child p b) (half b k es) (half b k fs) (half_map b k es me) (half_map b k fs mf) (half_same b k es fs same) in (
+      many_in es fs me mf same s.0,
+      s.1 ∙ node-same hash nonce p es fs me mf same,
+      s.2 ∙ at false,
+      s.3 ∙ at true,
+      Stands-same hash nonce nodes records l (child p false) (half false k es) (half false k fs) (half_map false k es me) (half_map false k fs mf) (half_same false k es fs same) s.4,
+      Stands-same hash nonce nodes records r (child p true) (half true k es) (half true k fs) (half_map true k es me) (half_map true k fs mf) (half_same true k es fs same) s.5,
+    )

@@ -1,0 +1,10 @@
+use Rattle.std.proofs.Common.{subst, []}
+use Rattle.coniks_proof.specs.Paths.{end_of}
+use Rattle.coniks_tree.specs.Paths.{StopsAt}
+use Rattle.coniks_tree.proofs.path.find_from.Goals as goal
+
+pub returns-in-Here-clause-finds : goal.returns-in-Here-clause-finds
+returns-in-Here-clause-finds c = λ hash nonce entries s.
+    let t = c.last_number.ensures.ends hash nonce entries s in
+    let at = end_of [] c.args.index.now.0 entries in
+    subst (λ e. StopsAt c.args.records.now c.args.index.now.0 e at) c.in-Here.is (c.stop_at.ensures.stops hash nonce t.0 at t.2 t.1)

@@ -1,0 +1,40 @@
+-- The way to an index, from a root down to where at most one entry is left.
+use Rattle.std.specs.Prelude.{◌≡◌, ◌≢◌, ◌<◌, ◌≤◌, ℕ, List, [], ◌∷◌, length, Bool, not, Option, Some, None, slice_get}
+use Rattle.coniks_proof.specs.Bits.{child}
+use Rattle.coniks_proof.specs.Entries.{half}
+use Rattle.coniks_proof.specs.Tree.{node}
+use Rattle.coniks_proof.specs.declared.values.Digest.{Digest}
+use Rattle.coniks_tree.specs.Table.{Numbered, Shows, entry_of_record}
+use Rattle.coniks_tree.specs.declared.table.Node.{Node}
+use Rattle.coniks_tree.specs.declared.table.Record.{Record}
+use Rattle.coniks_tree.specs.declared.table.RecordNo.{RecordNo}
+use Rattle.coniks_tree.specs.declared.path.Stop.{Stop}
+use Rattle.coniks_tree.specs.declared.path.Stop.TheVariants.{Empty, Other, Here}
+
+-- the record of this number stands alone, at the index
+abbrev pub IsAt : List Record → List ℕ → RecordNo → List Numbered → Type 0
+IsAt records index place entries = (r : Record) × (slice_get records place.0 ≡ Some r) × (entries ≡ entry_of_record place.0 r ∷ []) × (r.index.0 ≡ index)
+
+-- what the way to an index ends with
+abbrev pub StopsAt : List Record → List ℕ → Stop → List Numbered → Type 0
+StopsAt records index Empty entries = entries ≡ []
+StopsAt records index (Other i c) entries = (n : ℕ) × (entries ≡ record { index = i.0; commitment = c.0; behind = n } ∷ []) × (i.0 ≢ index)
+StopsAt records index (Here place) entries = IsAt records index place entries
+
+-- the record that the way ends with is there
+abbrev pub IsKnown : ℕ → Stop → Type 0
+IsKnown n Empty = Unit {0}
+IsKnown n (Other i c) = Unit {0}
+IsKnown n (Here place) = place.0 < n
+
+-- one level down the way to an index
+pub record IsStep (hash : List ℕ → List ℕ) (nonce : List ℕ) (nodes : List Node) (records : List Record) (bit : Bool) (prefix : List Bool) (entries : List Numbered) (number : ℕ) (sibling : Digest) : Type 0 where
+  pub many : 2 ≤ length entries
+  pub short : length prefix < 256
+  pub beside : sibling.0 ≡ node hash nonce (child prefix (not bit)) (half (not bit) (length prefix) entries)
+  pub shows : Shows hash nonce nodes records number (child prefix bit) (half bit (length prefix) entries)
+
+-- the record at an index, if there is one, where this is what its way ends with
+abbrev pub Finds : List Record → List ℕ → Option RecordNo → List Numbered → Type 0
+Finds records index None entries = (e : Numbered) → entries ≡ e ∷ [] → e.index ≢ index
+Finds records index (Some place) entries = IsAt records index place entries

@@ -1,0 +1,63 @@
+//! A part becomes nodes at the end of the table.
+
+ghost use Rattle.std.specs.Prelude.{◌≡◌, ◌++◌, ◌∷◌, [], ◌<◌, ◌≤◌, ◌+◌, ◌*◌, ◌-◌, List, ℕ, length, slice_get, vec_len, vec_capacity, Bool};
+ghost use Rattle.coniks_proof.specs.Tree.{node};
+ghost use Rattle.coniks_tree.specs.Table.{Extends, IsTable, NodeFits, Numbered, Shows};
+ghost use Rattle.coniks_tree.specs.Parts.{Stands, Fits, Placed, node_count};
+
+use crate::part::{Part, Subtree};
+use crate::table::{Node, Record};
+use coniks_proof::Digest;
+
+/// Puts a node at the end, where there is room for it.
+fn put(nodes: &mut Vec<Node>, node: Node)
+    requires { length nodes.old.items < vec_capacity nodes.old }
+    ensures items { nodes.new.items ≡ nodes.old.items ++ node ∷ [] }
+    ensures len { length nodes.new.items ≡ length nodes.old.items + 1 }
+    ensures room { vec_capacity nodes.old ≤ vec_capacity nodes.new }
+{
+    let _ = nodes.push(node);
+}
+
+/// Puts a node at the end, where there is room for it, and answers its number.
+pub(crate) fn push_node(nodes: &mut Vec<Node>, node: Node) -> usize
+    requires { length nodes.old.items < vec_capacity nodes.old }
+    ensures number { result ≡ length nodes.old.items }
+    ensures len { length nodes.new.items ≡ length nodes.old.items + 1 }
+    ensures room { vec_capacity nodes.old ≤ vec_capacity nodes.new }
+    ensures at { slice_get nodes.new.items result ≡ Some node }
+    ensures extends { Extends nodes.old.items nodes.new.items }
+    ensures table { (records : List Record) → NodeFits (length nodes.old.items) records node → IsTable nodes.old.items records → IsTable nodes.new.items records }
+{
+    let number = nodes.len();
+    put(nodes, node);
+    number
+}
+
+/// Puts a part's nodes at the end, and answers the number of the node that stands for the part. The part is of a prefix
+/// of `level` bits and has this hash. Nothing is hashed.
+pub(crate) fn append(nodes: &mut Vec<Node>, level: usize, hash: &Digest, part: &Part) -> usize
+    requires fits { Fits (length nodes.old.items) level part.now }
+    requires room { length nodes.old.items + node_count part.now ≤ vec_capacity nodes.old }
+    ensures len { length nodes.new.items ≡ length nodes.old.items + node_count part.now }
+    ensures room { vec_capacity nodes.old ≤ vec_capacity nodes.new }
+    ensures known { result < length nodes.new.items }
+    ensures extends { Extends nodes.old.items nodes.new.items }
+    ensures table { (records : List Record) → Placed records part.now → IsTable nodes.old.items records → IsTable nodes.new.items records }
+    ensures shows { (of : List ℕ → List ℕ) (nonce : List ℕ) (records : List Record) (prefix : List Bool) (entries : List Numbered)
+        → length prefix ≡ level → Placed records part.now → hash.now.0 ≡ node of nonce prefix entries
+        → Stands of nonce nodes.old.items records part.now prefix entries
+        → Shows of nonce nodes.new.items records result prefix entries }
+{
+    match part {
+        Part::Nothing => push_node(nodes, Node::Empty(*hash)),
+        Part::Entry(change) => push_node(nodes, Node::Leaf(change.place, *hash)),
+        Part::Kept(root) => root.0,
+        Part::Made(made) => {
+            let below: &Subtree = made;
+            let left = append(nodes, level + 1, &below.left_hash, &below.left);
+            let right = append(nodes, level + 1, &below.right_hash, &below.right);
+            push_node(nodes, Node::Inner(left, right, below.hash))
+        }
+    }
+}

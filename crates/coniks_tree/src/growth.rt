@@ -1,0 +1,141 @@
+//! A part overwritten by changes.
+
+ghost use Rattle.std.specs.Prelude.{◌≡◌, ◌∷◌, [], ◌<◌, ◌≤◌, ◌+◌, ◌*◌, ◌-◌, List, ℕ, length, slice_get, IfOk, IfSome, Some, None, Bool, false, true};
+ghost use Rattle.coniks_proof.specs.Entries.{half};
+ghost use Rattle.coniks_proof.specs.Changes.{overwritten, AreApart, AreInOrder};
+ghost use Rattle.coniks_tree.specs.Table.{Extends, IsTable, Numbered};
+ghost use Rattle.coniks_tree.specs.declared.part.Part.{Entry};
+ghost use Rattle.coniks_tree.specs.Parts.{Stands, Fits, Placed, AllPlaced, node_count, is_made, entries_of, entry_of_change};
+
+use crate::halving::opened;
+use crate::part::{Change, Part, join_parts};
+use crate::table::{Node, Record};
+use coniks_proof::{Hash32, Index, MAX_LEVEL, Nonce, Prefix, bit};
+use std::alloc::{AllocError, Global};
+
+/// How many changes go left at a level.
+pub(crate) fn lefts(changes: &[Change], level: usize) -> usize
+    requires { level < 256 }
+    ensures within { result ≤ length changes.now }
+    ensures count { result ≡ length (half false level (entries_of changes.now)) }
+{
+    let mut count = 0;
+    for change in changes {
+        if !bit(&change.index, level) {
+            count += 1;
+        }
+    }
+    count
+}
+
+/// The changes that go left at a level, and those that go right.
+pub(crate) fn sides(changes: &[Change], level: usize) -> (&[Change], &[Change])
+    requires { level < 256 }
+    ensures all { length result.0.now + length result.1.now ≡ length changes.now }
+    ensures placed { (all : List Record) → AllPlaced all changes.now → AllPlaced all result.0.now × AllPlaced all result.1.now }
+    ensures left { AreInOrder level (entries_of changes.now) → entries_of result.0.now ≡ half false level (entries_of changes.now) }
+    ensures right { AreInOrder level (entries_of changes.now) → entries_of result.1.now ≡ half true level (entries_of changes.now) }
+{
+    let cut = lefts(changes, level);
+    changes.split_at(cut)
+}
+
+/// Whether a change of this index leaves a part with no other entry.
+pub(crate) fn is_replaced(part: &Part, index: &Index) -> bool
+    ensures { (hash : List ℕ → List ℕ) (nonce : List ℕ) (nodes : List Node) (records : List Record) (prefix : List Bool) (entries : List Numbered) (new : Numbered)
+        → Stands hash nonce nodes records part.now prefix entries → new.index ≡ index.now.0 → result ≡ true → overwritten entries (new ∷ []) ≡ new ∷ [] }
+{
+    match part {
+        Part::Nothing => true,
+        Part::Entry(change) => *index == change.index,
+        Part::Kept(_) => false,
+        Part::Made(_) => false,
+    }
+}
+
+/// The first of the changes.
+fn first_of(changes: &[Change]) -> Change
+    requires { 0 < length changes.now }
+    ensures { slice_get changes.now 0 ≡ Some result }
+{
+    changes[0]
+}
+
+/// The change that leaves one entry, where there is such a one.
+pub(crate) fn only_change(level: usize, part: &Part, changes: &[Change]) -> Option<Change>
+    requires short { level ≤ 256 }
+    requires some { 0 < length changes.now }
+    ensures none { result ≡ None → level < 256 }
+    ensures placed { IfSome result (λ change. (all : List Record) → AllPlaced all changes.now → Placed all (Entry change)) }
+    ensures stands { IfSome result (λ change. (hash : List ℕ → List ℕ) (nonce : List ℕ) (nodes : List Node) (records : List Record) (prefix : List Bool) (entries : List Numbered)
+        → AreApart level (overwritten entries (entries_of changes.now))
+        → Stands hash nonce nodes records part.now prefix entries → overwritten entries (entries_of changes.now) ≡ entry_of_change change ∷ []) }
+{
+    let first = first_of(changes);
+    if level == MAX_LEVEL {
+        Some(first)
+    } else if changes.len() == 1 {
+        if is_replaced(part, &first.index) {
+            Some(first)
+        } else {
+            None
+        }
+    } else {
+        None
+    }
+}
+
+/// The part overwritten by the changes.
+pub(crate) fn grow_part<H: Hash32>(
+    alloc: Global,
+    nodes: &[Node],
+    records: &[Record],
+    h: &H,
+    nonce: &Nonce,
+    part: Part,
+    prefix: &Prefix,
+    changes: &[Change],
+) -> Result<Part, AllocError>
+    requires table { IsTable nodes.now records.now }
+    requires fits { Fits (length nodes.now) (length prefix.now) part }
+    ensures fits { IfOk result (λ grown. Fits (length nodes.now) (length prefix.now) grown) }
+    ensures same { IfOk result (λ grown. length changes.now ≡ 0 → grown ≡ part) }
+    ensures placed { IfOk result (λ grown. (all : List Record) → Extends records.now all → Placed all part → AllPlaced all changes.now → Placed all grown) }
+    ensures count { IfOk result (λ grown. is_made part ≡ false → 0 < length changes.now → node_count grown ≤ 1 + 2 * ((256 - length prefix.now) * length changes.now)) }
+    ensures stands { IfOk result (λ grown. (entries : List Numbered)
+        → AreInOrder (length prefix.now) (entries_of changes.now)
+        → AreApart (length prefix.now) (overwritten entries (entries_of changes.now))
+        → Stands (H.digest_of h.now) nonce.now.0 nodes.now records.now part prefix.now entries
+        → Stands (H.digest_of h.now) nonce.now.0 nodes.now records.now grown prefix.now (overwritten entries (entries_of changes.now))) }
+{
+    if changes.is_empty() {
+        return Ok(part);
+    }
+    let level = prefix.len();
+    if let Some(change) = only_change(level, &part, changes) {
+        return Ok(Part::Entry(change));
+    }
+    let (left, right) = opened(nodes, records, level, part);
+    let (changes_left, changes_right) = sides(changes, level);
+    let left = grow_part(
+        alloc,
+        nodes,
+        records,
+        h,
+        nonce,
+        left,
+        &prefix.child(false),
+        changes_left,
+    )?;
+    let right = grow_part(
+        alloc,
+        nodes,
+        records,
+        h,
+        nonce,
+        right,
+        &prefix.child(true),
+        changes_right,
+    )?;
+    Ok(join_parts(alloc, nodes, h, nonce, prefix, left, right)?)
+}

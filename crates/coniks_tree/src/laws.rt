@@ -1,0 +1,30 @@
+//! Laws of what nodes show and parts stand for, each the contract of a function that does nothing.
+
+ghost use Rattle.std.specs.Prelude.{List, ℕ, Bool};
+ghost use Rattle.coniks_proof.specs.Maps.{IsMap, SameEntries};
+ghost use Rattle.coniks_tree.specs.Parts.{Stands};
+ghost use Rattle.coniks_tree.specs.Table.{Extends, Numbered, Shows};
+ghost use Rattle.coniks_tree.specs.declared.part.Part.{Part};
+
+use crate::table::{Node, Record};
+
+/// What a node shows it still shows, and what a part stands for it still stands for, once there are more nodes and
+/// records.
+pub fn what_was_shown_is_shown()
+    ensures shows { (hash : List ℕ → List ℕ) (nonce : List ℕ) (nodes more : List Node) (records further : List Record) (number : ℕ) (prefix : List Bool) (entries : List Numbered)
+        → Extends nodes more → Extends records further
+        → Shows hash nonce nodes records number prefix entries → Shows hash nonce more further number prefix entries }
+    ensures stands { (hash : List ℕ → List ℕ) (nonce : List ℕ) (nodes more : List Node) (records further : List Record) (part : Part) (prefix : List Bool) (entries : List Numbered)
+        → Extends nodes more → Extends records further
+        → Stands hash nonce nodes records part prefix entries → Stands hash nonce more further part prefix entries }
+{}
+
+/// A node shows a map and no order of its entries, and a part stands for one.
+pub fn order_is_of_no_account()
+    ensures shows { (hash : List ℕ → List ℕ) (nonce : List ℕ) (nodes : List Node) (records : List Record) (number : ℕ) (prefix : List Bool) (es fs : List Numbered)
+        → IsMap es → IsMap fs → SameEntries es fs
+        → Shows hash nonce nodes records number prefix es → Shows hash nonce nodes records number prefix fs }
+    ensures stands { (hash : List ℕ → List ℕ) (nonce : List ℕ) (nodes : List Node) (records : List Record) (part : Part) (prefix : List Bool) (es fs : List Numbered)
+        → IsMap es → IsMap fs → SameEntries es fs
+        → Stands hash nonce nodes records part prefix es → Stands hash nonce nodes records part prefix fs }
+{}

@@ -1,0 +1,25 @@
+//! The node table of a CONIKS key directory: a Merkle binary prefix tree whose epochs share nodes (Melara, Blankstein,
+//! Bonneau, Felten, Freedman: CONIKS, USENIX Security 2015, section 3.1).
+//!
+//! A `Tree` holds nodes and records, and only grows. A new epoch is a `Part`, which is grown from what an older root
+//! shows and then attached at the end of the table, so every older root shows what it showed. An epoch of b changes, b at
+//! least 1, takes at most `512 * b + 1` nodes, however large the tree is, and each new node is hashed once.
+#![tactic(auto)]
+
+mod attach;
+mod growth;
+mod halving;
+pub mod laws;
+pub mod memory;
+pub mod part;
+mod part_at;
+mod path;
+pub mod table;
+#[cfg(test)]
+mod tests;
+pub mod tree;
+
+pub use memory::OutOfMemory;
+pub use part::{Change, Part, Subtree};
+pub use table::{Record, RecordNo, Root};
+pub use tree::Tree;

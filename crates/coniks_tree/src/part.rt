@@ -1,0 +1,162 @@
+//! Parts: what is to stand under one prefix.
+
+ghost use Rattle.std.specs.Prelude.{◌≡◌, ◌<◌, ◌≤◌, ◌+◌, ◌-◌, ◌^◌, List, ℕ, length, IfOk, false, true, min};
+ghost use Rattle.coniks_proof.specs.Bits.{child};
+ghost use Rattle.coniks_proof.specs.Entries.{half};
+ghost use Rattle.coniks_proof.specs.Tree.{node};
+ghost use Rattle.coniks_tree.specs.Table.{Numbered};
+ghost use Rattle.coniks_tree.specs.Parts.{Stands, Fits, Placed, node_count, weight_of};
+
+use crate::table::{Node, Record, RecordNo, Root, node_of};
+use coniks_proof::{Digest, Hash32, Index, Nonce, Prefix, empty_hash, inner_hash, leaf_hash};
+use std::alloc::{AllocError, Global};
+
+/// A commitment that is to stand at an index, and the number of the record behind it.
+#[derive(Clone, Copy, Debug)]
+pub struct Change {
+    pub index: Index,
+    pub commitment: Digest,
+    pub place: RecordNo,
+}
+
+/// What is to stand under one prefix, in a tree that has it only once it is attached.
+#[derive(Drop)]
+#[cycle(part)]
+pub enum Part {
+    /// No entry: an empty node.
+    Nothing,
+    /// One entry: a leaf.
+    Entry(Change),
+    /// What a node of the tree shows: two entries or more below the root, whatever it shows at the root.
+    Kept(Root),
+    /// Two entries or more under nodes that are new.
+    Made(Box<Subtree>),
+}
+
+/// A new subtree of two or more entries, with its hash and those of its two sides.
+#[derive(Drop)]
+#[cycle(part)]
+pub struct Subtree {
+    pub hash: Digest,
+    pub left_hash: Digest,
+    pub right_hash: Digest,
+    /// How many nodes it takes to attach it, `usize::MAX` where that is more.
+    pub count: usize,
+    pub left: Part,
+    pub right: Part,
+}
+
+/// The hash of a part of this prefix.
+pub(crate) fn hash_at<H: Hash32>(
+    nodes: &[Node],
+    h: &H,
+    nonce: &Nonce,
+    prefix: &Prefix,
+    part: &Part,
+) -> Digest
+    requires { Fits (length nodes.now) (length prefix.now) part.now }
+    ensures { (records : List Record) (entries : List Numbered) → Stands (H.digest_of h.now) nonce.now.0 nodes.now records part.now prefix.now entries → result.0 ≡ node (H.digest_of h.now) nonce.now.0 prefix.now entries }
+{
+    match part {
+        Part::Nothing => empty_hash(h, nonce, prefix),
+        Part::Entry(change) => leaf_hash(h, nonce, &change.index, prefix.len(), &change.commitment),
+        Part::Kept(root) => node_of(nodes, root.0).hash(),
+        Part::Made(made) => made.hash,
+    }
+}
+
+/// A part of two neighbouring parts.
+pub(crate) fn made<H: Hash32>(
+    alloc: Global,
+    nodes: &[Node],
+    h: &H,
+    nonce: &Nonce,
+    prefix: &Prefix,
+    left: Part,
+    right: Part,
+) -> Result<Part, AllocError>
+    requires short { length prefix.now < 256 }
+    requires left { Fits (length nodes.now) (length prefix.now + 1) left }
+    requires right { Fits (length nodes.now) (length prefix.now + 1) right }
+    ensures fits { IfOk result (λ part. Fits (length nodes.now) (length prefix.now) part) }
+    ensures count { IfOk result (λ part. node_count part ≡ node_count left + node_count right + 1) }
+    ensures placed { IfOk result (λ part. (all : List Record) → Placed all left → Placed all right → Placed all part) }
+    ensures stands { IfOk result (λ part. (records : List Record) (entries : List Numbered)
+        → 2 ≤ length entries
+        → Stands (H.digest_of h.now) nonce.now.0 nodes.now records left (child prefix.now false) (half false (length prefix.now) entries)
+        → Stands (H.digest_of h.now) nonce.now.0 nodes.now records right (child prefix.now true) (half true (length prefix.now) entries)
+        → Stands (H.digest_of h.now) nonce.now.0 nodes.now records part prefix.now entries) }
+{
+    let left_hash = hash_at(nodes, h, nonce, &prefix.child(false), &left);
+    let right_hash = hash_at(nodes, h, nonce, &prefix.child(true), &right);
+    let hash = inner_hash(h, &left_hash, &right_hash);
+    let count = new_nodes(&left)
+        .saturating_add(new_nodes(&right))
+        .saturating_add(1);
+    Ok(Part::Made(Box::new(
+        alloc,
+        Subtree {
+            hash,
+            left_hash,
+            right_hash,
+            count,
+            left,
+            right,
+        },
+    )?))
+}
+
+/// How many nodes it takes to attach a part.
+pub(crate) fn new_nodes(part: &Part) -> usize
+    ensures { (n level : ℕ) → Fits n level part.now → result ≡ min (node_count part.now) (2 ^ 64 - 1) }
+{
+    match part {
+        Part::Nothing => 1,
+        Part::Entry(_) => 1,
+        Part::Kept(_) => 0,
+        Part::Made(made) => made.count,
+    }
+}
+
+/// At least how many entries a part below the root has, counted up to two.
+pub(crate) fn weight(part: &Part) -> usize
+    ensures { result ≡ weight_of part.now }
+{
+    match part {
+        Part::Nothing => 0,
+        Part::Entry(_) => 1,
+        Part::Kept(_) => 2,
+        Part::Made(_) => 2,
+    }
+}
+
+/// Two parts of neighbouring prefixes as the part of the prefix above.
+pub(crate) fn join_parts<H: Hash32>(
+    alloc: Global,
+    nodes: &[Node],
+    h: &H,
+    nonce: &Nonce,
+    prefix: &Prefix,
+    left: Part,
+    right: Part,
+) -> Result<Part, AllocError>
+    requires short { length prefix.now < 256 }
+    requires left { Fits (length nodes.now) (length prefix.now + 1) left }
+    requires right { Fits (length nodes.now) (length prefix.now + 1) right }
+    ensures fits { IfOk result (λ part. Fits (length nodes.now) (length prefix.now) part) }
+    ensures count { IfOk result (λ part. node_count part ≤ node_count left + node_count right + 1) }
+    ensures placed { IfOk result (λ part. (all : List Record) → Placed all left → Placed all right → Placed all part) }
+    ensures stands { IfOk result (λ part. (records : List Record) (entries : List Numbered)
+        → Stands (H.digest_of h.now) nonce.now.0 nodes.now records left (child prefix.now false) (half false (length prefix.now) entries)
+        → Stands (H.digest_of h.now) nonce.now.0 nodes.now records right (child prefix.now true) (half true (length prefix.now) entries)
+        → Stands (H.digest_of h.now) nonce.now.0 nodes.now records part prefix.now entries) }
+{
+    let weight_left = weight(&left);
+    if weight_left + weight(&right) >= 2 {
+        Ok(made(alloc, nodes, h, nonce, prefix, left, right)?)
+    } else if weight_left == 1 {
+        Ok(left)
+    } else {
+        Ok(right)
+    }
+}

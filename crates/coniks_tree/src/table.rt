@@ -1,0 +1,63 @@
+//! Numbered nodes, and records.
+
+ghost use Rattle.std.specs.Prelude.{◌≡◌, ◌<◌, length, slice_get, Some};
+ghost use Rattle.coniks_tree.specs.Table.{hash_of_node};
+
+use coniks_proof::{Binding, Digest, Index, Opening};
+
+/// A record's number: its place in the list of a tree's records, from 0.
+#[derive(Clone, Copy, Debug, PartialEq, Eq)]
+pub struct RecordNo(pub usize);
+
+/// A node's number: its place in the list of a tree's nodes, from 0. An epoch's root is the number of the node that stands
+/// at the empty prefix.
+#[derive(Clone, Copy, Debug, PartialEq, Eq)]
+pub struct Root(pub usize);
+
+/// What stands behind a leaf: the binding at an index, and what opens its commitment.
+#[derive(Drop)]
+pub struct Record {
+    pub index: Index,
+    pub binding: Binding,
+    pub opening: Opening,
+    /// What the leaf holds in the binding's place.
+    pub commitment: Digest,
+}
+
+/// A node with its hash (CONIKS, section 3.1), in at most 56 bytes. A leaf has its record's number; an interior node has its
+/// children's numbers, the left one first, which are smaller than its own.
+#[derive(Clone, Copy, Debug)]
+pub enum Node {
+    Empty(Digest),
+    Leaf(RecordNo, Digest),
+    Inner(usize, usize, Digest),
+}
+
+/// The node of this number.
+pub(crate) fn node_of(nodes: &[Node], number: usize) -> Node
+    requires { number < length nodes.now }
+    ensures { slice_get nodes.now number ≡ Some result }
+{
+    nodes[number]
+}
+
+/// The record of this number.
+pub(crate) fn record_of(records: &[Record], place: RecordNo) -> &Record
+    requires { place.0 < length records.now }
+    ensures { slice_get records.now place.0 ≡ Some result.now }
+{
+    &records[place.0]
+}
+
+impl Node {
+    /// Its hash.
+    pub(crate) fn hash(&self) -> Digest
+        ensures { result ≡ hash_of_node self.now }
+    {
+        match self {
+            Node::Empty(hash) => *hash,
+            Node::Leaf(_, hash) => *hash,
+            Node::Inner(_, _, hash) => *hash,
+        }
+    }
+}

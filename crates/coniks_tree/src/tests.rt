@@ -1,0 +1,7 @@
+mod deep;
+mod epochs;
+mod examples;
+mod refused;
+mod scattered;
+mod shared;
+mod sizes;
