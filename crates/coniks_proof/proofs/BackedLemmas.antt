@@ -1,5 +1,5 @@
 -- Nodes and paths don't depend on what stands behind the commitments.
-use Rattle.std.proofs.Common.{◌≡◌, ℕ, zero, suc, ◌-◌, List, [], ◌∷◌, length, Bool, true, false, refl, sym, ap, ◌∙◌, not, map, cond}
+use Rattle.std.proofs.Common.{◌≡◌, ℕ, zero, suc, ◌-◌, List, [], ◌∷◌, length, Bool, true, false, refl, ap, ◌∙◌, not, map, cond}
 use Rattle.std.specs.List.{filter}
 use Rattle.coniks_proof.specs.Bits.{bit_at, turns, child}
 use Rattle.coniks_proof.specs.Entries.{Entry, backed_by, half}

@@ -5,7 +5,7 @@ use Rattle.std.proofs.lemmas.Slice.Eq.{bytes_eq-Decides}
 use Rattle.std.proofs.lemmas.Bool.{cases_lt}
 use Rattle.coniks_proof.specs.Bits.{first_bits}
 use Rattle.coniks_proof.specs.Faults.{EndHas, Has}
-use Rattle.coniks_proof.specs.Proofs.{EndFits, Accepts, IsWellFormed, answer_of}
+use Rattle.coniks_proof.specs.Proofs.{EndFits, Accepts, answer_of}
 use Rattle.coniks_proof.specs.declared.paths.Proof.{Proof}
 use Rattle.coniks_proof.specs.declared.paths.End.{End}
 use Rattle.coniks_proof.specs.declared.paths.End.TheVariants.{Empty, Other, Here}

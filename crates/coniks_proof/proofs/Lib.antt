@@ -10,3 +10,6 @@ pub mod FaultLemmas
 pub mod LookupLemmas
 pub mod RegistryLemmas
 pub mod BackedLemmas
+pub mod PreimageLemmas
+pub mod CollisionLemmas
+pub mod MeetingLemmas

@@ -5,7 +5,7 @@ use Rattle.coniks_proof.specs.Bits.{bit_at, child, turns, first_bits}
 use Rattle.coniks_proof.specs.Entries.{Entry, IsIn, half}
 use Rattle.coniks_proof.specs.Changes.{AreApart}
 use Rattle.coniks_proof.specs.Maps.{IsMap}
-use Rattle.coniks_proof.specs.Preimages.{commitment_preimage, empty_preimage, leaf_preimage, inner_preimage}
+use Rattle.coniks_proof.specs.Preimages.{empty_preimage, leaf_preimage, inner_preimage}
 use Rattle.coniks_proof.specs.Tree.{node}
 use Rattle.coniks_proof.specs.Paths.{siblings, end_of, EndIs, digests, IsPath}
 use Rattle.coniks_proof.specs.Proofs.{end_preimage, joined, preimage, Accepts, EndFits, answer_of}

@@ -8,6 +8,7 @@ pub mod Maps
 pub mod Proofs
 pub mod Faults
 pub mod Collisions
+pub mod Meetings
 pub mod Registry
 pub mod Batches
 pub use Rattle.sha2.specs.Sha256

@@ -49,16 +49,16 @@ impl Hash32 for Flat {
 }
 
 /// The tag of an empty node's preimage.
-const EMPTY_TAG: u8 = 0x45;
+pub(crate) const EMPTY_TAG: u8 = 0x45;
 
 /// The tag of a leaf's preimage.
-const LEAF_TAG: u8 = 0x4C;
+pub(crate) const LEAF_TAG: u8 = 0x4C;
 
 /// The tag of an interior node's preimage.
-const INNER_TAG: u8 = 0x49;
+pub(crate) const INNER_TAG: u8 = 0x49;
 
 /// The tag of a commitment's preimage.
-const COMMITMENT_TAG: u8 = 0x43;
+pub(crate) const COMMITMENT_TAG: u8 = 0x43;
 
 /// The hash of an empty node, which stands for a prefix that begins no index of the tree (CONIKS, section 3.1).
 pub fn empty_hash<H: Hash32>(h: &H, nonce: &Nonce, prefix: &Prefix) -> Digest

@@ -11,7 +11,9 @@ pub mod checker;
 pub mod collision;
 pub mod hashing;
 pub mod laws;
+mod meeting;
 pub mod paths;
+mod strings;
 #[cfg(test)]
 mod tests;
 pub mod values;
@@ -19,7 +21,7 @@ pub mod values;
 pub use bits::{Prefix, bit};
 pub use bytes::{Binding, Bytes, Digests};
 pub use checker::{CheckFault, check};
-pub use collision::Collision;
+pub use collision::{Collision, extract};
 pub use hashing::{Flat, Hash32, Sha256Hash, commit_hash, empty_hash, inner_hash, leaf_hash};
 pub use paths::{Answer, End, Proof};
 pub use values::{

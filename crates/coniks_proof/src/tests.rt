@@ -1,5 +1,7 @@
 //! Worked examples, whose digests were computed by other programs.
 
+mod collisions;
+
 use crate::bits::{Prefix, bit};
 use crate::bytes::{Bytes, Digests};
 use crate::checker::{CheckFault, check};

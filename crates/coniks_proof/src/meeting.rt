@@ -1,0 +1,274 @@
+//! Where two ways to one index part: both are climbed once, and the place is found on the way up.
+
+ghost use Rattle.std.specs.Prelude.{◌≡◌, ◌≢◌, ◌+◌, ◌≤◌, ◌↔◌, ◌⊎◌, length, IsTrue, IfOk};
+ghost use Rattle.coniks_proof.specs.Collisions.{IsSized, KeepsOff, Parts};
+ghost use Rattle.coniks_proof.specs.Meetings.{CommitmentIs, PartsAt, PlaceFits};
+ghost use Rattle.coniks_proof.specs.Proofs.{LengthsFit, answer_of, end_preimage, preimage};
+
+use crate::bits::bit;
+use crate::bytes::Bytes;
+use crate::hashing::{Hash32, commit_hash};
+use crate::paths::{End, carried, joined_hash};
+use crate::strings::{level_bytes, sealed_bytes};
+use crate::values::{Digest, Index, MAX_LEVEL, Nonce, in_range};
+use std::alloc::{AllocError, Global};
+
+/// A way to an index from a level down: the siblings beside it, and what stands at its end.
+#[derive(Clone, Copy)]
+pub(crate) struct Way<'a> {
+    pub(crate) siblings: &'a [Digest],
+    pub(crate) end: &'a End,
+}
+
+/// Where two ways to one index part.
+#[derive(Drop)]
+enum Place<'a> {
+    /// At a level; the siblings are those from there down.
+    Level {
+        level: usize,
+        siblings_a: &'a [Digest],
+        siblings_b: &'a [Digest],
+    },
+    /// In the commitments.
+    Commitments,
+}
+
+/// The hashes of two ways at a level, and where the ways part from there down.
+#[derive(Drop)]
+struct Meeting<'a> {
+    a: Digest,
+    b: Digest,
+    place: Place<'a>,
+}
+
+/// Promises that the values of 32 bytes in an end have 32 bytes.
+fn sized(end: &End)
+    ensures { IsSized end.now }
+{
+    match end {
+        End::Empty => {}
+        End::Other {
+            index,
+            commitment: _,
+        } => in_range(&index.0),
+        End::Here {
+            name: _,
+            key: _,
+            opening,
+        } => in_range(&opening.0),
+    }
+}
+
+/// The commitment of an end that opens one.
+fn commitment_of<H: Hash32>(h: &H, end: &End) -> Option<Digest>
+    requires { LengthsFit end.now }
+    ensures { CommitmentIs (H.digest_of h.now) end.now result }
+{
+    match end {
+        End::Here { name, key, opening } => Some(commit_hash(
+            h,
+            opening,
+            name.as_slice(),
+            key.as_slice(),
+        )),
+        _ => None,
+    }
+}
+
+/// Says whether two ends at one level, of different answers, hash the same bytes: two leaves of one commitment.
+fn same_ends<H: Hash32>(
+    h: &H,
+    nonce: &Nonce,
+    index: &Index,
+    level: usize,
+    end_a: &End,
+    end_b: &End,
+) -> bool
+    requires fits_a { LengthsFit end_a.now }
+    requires fits_b { LengthsFit end_b.now }
+    requires off_a { KeepsOff index.now.0 end_a.now }
+    requires off_b { KeepsOff index.now.0 end_b.now }
+    requires answers { answer_of end_a.now ≢ answer_of end_b.now }
+    ensures { IsTrue result ↔ (end_preimage (H.digest_of h.now) nonce.now.0 index.now.0 level end_a.now ≡ end_preimage (H.digest_of h.now) nonce.now.0 index.now.0 level end_b.now) }
+{
+    in_range(&index.0);
+    sized(end_a);
+    sized(end_b);
+    let commitment_a = commitment_of(h, end_a);
+    let commitment_b = commitment_of(h, end_b);
+    match (commitment_a, commitment_b) {
+        (Some(a), Some(b)) => a == b,
+        _ => false,
+    }
+}
+
+/// Says whether four digests are two pairs of the same.
+fn same_pairs(a: &Digest, b: &Digest, c: &Digest, d: &Digest) -> bool
+    ensures { IsTrue result ↔ ((a.now ≡ b.now) × (c.now ≡ d.now)) }
+{
+    *a == *b && *c == *d
+}
+
+/// Where two ways part of which one ends at this level.
+fn end_place<'a, H: Hash32>(
+    h: &H,
+    nonce: &Nonce,
+    index: &Index,
+    level: usize,
+    a: Way<'a>,
+    b: Way<'a>,
+) -> Place<'a>
+    requires deep_a { level + length a.siblings.now ≤ MAX_LEVEL }
+    requires deep_b { level + length b.siblings.now ≤ MAX_LEVEL }
+    requires fits_a { LengthsFit a.end.now }
+    requires fits_b { LengthsFit b.end.now }
+    requires off_a { KeepsOff index.now.0 a.end.now }
+    requires off_b { KeepsOff index.now.0 b.end.now }
+    requires answers { answer_of a.end.now ≢ answer_of b.end.now }
+    requires ends { (length a.siblings.now ≡ 0) ⊎ (length b.siblings.now ≡ 0) }
+    ensures fits { PlaceFits result }
+    ensures place { PartsAt (H.digest_of h.now) nonce.now.0 index.now.0 level a.entry.siblings.now a.entry.end.now b.entry.siblings.now b.entry.end.now result }
+{
+    in_range(&index.0);
+    sized(a.end);
+    sized(b.end);
+    let here = Place::Level {
+        level,
+        siblings_a: a.siblings,
+        siblings_b: b.siblings,
+    };
+    if !a.siblings.is_empty() {
+        return here;
+    }
+    if !b.siblings.is_empty() {
+        return here;
+    }
+    if same_ends(h, nonce, index, level, a.end, b.end) {
+        return Place::Commitments;
+    }
+    here
+}
+
+/// Two ways of which one ends at this level.
+fn ending<'a, H: Hash32>(
+    h: &H,
+    nonce: &Nonce,
+    index: &Index,
+    level: usize,
+    a: Way<'a>,
+    b: Way<'a>,
+) -> Meeting<'a>
+    requires deep_a { level + length a.siblings.now ≤ MAX_LEVEL }
+    requires deep_b { level + length b.siblings.now ≤ MAX_LEVEL }
+    requires fits_a { LengthsFit a.end.now }
+    requires fits_b { LengthsFit b.end.now }
+    requires off_a { KeepsOff index.now.0 a.end.now }
+    requires off_b { KeepsOff index.now.0 b.end.now }
+    requires answers { answer_of a.end.now ≢ answer_of b.end.now }
+    requires ends { (length a.siblings.now ≡ 0) ⊎ (length b.siblings.now ≡ 0) }
+    ensures a { result.a.0 ≡ H.digest_of h.now (preimage (H.digest_of h.now) nonce.now.0 index.now.0 level a.entry.siblings.now a.entry.end.now) }
+    ensures b { result.b.0 ≡ H.digest_of h.now (preimage (H.digest_of h.now) nonce.now.0 index.now.0 level b.entry.siblings.now b.entry.end.now) }
+    ensures fits { PlaceFits result.place }
+    ensures place { PartsAt (H.digest_of h.now) nonce.now.0 index.now.0 level a.entry.siblings.now a.entry.end.now b.entry.siblings.now b.entry.end.now result.place }
+{
+    Meeting {
+        a: carried(h, nonce, index, level, a.siblings, a.end),
+        b: carried(h, nonce, index, level, b.siblings, b.end),
+        place: end_place(h, nonce, index, level, a, b),
+    }
+}
+
+/// Climbs two ways to one index from their ends to a level.
+fn meet<'a, H: Hash32>(
+    h: &H,
+    nonce: &Nonce,
+    index: &Index,
+    level: usize,
+    a: Way<'a>,
+    b: Way<'a>,
+) -> Meeting<'a>
+    requires deep_a { level + length a.siblings.now ≤ MAX_LEVEL }
+    requires deep_b { level + length b.siblings.now ≤ MAX_LEVEL }
+    requires fits_a { LengthsFit a.end.now }
+    requires fits_b { LengthsFit b.end.now }
+    requires off_a { KeepsOff index.now.0 a.end.now }
+    requires off_b { KeepsOff index.now.0 b.end.now }
+    requires answers { answer_of a.end.now ≢ answer_of b.end.now }
+    ensures a { result.a.0 ≡ H.digest_of h.now (preimage (H.digest_of h.now) nonce.now.0 index.now.0 level a.entry.siblings.now a.entry.end.now) }
+    ensures b { result.b.0 ≡ H.digest_of h.now (preimage (H.digest_of h.now) nonce.now.0 index.now.0 level b.entry.siblings.now b.entry.end.now) }
+    ensures fits { PlaceFits result.place }
+    ensures place { PartsAt (H.digest_of h.now) nonce.now.0 index.now.0 level a.entry.siblings.now a.entry.end.now b.entry.siblings.now b.entry.end.now result.place }
+{
+    let Some((first_a, rest_a)) = a.siblings.split_first() else {
+        return ending(h, nonce, index, level, a, b);
+    };
+    let Some((first_b, rest_b)) = b.siblings.split_first() else {
+        return ending(h, nonce, index, level, a, b);
+    };
+    let below_a = Way {
+        siblings: rest_a,
+        end: a.end,
+    };
+    let below_b = Way {
+        siblings: rest_b,
+        end: b.end,
+    };
+    let below = meet(h, nonce, index, level + 1, below_a, below_b);
+    in_range(&first_a.0);
+    in_range(&first_b.0);
+    let goes_right = bit(index, level);
+    let hash_a = joined_hash(h, goes_right, first_a, &below.a);
+    let hash_b = joined_hash(h, goes_right, first_b, &below.b);
+    if same_pairs(first_a, first_b, &below.a, &below.b) {
+        return Meeting {
+            a: hash_a,
+            b: hash_b,
+            place: below.place,
+        };
+    }
+    Meeting {
+        a: hash_a,
+        b: hash_b,
+        place: Place::Level {
+            level,
+            siblings_a: a.siblings,
+            siblings_b: b.siblings,
+        },
+    }
+}
+
+/// The byte strings at the place where two ways from the root part, the first from the first way.
+pub(crate) fn parted<H: Hash32>(
+    alloc: Global,
+    h: &H,
+    nonce: &Nonce,
+    index: &Index,
+    a: Way<'_>,
+    b: Way<'_>,
+) -> Result<(Bytes, Bytes), AllocError>
+    requires deep_a { length a.siblings.now ≤ MAX_LEVEL }
+    requires deep_b { length b.siblings.now ≤ MAX_LEVEL }
+    requires fits_a { LengthsFit a.end.now }
+    requires fits_b { LengthsFit b.end.now }
+    requires off_a { KeepsOff index.now.0 a.end.now }
+    requires off_b { KeepsOff index.now.0 b.end.now }
+    requires answers { answer_of a.end.now ≢ answer_of b.end.now }
+    ensures { IfOk result (λ found. Parts (H.digest_of h.now) nonce.now.0 index.now.0 0 a.entry.siblings.now a.entry.end.now b.entry.siblings.now b.entry.end.now found.0 found.1) }
+{
+    match meet(h, nonce, index, 0, a, b).place {
+        Place::Commitments => {
+            let x = sealed_bytes(alloc, a.end)?;
+            let y = sealed_bytes(alloc, b.end)?;
+            Ok((x, y))
+        }
+        Place::Level {
+            level,
+            siblings_a,
+            siblings_b,
+        } => {
+            let x = level_bytes(alloc, h, nonce, index, level, siblings_a, a.end)?;
+            let y = level_bytes(alloc, h, nonce, index, level, siblings_b, b.end)?;
+            Ok((x, y))
+        }
+    }
+}
