@@ -1,5 +1,5 @@
 -- Who has an index, by the map of records.
-use Rattle.std.proofs.Common.{◌≡◌, ◌≢◌, ℕ, List, [], ◌∷◌, ◌++◌, length, Bool, true, false, refl, sym, ap, subst, ◌∙◌, not, ◌||◌, ◌&&◌, ◌⊎◌, inl, inr, Option, Some, None, slice_get}
+use Rattle.std.proofs.Common.{◌≡◌, ◌≢◌, ℕ, List, ◌++◌, Bool, true, false, refl, sym, ap, subst, ◌∙◌, not, ◌||◌, Some, None, slice_get}
 use Rattle.std.specs.Str.{bytes_eq}
 use Rattle.std.specs.BTreeMap.{BTreeMap}
 use Rattle.std.proofs.lemmas.Slice.Eq.{bytes_eq-Decides}
@@ -7,10 +7,10 @@ use Rattle.coniks_proof.specs.Entries.{IsIn}
 use Rattle.coniks_proof.specs.Registry.{Registered, Registry, has_name, overlaid, IsFree}
 use Rattle.coniks_proof.specs.Batches.{clashes}
 use Rattle.coniks_proof.proofs.RegistryLemmas.{named_in}
-use Rattle.coniks_tool.specs.Records.{registered_of, IsSealed, AreSealed, number_at, Tracks}
+use Rattle.coniks_tool.specs.Records.{registered_of, AreSealed, number_at, Tracks}
 use Rattle.coniks_tool.specs.Holders.{IsHeld}
 use Rattle.coniks_tool.specs.declared.records.Record.{Record}
-use Rattle.coniks_tool.proofs.NameLemmas.{not_true, eq_same, eq_apart, named_of, has_of, has_name-overlaid, clash_found, clash_made, clashes-overlaid, same_bool}
+use Rattle.coniks_tool.proofs.NameLemmas.{not_true, eq_same, eq_apart, named_of, has_name-overlaid, clash_found, clash_made, clashes-overlaid, same_bool}
 
 pub held_none : (hash of : List ℕ → List ℕ) (records : List Record) (numbers : BTreeMap (List ℕ) ℕ) (registry : Registry) (index : List ℕ)
     → Tracks hash of records numbers registry → number_at numbers index ≡ None → IsFree of registry index

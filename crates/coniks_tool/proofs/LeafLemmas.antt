@@ -1,9 +1,8 @@
 -- The leaves of a registry's tree, in increasing order of index.
-use Rattle.std.proofs.Common.{◌≡◌, ◌≢◌, ℕ, zero, suc, ◌+◌, ◌-◌, ◌<◌, ◌≤◌, List, [], ◌∷◌, ◌++◌, length, map, take, drop, arith, length-append, Bool, true, false, refl, sym, ap, subst, ◌∙◌, ◌⊎◌, inl, inr, cond, nat_lt, ◌==◌, slice_index, slice_index_or, Option, Some, None, slice_get}
+use Rattle.std.proofs.Common.{◌≡◌, ◌≢◌, ℕ, zero, suc, ◌+◌, ◌<◌, ◌≤◌, List, [], ◌∷◌, ◌++◌, length, map, take, drop, arith, Bool, true, false, refl, sym, ap, subst, ◌∙◌, ◌⊎◌, inl, inr, cond, nat_lt, ◌==◌, slice_index, slice_index_or, Some, slice_get}
 use Rattle.std.specs.Borrow.{Bor}
-use Rattle.std.specs.declared.cmp.Ordering.{Ordering}
 use Rattle.std.specs.declared.cmp.Ordering.TheVariants.{Less, Equal, Greater}
-use Rattle.std.specs.List.{AllByRecursion, Contains}
+use Rattle.std.specs.List.{AllByRecursion}
 use Rattle.std.specs.List.Sorted.{IsStrictlySortedBy}
 use Rattle.std.specs.Map.{keys_of, values_of, lookup}
 use Rattle.std.specs.Ordering.{is_eq, ordering_then, nat_cmp}
@@ -17,15 +16,15 @@ use Rattle.coniks_proof.specs.Bits.{child}
 use Rattle.coniks_proof.specs.Entries.{Entry, IsIn, half}
 use Rattle.coniks_proof.specs.Maps.{IsIndex, IsNew, IsMap, SameEntries}
 use Rattle.coniks_proof.specs.Changes.{IsBefore, AllAfter, AreIncreasing, AreInOrder, AreApart}
-use Rattle.coniks_proof.specs.Preimages.{empty_preimage, leaf_preimage, inner_preimage}
+use Rattle.coniks_proof.specs.Preimages.{inner_preimage}
 use Rattle.coniks_proof.specs.Tree.{node}
 use Rattle.coniks_proof.specs.Registry.{Registered, Registry, entry_of, entries_of, root_of}
 use Rattle.coniks_proof.proofs.RegistryLemmas.{entry_in as bound_entry_in, in_entries}
-use Rattle.coniks_proof.proofs.MapLemmas.{IsMap-apart, node-same, new_apart}
+use Rattle.coniks_proof.proofs.MapLemmas.{IsMap-apart, node-same}
 use Rattle.coniks_proof.proofs.OrderLemmas.{AreIncreasing-in_order}
 use Rattle.coniks_proof.proofs.ChangeLemmas.{IsSplit, in_order-split, apart-halves, apart-last}
-use Rattle.coniks_proof.proofs.NodeLemmas.{node-empty, node-leaf, node-inner, length-child}
-use Rattle.coniks_tool.specs.Records.{registered_of, entry_of_record, IsSealed, AreSealed, number_at, IsRecordAt, IsFoundBy, Tracks}
+use Rattle.coniks_proof.proofs.NodeLemmas.{node-inner, length-child}
+use Rattle.coniks_tool.specs.Records.{registered_of, entry_of_record, IsSealed, AreSealed, number_at, IsRecordAt, Tracks}
 use Rattle.coniks_tool.specs.Leaves.{shown, entry_in, listed}
 use Rattle.coniks_tool.specs.declared.records.Record.{Record}
 

@@ -1,8 +1,14 @@
+pub mod AuditChainLemmas
+pub mod AuditFaultLemmas
+pub mod EntryLemmas
 pub mod HolderLemmas
 pub mod LeafLemmas
+pub mod LookupLemmas
 pub mod NameLemmas
 pub mod OperationsLemmas
 pub mod OverlayLemmas
+pub mod PathLemmas
 pub mod PlainLemmas
 pub mod ProgramLemmas
+pub mod ReplyLemmas
 pub mod TellingLemmas

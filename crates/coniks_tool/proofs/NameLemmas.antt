@@ -1,14 +1,14 @@
 -- The names of a registry that is rebound or overlaid.
-use Rattle.std.proofs.Common.{◌≡◌, ◌≢◌, ℕ, List, [], ◌∷◌, ◌++◌, length, Bool, true, false, refl, sym, ap, subst, ◌∙◌, cond, not, ◌||◌, ◌&&◌, ◌⊎◌, inl, inr}
-use Rattle.std.specs.List.{filter, list_any}
+use Rattle.std.proofs.Common.{◌≡◌, ◌≢◌, ℕ, List, [], ◌∷◌, ◌++◌, Bool, true, false, refl, sym, ap, subst, ◌∙◌, cond, not, ◌||◌, ◌&&◌, ◌⊎◌, inl, inr}
+use Rattle.std.specs.List.{filter}
 use Rattle.std.specs.Str.{bytes_eq}
 use Rattle.std.proofs.lemmas.Slice.Eq.{bytes_eq-Decides}
 use Rattle.coniks_proof.specs.Entries.{IsIn}
 use Rattle.coniks_proof.specs.Maps.{IsIndex, IsNew, IsMap}
-use Rattle.coniks_proof.specs.Registry.{Registered, Registry, has_name, rebound, overlaid, entry_of, entries_of}
+use Rattle.coniks_proof.specs.Registry.{Registered, Registry, has_name, rebound, overlaid, entries_of}
 use Rattle.coniks_proof.specs.Batches.{clashes}
-use Rattle.coniks_proof.proofs.MapLemmas.{IsIn-filter, of_filter, passes, new_apart}
-use Rattle.coniks_proof.proofs.RegistryLemmas.{entry_in, named_in}
+use Rattle.coniks_proof.proofs.MapLemmas.{IsIn-filter, of_filter, passes}
+use Rattle.coniks_proof.proofs.RegistryLemmas.{named_in}
 
 pub not_true : (b : Bool) → (b ≡ true → ⊥) → b ≡ false
 not_true true h = absurd (h refl)

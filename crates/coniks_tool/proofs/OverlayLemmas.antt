@@ -8,16 +8,16 @@ use Rattle.std.proofs.lemmas.Slice.Eq.{bytes_eq-Decides}
 use Rattle.std.proofs.lemmas.Map.Text.{is_eq-slice_cmp}
 use Rattle.std.proofs.lemmas.Bool.Decides.{nat_tests}
 use Rattle.coniks_proof.specs.Entries.{IsIn}
-use Rattle.coniks_proof.specs.Registry.{Registered, Registry, has_name, rebound, overlaid, entries_of}
-use Rattle.coniks_proof.specs.Batches.{Operation, Fault, Kind, clashes, fault_of, fault_from, first_fault, placed, kind_fault, or_else, fits, bound_by, name_length, key_length, name_twice, index_clash}
+use Rattle.coniks_proof.specs.Registry.{Registered, Registry, has_name, rebound, overlaid}
+use Rattle.coniks_proof.specs.Batches.{Operation, Fault, clashes, fault_of, fault_from, first_fault, placed, kind_fault, or_else, fits, bound_by, name_length, key_length, name_twice, index_clash}
 use Rattle.coniks_proof.specs.declared.values.TheConstants.{MAX_KEY, MAX_NAME}
-use Rattle.coniks_proof.specs.Maps.{IsIndex, IsMap}
+use Rattle.coniks_proof.specs.Maps.{IsIndex}
 use Rattle.coniks_tool.specs.Records.{registered_of, IsSealed, AreSealed, number_at, IsRecordAt, IsFoundBy, Tracks, Overlays, BeginsWith}
 use Rattle.coniks_tool.specs.Batch.{operation_of}
 use Rattle.coniks_tool.specs.Overlaying.{IsLaid}
 use Rattle.coniks_tool.specs.declared.batch.Op.{Op}
 use Rattle.coniks_tool.specs.declared.records.Record.{Record}
-use Rattle.coniks_tool.proofs.NameLemmas.{not_true, eq_same, eq_apart, in_rebound, rebound_new, rebound_old, has_name-append, overlaid-append, IsMap-rebound, clash_of, clashes-overlaid}
+use Rattle.coniks_tool.proofs.NameLemmas.{eq_same, eq_apart, in_rebound, rebound_new, rebound_old, has_name-append, overlaid-append, IsMap-rebound, clash_of, clashes-overlaid}
 
 -- ---- places in lists
 

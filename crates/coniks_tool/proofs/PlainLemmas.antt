@@ -1,17 +1,16 @@
 -- A plain directory: its latest epoch, and one epoch more.
-use Rattle.std.proofs.Common.{◌≡◌, ◌≢◌, ℕ, zero, suc, ◌+◌, ◌-◌, ◌<◌, ◌≤◌, List, [], ◌∷◌, ◌++◌, length, map, take, drop, arith, length-append, Bool, true, false, refl, sym, ap, subst, ◌∙◌, ◌⊎◌, inl, inr, cond, nat_lt, nat_le, Option, Some, None, slice_get, if◌then◌else◌}
+use Rattle.std.proofs.Common.{◌≡◌, ℕ, zero, suc, ◌+◌, ◌<◌, ◌≤◌, List, [], ◌∷◌, ◌++◌, length, map, take, drop, arith, length-append, true, false, refl, sym, ap, subst, ◌∙◌, inl, inr, nat_lt, nat_le, Some, None, slice_get, if◌then◌else◌}
 use Rattle.std.specs.BTreeMap.{BTreeMap, is_at}
 use Rattle.std.specs.Map.{lookup}
 use Rattle.std.specs.Ordering.{nat_cmp}
 use Rattle.std.specs.Cmp.Lexicographic.{slice_cmp}
 use Rattle.std.proofs.lemmas.Bool.Decides.{nat_tests}
 use Rattle.std.proofs.lemmas.List.{take-append-le}
-use Rattle.coniks_proof.specs.Entries.{IsIn}
-use Rattle.coniks_proof.specs.Registry.{Registered, Registry, overlaid}
+use Rattle.coniks_proof.specs.Registry.{Registered, Registry, overlaid, root_of}
 use Rattle.coniks_proof.specs.Batches.{Operation, Fault, bound_by, after, first_fault}
 use Rattle.coniks_proof.specs.declared.values.TheConstants.{MAX_OPERATIONS}
-use Rattle.coniks_tool.specs.History.{Shown, latest_epoch, latest_registry, Refusal, refusal, refusal_from, too_long, at, not_later}
-use Rattle.coniks_tool.specs.Records.{registered_of, AreSealed, number_at, IsRecordAt, IsFoundBy, Tracks, registry_at, BeginsWith, Overlays}
+use Rattle.coniks_tool.specs.History.{Shown, latest_epoch, latest_registry, refusal, refusal_from, too_long, at, not_later}
+use Rattle.coniks_tool.specs.Records.{registered_of, number_at, Tracks, registry_at, BeginsWith}
 use Rattle.coniks_tool.specs.Overlaying.{IsLaidOver}
 use Rattle.coniks_tool.specs.Plain.{Contents, history_of, last_number, last_count, last_entries, HoldsEpoch, IsWhole, Accepts, IsLayFault, IsRefusedBy}
 use Rattle.coniks_tool.specs.declared.records.Record.{Record}
@@ -79,20 +78,20 @@ tracks_none hash of records numbers none = record {
 }
 
 -- the latest map finds the records of the latest registry
-pub latest_tracks : (hash of : List ℕ → List ℕ) (records : List Record) (epochs : List Epoch) (numbers : BTreeMap (List ℕ) ℕ) → IsWhole hash of records epochs → numbers.entries ≡ last_entries epochs
+pub latest_tracks : (hash of : List ℕ → List ℕ) (nonce : List ℕ) (records : List Record) (epochs : List Epoch) (numbers : BTreeMap (List ℕ) ℕ) → IsWhole hash of nonce records epochs → numbers.entries ≡ last_entries epochs
     → Tracks hash of records numbers (latest_registry (history_of records epochs))
-latest_tracks hash of records [] numbers whole is = tracks_none hash of records numbers is
-latest_tracks hash of records (e ∷ es) numbers whole is =
+latest_tracks hash of nonce records [] numbers whole is = tracks_none hash of records numbers is
+latest_tracks hash of nonce records (e ∷ es) numbers whole is =
     let l = has_last records e es in
     tracks_same hash of records l.last.numbers numbers (latest_registry (history_of records (e ∷ es))) (is ∙ l.is.entries)
     (subst (λ (R : Registry). Tracks hash of records l.last.numbers R) (sym l.is.registry) (whole.held l.place l.last l.is.there).tracks)
 
 -- the latest registry is what all records leave
-latest_is : (hash of : List ℕ → List ℕ) (records : List Record) (epochs : List Epoch) → IsWhole hash of records epochs → latest_registry (history_of records epochs) ≡ overlaid [] (map registered_of records)
+latest_is : (hash of : List ℕ → List ℕ) (nonce : List ℕ) (records : List Record) (epochs : List Epoch) → IsWhole hash of nonce records epochs → latest_registry (history_of records epochs) ≡ overlaid [] (map registered_of records)
 unfolding registry_at
-latest_is hash of [] [] whole = refl
-latest_is hash of (r ∷ rs) [] whole = absurd (let last = whole.last in omega arith)
-latest_is hash of records (e ∷ es) whole =
+latest_is hash of nonce [] [] whole = refl
+latest_is hash of nonce (r ∷ rs) [] whole = absurd (let last = whole.last in omega arith)
+latest_is hash of nonce records (e ∷ es) whole =
     let l = has_last records e es in
     let all : l.last.count ≡ length records = sym l.is.count ∙ whole.last in
     l.is.registry ∙ ap (λ n. overlaid [] (map registered_of (take n records))) all ∙ ap (λ (xs : List Record). overlaid [] (map registered_of xs)) (take_whole records)
@@ -147,10 +146,11 @@ tracks_more hash of records more numbers registry t = record {
   map = t.map;
 }
 
-held_more : (hash of : List ℕ → List ℕ) (records more : List Record) (e : Epoch) → HoldsEpoch hash of records e → HoldsEpoch hash of (records ++ more) e
-held_more hash of records more e h = record {
+held_more : (hash of : List ℕ → List ℕ) (nonce : List ℕ) (records more : List Record) (e : Epoch) → HoldsEpoch hash of nonce records e → HoldsEpoch hash of nonce (records ++ more) e
+held_more hash of nonce records more e h = record {
   counted = omega (arith, h.counted, length-append records more);
   tracks = subst (λ (R : Registry). Tracks hash of (records ++ more) e.numbers R) (sym (registry_at-append records more e.count h.counted)) (tracks_more hash of records more e.numbers (registry_at records e.count) h.tracks);
+  rooted = h.rooted ∙ ap (root_of hash of nonce) (sym (registry_at-append records more e.count h.counted));
 }
 
 history-append : (hash of : List ℕ → List ℕ) (records more : List Record) (epochs : List Epoch) → ((k : ℕ) (e : Epoch) → slice_get epochs k ≡ Some e → e.count ≤ length records)
@@ -183,39 +183,40 @@ drop_front [] ys = refl
 drop_front (x ∷ xs) ys = drop_front xs ys
 
 -- the registry that all records leave after a batch
-registry_next : (hash of : List ℕ → List ℕ) (records records' more : List Record) (epochs : List Epoch) (bs : List Registered) → IsWhole hash of records epochs → records' ≡ records ++ more
+registry_next : (hash of : List ℕ → List ℕ) (nonce : List ℕ) (records records' more : List Record) (epochs : List Epoch) (bs : List Registered) → IsWhole hash of nonce records epochs → records' ≡ records ++ more
     → map registered_of (drop (length records) records') ≡ bs → overlaid (latest_registry (history_of records epochs)) bs ≡ registry_at records' (length records')
 unfolding registry_at
-registry_next hash of records records' more epochs bs whole longer log =
+registry_next hash of nonce records records' more epochs bs whole longer log =
     let new : map registered_of more ≡ bs = ap (map registered_of) (sym (ap (drop (length records)) longer ∙ drop_front records more)) ∙ log in
-    ap (λ (R : Registry). overlaid R bs) (latest_is hash of records epochs whole)
+    ap (λ (R : Registry). overlaid R bs) (latest_is hash of nonce records epochs whole)
     ∙ ap (overlaid (overlaid [] (map registered_of records))) (sym new)
     ∙ sym (overlaid-append [] (map registered_of records) (map registered_of more))
     ∙ ap (overlaid []) (sym (map-append registered_of records more)) ∙ ap (λ (xs : List Record). overlaid [] (map registered_of xs)) (sym longer ∙ sym (take_whole records'))
 
 -- what an installed batch leaves
 pub record IsInstalled (hash of : List ℕ → List ℕ) (nonce : List ℕ) (records records' : List Record) (epochs epochs' : List Epoch) (epoch : ℕ) (ops : List Operation) (root : List ℕ) : Type 0 where
-  pub whole : IsWhole hash of records' epochs'
+  pub whole : IsWhole hash of nonce records' epochs'
   pub history : history_of records' epochs' ≡ history_of records epochs ++ record { epoch = epoch; registry = after (latest_registry (history_of records epochs)) ops } ∷ []
 
 pub install : (hash of : List ℕ → List ℕ) (nonce : List ℕ) (records records' : List Record) (epochs epochs' : List Epoch) (e : Epoch) (numbers : BTreeMap (List ℕ) ℕ) (epoch base : ℕ) (ops : List Operation) (root : List ℕ)
-    → IsWhole hash of records epochs → BeginsWith records records' → IsLaidOver hash of nonce (length records) records' numbers (latest_registry (history_of records epochs)) ops root
-    → epochs' ≡ epochs ++ e ∷ [] → e.number ≡ epoch → e.count ≡ length records' → e.numbers ≡ numbers
+    → IsWhole hash of nonce records epochs → BeginsWith records records' → IsLaidOver hash of nonce (length records) records' numbers (latest_registry (history_of records epochs)) ops root
+    → epochs' ≡ epochs ++ e ∷ [] → e.number ≡ epoch → e.count ≡ length records' → e.numbers ≡ numbers → e.root.0 ≡ root
     → IsInstalled hash of nonce records records' epochs epochs' epoch ops root
-install hash of nonce records records' epochs epochs' e numbers epoch base ops root whole begins laid more number count found =
+install hash of nonce records records' epochs epochs' e numbers epoch base ops root whole begins laid more number count found rooted =
     let R = latest_registry (history_of records epochs) in
-    let next : after R ops ≡ registry_at records' (length records') = registry_next hash of records records' begins.more epochs (map bound_by ops) whole begins.is laid.overlays.log in
+    let next : after R ops ≡ registry_at records' (length records') = registry_next hash of nonce records records' begins.more epochs (map bound_by ops) whole begins.is laid.overlays.log in
     let own : registry_at records' e.count ≡ after R ops = ap (registry_at records') count ∙ sym next in
-    let holds : HoldsEpoch hash of records' e = record {
+    let holds : HoldsEpoch hash of nonce records' e = record {
       counted = omega (arith, count);
       tracks = subst (λ (S : Registry). Tracks hash of records' e.numbers S) (sym own) (subst (λ (m : BTreeMap (List ℕ) ℕ). Tracks hash of records' m (after R ops)) (sym found) laid.overlays.tracks);
+      rooted = rooted ∙ laid.root_is ∙ ap (root_of hash of nonce) (sym own);
     } in
     record {
       whole = record {
         sealed = laid.overlays.sealed;
         held = λ k f is. elim (get-push epochs e k f (subst (λ (es : List Epoch). slice_get es k ≡ Some f) more is)) [
-          | inl old ↦ subst (λ (xs : List Record). HoldsEpoch hash of xs f) (sym begins.is) (held_more hash of records begins.more f (whole.held k f old))
-          | inr new ↦ subst (HoldsEpoch hash of records') new.1 holds
+          | inl old ↦ subst (λ (xs : List Record). HoldsEpoch hash of nonce xs f) (sym begins.is) (held_more hash of nonce records begins.more f (whole.held k f old))
+          | inr new ↦ subst (HoldsEpoch hash of nonce records') new.1 holds
         ];
         last = ap last_count more ∙ last_count-push epochs e ∙ count;
       };

@@ -8,12 +8,13 @@ use Rattle.coniks_tool.specs.Program.{IfRefused}
 use Rattle.coniks_tool.specs.declared.choice.WordsFault.{WordsFault}
 use Rattle.coniks_tool.specs.declared.choice.WordsFault.TheVariants.{Clap, OutOfMemory}
 use Rattle.coniks_tool.specs.declared.statuses.Ending.{Ending}
-use Rattle.coniks_tool.specs.declared.statuses.Ending.TheVariants.{Done, Refused}
+use Rattle.coniks_tool.specs.declared.statuses.Ending.TheVariants.{Done, Refused, BadKey}
 
 -- a fact that always holds also holds where the words are refused
 pub holds_if_refused : {P : Type 0} (r : Result Ending RunFault) → P → IfOk r (λ ending. IfRefused ending P)
 holds_if_refused (Ok (Done all)) p = tt
 holds_if_refused (Ok (Refused text)) p = p
+holds_if_refused (Ok BadKey) p = tt
 holds_if_refused (Err fault) p = tt
 
 is_of_clap : WordsFault → Bool

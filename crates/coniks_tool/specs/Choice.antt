@@ -1,14 +1,45 @@
 -- What the words choose, and why they may choose nothing.
-use Rattle.std.specs.Prelude.{List, ℕ, Option, option_map}
-use Rattle.clap.specs.Words.{Row, Kinds, IsAmong, kind_of}
+use Rattle.std.specs.Prelude.{List, [], ℕ, codes, Option, Some, None, is_none, option_map, unwrap_or, Bool, false, if◌then◌else◌}
+use Rattle.std.specs.Result.{result_ok}
+use Rattle.std.specs.Str.{bytes_eq}
+use Rattle.clap.specs.Words.{Row, Kinds, IsAmong, first_of, kind_of}
+use Rattle.hex.specs.Hex.{decode_sized}
 use Rattle.coniks_tool.specs.declared.choice.Settings.{Settings}
-use Rattle.coniks_tool.specs.declared.choice.Settings.TheVariants.{Run}
+use Rattle.coniks_tool.specs.declared.choice.Settings.TheVariants.{Run, Audit}
 use Rattle.coniks_tool.specs.declared.choice.WordsFault.{WordsFault}
 use Rattle.coniks_tool.specs.declared.choice.WordsFault.TheVariants.{Clap, OutOfMemory}
 
--- what the subcommand that the words name chooses: there is only `run`
-abbrev pub chosen : Option (List ℕ × List Row) → Option Settings
-chosen = option_map (λ met. Run)
+-- what to do
+pub data Choice : Type 0 where
+  run : Choice
+  audit : (key : List ℕ) → Choice
+
+-- the settings, without where their texts lie
+abbrev pub choice_of : Settings → Choice
+choice_of Run = run
+choice_of (Audit key) = audit key.now
+
+-- the text of an option, empty where it has none
+abbrev pub text_of : List ℕ → List Row → List ℕ
+text_of name rows = unwrap_or (first_of name rows) []
+
+-- what a subcommand chooses, by its name and the options that were found
+abbrev pub choice_by : List ℕ → List Row → Choice
+choice_by name rows = if bytes_eq name (codes "run") then run else audit (text_of (codes "key") rows)
+
+-- what the subcommand that the words name chooses
+abbrev pub chosen : Option (List ℕ × List Row) → Option Choice
+chosen = option_map (λ met. choice_by met.0 met.1)
+
+-- the bytes of a key, in 64 hexadecimal digits of either case
+abbrev pub key_in : List ℕ → Option (List ℕ)
+key_in text = result_ok (decode_sized text 32)
+
+-- a key is asked for, and its text isn't one
+abbrev pub lacks_key : Option Choice → Bool
+lacks_key (Some (audit key)) = is_none (key_in key)
+lacks_key (Some run) = false
+lacks_key None = false
 
 -- memory ran out, or it is an error of `clap` of one of these kinds
 abbrev pub IsRefusal : Kinds → WordsFault → Type 0

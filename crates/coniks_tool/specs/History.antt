@@ -1,5 +1,6 @@
 -- The history of a directory: its epochs, each with the registry that its batch left.
-use Rattle.std.specs.Prelude.{◌≡◌, ◌<◌, ℕ, List, [], ◌∷◌, length, nat_lt, nat_le, Option, Some, None, if◌then◌else◌}
+use Rattle.std.specs.Prelude.{◌==◌, ℕ, List, [], ◌∷◌, length, nat_lt, nat_le, Option, Some, None, option_map, if◌then◌else◌}
+use Rattle.std.specs.List.{find}
 use Rattle.coniks_proof.specs.Registry.{Registry}
 use Rattle.coniks_proof.specs.Batches.{Operation, Fault, first_fault}
 use Rattle.coniks_proof.specs.declared.values.TheConstants.{MAX_OPERATIONS}
@@ -20,6 +21,10 @@ abbrev pub latest_registry : List Shown → Registry
 latest_registry [] = []
 latest_registry (s ∷ []) = s.registry
 latest_registry (s ∷ t ∷ ss) = latest_registry (t ∷ ss)
+
+-- the registry of the epoch with exactly this number, where there is one
+abbrev pub registry_of : List Shown → ℕ → Option Registry
+registry_of history epoch = option_map (λ s. s.registry) (find (λ s. s.epoch == epoch) history)
 
 -- why a batch is refused
 pub data Refusal : Type 0 where

@@ -1,11 +1,19 @@
 -- The command that reads the program's words, as `clap`'s definitions see it.
-use Rattle.std.specs.Prelude.{codes, true}
-use Rattle.clap.specs.Words.{App, new_app, with_subcommand}
+use Rattle.std.specs.Prelude.{codes, true, Some}
+use Rattle.clap.specs.Words.{App, Rule, new_app, new_rule, with_rule, with_subcommand}
 use Rattle.clap.specs.Simple.{on_top}
 
 -- `run`, which has no options
 abbrev pub run_app : App
 run_app = new_app (codes "run")
+
+-- `--key`, which is required
+abbrev pub key_rule : Rule
+key_rule = record (new_rule (codes "key")) { long = Some (codes "key"); required = true }
+
+-- `audit`, which has a key
+abbrev pub audit_app : App
+audit_app = with_rule (new_app (codes "audit")) key_rule
 
 -- the command itself: it has no options, and a subcommand is required
 abbrev pub keydir_top : App
@@ -13,4 +21,4 @@ keydir_top = on_top (λ shape. record shape { subcommand_required = true }) (new
 
 -- the command with its subcommands
 abbrev pub keydir : App
-keydir = with_subcommand keydir_top run_app.top
+keydir = with_subcommand (with_subcommand keydir_top run_app.top) audit_app.top

@@ -38,15 +38,16 @@ last_count [] = 0
 last_count (e ∷ []) = e.count
 last_count (e ∷ f ∷ es) = last_count (f ∷ es)
 
--- an epoch's map finds the records of its registry
-pub record HoldsEpoch (hash of : List ℕ → List ℕ) (records : List Record) (e : Epoch) : Type 0 where
+-- an epoch's map finds the records of its registry, and its root is the root of that
+pub record HoldsEpoch (hash of : List ℕ → List ℕ) (nonce : List ℕ) (records : List Record) (e : Epoch) : Type 0 where
   pub counted : e.count ≤ length records
   pub tracks : Tracks hash of records e.numbers (registry_at records e.count)
+  pub rooted : e.root.0 ≡ root_of hash of nonce (registry_at records e.count)
 
 -- what is true of the records and the epochs of a plain directory
-pub record IsWhole (hash of : List ℕ → List ℕ) (records : List Record) (epochs : List Epoch) : Type 0 where
+pub record IsWhole (hash of : List ℕ → List ℕ) (nonce : List ℕ) (records : List Record) (epochs : List Epoch) : Type 0 where
   pub sealed : AreSealed hash of records
-  pub held : (k : ℕ) (e : Epoch) → slice_get epochs k ≡ Some e → HoldsEpoch hash of records e
+  pub held : (k : ℕ) (e : Epoch) → slice_get epochs k ≡ Some e → HoldsEpoch hash of nonce records e
   pub last : last_count epochs ≡ length records
 
 -- a batch is accepted for an epoch: it is installed with what it leaves, of which this is the root

@@ -1,16 +1,20 @@
 -- What the program does about its words, and what it tells.
-use Rattle.std.specs.Prelude.{◌≡◌, ◌⊎◌, ℕ, List, [], Bool, true, false, codes}
-use Rattle.clap.specs.Words.{Kinds, IsAmong}
+use Rattle.std.specs.Prelude.{◌≡◌, ◌⊎◌, ℕ, List, [], Bool, true, false, codes, Option, Some, None}
+use Rattle.clap.specs.Words.{Kinds, IsAmong, fault_of, subcommand_of}
 use Rattle.clap.specs.declared.error.kind.ErrorKind.{ErrorKind}
 use Rattle.clap.specs.declared.error.kind.ErrorKind.TheVariants.{DisplayHelp, DisplayVersion}
-use Rattle.coniks_lines.specs.Known.{Sink, Appends, next_count}
-use Rattle.coniks_lines.specs.Runs.{IsBeginning, WritesOn, CannotWrite}
+use Rattle.coniks_lines.specs.Known.{Source, Sink, Appends, next_count}
+use Rattle.coniks_lines.specs.Runs.{IsBeginning, WritesOn, CannotWrite, EndsWell}
 use Rattle.coniks_lines.specs.declared.fault.RunFault.{RunFault}
 use Rattle.coniks_lines.specs.declared.fault.RunFault.TheVariants.{Read, Write, OutOfMemory}
+use Rattle.coniks_tool.specs.Audit.{AuditState, audit_answer, none_audited}
+use Rattle.coniks_tool.specs.Choice.{Choice, run, audit, chosen, key_in, lacks_key}
+use Rattle.coniks_tool.specs.Keydir.{keydir}
+use Rattle.coniks_tool.specs.Script.{State, script_answer}
 use Rattle.coniks_tool.specs.declared.choice.Unread.{Unread}
 use Rattle.coniks_tool.specs.declared.choice.Unread.TheVariants as unread
 use Rattle.coniks_tool.specs.declared.statuses.Ending.{Ending}
-use Rattle.coniks_tool.specs.declared.statuses.Ending.TheVariants.{Done, Refused}
+use Rattle.coniks_tool.specs.declared.statuses.Ending.TheVariants.{Done, Refused, BadKey}
 
 -- the line that tells of a fault
 abbrev pub fault_line : RunFault → List ℕ
@@ -27,6 +31,10 @@ unread_line unread.OutOfMemory = fault_line OutOfMemory
 abbrev pub unread_status : Unread → ℕ
 unread_status unread.NotText = 2
 unread_status unread.OutOfMemory = 3
+
+-- the line that tells of a key's text that isn't a key
+abbrev pub bad_key_line : List ℕ
+bad_key_line = codes "keydir: bad key\n"
 
 -- a text was written, and one flush followed
 pub record TellsWhole (old : Sink) (text : List ℕ) (new : Sink) : Type 0 where
@@ -59,19 +67,50 @@ AsksForHelp kinds = (kind : ErrorKind) × (IsAmong kind kinds × (is_asked_for k
 abbrev pub HasMistake : Kinds → Type 0
 HasMistake kinds = (kind : ErrorKind) × (IsAmong kind kinds × (is_asked_for kind ≡ false))
 
--- `clap` may give these kinds for the words, and so the program ends in this way
-abbrev pub EndsFor : Kinds → Ending → Type 0
-EndsFor kinds (Done true) = (kinds ≡ []) ⊎ AsksForHelp kinds
-EndsFor kinds (Done false) = kinds ≡ []
-EndsFor kinds (Refused text) = HasMistake kinds
+-- the run that was chosen came to its source's end, and this says whether each line was accepted
+abbrev pub Runs : Option Choice → Source → Source → Sink → Sink → Bool → Type 0
+Runs None from from' to to' all = ⊥
+Runs (Some run) from from' to to' all = (state : State) × EndsWell script_answer None from from' to to' state all
+Runs (Some (audit text)) from from' to to' all = (key : List ℕ) × ((key_in text ≡ Some key) × ((state : AuditState) × EndsWell audit_answer (none_audited key) from from' to to' state all))
+
+-- `clap` finds no fault in the words, and what they choose was run
+pub record RunsFor (words : List (List ℕ)) (from from' : Source) (to to' : Sink) (all : Bool) : Type 0 where
+  pub faultless : fault_of keydir words ≡ []
+  pub runs : Runs (chosen (subcommand_of keydir words)) from from' to to' all
+
+-- `clap` finds no fault in the words, but the key that they give is none
+pub record HasBadKey (words : List (List ℕ)) : Type 0 where
+  pub faultless : fault_of keydir words ≡ []
+  pub no_key : lacks_key (chosen (subcommand_of keydir words)) ≡ true
+
+-- the program may end in this way for the words
+abbrev pub EndsFor : List (List ℕ) → Source → Source → Sink → Sink → Ending → Type 0
+EndsFor words from from' to to' (Done true) = RunsFor words from from' to to' true ⊎ AsksForHelp (fault_of keydir words)
+EndsFor words from from' to to' (Done false) = RunsFor words from from' to to' false
+EndsFor words from from' to to' (Refused text) = HasMistake (fault_of keydir words)
+EndsFor words from from' to to' BadKey = HasBadKey words
+
+-- a choice ends in this way
+abbrev pub EndsBy : Option Choice → Source → Source → Sink → Sink → Ending → Type 0
+EndsBy choice from from' to to' (Done all) = Runs choice from from' to to' all
+EndsBy choice from from' to to' (Refused text) = ⊥
+EndsBy choice from from' to to' BadKey = lacks_key choice ≡ true
 
 -- an error of this kind is explained in this way
 abbrev pub IsExplained : ErrorKind → Ending → Type 0
 IsExplained kind (Done true) = is_asked_for kind ≡ true
 IsExplained kind (Done false) = ⊥
 IsExplained kind (Refused text) = is_asked_for kind ≡ false
+IsExplained kind BadKey = ⊥
 
--- the fact holds where the words were refused
+-- the fact holds where `clap` refused the words
 abbrev pub IfRefused : Ending → Type 0 → Type 0
 IfRefused (Done accepted) fact = Unit {0}
 IfRefused (Refused text) fact = fact
+IfRefused BadKey fact = Unit {0}
+
+-- the fact holds where nothing was run or shown
+abbrev pub IfIdle : Ending → Type 0 → Type 0
+IfIdle (Done accepted) fact = Unit {0}
+IfIdle (Refused text) fact = fact
+IfIdle BadKey fact = fact

@@ -1,12 +1,14 @@
 -- What is printed for a line.
 use Rattle.std.specs.Prelude.{ℕ, List, codes, Bool, true, false}
+use Rattle.std.specs.String.{string_bytes}
 use Rattle.serde_json.specs.Data.{Data, string, number, unsigned, object, member, no_members}
 use Rattle.serde_json.specs.Written.{compact_text}
-use Rattle.hex.specs.Hex.{encode_lower}
 use Rattle.coniks_proof.specs.Batches.{Fault, name_length, key_length, name_twice, name_taken, name_unknown, index_clash}
 use Rattle.coniks_tool.specs.Batch.{fault_is}
+use Rattle.coniks_tool.specs.Paths.{Path, path_of}
+use Rattle.coniks_tool.specs.ProofTexts.{digits, proof_data}
 use Rattle.coniks_tool.specs.declared.reply.Member.{Member}
-use Rattle.coniks_tool.specs.declared.reply.Member.TheVariants.{Key, Nonce, Policy, Epoch, Ops}
+use Rattle.coniks_tool.specs.declared.reply.Member.TheVariants.{Key, Nonce, Policy, Epoch, Ops, Name}
 use Rattle.coniks_tool.specs.declared.reply.Reply.{Reply}
 use Rattle.coniks_tool.specs.declared.reply.Reply.TheVariants as reply
 
@@ -16,6 +18,8 @@ pub data Outcome : Type 0 where
   opened : Outcome
   -- a batch was installed
   installed : (epoch : ℕ) (root : List ℕ) → Outcome
+  -- a lookup was answered by the path to the name's index in the tree of the epoch
+  looked_up : (epoch : ℕ) (index name nonce : List ℕ) (path : Path) (root : List ℕ) → Outcome
   -- the line isn't a JSON object
   not_json : Outcome
   -- the line has no known command
@@ -34,11 +38,16 @@ pub data Outcome : Type 0 where
   bad_batch : (place : ℕ) → Fault → Outcome
   -- the epoch isn't later than the latest one
   epoch_not_later : (latest : ℕ) → Outcome
+  -- no epoch has exactly the number asked
+  unknown_epoch : Outcome
+  -- the name asked is empty or too long
+  bad_name_length : Outcome
 
 -- a reply, without the forms that the code gives to numbers and digests
 abbrev pub outcome_of : Reply → Outcome
 outcome_of reply.Opened = opened
 outcome_of (reply.Installed epoch root) = installed epoch root.0
+outcome_of (reply.LookedUp epoch index name nonce proof root) = looked_up epoch index.0 (string_bytes name) nonce.0 (path_of proof) root.0
 outcome_of reply.NotJson = not_json
 outcome_of reply.NoCommand = no_command
 outcome_of (reply.BadMember m) = bad_member m
@@ -48,6 +57,8 @@ outcome_of reply.AlreadyOpen = already_open
 outcome_of reply.BatchTooLong = batch_too_long
 outcome_of (reply.BadBatch place fault) = bad_batch place (fault_is fault)
 outcome_of (reply.EpochNotLater latest) = epoch_not_later latest
+outcome_of reply.UnknownEpoch = unknown_epoch
+outcome_of reply.NameLength = bad_name_length
 
 -- a member's name
 abbrev pub member_name : Member → List ℕ
@@ -56,6 +67,7 @@ member_name Nonce = codes "nonce"
 member_name Policy = codes "policy"
 member_name Epoch = codes "epoch"
 member_name Ops = codes "ops"
+member_name Name = codes "name"
 
 -- the name of an operation's fault
 abbrev pub fault_name : Fault → List ℕ
@@ -65,10 +77,6 @@ fault_name name_twice = codes "NameTwice"
 fault_name name_taken = codes "NameTaken"
 fault_name name_unknown = codes "NameUnknown"
 fault_name index_clash = codes "IndexClash"
-
--- bytes in lower case hexadecimal digits
-abbrev pub digits : List ℕ → Data
-digits bytes = string (encode_lower bytes)
 
 -- {"fault":NAME}
 abbrev pub fault_data : List ℕ → Data
@@ -115,10 +123,23 @@ installed_data epoch root =
     (member (codes "ok") (string (codes "batch"))
     (member (codes "root") (digits root) no_members)))
 
+-- {"epoch":NUM,"index":DIGITS,"name":TEXT,"nonce":DIGITS,"ok":"lookup","proof":PROOF,"root":DIGITS}
+abbrev pub looked_up_data : ℕ → List ℕ → List ℕ → List ℕ → Path → List ℕ → Data
+looked_up_data epoch index name nonce path root =
+    object
+    (member (codes "epoch") (number (unsigned epoch))
+    (member (codes "index") (digits index)
+    (member (codes "name") (string name)
+    (member (codes "nonce") (digits nonce)
+    (member (codes "ok") (string (codes "lookup"))
+    (member (codes "proof") (proof_data path)
+    (member (codes "root") (digits root) no_members)))))))
+
 -- the object that is printed
 abbrev pub reply_data : Outcome → Data
 reply_data opened = opened_data
 reply_data (installed epoch root) = installed_data epoch root
+reply_data (looked_up epoch index name nonce path root) = looked_up_data epoch index name nonce path root
 reply_data not_json = fault_data (codes "Json")
 reply_data no_command = fault_data (codes "Command")
 reply_data (bad_member m) = bad_member_data (member_name m)
@@ -128,6 +149,8 @@ reply_data already_open = fault_data (codes "AlreadyOpen")
 reply_data batch_too_long = fault_data (codes "BatchTooLong")
 reply_data (bad_batch place fault) = placed_fault_data (fault_name fault) place
 reply_data (epoch_not_later latest) = epoch_not_later_data latest
+reply_data unknown_epoch = fault_data (codes "UnknownEpoch")
+reply_data bad_name_length = fault_data (codes "NameLength")
 
 -- the text of a reply: JSON (RFC 8259) with no white space
 abbrev pub reply_text : Outcome → List ℕ
@@ -137,6 +160,7 @@ reply_text outcome = compact_text (reply_data outcome)
 abbrev pub is_accepted : Outcome → Bool
 is_accepted opened = true
 is_accepted (installed epoch root) = true
+is_accepted (looked_up epoch index name nonce path root) = true
 is_accepted not_json = false
 is_accepted no_command = false
 is_accepted (bad_member m) = false
@@ -146,3 +170,5 @@ is_accepted already_open = false
 is_accepted batch_too_long = false
 is_accepted (bad_batch place fault) = false
 is_accepted (epoch_not_later latest) = false
+is_accepted unknown_epoch = false
+is_accepted bad_name_length = false

@@ -1,17 +1,19 @@
 -- What `run` answers to a line.
-use Rattle.std.specs.Prelude.{ℕ, List, [], ◌∷◌, ◌++◌, codes, Option, Some, None, Result, Ok, Err, option_map, if◌then◌else◌}
+use Rattle.std.specs.Prelude.{ℕ, List, [], ◌∷◌, ◌++◌, codes, Option, Some, None, Result, Ok, Err, if◌then◌else◌}
 use Rattle.std.specs.Str.{bytes_eq}
 use Rattle.serde_json.specs.Data.{Data, Items}
 use Rattle.coniks_lines.specs.Machine.{Answer}
 use Rattle.coniks_proof.specs.Sha256.{sha256}
-use Rattle.coniks_proof.specs.Registry.{root_of}
-use Rattle.coniks_proof.specs.Batches.{Operation, after}
+use Rattle.coniks_proof.specs.Registry.{Registry, root_of}
+use Rattle.coniks_proof.specs.Batches.{Operation, after, fits}
+use Rattle.coniks_proof.specs.declared.values.TheConstants.{MAX_NAME}
 use Rattle.coniks_tool.specs.Demo.{demo_index}
-use Rattle.coniks_tool.specs.History.{Shown, latest_registry, Refusal, refusal, too_long, at, not_later}
+use Rattle.coniks_tool.specs.History.{Shown, latest_registry, registry_of, Refusal, refusal, too_long, at, not_later}
 use Rattle.coniks_tool.specs.Members.{object_in, text_in, number_in, array_in, digits_in}
 use Rattle.coniks_tool.specs.Operations.{operations_in}
-use Rattle.coniks_tool.specs.Replies.{Outcome, opened, installed, not_json, no_command, bad_member, bad_operation, not_open, already_open, batch_too_long, bad_batch, epoch_not_later, reply_text, is_accepted}
-use Rattle.coniks_tool.specs.declared.reply.Member.TheVariants.{Key, Nonce, Policy, Epoch, Ops}
+use Rattle.coniks_tool.specs.Paths.{path_to}
+use Rattle.coniks_tool.specs.Replies.{Outcome, opened, installed, looked_up, unknown_epoch, bad_name_length, not_json, no_command, bad_member, bad_operation, not_open, already_open, batch_too_long, bad_batch, epoch_not_later, reply_text, is_accepted}
+use Rattle.coniks_tool.specs.declared.reply.Member.TheVariants.{Key, Nonce, Policy, Epoch, Ops, Name}
 
 -- a directory that was opened: its key, nonce and policy, and its history
 pub record Opened : Type 0 where
@@ -77,13 +79,38 @@ batch_turn s None items = refused s (bad_member Epoch)
 batch_turn s (Some epoch) None = refused s (bad_member Ops)
 batch_turn s (Some epoch) (Some items) = batch_read s epoch (operations_in items)
 
+-- a lookup on an opened directory, where this is the registry of the epoch asked
+abbrev pub lookup_in : Opened → ℕ → List ℕ → Option Registry → Outcome
+lookup_in o epoch name None = unknown_epoch
+lookup_in o epoch name (Some registry) =
+    let of = demo_index o.key in
+    if fits MAX_NAME name
+    then looked_up epoch (of name) name o.nonce (path_to sha256 of o.nonce registry (of name)) (root_of sha256 of o.nonce registry)
+    else bad_name_length
+
+-- a lookup that was read
+abbrev pub lookup_with : State → ℕ → List ℕ → Outcome
+lookup_with None epoch name = not_open
+lookup_with (Some o) epoch name = lookup_in o epoch name (registry_of o.history epoch)
+
+-- `lookup`, by its members in the order of reading
+abbrev pub lookup_outcome : State → Option ℕ → Option (List ℕ) → Outcome
+lookup_outcome s None name = bad_member Epoch
+lookup_outcome s (Some epoch) None = bad_member Name
+lookup_outcome s (Some epoch) (Some name) = lookup_with s epoch name
+
+-- a lookup leaves the state as it is
+abbrev pub lookup_turn : State → Option ℕ → Option (List ℕ) → Turn
+lookup_turn s epoch name = record { outcome = lookup_outcome s epoch name; state = s }
+
 -- an object, by its command
 abbrev pub command_turn : State → Data → Option (List ℕ) → Turn
 command_turn s d None = refused s no_command
 command_turn s d (Some name) =
     if bytes_eq name (codes "open") then open_turn s (digits_in 32 (codes "key") d) (digits_in 32 (codes "nonce") d) (digits_in 32 (codes "policy") d)
     else (if bytes_eq name (codes "batch") then batch_turn s (number_in (codes "epoch") d) (array_in (codes "ops") d)
-    else refused s no_command)
+    else (if bytes_eq name (codes "lookup") then lookup_turn s (number_in (codes "epoch") d) (text_in (codes "name") d)
+    else refused s no_command))
 
 -- a line, where it is an object
 abbrev pub object_turn : State → Option Data → Turn

@@ -4,9 +4,11 @@ use clap::Error;
 
 /// What the words ask for.
 #[derive(Clone, Copy, Debug, PartialEq, Eq)]
-pub enum Settings {
+pub enum Settings<'a> {
     /// Answer the lines of the standard input.
     Run,
+    /// Audit the entries of the standard input, under the key of this text.
+    Audit { key: &'a str },
 }
 
 /// Why the words ask for nothing.

@@ -1,11 +1,11 @@
 //! The command that reads the program's words.
 
 ghost use Rattle.std.specs.Prelude.{◌≡◌, IfOk, false, true};
-ghost use Rattle.clap.specs.Words.{app_of};
+ghost use Rattle.clap.specs.Words.{app_of, rule_of};
 ghost use Rattle.clap.specs.declared.builder.command.Command.TheViews.{out-Command as fields_of};
-ghost use Rattle.coniks_tool.specs.Keydir.{keydir, run_app};
+ghost use Rattle.coniks_tool.specs.Keydir.{audit_app, key_rule, keydir, run_app};
 
-use clap::Command;
+use clap::{Arg, Command};
 use std::alloc::{AllocError, Global};
 
 fn run_command<'a>(alloc: Global) -> Command<'a>
@@ -15,11 +15,30 @@ fn run_command<'a>(alloc: Global) -> Command<'a>
     Command::new(alloc, "run").about("Answers the lines of the standard input")
 }
 
+fn key_option<'a>(alloc: Global) -> Arg<'a>
+    ensures rule { rule_of result ≡ key_rule }
+    ensures local { result.global ≡ false }
+{
+    Arg::new(alloc, "key")
+        .long("key")
+        .required(true)
+        .help("The directory's key, 64 hexadecimal digits")
+}
+
+fn audit_command<'a>(alloc: Global) -> Result<Command<'a>, AllocError>
+    ensures app { IfOk result (λ command. app_of command ≡ audit_app) }
+    ensures local { IfOk result (λ command. (fields_of command).has_globals ≡ false) }
+{
+    let command = Command::new(alloc, "audit").about("Audits the entries of the standard input");
+    command.arg(key_option(alloc))
+}
+
 pub(crate) fn keydir_command<'a>(alloc: Global) -> Result<Command<'a>, AllocError>
     ensures app { IfOk result (λ command. app_of command ≡ keydir) }
     ensures local { IfOk result (λ command. (fields_of command).has_globals ≡ false) }
     ensures needs { IfOk result (λ command. (fields_of command).subcommand_required ≡ true) }
 {
     let top = Command::new(alloc, "keydir").subcommand_required(true);
-    top.subcommand(run_command(alloc))
+    let with_run = top.subcommand(run_command(alloc))?;
+    with_run.subcommand(audit_command(alloc)?)
 }

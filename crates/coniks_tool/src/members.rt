@@ -1,7 +1,9 @@
 //! A line of JSON and its members.
 
 ghost use Rattle.std.specs.Prelude.{◌≡◌, IfOk, option_map};
+ghost use Rattle.std.specs.Result.{result_ok};
 ghost use Rattle.serde_json.specs.View.{view, items_view};
+ghost use Rattle.hex.specs.Hex.{decode_sized};
 ghost use Rattle.coniks_tool.specs.Members.{object_in, text_in, number_in, array_in, digits_in, base64_in};
 
 use base64::DecodeAllocError;
@@ -58,7 +60,14 @@ pub fn digits32(object: &Value, name: &str) -> Option<[u8; 32]>
     ensures { result ≡ digits_in 32 name.now (view object.now) }
 {
     let digits = text(object, name)?;
-    let mut bytes = [0; 32];
+    bytes_of_digits(digits)
+}
+
+/// N bytes in 2N hexadecimal digits of either case.
+pub fn bytes_of_digits<const N: usize>(digits: &str) -> Option<[u8; N]>
+    ensures { result ≡ result_ok (decode_sized digits.now N) }
+{
+    let mut bytes = [0; N];
     if hex::decode_to_slice(digits, &mut bytes).is_err() {
         return None;
     }

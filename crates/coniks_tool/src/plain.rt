@@ -1,29 +1,36 @@
 //! A plain registry for each epoch.
 
-ghost use Rattle.std.specs.Prelude.{◌≡◌, ◌++◌, ◌∷◌, ◌+◌, ◌<◌, ◌≤◌, [], List, ℕ, None, IfOk, IfErr, OnOk, OnErr, length, map, vec_len, vec_capacity};
+ghost use Rattle.std.specs.Prelude.{◌≡◌, ◌==◌, ◌++◌, ◌∷◌, ◌+◌, ◌<◌, ◌≤◌, [], List, ℕ, None, IfOk, IfErr, OnOk, OnErr, length, map, option_map, vec_len, vec_capacity};
+ghost use Rattle.std.specs.List.{find};
 ghost use Rattle.coniks_proof.specs.Sha256.{sha256};
-ghost use Rattle.coniks_proof.specs.Registry.{Registry};
+ghost use Rattle.coniks_proof.specs.Registry.{Registry, root_of};
 ghost use Rattle.coniks_tool.specs.Batch.{operation_of};
+ghost use Rattle.coniks_tool.specs.History.{registry_of};
+ghost use Rattle.coniks_tool.specs.Lookups.{IsAcceptedAt, IsFound, IsMissed};
 ghost use Rattle.coniks_tool.specs.Overlaying.{IsLaidOver};
 ghost use Rattle.coniks_tool.specs.Plain.{IsLayFault, last_entries, last_number};
 ghost use Rattle.coniks_tool.specs.Records.{AreSealed, BeginsWith, Tracks};
 
 use crate::batch::{BatchFault, Op, OpFault};
 use crate::overlay::overlay;
+use crate::plain_path::path;
 use crate::plain_tree::root;
 use crate::records::{Numbers, Record};
 use crate::source::IndexSource;
-use coniks_proof::{Digest, MAX_OPERATIONS, Nonce};
+use crate::stand::is_length;
+use coniks_proof::{Digest, Index, MAX_NAME, MAX_OPERATIONS, Nonce, Proof};
 use std::alloc::{AllocError, Global};
 use std::collections::BTreeMap;
 use std::marker::Model;
 
-/// An installed epoch: its number, how many records there were after it, and the map that finds its registry's.
+/// An installed epoch: its number, how many records there were after it, the map that finds its registry's, and its
+/// root.
 #[derive(Drop)]
 pub struct Epoch {
     pub number: u64,
     pub count: usize,
     pub numbers: Numbers,
+    pub root: Digest,
 }
 
 /// Why a batch isn't accepted: of what applies, the first in this order; or memory.
@@ -35,6 +42,17 @@ pub enum CommitFault {
     At { position: usize, fault: OpFault },
     /// The epoch isn't later than the latest one, or than 0 where there is none.
     EpochNotLater { latest: u64 },
+    /// A growth was refused.
+    OutOfMemory,
+}
+
+/// Why a lookup isn't answered: of what applies, the first in this order; or memory.
+#[derive(Clone, Copy, Debug, PartialEq, Eq)]
+pub enum LookupFault {
+    /// No epoch was installed under exactly this number.
+    UnknownEpoch,
+    /// The name is empty or longer than 255 bytes.
+    NameLength,
     /// A growth was refused.
     OutOfMemory,
 }
@@ -57,7 +75,7 @@ impl<X: IndexSource> Model for PlainDirectory<X> {
 
     ghost view = { λ d. (d.source, record { nonce = d.nonce.0; history = history_of d.records.items d.epochs.items }) };
 
-    ghost invariant = { λ d. IsWhole sha256 (X.index_of d.source) d.records.items d.epochs.items };
+    ghost invariant = { λ d. IsWhole sha256 (X.index_of d.source) d.nonce.0 d.records.items d.epochs.items };
 }
 
 impl<X: IndexSource> PlainDirectory<X> {
@@ -112,6 +130,7 @@ impl<X: IndexSource> PlainDirectory<X> {
                         number: epoch,
                         count,
                         numbers,
+                        root,
                     },
                 );
                 Ok(root)
@@ -122,6 +141,63 @@ impl<X: IndexSource> PlainDirectory<X> {
             }
         }
     }
+
+    /// The path to a name's index in the tree of an epoch, which shows the name's key or its absence (CONIKS, section
+    /// 3.1).
+    pub fn lookup(&self, epoch: u64, name: &[u8]) -> Result<Proof, LookupFault>
+        ensures ok { IfOk result (IsFound (X.index_of self.now.0) self.now.1 epoch name.now) }
+        ensures accepted { IfOk result (IsAcceptedAt (X.index_of self.now.0) self.now.1 epoch name.now) }
+        ensures refused { IfErr result (IsMissed self.now.1.history epoch name.now) }
+    {
+        let Some(installed) = epoch_at(&self.epochs, epoch) else {
+            return Err(LookupFault::UnknownEpoch);
+        };
+        if !is_length(name, MAX_NAME) {
+            return Err(LookupFault::NameLength);
+        }
+        let index = self.source.index(name);
+        match path(
+            self.alloc,
+            &self.nonce,
+            &self.records,
+            &installed.numbers,
+            &index,
+        ) {
+            Ok(proof) => Ok(proof),
+            Err(_) => Err(LookupFault::OutOfMemory),
+        }
+    }
+
+    /// The root of an epoch, where one was installed under exactly this number.
+    pub fn root_at(&self, epoch: u64) -> Option<Digest>
+        ensures { option_map (λ root. root.0) result ≡ option_map (root_of sha256 (X.index_of self.now.0) self.now.1.nonce) (registry_of self.now.1.history epoch) }
+    {
+        match epoch_at(&self.epochs, epoch) {
+            Some(installed) => Some(installed.root),
+            None => None,
+        }
+    }
+
+    /// The index of a name.
+    pub fn index(&self, name: &[u8]) -> Index
+        ensures { result.0 ≡ X.index_of self.now.0 name.now }
+    {
+        self.source.index(name)
+    }
+
+    /// The nonce of each tree.
+    pub fn nonce(&self) -> Nonce
+        ensures { result.0 ≡ self.now.1.nonce }
+    {
+        self.nonce
+    }
+}
+
+/// The epoch of exactly this number.
+fn epoch_at(epochs: &[Epoch], number: u64) -> Option<&Epoch>
+    ensures { option_map (λ e. e.now) result ≡ find (λ e. e.number == number) epochs.now }
+{
+    epochs.iter().find(|epoch| epoch.number == number)
 }
 
 /// A copy of a map.

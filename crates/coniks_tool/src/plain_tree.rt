@@ -19,7 +19,7 @@ use coniks_proof::{
 use std::alloc::{AllocError, Global};
 
 /// The records that a map finds, in increasing order of index.
-fn leaves<'a>(
+pub fn leaves<'a>(
     alloc: Global,
     records: &'a [Record],
     numbers: &Numbers,
@@ -53,7 +53,7 @@ fn lefts(leaves: &[&Record], level: usize) -> usize
 }
 
 /// The leaves that go left at a level, and those that go right.
-fn sides<'a, 'b>(leaves: &'a [&'b Record], level: usize) -> (&'a [&'b Record], &'a [&'b Record])
+pub fn sides<'a, 'b>(leaves: &'a [&'b Record], level: usize) -> (&'a [&'b Record], &'a [&'b Record])
     requires { level < MAX_LEVEL }
     ensures left { AreInOrder level (shown leaves.now) → shown result.0.now ≡ half false level (shown leaves.now) }
     ensures right { AreInOrder level (shown leaves.now) → shown result.1.now ≡ half true level (shown leaves.now) }
@@ -63,7 +63,7 @@ fn sides<'a, 'b>(leaves: &'a [&'b Record], level: usize) -> (&'a [&'b Record], &
 }
 
 /// The hash of the node at a prefix, over the leaves under it in increasing order of index.
-fn node_of(nonce: &Nonce, prefix: &Prefix, leaves: &[&Record]) -> Digest
+pub fn node_of(nonce: &Nonce, prefix: &Prefix, leaves: &[&Record]) -> Digest
     ensures { AreInOrder (length prefix.now) (shown leaves.now) → AreApart (length prefix.now) (shown leaves.now)
         → result.0 ≡ node sha256 nonce.now.0 prefix.now (shown leaves.now) }
 {

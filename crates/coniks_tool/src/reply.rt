@@ -3,10 +3,12 @@
 ghost use Rattle.std.specs.Prelude.{◌≡◌, ◌++◌, IfOk, OnOk, OnErr};
 ghost use Rattle.serde_json.specs.View.{view};
 ghost use Rattle.coniks_tool.specs.Batch.{fault_is};
-ghost use Rattle.coniks_tool.specs.Replies.{outcome_of, reply_data, reply_text, member_name, fault_name, fault_data, placed_fault_data, bad_member_data, bad_operation_data, epoch_not_later_data, opened_data, installed_data};
+ghost use Rattle.coniks_tool.specs.Paths.{path_of};
+ghost use Rattle.coniks_tool.specs.Replies.{outcome_of, reply_data, reply_text, member_name, fault_name, fault_data, placed_fault_data, looked_up_data, bad_member_data, bad_operation_data, epoch_not_later_data, opened_data, installed_data};
 
 use crate::batch::OpFault;
-use coniks_proof::Digest;
+use crate::proof_text::proof_value;
+use coniks_proof::{Digest, Index, Nonce, Proof};
 use serde_json::{Value, json};
 use std::alloc::{AllocError, Global};
 
@@ -18,15 +20,28 @@ pub enum Member {
     Policy,
     Epoch,
     Ops,
+    Name,
 }
 
 /// What a line is answered by.
-#[derive(Debug, Drop)]
+#[derive(Drop)]
 pub enum Reply {
     /// The registry is open.
     Opened,
     /// A batch was installed.
-    Installed { epoch: u64, root: Digest },
+    Installed {
+        epoch: u64,
+        root: Digest,
+    },
+    /// A lookup found the path to the name's index in the tree of the epoch.
+    LookedUp {
+        epoch: u64,
+        index: Index,
+        name: String,
+        nonce: Nonce,
+        proof: Proof,
+        root: Digest,
+    },
     /// The line isn't a JSON object.
     NotJson,
     /// The line has no known command.
@@ -42,9 +57,18 @@ pub enum Reply {
     /// A batch has too many operations.
     BatchTooLong,
     /// The operation at this place is at fault.
-    BadBatch { position: usize, fault: OpFault },
+    BadBatch {
+        position: usize,
+        fault: OpFault,
+    },
     /// The epoch isn't later than the latest one.
-    EpochNotLater { latest: u64 },
+    EpochNotLater {
+        latest: u64,
+    },
+    /// No epoch has exactly the number asked.
+    UnknownEpoch,
+    /// The name asked is empty or too long.
+    NameLength,
 }
 
 impl Reply {
@@ -55,7 +79,7 @@ impl Reply {
         ensures { result ≡ is_accepted (outcome_of self.now) }
     {
         match self {
-            Reply::Opened | Reply::Installed { .. } => true,
+            Reply::Opened | Reply::Installed { .. } | Reply::LookedUp { .. } => true,
             Reply::NotJson
             | Reply::NoCommand
             | Reply::BadMember(_)
@@ -64,7 +88,9 @@ impl Reply {
             | Reply::AlreadyOpen
             | Reply::BatchTooLong
             | Reply::BadBatch { .. }
-            | Reply::EpochNotLater { .. } => false,
+            | Reply::EpochNotLater { .. }
+            | Reply::UnknownEpoch
+            | Reply::NameLength => false,
         }
     }
 }
@@ -75,8 +101,15 @@ pub fn print(alloc: Global, reply: &Reply, out: &mut Vec<u8>) -> Result<(), Allo
     ensures ok { OnOk result (out.new.items ≡ out.old.items ++ reply_text (outcome_of reply.now)) }
     ensures err { OnErr result (out.new.items ≡ out.old.items) }
 {
-    let text = value_of(alloc, reply)?.to_vec(alloc)?;
+    let text = text_of(alloc, reply)?;
     out.extend_from_slice(&text)
+}
+
+fn text_of(alloc: Global, reply: &Reply) -> Result<Vec<u8>, AllocError>
+    ensures { IfOk result (λ text. text.items ≡ reply_text (outcome_of reply.now)) }
+{
+    let value = value_of(alloc, reply)?;
+    Ok(value.to_vec(alloc)?)
 }
 
 fn value_of(alloc: Global, reply: &Reply) -> Result<Value, AllocError>
@@ -85,6 +118,14 @@ fn value_of(alloc: Global, reply: &Reply) -> Result<Value, AllocError>
     match reply {
         Reply::Opened => opened(alloc),
         Reply::Installed { epoch, root } => installed(alloc, *epoch, root),
+        Reply::LookedUp {
+            epoch,
+            index,
+            name,
+            nonce,
+            proof,
+            root,
+        } => looked_up(alloc, *epoch, index, name.as_str(), nonce, proof, root),
         Reply::NotJson => fault(alloc, "Json"),
         Reply::NoCommand => fault(alloc, "Command"),
         Reply::BadMember(member) => bad_member(alloc, member_text(*member)),
@@ -94,6 +135,8 @@ fn value_of(alloc: Global, reply: &Reply) -> Result<Value, AllocError>
         Reply::BatchTooLong => fault(alloc, "BatchTooLong"),
         Reply::BadBatch { position, fault } => placed_fault(alloc, fault_text(*fault), *position),
         Reply::EpochNotLater { latest } => epoch_not_later(alloc, *latest),
+        Reply::UnknownEpoch => fault(alloc, "UnknownEpoch"),
+        Reply::NameLength => fault(alloc, "NameLength"),
     }
 }
 
@@ -106,6 +149,7 @@ fn member_text(member: Member) -> &'static str
         Member::Policy => "policy",
         Member::Epoch => "epoch",
         Member::Ops => "ops",
+        Member::Name => "name",
     }
 }
 
@@ -135,7 +179,33 @@ fn installed(alloc: Global, epoch: u64, root: &Digest) -> Result<Value, AllocErr
     json!(in alloc; {"epoch": epoch, "ok": "batch", "root": root})
 }
 
-fn fault(alloc: Global, name: &str) -> Result<Value, AllocError>
+fn looked_up(
+    alloc: Global,
+    epoch: u64,
+    index: &Index,
+    name: &str,
+    nonce: &Nonce,
+    proof: &Proof,
+    root: &Digest,
+) -> Result<Value, AllocError>
+    ensures { IfOk result (λ value. view value ≡ looked_up_data epoch index.now.0 name.now nonce.now.0 (path_of proof.now) root.now.0) }
+{
+    let index = hex::encode(alloc, &index.0)?;
+    let nonce = hex::encode(alloc, &nonce.0)?;
+    let proof = proof_value(alloc, proof)?;
+    let root = hex::encode(alloc, &root.0)?;
+    json!(in alloc; {
+        "epoch": epoch,
+        "index": index,
+        "name": name,
+        "nonce": nonce,
+        "ok": "lookup",
+        "proof": proof,
+        "root": root,
+    })
+}
+
+pub(crate) fn fault(alloc: Global, name: &str) -> Result<Value, AllocError>
     ensures { IfOk result (λ value. view value ≡ fault_data name.now) }
 {
     json!(in alloc; {"fault": name})
@@ -147,7 +217,7 @@ fn placed_fault(alloc: Global, name: &str, position: usize) -> Result<Value, All
     json!(in alloc; {"fault": name, "position": position})
 }
 
-fn bad_member(alloc: Global, name: &str) -> Result<Value, AllocError>
+pub(crate) fn bad_member(alloc: Global, name: &str) -> Result<Value, AllocError>
     ensures { IfOk result (λ value. view value ≡ bad_member_data name.now) }
 {
     json!(in alloc; {"fault": "Member", "member": name})

@@ -5,16 +5,17 @@ ghost use Rattle.serde_json.specs.View.{view};
 ghost use Rattle.coniks_lines.specs.Lines.{lines_of};
 ghost use Rattle.coniks_lines.specs.Runs.{AnswersAll, EndsBadly, EndsWell, WritesPart};
 ghost use Rattle.coniks_tool.specs.Batch.{operation_of};
+ghost use Rattle.coniks_tool.specs.History.{registry_of};
 ghost use Rattle.coniks_tool.specs.Members.{array_in, digits_in, number_in, text_in};
 ghost use Rattle.coniks_tool.specs.Replies.{outcome_of};
-ghost use Rattle.coniks_tool.specs.Script.{State, batch_turn, batch_with, command_turn, open_turn, open_with, script_answer, turn};
-ghost use Rattle.coniks_tool.specs.Machine.{state_of};
+ghost use Rattle.coniks_tool.specs.Script.{State, batch_turn, batch_with, command_turn, lookup_in, lookup_outcome, open_turn, open_with, script_answer, turn};
+ghost use Rattle.coniks_tool.specs.Machine.{opened_of, state_of};
 
 use crate::batch::Op;
 use crate::demo::DemoIndex;
 use crate::members::{array, digits32, number, read_object, text};
 use crate::operations::read_ops;
-use crate::plain::{CommitFault, PlainDirectory};
+use crate::plain::{CommitFault, LookupFault, PlainDirectory};
 use crate::reply::{Member, Reply, print};
 use coniks_lines::{ByteIn, ByteOut, LineMachine, RunFault, run_lines};
 use coniks_proof::{Digest, Nonce};
@@ -26,6 +27,33 @@ use std::alloc::{AllocError, Global};
 pub struct Open {
     directory: PlainDirectory<DemoIndex>,
     policy: Digest,
+}
+
+impl Open {
+    /// Looks a name up at an epoch.
+    fn look_up(&self, alloc: Global, epoch: u64, name: &str) -> Result<Reply, AllocError>
+        ensures { IfOk result (λ reply. outcome_of reply ≡ lookup_in (opened_of self.now) epoch name.now (registry_of (opened_of self.now).history epoch)) }
+    {
+        let proof = match self.directory.lookup(epoch, name.as_bytes()) {
+            Ok(proof) => proof,
+            Err(LookupFault::UnknownEpoch) => return Ok(Reply::UnknownEpoch),
+            Err(LookupFault::NameLength) => return Ok(Reply::NameLength),
+            Err(LookupFault::OutOfMemory) => return Err(AllocError),
+        };
+        let Some(root) = self.directory.root_at(epoch) else {
+            return Ok(Reply::UnknownEpoch);
+        };
+        let index = self.directory.index(name.as_bytes());
+        let name = String::from_str(alloc, name)?;
+        Ok(Reply::LookedUp {
+            epoch,
+            index,
+            name,
+            nonce: self.directory.nonce(),
+            proof,
+            root,
+        })
+    }
 }
 
 /// Answers the lines of a script: nothing is open before a line opens a directory.
@@ -105,6 +133,21 @@ impl Script {
         }
     }
 
+    fn lookup(&self, object: &Value) -> Result<Reply, AllocError>
+        ensures { IfOk result (λ reply. outcome_of reply ≡ lookup_outcome (state_of self.now.opened) (number_in (codes "epoch") (view object.now)) (text_in (codes "name") (view object.now))) }
+    {
+        let Some(epoch) = number(object, "epoch") else {
+            return Ok(Reply::BadMember(Member::Epoch));
+        };
+        let Some(name) = text(object, "name") else {
+            return Ok(Reply::BadMember(Member::Name));
+        };
+        match &self.opened {
+            Some(opened) => Ok(opened.look_up(self.alloc, epoch, name)?),
+            None => Ok(Reply::NotOpen),
+        }
+    }
+
     fn command(&mut self, object: &Value) -> Result<Reply, AllocError>
         ensures reply { IfOk result (λ reply. outcome_of reply ≡ (command_turn (state_of self.old.opened) (view object.now) (text_in (codes "cmd") (view object.now))).outcome) }
         ensures state { OnOk result (state_of self.new.opened ≡ (command_turn (state_of self.old.opened) (view object.now) (text_in (codes "cmd") (view object.now))).state) }
@@ -117,6 +160,9 @@ impl Script {
         }
         if name == "batch" {
             return Ok(self.batch(object)?);
+        }
+        if name == "lookup" {
+            return Ok(self.lookup(object)?);
         }
         Ok(Reply::NoCommand)
     }
@@ -149,8 +195,8 @@ impl LineMachine for Script {
     }
 }
 
-/// Answers each line of the reader by one line and one flush, until a read answers 0: `open` and `batch` over a
-/// directory that keeps a plain registry for each epoch. Tells whether each line was accepted.
+/// Answers each line of the reader by one line and one flush, until a read answers 0: `open`, `batch` and `lookup` over
+/// a directory that keeps a plain registry for each epoch. Tells whether each line was accepted.
 ///
 /// # Errors
 ///

@@ -1,12 +1,15 @@
 //! The whole program over its streams.
 
-ghost use Rattle.std.specs.Prelude.{◌≡◌, ◌≢◌, ◌⊎◌, ◌<◌, ◌≤◌, ◌+◌, ◌^◌, [], IfOk, map, true};
+ghost use Rattle.std.specs.Prelude.{◌≡◌, ◌≢◌, ◌⊎◌, ◌<◌, ◌≤◌, ◌+◌, ◌^◌, IfOk, Some, false, map, true};
 ghost use Rattle.clap.specs.Words.{fault_of, kind_of, takes};
 ghost use Rattle.coniks_lines.specs.declared.fault.RunFault.{RunFault as Fault};
 ghost use Rattle.coniks_tool.specs.Keydir.{keydir};
-ghost use Rattle.coniks_tool.specs.Program.{fault_line, unread_line, unread_status, AsksForHelp, EndsFor, HasMistake, IfRefused, IsExplained, Tells};
+ghost use Rattle.coniks_tool.specs.Choice.{choice_of};
+ghost use Rattle.coniks_tool.specs.Program.{bad_key_line, fault_line, unread_line, unread_status, AsksForHelp, EndsBy, EndsFor, HasBadKey, HasMistake, IfIdle, IfRefused, IsExplained, RunsFor, Tells};
 
+use crate::auditing::run_audit;
 use crate::choice::{Settings, Unread, WordsFault};
+use crate::members::bytes_of_digits;
 use crate::script::run_script;
 use crate::telling::tell;
 use crate::words::settings;
@@ -22,12 +25,18 @@ enum Ending {
     Done(bool),
     /// `clap` refused the words, and says why.
     Refused(String),
+    /// The text of a key isn't 64 hexadecimal digits.
+    BadKey,
 }
+
+/// The line that tells of a bad key.
+const BAD_KEY: &str = "keydir: bad key\n";
 
 /// Does what the words ask for, of which the first is the program's name, and answers the status.
 ///
 /// 0: the run accepted every line, or help was asked for, which goes to `writer`. 1: the run
-/// refused a line. 2: `clap` refused the words; its text goes to `errors`. 3: a read or a write
+/// refused a line. 2: `clap` refused the words, and its text goes to `errors`; or the key that they
+/// give isn't 64 hexadecimal digits, and `errors` gets a line that says so. 3: a read or a write
 /// failed, or memory ran out; `errors` gets a line that says which. A failure of `errors` changes
 /// no status.
 pub fn program<S: AsStr, R: ByteIn, W: ByteOut, E: ByteOut>(
@@ -42,16 +51,19 @@ pub fn program<S: AsStr, R: ByteIn, W: ByteOut, E: ByteOut>(
     requires tells { (E.sink errors.old).failed + 1 < 2 ^ 64 }
     ensures status { result ≤ 3 }
 
-    // What `clap` finds in the words decides between a run, help and a refusal.
-    ensures done { result ≡ 0 → (fault_of keydir (map S.text words.entry.now) ≡ []) ⊎ AsksForHelp (fault_of keydir (map S.text words.entry.now)) }
-    ensures ran { result ≡ 1 → fault_of keydir (map S.text words.entry.now) ≡ [] }
-    ensures refused { result ≡ 2 → HasMistake (fault_of keydir (map S.text words.entry.now)) }
-    ensures taken { takes keydir (map S.text words.entry.now) ≡ true → result ≢ 2 }
+    // What `clap` finds in the words decides between a run, help and a refusal. A run is that of what they choose, under
+    // the key that they give, and the status is 0 or 1 as it accepted every line or not.
+    ensures done { result ≡ 0 → RunsFor (map S.text words.entry.now) (R.source reader.old) (R.source reader.new) (W.sink writer.old) (W.sink writer.new) true ⊎ AsksForHelp (fault_of keydir (map S.text words.entry.now)) }
+    ensures ran { result ≡ 1 → RunsFor (map S.text words.entry.now) (R.source reader.old) (R.source reader.new) (W.sink writer.old) (W.sink writer.new) false }
+    ensures refused { result ≡ 2 → HasMistake (fault_of keydir (map S.text words.entry.now)) ⊎ HasBadKey (map S.text words.entry.now) }
+    ensures taken { takes keydir (map S.text words.entry.now) ≡ true → result ≡ 2 → HasBadKey (map S.text words.entry.now) }
+    ensures bad_key { HasBadKey (map S.text words.entry.now) → 2 ≤ result }
 
     // Nothing is told where the run ends well. Refused words leave input and output alone.
     ensures quiet { result ≤ 1 → E.sink errors.new ≡ E.sink errors.old }
     ensures unread { result ≡ 2 → R.source reader.new ≡ R.source reader.old }
     ensures unwritten { result ≡ 2 → W.sink writer.new ≡ W.sink writer.old }
+    ensures bad_key_told { HasBadKey (map S.text words.entry.now) → result ≡ 2 → Tells (E.sink errors.old) bad_key_line (E.sink errors.new) }
     ensures told { result ≡ 3 → (fault : Fault) × Tells (E.sink errors.old) (fault_line fault) (E.sink errors.new) }
 {
     match obey(alloc, words, reader, writer) {
@@ -59,6 +71,10 @@ pub fn program<S: AsStr, R: ByteIn, W: ByteOut, E: ByteOut>(
         Ok(Ending::Done(false)) => 1,
         Ok(Ending::Refused(text)) => {
             let _ = tell(errors, text.as_str());
+            2
+        }
+        Ok(Ending::BadKey) => {
+            let _ = tell(errors, BAD_KEY);
             2
         }
         Err(fault) => {
@@ -99,15 +115,39 @@ fn obey<S: AsStr, R: ByteIn, W: ByteOut>(
 ) -> Result<Ending, RunFault>
     requires reads { (R.source reader.old).failed + 1 < 2 ^ 64 }
     requires writes { (W.sink writer.old).failed + 1 < 2 ^ 64 }
-    ensures found { IfOk result (EndsFor (fault_of keydir (map S.text words.entry.now))) }
+    ensures found { IfOk result (EndsFor (map S.text words.entry.now) (R.source reader.old) (R.source reader.new) (W.sink writer.old) (W.sink writer.new)) }
     ensures taken { IfOk result (λ ending. IfRefused ending (takes keydir (map S.text words.entry.now) ≢ true)) }
-    ensures unread { IfOk result (λ ending. IfRefused ending (R.source reader.new ≡ R.source reader.old)) }
-    ensures unwritten { IfOk result (λ ending. IfRefused ending (W.sink writer.new ≡ W.sink writer.old)) }
+    ensures unread { IfOk result (λ ending. IfIdle ending (R.source reader.new ≡ R.source reader.old)) }
+    ensures unwritten { IfOk result (λ ending. IfIdle ending (W.sink writer.new ≡ W.sink writer.old)) }
 {
     match settings(alloc, words) {
-        Ok(Settings::Run) => Ok(Ending::Done(run_script(alloc, reader, writer)?)),
+        Ok(settings) => run(alloc, settings, reader, writer),
         Err(WordsFault::Clap(error)) => explain(alloc, error, writer),
         Err(WordsFault::OutOfMemory) => Err(RunFault::OutOfMemory),
+    }
+}
+
+/// Runs what the settings say, once the text of a key was read.
+fn run<R: ByteIn, W: ByteOut>(
+    alloc: Global,
+    settings: Settings,
+    reader: &mut R,
+    writer: &mut W,
+) -> Result<Ending, RunFault>
+    requires reads { (R.source reader.old).failed + 1 < 2 ^ 64 }
+    requires writes { (W.sink writer.old).failed + 1 < 2 ^ 64 }
+    ensures ends { IfOk result (EndsBy (Some (choice_of settings.entry)) (R.source reader.old) (R.source reader.new) (W.sink writer.old) (W.sink writer.new)) }
+    ensures unread { IfOk result (λ ending. IfIdle ending (R.source reader.new ≡ R.source reader.old)) }
+    ensures unwritten { IfOk result (λ ending. IfIdle ending (W.sink writer.new ≡ W.sink writer.old)) }
+{
+    match settings {
+        Settings::Run => Ok(Ending::Done(run_script(alloc, reader, writer)?)),
+        Settings::Audit { key } => {
+            let Some(key) = bytes_of_digits(key) else {
+                return Ok(Ending::BadKey);
+            };
+            Ok(Ending::Done(run_audit(alloc, key, reader, writer)?))
+        }
     }
 }
 
@@ -115,7 +155,7 @@ fn obey<S: AsStr, R: ByteIn, W: ByteOut>(
 fn explain<W: ByteOut>(alloc: Global, error: Error, writer: &mut W) -> Result<Ending, RunFault>
     requires { (W.sink writer.old).failed + 1 < 2 ^ 64 }
     ensures kind { IfOk result (IsExplained (kind_of error)) }
-    ensures unwritten { IfOk result (λ ending. IfRefused ending (W.sink writer.new ≡ W.sink writer.old)) }
+    ensures unwritten { IfOk result (λ ending. IfIdle ending (W.sink writer.new ≡ W.sink writer.old)) }
 {
     let Ok(text) = error.to_string(alloc) else {
         return Err(RunFault::OutOfMemory);

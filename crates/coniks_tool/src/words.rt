@@ -1,23 +1,23 @@
 //! Reads the program's words.
 
-ghost use Rattle.std.specs.Prelude.{◌≡◌, IfOk, IfErr, OnOk, Some, [], map, true};
-ghost use Rattle.clap.specs.Words.{Kinds, HasKind, fault_of, kind_of, subcommand_of, takes};
+ghost use Rattle.std.specs.Prelude.{◌≡◌, IfOk, IfErr, OnOk, Some, [], map, option_map, true, unwrap_or};
+ghost use Rattle.clap.specs.Words.{Kinds, HasKind, fault_of, found_of, kind_of, rows_of, subcommand_of, takes};
 ghost use Rattle.coniks_tool.specs.Keydir.{keydir};
-ghost use Rattle.coniks_tool.specs.Choice.{chosen, IsRefusal};
+ghost use Rattle.coniks_tool.specs.Choice.{choice_by, choice_of, chosen, IsRefusal};
 ghost use Rattle.coniks_tool.specs.declared.choice.WordsFault.TheVariants.{OutOfMemory};
 
 use crate::choice::{Settings, WordsFault};
 use crate::command::keydir_command;
-use clap::Error;
 use clap::error::ErrorKind;
+use clap::{ArgMatches, Error};
 use std::alloc::Global;
 use std::convert::AsStr;
 
 /// What the words ask for. The first word is the program's name. A subcommand is required. Where
 /// help is asked for, the fault is an error of `clap` whose text goes to the standard output.
-pub fn settings<S: AsStr>(alloc: Global, words: &[S]) -> Result<Settings, WordsFault>
+pub fn settings<'a, S: AsStr>(alloc: Global, words: &'a [S]) -> Result<Settings<'a>, WordsFault>
     // What `clap` defines for these words is chosen, and only where it finds no fault in them.
-    ensures ok { IfOk result (λ choice. chosen (subcommand_of keydir (map S.text words.entry.now)) ≡ Some choice) }
+    ensures ok { IfOk result (λ settings. chosen (subcommand_of keydir (map S.text words.entry.now)) ≡ Some (choice_of settings)) }
     ensures faultless { OnOk result (fault_of keydir (map S.text words.entry.now) ≡ []) }
 
     // Words that `clap` takes are refused only for want of memory, others also for their fault.
@@ -32,8 +32,29 @@ pub fn settings<S: AsStr>(alloc: Global, words: &[S]) -> Result<Settings, WordsF
         Err(error) => return Err(refusal(error)),
     };
     match matches.subcommand() {
-        Some(_) => Ok(Settings::Run),
+        Some((name, found)) => Ok(settings_by(name, found)),
         None => unreachable!(),
+    }
+}
+
+/// What a subcommand asks for, by its name and the options that were found.
+fn settings_by<'a>(name: &'a str, found: &ArgMatches<'a>) -> Settings<'a>
+    ensures { choice_of result ≡ choice_by name.entry.now (rows_of (found_of found.now)) }
+{
+    if name == "run" {
+        return Settings::Run;
+    }
+    Settings::Audit {
+        key: text_or_empty(found.get_str("key")),
+    }
+}
+
+fn text_or_empty<'a>(text: Option<&'a str>) -> &'a str
+    ensures { result.now ≡ unwrap_or (option_map (λ t. t.now) text.entry) [] }
+{
+    match text {
+        Some(text) => text,
+        None => "",
     }
 }
 

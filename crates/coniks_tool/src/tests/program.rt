@@ -6,13 +6,13 @@ use std::test::Fail;
 
 /// What a run of the program came to.
 #[derive(Drop)]
-struct Ended {
-    status: u8,
-    output: MemoryOut,
-    errors: MemoryOut,
+pub(crate) struct Ended {
+    pub(crate) status: u8,
+    pub(crate) output: MemoryOut,
+    pub(crate) errors: MemoryOut,
 }
 
-fn run_of(alloc: Global, words: &[&str], input: &str) -> Result<Ended, AllocError> {
+pub(crate) fn run_of(alloc: Global, words: &[&str], input: &str) -> Result<Ended, AllocError> {
     let mut reader = MemoryIn::new(Vec::from_slice(alloc, input.as_bytes())?);
     let mut output = MemoryOut::new(alloc);
     let mut errors = MemoryOut::new(alloc);

@@ -9,7 +9,7 @@ use std::test::Fail;
 
 /// Gives every name the index of zeros.
 #[derive(Clone, Copy)]
-struct OnePlace;
+pub struct OnePlace;
 
 impl IndexSource for OnePlace {
     ghost use Rattle.coniks_proof.specs.Preimages.{zeros};
@@ -22,7 +22,7 @@ impl IndexSource for OnePlace {
 }
 
 /// Operations with the key `k`.
-fn ops_of(alloc: Global, ops: &[(OpKind, &str)]) -> Result<Vec<Op>, AllocError> {
+pub fn ops_of(alloc: Global, ops: &[(OpKind, &str)]) -> Result<Vec<Op>, AllocError> {
     let mut made = Vec::new(alloc);
     for (kind, name) in ops {
         let name = Bytes::copy_of(alloc, name.as_bytes())?;

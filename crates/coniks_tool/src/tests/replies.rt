@@ -48,6 +48,12 @@ fn texts(rt: HostRuntime) -> Result<(), Fail> {
             "{\"fault\":\"Member\",\"member\":\"ops\",\"position\":7}",
         ),
         (Reply::NotOpen, "{\"fault\":\"NotOpen\"}"),
+        (
+            Reply::BadMember(Member::Name),
+            "{\"fault\":\"Member\",\"member\":\"name\"}",
+        ),
+        (Reply::UnknownEpoch, "{\"fault\":\"UnknownEpoch\"}"),
+        (Reply::NameLength, "{\"fault\":\"NameLength\"}"),
         (Reply::AlreadyOpen, "{\"fault\":\"AlreadyOpen\"}"),
         (Reply::BatchTooLong, "{\"fault\":\"BatchTooLong\"}"),
         (

@@ -48,7 +48,7 @@ fn answers_of(alloc: Global, lines: &[(&str, &str)]) -> Result<String, AllocErro
 }
 
 /// Whether the lines are answered as written beside them, and `all` says whether each is accepted.
-fn is_answered(alloc: Global, lines: &[(&str, &str)], all: bool) -> Result<bool, AllocError> {
+pub fn is_answered(alloc: Global, lines: &[(&str, &str)], all: bool) -> Result<bool, AllocError> {
     let script = script_of(alloc, lines)?;
     let answers = answers_of(alloc, lines)?;
     match run_of(alloc, script.as_bytes())? {
@@ -276,7 +276,7 @@ fn first_faults(rt: HostRuntime) -> Result<(), Fail> {
         ),
         (
             "{\"cmd\":\"lookup\",\"epoch\":1,\"name\":\"a\"}",
-            "{\"fault\":\"Command\"}",
+            "{\"fault\":\"UnknownEpoch\"}",
         ),
         ("{\"cmd\":7}", "{\"fault\":\"Command\"}"),
         ("{\"cmd\":\"stop\"}", "{\"fault\":\"Command\"}"),

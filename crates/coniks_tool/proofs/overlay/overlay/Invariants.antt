@@ -1,4 +1,3 @@
-use Rattle.std.proofs.Common.{◌≡◌, length}
 use Rattle.coniks_proof.specs.Sha256.{sha256}
 use Rattle.coniks_proof.specs.Registry.{Registry}
 use Rattle.coniks_tool.specs.Records.{AreSealed, BeginsWith, Tracks}

@@ -1,6 +1,6 @@
 use Rattle.std.proofs.Common.{◌≡◌, List, ℕ, None, sym, subst, ap, ◌∙◌}
 use Rattle.coniks_proof.specs.Sha256.{sha256}
-use Rattle.coniks_proof.specs.Batches.{bound_by, fault_of}
+use Rattle.coniks_proof.specs.Batches.{fault_of}
 use Rattle.coniks_tool.specs.Batch.{operation_of}
 use Rattle.coniks_tool.specs.Records.{Overlays}
 use Rattle.coniks_tool.specs.Holders.{StandingIs}

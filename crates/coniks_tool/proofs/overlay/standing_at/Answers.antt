@@ -1,4 +1,4 @@
-use Rattle.std.proofs.Common.{rules, ◌≡◌, ℕ, List, None, Some, slice_get, subst, sym, ap, ◌∙◌}
+use Rattle.std.proofs.Common.{rules, ◌≡◌, None, Some, slice_get, subst, sym, ◌∙◌}
 use Rattle.coniks_proof.specs.Sha256.{sha256}
 use Rattle.coniks_proof.specs.Registry.{IsFree, overlaid}
 use Rattle.coniks_tool.specs.Holders.{IsHeld}

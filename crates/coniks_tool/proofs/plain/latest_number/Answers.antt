@@ -1,4 +1,4 @@
-use Rattle.std.proofs.Common.{sym, ◌<◌, ◌+◌, ◌-◌, length, [], arith}
+use Rattle.std.proofs.Common.{sym, ◌<◌, ◌-◌, length, [], arith}
 use Rattle.coniks_tool.proofs.PlainLemmas.{last_is}
 use Rattle.coniks_tool.proofs.plain.latest_number.Goals as goal
 

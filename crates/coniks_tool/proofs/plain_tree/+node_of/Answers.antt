@@ -1,4 +1,4 @@
-use Rattle.std.proofs.Common.{◌≡◌, ◌<◌, ◌≤◌, ℕ, List, [], ◌∷◌, length, true, false, arith, sym, subst, ap, ◌∙◌}
+use Rattle.std.proofs.Common.{◌≡◌, ◌<◌, ◌≤◌, List, length, true, false, arith, sym, subst, ap, ◌∙◌}
 use Rattle.std.specs.Borrow.{Bor}
 use Rattle.coniks_proof.specs.Sha256.{sha256}
 use Rattle.coniks_proof.specs.Preimages.{leaf_preimage}

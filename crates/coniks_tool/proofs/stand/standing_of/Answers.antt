@@ -1,8 +1,8 @@
-use Rattle.std.proofs.Common.{◌≡◌, ◌≢◌, Bool, Option, Some, subst, sym, ap, ◌∙◌}
+use Rattle.std.proofs.Common.{Option, subst, sym, ◌∙◌}
 use Rattle.std.specs.Borrow.{Bor}
-use Rattle.coniks_proof.specs.Registry.{has_name, overlaid}
+use Rattle.coniks_proof.specs.Registry.{overlaid}
 use Rattle.coniks_tool.specs.Records.{registered_of}
-use Rattle.coniks_tool.specs.Holders.{HolderIs, IsEarlier, IsHeld}
+use Rattle.coniks_tool.specs.Holders.{HolderIs, IsEarlier}
 use Rattle.coniks_tool.specs.declared.records.Record.{Record}
 use Rattle.coniks_tool.proofs.HolderLemmas.{stands_free, stands_taken, stands_present, apart_by, same_by}
 use Rattle.coniks_tool.proofs.stand.standing_of.Goals as goal

@@ -1,0 +1,29 @@
+-- The first fault of an entry, computed.
+use Rattle.std.specs.Prelude.{ℕ, List, [], ◌∷◌, ◌==◌, ◌||◌, Bool, true, Option, Some, None, is_some, nat_lt, if◌then◌else◌}
+use Rattle.std.specs.Option.{option_map_or}
+use Rattle.std.specs.Str.{bytes_eq}
+use Rattle.coniks_chain.specs.declared.entry.Entry.{Entry}
+use Rattle.coniks_chain.specs.declared.auditor.Before.{Before}
+use Rattle.coniks_chain.specs.declared.auditor.AuditFault.{AuditFault}
+use Rattle.coniks_chain.specs.declared.auditor.AuditFault.TheVariants.{Version, FirstEpoch, NotLater, PreviousEpoch, PreviousLink, NonceChanged, Verdict}
+use Rattle.coniks_chain.specs.Chain.{epoch_before, link_before, faults}
+use Rattle.coniks_chain.specs.Entries.{body_bytes}
+
+-- whether an entry meets what it has to so that it hasn't this fault
+abbrev pub meets : (List ℕ → List ℕ → Bool) → Option Before → Entry → AuditFault → Bool
+meets verdict before entry Version = entry.body.version == 1
+meets verdict before entry FirstEpoch = is_some before || nat_lt 0 entry.body.t
+meets verdict before entry NotLater = option_map_or (λ b. nat_lt b.t entry.body.t) before true
+meets verdict before entry PreviousEpoch = entry.body.t_prev == epoch_before before
+meets verdict before entry PreviousLink = bytes_eq entry.body.previous.0 (link_before before)
+meets verdict before entry NonceChanged = option_map_or (λ b. bytes_eq entry.body.nonce.0 b.nonce.0) before true
+meets verdict before entry Verdict = verdict (body_bytes entry.body) entry.signature.0
+
+-- the first of some faults that an entry has
+abbrev pub first_unmet : (List ℕ → List ℕ → Bool) → Option Before → Entry → List AuditFault → Option AuditFault
+first_unmet verdict before entry [] = None
+first_unmet verdict before entry (fault ∷ rest) = if meets verdict before entry fault then first_unmet verdict before entry rest else Some fault
+
+-- the first fault of an entry after what is before it
+abbrev pub audit_fault : (List ℕ → List ℕ → Bool) → Option Before → Entry → Option AuditFault
+audit_fault verdict before entry = first_unmet verdict before entry faults

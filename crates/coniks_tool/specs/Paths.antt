@@ -1,0 +1,64 @@
+-- The path that a lookup answers, in byte lists.
+use Rattle.std.specs.Prelude.{◌≡◌, ℕ, Bool, List, [], ◌∷◌, ◌++◌, Option, Some, None, if◌then◌else◌}
+use Rattle.std.specs.Borrow.{Bor}
+use Rattle.std.specs.Str.{bytes_eq}
+use Rattle.coniks_proof.specs.Entries.{Entry}
+use Rattle.coniks_proof.specs.Paths.{siblings, end_of, digests}
+use Rattle.coniks_proof.specs.Registry.{Registered, Registry, entries_of}
+use Rattle.coniks_proof.specs.declared.values.Digest.{Digest}
+use Rattle.coniks_proof.specs.declared.paths.Proof.{Proof}
+use Rattle.coniks_proof.specs.declared.paths.End.{End}
+use Rattle.coniks_proof.specs.declared.paths.End.TheVariants.{Empty, Other, Here}
+use Rattle.coniks_tool.specs.Records.{entry_of_record}
+use Rattle.coniks_tool.specs.declared.records.Record.{Record}
+
+-- where a path to an index ends
+pub data PathEnd : Type 0 where
+  -- at no entry
+  no_entry : PathEnd
+  -- at the entry of another index
+  other_entry : (index commitment : List ℕ) → PathEnd
+  -- at the entry of the index, whose binding is this
+  its_entry : (name key opening : List ℕ) → PathEnd
+
+-- the hashes beside the way to an index, from the root down, and where it ends
+pub record Path : Type 0 where
+  pub siblings : List (List ℕ)
+  pub end : PathEnd
+
+-- what is left where the way to an index ends
+abbrev pub end_at : List ℕ → List (Entry Registered) → PathEnd
+end_at index [] = no_entry
+end_at index (e ∷ es) =
+    if bytes_eq e.index index then its_entry e.behind.name e.behind.key e.behind.opening else other_entry e.index e.commitment
+
+-- the path to an index in the tree over these entries
+abbrev pub path_among : (List ℕ → List ℕ) → List ℕ → List (Entry Registered) → List ℕ → Path
+path_among hash nonce entries index = record {
+  siblings = siblings hash nonce [] index entries;
+  end = end_at index (end_of [] index entries);
+}
+
+-- the path to an index in the tree of a registry
+abbrev pub path_to : (List ℕ → List ℕ) → (List ℕ → List ℕ) → List ℕ → Registry → List ℕ → Path
+path_to hash of nonce registry index = path_among hash nonce (entries_of hash of registry) index
+
+-- an end, without the forms that the code gives to numbers and digests
+abbrev pub end_shown : End → PathEnd
+end_shown Empty = no_entry
+end_shown (Other index commitment) = other_entry index.0 commitment.0
+end_shown (Here name key opening) = its_entry name key opening.0
+
+-- a proof, without these forms
+abbrev pub path_of : Proof → Path
+path_of proof = record { siblings = digests proof.siblings; end = end_shown proof.end }
+
+-- the entry of a record, where there is one
+abbrev pub shown_in : Option (Bor Record) → List (Entry Registered)
+shown_in None = []
+shown_in (Some r) = entry_of_record r.now ∷ []
+
+-- the way to an index, from a prefix with these entries down, adds its siblings to those before and ends with this record
+pub record IsWalked (hash : List ℕ → List ℕ) (nonce index : List ℕ) (prefix : List Bool) (entries : List (Entry Registered)) (before after : List Digest) (last : Option (Bor Record)) : Type 0 where
+  pub told : digests after ≡ digests before ++ siblings hash nonce prefix index entries
+  pub ends : shown_in last ≡ end_of prefix index entries

@@ -1,0 +1,52 @@
+//! How a proof is printed: a JSON object with its members in the order of their names' bytes.
+
+ghost use Rattle.std.specs.Prelude.{◌≡◌, IfOk, map};
+ghost use Rattle.serde_json.specs.View.{view};
+ghost use Rattle.coniks_proof.specs.Paths.{digests};
+ghost use Rattle.coniks_tool.specs.Paths.{end_shown, path_of};
+ghost use Rattle.coniks_tool.specs.ProofTexts.{digits, end_data, proof_data};
+
+use base64::engine::general_purpose::STANDARD;
+use coniks_proof::{Digest, End, Proof};
+use serde_json::{Value, json};
+use std::alloc::{AllocError, Global};
+
+/// The object of a proof: `end`, and `siblings` from the root down.
+pub fn proof_value(alloc: Global, proof: &Proof) -> Result<Value, AllocError>
+    ensures { IfOk result (λ value. view value ≡ proof_data (path_of proof.now)) }
+{
+    let end = end_value(alloc, &proof.end)?;
+    let siblings = Value::Array(digits_of(alloc, proof.siblings.as_slice())?);
+    json!(in alloc; {"end": end, "siblings": siblings})
+}
+
+/// The object of an end, by its kind.
+fn end_value(alloc: Global, end: &End) -> Result<Value, AllocError>
+    ensures { IfOk result (λ value. view value ≡ end_data (end_shown end.now)) }
+{
+    match end {
+        End::Empty => json!(in alloc; {"kind": "empty"}),
+        End::Other { index, commitment } => {
+            let index = hex::encode(alloc, &index.0)?;
+            let commitment = hex::encode(alloc, &commitment.0)?;
+            json!(in alloc; {"commitment": commitment, "index": index, "kind": "other"})
+        }
+        End::Here { name, key, opening } => {
+            let key = STANDARD.encode(alloc, key.as_slice())?;
+            let name = String::from_utf8_lossy(alloc, name.as_slice())?;
+            let opening = hex::encode(alloc, &opening.0)?;
+            json!(in alloc; {"key": key, "kind": "here", "name": name, "opening": opening})
+        }
+    }
+}
+
+/// Each digest in 64 lower case hexadecimal digits.
+fn digits_of(alloc: Global, list: &[Digest]) -> Result<Vec<Value>, AllocError>
+    ensures { IfOk result (λ values. map view values.items ≡ map digits (digests list.now)) }
+{
+    let mut values = Vec::with_capacity(alloc, list.len())?;
+    for digest in list {
+        values.push(Value::String(hex::encode(alloc, &digest.0)?))?;
+    }
+    Ok(values)
+}

@@ -1,0 +1,130 @@
+//! The demonstration seal, which claims no security.
+
+ghost use Rattle.std.specs.Prelude.{◌≡◌, ◌<◌, ◌≤◌, ◌+◌, ◌-◌, ◌^◌, ◌∷◌, ◌++◌, None, Some, IsSome, IfSome, length, take};
+ghost use Rattle.coniks_proof.specs.Sha256.{sha256};
+ghost use Rattle.coniks_chain.specs.Entries.{IsBody, body_bytes, signed};
+ghost use Rattle.coniks_tool.specs.Seal.{is_seal, seal_of};
+
+use coniks_chain::{Body, Entry, Sign, Signature, Verify};
+use coniks_proof::{Digest, Hash32, Sha256Hash};
+use std::marker::Model;
+
+/// The byte that stands before what the first half of a seal is hashed from.
+const LOW_TAG: u8 = 0x41;
+
+/// The byte that stands before what the second half is hashed from.
+const HIGH_TAG: u8 = 0x42;
+
+/// Signs bodies under a key, and judges such signatures. For demonstrations: it claims no security, and who can judge a
+/// signature can also make one. It never refuses. Contracts see its key, how many signatures it gave, and the last entry.
+#[derive(Drop)]
+pub struct DemoSeal {
+    key: [u8; 32],
+    made: u64,
+    last: Option<Entry>,
+}
+
+impl Model for DemoSeal {
+    ghost use Rattle.coniks_tool.specs.Seal.{Sealer};
+
+    ghost Value = { Sealer };
+
+    ghost view = { λ seal. record { key = seal.key; made = seal.made; last = seal.last } };
+}
+
+impl DemoSeal {
+    /// The seal of a key, which has signed nothing.
+    pub fn new(key: [u8; 32]) -> DemoSeal
+        ensures { result ≡ record { key = key; made = 0; last = None } }
+    {
+        DemoSeal {
+            key,
+            made: 0,
+            last: None,
+        }
+    }
+
+    /// SHA-256 of a tag, the key and a body.
+    fn half(&self, tag: u8, body: &[u8; 145]) -> Digest
+        ensures { result.0 ≡ sha256 (tag ∷ self.now.key ++ body.now) }
+    {
+        Sha256Hash.hash(&[&[tag], &self.key, body])
+    }
+
+    /// The seal of a body's bytes.
+    fn seal(&self, body: &[u8; 145]) -> Signature
+        ensures { result.0 ≡ seal_of self.now.key body.now }
+    {
+        let low = self.half(LOW_TAG, body);
+        let high = self.half(HIGH_TAG, body);
+        Signature(joined(&low.0, &high.0))
+    }
+}
+
+/// Two halves, one behind the other.
+fn joined(low: &[u8; 32], high: &[u8; 32]) -> [u8; 64]
+    ensures { result ≡ low.now ++ high.now }
+{
+    let mut bytes = [0; 64];
+    put(&mut bytes, 0, low);
+    put(&mut bytes, 32, high);
+    bytes
+}
+
+/// Writes a part behind the first `at` bytes. Nothing is said of the bytes after the part.
+fn put(bytes: &mut [u8], at: usize, part: &[u8])
+    requires { at + length part.now ≤ length bytes.old }
+    ensures { take (at + length part.now) bytes.new ≡ take at bytes.old ++ part.now }
+{
+    bytes[at..at + part.len()].copy_from_slice(part);
+}
+
+impl Verify for DemoSeal {
+    ghost use Rattle.coniks_tool.specs.Seal.{is_seal};
+
+    ghost verdict_of = { λ seal body signature. is_seal seal.key body signature };
+
+    /// Yes exactly where the signature is SHA-256 of the byte 41 (hexadecimal), the key and the body, followed by SHA-256
+    /// of the byte 42, the key and the body.
+    fn verdict(&self, body: &[u8; 145], signature: &Signature) -> bool {
+        signature.0 == self.seal(body).0
+    }
+}
+
+impl Sign for DemoSeal {
+    ghost made_of = { λ seal. seal.made };
+
+    ghost refused_of = { λ _. 0 };
+
+    ghost last_of = { λ seal. seal.last };
+
+    /// The one signature of which the verdict is yes.
+    fn sign(&mut self, body: &[u8; 145]) -> Option<Signature>
+        requires made_below { self.old.made < 2 ^ 64 - 1 }
+        ensures given { IsSome result }
+        ensures seal { IfSome result (λ signature. signature.0 ≡ seal_of self.old.key body.now) }
+        ensures made { self.new.made ≡ self.old.made + 1 }
+        ensures key { self.new.key ≡ self.old.key }
+        ensures last { IfSome result (λ signature. (b : Body) → IsBody b → body_bytes b ≡ body.now → self.new.last ≡ Some (signed b signature)) }
+    {
+        let signature = self.seal(body);
+        self.made += 1;
+        self.last = Some(Entry {
+            body: Body::read(body),
+            signature,
+        });
+        Some(signature)
+    }
+
+    fn made(&self) -> u64 {
+        self.made
+    }
+
+    fn refused(&self) -> u64 {
+        0
+    }
+
+    fn last(&self) -> Option<Entry> {
+        self.last
+    }
+}
