@@ -5,3 +5,4 @@ mod refused;
 mod scattered;
 mod shared;
 mod sizes;
+mod two_keys;

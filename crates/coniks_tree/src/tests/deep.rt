@@ -19,7 +19,7 @@ fn as_deep_as_can_be(rt: HostRuntime) -> Result<(), Fail> {
     let a = index_of(0, 0);
     let z = index_of(0, 1);
     for depth in [0, 1, 8] {
-        let mut epochs = Epochs::new(rt.alloc());
+        let mut epochs = Epochs::new(rt.alloc(), Sha256Hash);
         let first = epochs.add(None, depth, &[(a, b'a', b'k')])?;
         let second = epochs.add(Some(first.root), depth, &[(z, b'z', b'k')])?;
         assert_eq!(rt; (second.nodes, epochs.sizes()), (513, (514, 2)));
@@ -39,7 +39,7 @@ fn as_deep_as_can_be(rt: HostRuntime) -> Result<(), Fail> {
 fn the_longest_path(rt: HostRuntime) -> Result<(), Fail> {
     let a = index_of(0, 0);
     let z = index_of(0, 1);
-    let mut epochs = Epochs::new(rt.alloc());
+    let mut epochs = Epochs::new(rt.alloc(), Sha256Hash);
     let both = epochs.add(None, 0, &[(a, b'a', b'k'), (z, b'z', b'k')])?;
     let path = epochs.path(both.root, &a)?;
     assert_eq!(rt; path.siblings.as_slice().len(), 256);

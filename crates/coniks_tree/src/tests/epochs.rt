@@ -12,8 +12,7 @@ use crate::part::{Change, Part};
 use crate::table::{Record, RecordNo, Root};
 use crate::tree::Tree;
 use coniks_proof::{
-    Binding, Bytes, Digest, Index, MAX_LEVEL, Nonce, Opening, Prefix, Proof, Sha256Hash,
-    commit_hash,
+    Binding, Bytes, Digest, Hash32, Index, MAX_LEVEL, Nonce, Opening, Prefix, Proof, commit_hash,
 };
 use std::alloc::{AllocError, Global};
 
@@ -37,11 +36,11 @@ pub fn digits(alloc: Global, digest: &Digest) -> Result<String, AllocError> {
     hex::encode(alloc, &digest.0)
 }
 
-fn record_of(alloc: Global, bound: Bound) -> Result<Record, AllocError> {
+fn record_of<H: Hash32>(alloc: Global, h: &H, bound: Bound) -> Result<Record, AllocError> {
     let (index, name, key) = bound;
     let name = [name];
     let key = [key];
-    let commitment = commit_hash(&Sha256Hash, &OPENING, &name, &key);
+    let commitment = commit_hash(h, &OPENING, &name, &key);
     let name = Bytes::copy_of(alloc, &name)?;
     let key = Bytes::copy_of(alloc, &key)?;
     Ok(Record {
@@ -52,10 +51,14 @@ fn record_of(alloc: Global, bound: Bound) -> Result<Record, AllocError> {
     })
 }
 
-fn records_of(alloc: Global, bindings: &[Bound]) -> Result<Vec<Record>, AllocError> {
+fn records_of<H: Hash32>(
+    alloc: Global,
+    h: &H,
+    bindings: &[Bound],
+) -> Result<Vec<Record>, AllocError> {
     let mut records = Vec::new(alloc);
     for bound in bindings {
-        records.push(record_of(alloc, *bound)?)?;
+        records.push(record_of(alloc, h, *bound)?)?;
     }
     Ok(records)
 }
@@ -85,8 +88,9 @@ fn changes_to(alloc: Global, first: usize, records: &[Record]) -> Result<Vec<Cha
 
 /// What an older root shows under a prefix, or nothing where there is none, overwritten by changes: by one growth, or by
 /// one below each prefix of so many more bits that has a change.
-fn grown_at(
+fn grown_at<H: Hash32>(
     tree: &Tree,
+    h: &H,
     older: Option<Root>,
     prefix: &Prefix,
     depth: usize,
@@ -97,12 +101,12 @@ fn grown_at(
 {
     if depth == 0 || changes.is_empty() || prefix.len() == MAX_LEVEL {
         let part = part_before(tree, older, prefix);
-        return Ok(tree.grow(&Sha256Hash, &NONCE, part, prefix, changes)?);
+        return Ok(tree.grow(h, &NONCE, part, prefix, changes)?);
     }
     let (on_left, on_right) = sides(changes, prefix.len());
-    let left = grown_at(tree, older, &prefix.child(false), depth - 1, on_left)?;
-    let right = grown_at(tree, older, &prefix.child(true), depth - 1, on_right)?;
-    Ok(tree.join(&Sha256Hash, &NONCE, prefix, left, right)?)
+    let left = grown_at(tree, h, older, &prefix.child(false), depth - 1, on_left)?;
+    let right = grown_at(tree, h, older, &prefix.child(true), depth - 1, on_right)?;
+    Ok(tree.join(h, &NONCE, prefix, left, right)?)
 }
 
 /// What an older root shows under a prefix; nothing where the tree has no such root.
@@ -126,16 +130,18 @@ pub struct Added {
 
 /// A tree of epochs.
 #[derive(Drop)]
-pub struct Epochs {
+pub struct Epochs<H> {
     alloc: Global,
+    h: H,
     tree: Tree,
 }
 
-impl Epochs {
+impl<H: Hash32> Epochs<H> {
     /// A tree without epochs.
-    pub fn new(alloc: Global) -> Epochs {
+    pub fn new(alloc: Global, h: H) -> Epochs<H> {
         Epochs {
             alloc,
+            h,
             tree: Tree::new(alloc),
         }
     }
@@ -147,12 +153,12 @@ impl Epochs {
         depth: usize,
         bindings: &[Bound],
     ) -> Result<Added, OutOfMemory> {
-        let records = records_of(self.alloc, bindings)?;
+        let records = records_of(self.alloc, &self.h, bindings)?;
         let changes = changes_to(self.alloc, self.tree.records(), &records)?;
-        let part = grown_at(&self.tree, older, &Prefix::root(), depth, &changes)?;
+        let part = grown_at(&self.tree, &self.h, older, &Prefix::root(), depth, &changes)?;
         let nodes = self.tree.new_nodes(&part);
         self.tree.reserve(&part, records.len())?;
-        let root = self.tree.attach(&Sha256Hash, &NONCE, part, records);
+        let root = self.tree.attach(&self.h, &NONCE, part, records);
         Ok(Added { root, nodes })
     }
 

@@ -17,7 +17,7 @@ fn sibling(alloc: Global, path: &Proof, place: usize) -> Result<String, AllocErr
 
 #[test]
 fn nothing(rt: HostRuntime) -> Result<(), Fail> {
-    let mut epochs = Epochs::new(rt.alloc());
+    let mut epochs = Epochs::new(rt.alloc(), Sha256Hash);
     let none = epochs.add(None, 0, &[])?;
     assert_eq!(rt; (none.nodes, epochs.sizes()), (1, (1, 0)));
     assert_eq!(rt;
@@ -47,7 +47,7 @@ fn hash_of_a_part(rt: HostRuntime) -> Result<(), Fail> {
 fn one(rt: HostRuntime) -> Result<(), Fail> {
     let a = index_of(0, 0);
     let b = index_of(0x80, 0);
-    let mut epochs = Epochs::new(rt.alloc());
+    let mut epochs = Epochs::new(rt.alloc(), Sha256Hash);
     let one = epochs.add(None, 0, &[(a, b'a', b'k')])?;
     assert_eq!(rt; (one.nodes, epochs.sizes()), (1, (1, 1)));
     assert_eq!(rt;
@@ -70,7 +70,7 @@ fn two_sides(rt: HostRuntime) -> Result<(), Fail> {
     let a = index_of(0, 0);
     let b = index_of(0x80, 0);
     for depth in [0, 1, 8] {
-        let mut epochs = Epochs::new(rt.alloc());
+        let mut epochs = Epochs::new(rt.alloc(), Sha256Hash);
         let two = epochs.add(None, depth, &[(a, b'a', b'k'), (b, b'b', b'k')])?;
         assert_eq!(rt; (two.nodes, epochs.sizes()), (3, (3, 2)));
         assert_eq!(rt;
@@ -94,7 +94,7 @@ fn an_empty_side(rt: HostRuntime) -> Result<(), Fail> {
     let a = index_of(0, 0);
     let b = index_of(0x80, 0);
     let c = index_of(0x40, 0);
-    let mut epochs = Epochs::new(rt.alloc());
+    let mut epochs = Epochs::new(rt.alloc(), Sha256Hash);
     let both = epochs.add(None, 1, &[(a, b'a', b'k'), (c, b'c', b'k')])?;
     assert_eq!(rt; (both.nodes, epochs.sizes()), (5, (5, 2)));
     assert_eq!(rt;
@@ -116,7 +116,7 @@ fn another_leaf_at_the_end(rt: HostRuntime) -> Result<(), Fail> {
     let a = index_of(0, 0);
     let c = index_of(0x40, 0);
     let d = index_of(0x20, 0);
-    let mut epochs = Epochs::new(rt.alloc());
+    let mut epochs = Epochs::new(rt.alloc(), Sha256Hash);
     let both = epochs.add(None, 0, &[(a, b'a', b'k'), (c, b'c', b'k')])?;
     let path = epochs.path(both.root, &d)?;
     assert_eq!(rt; path.siblings.as_slice().len(), 2);

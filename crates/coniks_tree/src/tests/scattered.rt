@@ -36,7 +36,7 @@ fn as_the_recursion_over_the_list(rt: HostRuntime) -> Result<(), Fail> {
         ),
     ];
     for depth in [0, 1, 8] {
-        let mut epochs = Epochs::new(rt.alloc());
+        let mut epochs = Epochs::new(rt.alloc(), Sha256Hash);
         let mut older = None;
         for (bindings, nodes, root) in &steps {
             let added = epochs.add(older, depth, bindings)?;

@@ -1,6 +1,7 @@
 //! Epochs that share nodes.
 
 use crate::tests::epochs::{Epochs, index_of};
+use coniks_proof::Sha256Hash;
 use std::test::Fail;
 
 const OF_THREE: &str = "9f0f0e3455b88ce5747710c5195756230f5f5a6810b4f76899e2d7d1293fd6ac";
@@ -12,7 +13,7 @@ fn second_epochs(rt: HostRuntime) -> Result<(), Fail> {
     let b = index_of(0x80, 0);
     let c = index_of(0x40, 0);
     for depth in [0, 1, 8] {
-        let mut epochs = Epochs::new(rt.alloc());
+        let mut epochs = Epochs::new(rt.alloc(), Sha256Hash);
         let three = [(a, b'a', b'k'), (c, b'c', b'k'), (b, b'b', b'k')];
         let first = epochs.add(None, depth, &three)?;
         assert_eq!(rt; first.nodes, 5);
@@ -40,7 +41,7 @@ fn older_roots(rt: HostRuntime) -> Result<(), Fail> {
     let a = index_of(0, 0);
     let b = index_of(0x80, 0);
     let c = index_of(0x40, 0);
-    let mut epochs = Epochs::new(rt.alloc());
+    let mut epochs = Epochs::new(rt.alloc(), Sha256Hash);
     let three = [(a, b'a', b'k'), (c, b'c', b'k'), (b, b'b', b'k')];
     let first = epochs.add(None, 0, &three)?;
     let second = epochs.add(Some(first.root), 0, &[(b, b'b', b'l')])?;

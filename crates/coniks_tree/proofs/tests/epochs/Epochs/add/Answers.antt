@@ -4,7 +4,7 @@ use Rattle.coniks_tree.proofs.PushLemmas.{Extends-append}
 use Rattle.coniks_tree.proofs.tests.epochs.Epochs.add.Goals as goal
 
 pub attach-root-requires-clause-placed : goal.attach-root-requires-clause-placed
-attach-root-requires-clause-placed c =
+attach-root-requires-clause-placed g c =
     let old = c.args.self.now.tree.records.items in
     let new = c.in_ok-records.records.items in
     let changes = c.in_ok-changes.changes.items in
