@@ -1,17 +1,20 @@
 //! What an epoch costs: registers pseudo-random indices in batches, and prints how many nodes and hashes that took.
 //!
 //! Without words it registers 1,000 indices in batches of 64, and prints the same each time. With the words INDICES and
-//! BATCH it registers so many in batches of so many, and prints seconds and resident memory too.
+//! BATCH it registers so many in batches of so many, and prints seconds and resident memory too. With the words WORKERS and
+//! DEPTH after them it also times how one more batch is built, by one worker and by so many at this cutting depth.
 #![tactic(auto)]
 
 mod counting;
 mod measure;
 mod plan;
 mod registering;
+mod timing;
 
 use crate::measure::print_cost;
 use crate::plan::plan_of;
 use crate::registering::Registry;
+use crate::timing::print_builds;
 use anyhow::Result;
 use std::env;
 use std::time::Instant;
@@ -28,6 +31,9 @@ fn main(rt: HostRuntime) -> Result<()> {
     println!(rt; "{counts}")?;
     if plan.is_measured {
         print_cost(&rt, start.elapsed(&rt)?)?;
+    }
+    if let Some(crew) = &plan.crew {
+        print_builds(&rt, &registry, &plan, crew)?;
     }
     Ok(())
 }

@@ -1,9 +1,22 @@
 //! How many indices are registered, and in what batches.
 
-ghost use Rattle.std.specs.Prelude.{◌<◌};
+ghost use Rattle.std.specs.Prelude.{◌<◌, ◌≤◌, IfOk};
 
 use anyhow::{Context, Result, ensure};
 use coniks_proof::MAX_OPERATIONS;
+use coniks_work::{MAX_DEPTH, MAX_WORKERS};
+
+/// So many workers, and the depth at which they cut a batch.
+#[derive(Drop)]
+pub struct Crew {
+    /// 1 to 64.
+    pub workers: usize,
+    /// 0 to 8 bits.
+    pub depth: usize,
+    ghost one: { 1 ≤ workers },
+    ghost few: { workers ≤ 64 },
+    ghost shallow: { depth ≤ 8 },
+}
 
 /// So many indices in batches of at most so many.
 #[derive(Drop)]
@@ -13,6 +26,8 @@ pub struct Plan {
     pub batch: u64,
     /// Whether the cost in seconds and memory is printed.
     pub is_measured: bool,
+    /// Who builds one more batch, to be timed.
+    pub crew: Option<Crew>,
     ghost some: { 0 < batch },
 }
 
@@ -29,29 +44,61 @@ fn number_of(word: &str) -> Result<u64> {
         .context(format_args!("reading {word:?}"))
 }
 
+/// A number in decimal digits, at most so great.
+fn bounded(word: &str, most: usize) -> Result<usize>
+    ensures { IfOk result (λ number. number ≤ most) }
+{
+    let number = word
+        .parse::<usize>()
+        .context(format_args!("reading {word:?}"))?;
+    ensure!(number <= most, "at most {most}: {number}");
+    Ok(number)
+}
+
+/// The batches that two words name.
+fn batches_of(indices: &str, batch: &str) -> Result<Plan> {
+    let indices = number_of(indices)?;
+    let batch = number_of(batch)?;
+    ensure!(batch >= 1, "a batch has at least one index");
+    ensure!(
+        batch <= MAX_OPERATIONS as u64,
+        "a batch has at most {MAX_OPERATIONS} indices"
+    );
+    Ok(Plan {
+        indices,
+        batch,
+        is_measured: true,
+        crew: None,
+    })
+}
+
+/// The crew that two words name.
+fn crew_of(workers: &str, depth: &str) -> Result<Crew> {
+    let workers = bounded(workers, MAX_WORKERS)?;
+    let depth = bounded(depth, MAX_DEPTH)?;
+    ensure!(workers >= 1, "a crew has at least one worker");
+    Ok(Crew { workers, depth })
+}
+
 /// The plan that the words of the command line name, the program's own name first.
 pub fn plan_of(words: &[String]) -> Result<Plan> {
     match words {
-        [_, indices, batch] => {
-            let indices = number_of(indices)?;
-            let batch = number_of(batch)?;
-            ensure!(batch >= 1, "a batch has at least one index");
-            ensure!(
-                batch <= MAX_OPERATIONS as u64,
-                "a batch has at most {MAX_OPERATIONS} indices"
-            );
-            Ok(Plan {
-                indices,
-                batch,
-                is_measured: true,
-            })
+        [_, indices, batch] => Ok(batches_of(indices, batch)?),
+        [_, indices, batch, workers, depth] => {
+            let mut plan = batches_of(indices, batch)?;
+            plan.crew = Some(crew_of(workers, depth)?);
+            Ok(plan)
         }
         _ => {
-            ensure!(words.len() <= 1, "usage: bench_tree [INDICES BATCH]");
+            ensure!(
+                words.len() <= 1,
+                "usage: bench_tree [INDICES BATCH [WORKERS DEPTH]]"
+            );
             Ok(Plan {
                 indices: 1000,
                 batch: 64,
                 is_measured: false,
+                crew: None,
             })
         }
     }

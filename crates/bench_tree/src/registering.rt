@@ -7,15 +7,17 @@ ghost use Rattle.coniks_tree.specs.declared.part.Part.{Entry};
 ghost use Rattle.coniks_tree.specs.declared.table.Record.{Record};
 
 use crate::counting::Counting;
-use crate::plan::Plan;
+use crate::plan::{Crew, Plan};
 use coniks_proof::{
     Binding, Bytes, Digest, Hash32, Index, Nonce, Opening, Prefix, Sha256Hash, commit_hash,
 };
 use coniks_tree::{Change, OutOfMemory, Part, Record, RecordNo, Root, Tree};
+use coniks_work::{Open, build};
 use std::alloc::{AllocError, Global};
 use std::fmt;
+use std::thread::Threads;
 
-const NONCE: Nonce = Nonce([0x11; 32]);
+pub const NONCE: Nonce = Nonce([0x11; 32]);
 
 const OPENING: Opening = Opening([0x22; 32]);
 
@@ -103,6 +105,16 @@ fn changes_to(alloc: Global, first: usize, records: &[Record]) -> Result<Vec<Cha
     Ok(changes)
 }
 
+/// A root, if the tree has it.
+fn known(tree: &Tree, root: Option<Root>) -> Option<Root>
+    ensures { IfSome result (λ r. r.0 < length tree.now.nodes.items) }
+{
+    match root {
+        Some(root) if root.0 < tree.nodes() => Some(root),
+        _ => None,
+    }
+}
+
 /// What the latest root shows; nothing where the tree has no such root.
 fn part_before(tree: &Tree, latest: Option<Root>) -> Part
     ensures fits { Fits (length tree.now.nodes.items) 0 result }
@@ -156,6 +168,34 @@ impl Registry {
         let root = self.tree.attach(&self.hash, &NONCE, part, records);
         self.latest = Some(root);
         Ok(())
+    }
+
+    /// The changes of one more batch that registers these numbers. The registry stays as it is.
+    pub fn changes(&self, from: u64, to: u64) -> Result<Vec<Change>, AllocError> {
+        let records = records_of(self.alloc, &Sha256Hash, from, to)?;
+        Ok(changes_to(self.alloc, self.tree.records(), &records)?)
+    }
+
+    /// The part of one more batch, built by a crew. The registry stays as it is.
+    pub fn part<R: Threads + Sync>(
+        &self,
+        rt: &R,
+        changes: &[Change],
+        crew: &Crew,
+    ) -> Result<Part, OutOfMemory> {
+        let latest = known(&self.tree, self.latest);
+        Ok(build(
+            rt,
+            self.alloc,
+            &Sha256Hash,
+            &NONCE,
+            &self.tree,
+            latest,
+            changes,
+            crew.depth,
+            crew.workers,
+            &Open,
+        )?)
     }
 
     /// How much was made until now.

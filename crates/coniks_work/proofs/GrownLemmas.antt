@@ -1,0 +1,256 @@
+-- Parts that are grown.
+use Rattle.std.proofs.Common.{◌≡◌, ◌<◌, ◌≤◌, ◌+◌, ◌-◌, ◌*◌, ℕ, zero, suc, List, [], ◌∷◌, ◌++◌, length, length-append, append_assoc, take, drop, Bool, true, false, Option, Some, None, slice_get, refl, sym, ap, ◌∙◌, subst, arith}
+use Rattle.std.proofs.lemmas.List.{length-map}
+use Rattle.std.specs.List.{take-map, drop-map}
+use Rattle.coniks_proof.specs.Bits.{child}
+use Rattle.coniks_proof.specs.Entries.{half, under}
+use Rattle.coniks_proof.specs.Changes.{overwritten, AreApart, AreInOrder}
+use Rattle.coniks_proof.proofs.NodeLemmas.{length-child}
+use Rattle.coniks_proof.proofs.UnderLemmas.{under-child}
+use Rattle.coniks_proof.proofs.ChangeLemmas.{overwritten-nothing, half-overwritten, apart-halves}
+use Rattle.coniks_tree.specs.Table.{Numbered, Extends}
+use Rattle.coniks_tree.specs.Parts.{Stands, Fits, Placed, AllPlaced, node_count, is_made, entries_of, entry_of_change}
+use Rattle.coniks_tree.specs.declared.table.Node.{Node}
+use Rattle.coniks_tree.specs.declared.table.Record.{Record}
+use Rattle.coniks_tree.specs.declared.table.Root.{Root}
+use Rattle.coniks_tree.specs.declared.part.Change.{Change}
+use Rattle.coniks_tree.specs.declared.part.Part.{Part}
+use Rattle.coniks_work.specs.Sides.{lefts, side}
+use Rattle.coniks_work.specs.Jobs.{in_range, jobs_below, job_of}
+use Rattle.coniks_work.specs.Grown.{IsOldMap, AllStored, IsGrown, AreGrown, AreDone, unchanged}
+use Rattle.coniks_work.specs.declared.jobs.Job.{Job}
+use Rattle.coniks_work.specs.Places.{AllFrom}
+use Rattle.coniks_work.proofs.SideLemmas.{lefts_few, length-left, length-right, side_is_half, side_in_order}
+use Rattle.coniks_work.proofs.JobLemmas.{IsAt, at_start, at_left, at_right, in_range-at}
+
+pub stored : (all : List Record) (cs : List Change) → AllPlaced all cs → AllStored all (entries_of cs)
+stored all [] h = tt
+stored all (c ∷ cs) h = (h.0, stored all cs h.1)
+
+pub stored_back : (all : List Record) (cs : List Change) → AllStored all (entries_of cs) → AllPlaced all cs
+stored_back all [] h = tt
+stored_back all (c ∷ cs) h = (h.0, stored_back all cs h.1)
+
+-- the records of what lies on both sides
+stored_append : (all : List Record) (xs ys : List Numbered) → AllStored all (xs ++ ys) → AllStored all xs × AllStored all ys
+stored_append all [] ys h = (tt, h)
+stored_append all (x ∷ xs) ys h = let r = stored_append all xs ys h.1 in ((h.0, r.0), r.1)
+
+pub under_none : (p : List Bool) → under {B = ℕ} p [] ≡ []
+under_none p = go 0 p
+  where
+    go : (level : ℕ) (bits : List Bool) → Rattle.coniks_proof.specs.Entries.under_from {B = ℕ} level bits [] ≡ []
+    go level [] = refl
+    go level (true ∷ bits) = go (suc level) bits
+    go level (false ∷ bits) = go (suc level) bits
+
+-- lists with a last element
+pub last_same : (xs ys : List Part) (x y : Part) → xs ++ x ∷ [] ≡ ys ++ y ∷ [] → (xs ≡ ys) × (x ≡ y)
+last_same [] [] x y e = (refl, cc)
+last_same [] (z ∷ ys) x y e = absurd (omega (arith, ap length e, length-append ys (y ∷ [])))
+last_same (w ∷ xs) [] x y e = absurd (omega (arith, ap length e, length-append xs (x ∷ [])))
+last_same (w ∷ xs) (z ∷ ys) x y e =
+    let rest = last_same xs ys x y (ap (drop 1) e) in
+    let first : w ≡ z = cc in
+    (ap (λ l. w ∷ l) rest.0 ∙ ap (λ v. v ∷ ys) first, rest.1)
+
+some_same : {x y : Job} → Some x ≡ Some y → x ≡ y
+some_same e = cc
+
+pub range_of_entries : (j : Job) (cs : List Change) → entries_of (in_range j cs) ≡ in_range j (entries_of cs)
+range_of_entries j cs = sym (take-map entry_of_change (j.to - j.from) (drop j.from cs)) ∙ ap (take (j.to - j.from)) (sym (drop-map entry_of_change j.from cs))
+
+count_sum : (h l r a b joined : ℕ) → a ≤ 1 + 2 * (h * l) → b ≤ 1 + 2 * (h * r) → joined ≤ a + b + 1 → 0 < l + r → joined ≤ 1 + 2 * ((h + 1) * (l + r))
+count_sum h l r a b joined ha hb hj some = omega arith
+
+module _ (hash : List ℕ → List ℕ) (nonce : List ℕ) (nodes : List Node) (records : List Record) (root : Option Root) where
+  -- what was there is what no change makes
+  pub old_grown : (p : List Bool) (part : Part) → Fits (length nodes) (length p) part → node_count part ≤ 1 → ((all : List Record) → Extends records all → Placed all part)
+      → ((old : List Numbered) → IsOldMap hash nonce nodes records root old → Stands hash nonce nodes records part p (under p old)) → IsGrown hash nonce nodes records root p [] part
+  old_grown p part fits few placed stands = record {
+    fits = fits;
+    count = omega arith;
+    placed = λ all more none. placed all more;
+    stands = λ old is ordered apart. subst (Stands hash nonce nodes records part p) (sym (overwritten-nothing (under p old))) (stands old is);
+  }
+
+  -- a part that grew
+  pub grown_from : (p : List Bool) (cs : List Change) (before after : Part) → is_made before ≡ false → node_count before ≤ 1 → ((all : List Record) → Extends records all → Placed all before)
+      → ((old : List Numbered) → IsOldMap hash nonce nodes records root old → Stands hash nonce nodes records before p (under p old))
+      → Fits (length nodes) (length p) after → (length cs ≡ 0 → after ≡ before)
+      → ((all : List Record) → Extends records all → Placed all before → AllPlaced all cs → Placed all after)
+      → (is_made before ≡ false → 0 < length cs → node_count after ≤ 1 + 2 * ((256 - length p) * length cs))
+      → ((entries : List Numbered) → AreInOrder (length p) (entries_of cs) → AreApart (length p) (overwritten entries (entries_of cs)) → Stands hash nonce nodes records before p entries → Stands hash nonce nodes records after p (overwritten entries (entries_of cs)))
+      → IsGrown hash nonce nodes records root p (entries_of cs) after
+  grown_from p cs before after old few placed stood fits same places counts stands = record {
+    fits = fits;
+    count = subst (λ n. node_count after ≤ 1 + 2 * ((256 - length p) * n)) (sym (length-map cs entry_of_change)) (bound cs same counts);
+    placed = λ all more there. places all more (placed all more) (stored_back all cs there);
+    stands = λ map is ordered apart. stands (under p map) ordered apart (stood map is);
+  }
+    where
+      bound : (ds : List Change) → (length ds ≡ 0 → after ≡ before) → (is_made before ≡ false → 0 < length ds → node_count after ≤ 1 + 2 * ((256 - length p) * length ds)) → node_count after ≤ 1 + 2 * ((256 - length p) * length ds)
+      bound [] s c = omega (arith, ap node_count (s refl))
+      bound (d ∷ ds) s c = c old (omega arith)
+
+  -- one side of what stands under a prefix
+  side_stands : (b : Bool) (p : List Bool) (es old : List Numbered) (part : Part) → length p < 256 → IsGrown hash nonce nodes records root (child p b) (side b (length p) es) part
+      → IsOldMap hash nonce nodes records root old → AreInOrder (length p) es → AreApart (length p) (overwritten (under p old) es)
+      → Stands hash nonce nodes records part (child p b) (half b (length p) (overwritten (under p old) es))
+  side_stands b p es old part short g is ordered apart =
+      let some = side b (length p) es in
+      let some-is : some ≡ half b (length p) es = side_is_half b (length p) es short ordered in
+      let whole : half b (length p) (overwritten (under p old) es) ≡ overwritten (under (child p b) old) some =
+      half-overwritten b (length p) (under p old) es ∙ ap (λ z. overwritten z (half b (length p) es)) (sym (under-child p b old)) ∙ ap (overwritten (under (child p b) old)) (sym some-is) in
+      let apart' : AreApart (length (child p b)) (overwritten (under (child p b) old) some) =
+      subst (λ k. AreApart k (overwritten (under (child p b) old) some)) (sym (length-child p b)) (subst (AreApart (suc (length p))) whole (apart-halves b (length p) (overwritten (under p old) es) short apart)) in
+      subst (Stands hash nonce nodes records part (child p b)) (sym whole) (g.stands old is (side_in_order b p es short ordered) apart')
+
+  side_count : (b : Bool) (p : List Bool) (es : List Numbered) (part : Part) → IsGrown hash nonce nodes records root (child p b) (side b (length p) es) part
+      → node_count part ≤ 1 + 2 * ((255 - length p) * length (side b (length p) es))
+  side_count b p es part g =
+      let deeper : 256 - length (child p b) ≡ 255 - length p = omega (arith, length-child p b) in
+      subst (λ z. node_count part ≤ 1 + 2 * (z * length (side b (length p) es))) deeper g.count
+
+  -- the parts of two neighbouring prefixes, joined
+  pub joined_grown : (p : List Bool) (es : List Numbered) (left right part : Part) → length p < 256 → 0 < length es
+      → IsGrown hash nonce nodes records root (child p false) (side false (length p) es) left → IsGrown hash nonce nodes records root (child p true) (side true (length p) es) right
+      → Fits (length nodes) (length p) part → node_count part ≤ node_count left + node_count right + 1
+      → ((all : List Record) → Placed all left → Placed all right → Placed all part)
+      → ((entries : List Numbered) → Stands hash nonce nodes records left (child p false) (half false (length p) entries) → Stands hash nonce nodes records right (child p true) (half true (length p) entries) → Stands hash nonce nodes records part p entries)
+      → IsGrown hash nonce nodes records root p es part
+  joined_grown p es left right part short some gl gr fits few placed stands =
+      let l = length (side false (length p) es) in
+      let r = length (side true (length p) es) in
+      let all-is : l + r ≡ length es = omega (arith, length-left (length p) es, length-right (length p) es, lefts_few (length p) es) in
+      let here : 256 - length p ≡ (255 - length p) + 1 = omega arith in
+      let sum = count_sum (255 - length p) l r (node_count left) (node_count right) (node_count part) (side_count false p es left gl) (side_count true p es right gr) few (omega arith) in
+      record {
+        fits = fits;
+        count = subst (λ z. node_count part ≤ 1 + 2 * (z * length es)) (sym here) (subst (λ z. node_count part ≤ 1 + 2 * (((255 - length p) + 1) * z)) all-is sum);
+        placed = λ all more there.
+            let both = stored_append all (side false (length p) es) (side true (length p) es) (subst (AllStored all) (sym (Rattle.coniks_work.proofs.SideLemmas.sides_whole (length p) es)) there) in
+            placed all (gl.placed all more both.0) (gr.placed all more both.1);
+        stands = λ old is ordered apart. stands (overwritten (under p old) es) (side_stands false p es old left short gl is ordered apart) (side_stands true p es old right short gr is ordered apart);
+      }
+
+  -- the parts of the jobs of one side, and of the other
+  done_append : (all : List Numbered) (js ks : List Job) (xs : List Part) → AreDone hash nonce nodes records root all (js ++ ks) xs
+      → (ls : List Part) × (rs : List Part) × (xs ≡ ls ++ rs) × AreDone hash nonce nodes records root all js ls × AreDone hash nonce nodes records root all ks rs
+  done_append all [] ks xs h = ([], xs, refl, tt, h)
+  done_append all (j ∷ js) ks [] h = absurd h
+  done_append all (j ∷ js) ks (x ∷ xs) h = let r = done_append all js ks xs h.1 in (x ∷ r.0, r.1, ap (λ l. x ∷ l) r.2, (h.0, r.3), r.4)
+
+  done_none : (all : List Numbered) (xs : List Part) → AreDone hash nonce nodes records root all [] xs → xs ≡ []
+  done_none all [] h = refl
+  done_none all (x ∷ xs) h = absurd h
+
+  done_one : (all : List Numbered) (j : Job) (xs : List Part) → AreDone hash nonce nodes records root all (j ∷ []) xs → (x : Part) × (xs ≡ x ∷ []) × IsGrown hash nonce nodes records root j.prefix (in_range j all) x
+  done_one all j [] h = absurd h
+  done_one all j (x ∷ xs) h = (x, ap (λ l. x ∷ l) (done_none all xs h.1), h.0)
+
+  -- the parts of the jobs are those of the prefixes
+  pub done_grown : (h : ℕ) (p : List Bool) (from : ℕ) (all es : List Numbered) (xs : List Part) → IsAt all from es → AreDone hash nonce nodes records root all (jobs_below h p from es) xs
+      → AreGrown hash nonce nodes records root h p es xs
+  done_grown zero p from all [] xs at d = done_none all xs d
+  done_grown (suc h) p from all [] xs at d = done_none all xs d
+  done_grown zero p from all (e ∷ es) xs at d =
+      let one = done_one all (job_of p from (from + length (e ∷ es))) xs d in
+      (one.0, one.1, subst (λ z. IsGrown hash nonce nodes records root p z one.0) (in_range-at p from all (e ∷ es) at) one.2)
+  done_grown (suc h) p from all (e ∷ es) xs at d =
+      let both = done_append all (jobs_below h (child p false) from (side false (length p) (e ∷ es))) (jobs_below h (child p true) (from + lefts (length p) (e ∷ es)) (side true (length p) (e ∷ es))) xs d in (
+        both.0,
+        both.1,
+        both.2,
+        done_grown h (child p false) from all (side false (length p) (e ∷ es)) both.0 (at_left all from (length p) (e ∷ es) at) both.3,
+        done_grown h (child p true) (from + lefts (length p) (e ∷ es)) all (side true (length p) (e ∷ es)) both.1 (at_right all from (length p) (e ∷ es) at) both.4,
+      )
+
+  pub grown_none : (h : ℕ) (p : List Bool) (xs : List Part) → AreGrown hash nonce nodes records root h p [] xs → xs ≡ []
+  grown_none zero p xs g = g
+  grown_none (suc h) p xs g = g
+
+  -- at the cutting depth there is one part
+  pub grown_one : (depth : ℕ) (p : List Bool) (es : List Numbered) (xs : List Part) → length p ≡ depth → 0 < length es → AreGrown hash nonce nodes records root (depth - length p) p es xs
+      → (x : Part) × (xs ≡ x ∷ []) × IsGrown hash nonce nodes records root p es x
+  grown_one depth p [] xs same some g = absurd (omega arith)
+  grown_one depth p (e ∷ es) xs same some g =
+      let none : depth - length p ≡ zero = omega arith in
+      subst (λ h. AreGrown hash nonce nodes records root h p (e ∷ es) xs) none g
+
+  -- above it there are those of one side, and then of the other
+  pub grown_sides : (depth : ℕ) (p : List Bool) (es : List Numbered) (xs : List Part) → length p < depth → 0 < length es → AreGrown hash nonce nodes records root (depth - length p) p es xs
+      → (left : List Part) × (right : List Part) × (xs ≡ left ++ right)
+      × AreGrown hash nonce nodes records root (depth - length (child p false)) (child p false) (side false (length p) es) left
+      × AreGrown hash nonce nodes records root (depth - length (child p true)) (child p true) (side true (length p) es) right
+  grown_sides depth p [] xs less some g = absurd (omega arith)
+  grown_sides depth p (e ∷ es) xs less some g =
+      let here : depth - length p ≡ suc (depth - suc (length p)) = omega arith in
+      let s = subst (λ h. AreGrown hash nonce nodes records root h p (e ∷ es) xs) here g in
+      let left : depth - suc (length p) ≡ depth - length (child p false) = ap (λ k. depth - k) (sym (length-child p false)) in
+      let right : depth - suc (length p) ≡ depth - length (child p true) = ap (λ k. depth - k) (sym (length-child p true)) in (
+        s.0,
+        s.1,
+        s.2,
+        subst (λ h. AreGrown hash nonce nodes records root h (child p false) (side false (length p) (e ∷ es)) s.0) left s.3,
+        subst (λ h. AreGrown hash nonce nodes records root h (child p true) (side true (length p) (e ∷ es)) s.1) right s.4,
+      )
+
+  -- the parts of the jobs, by their numbers
+  module _ (cs : List Change) (jobs : List Job) (part : ℕ → Part → Type 0)
+      (each : (n : ℕ) (x : Part) → part n x → (job : Job) × (slice_get jobs n ≡ Some job) × IsGrown hash nonce nodes records root job.prefix (entries_of (in_range job cs)) x) where
+    pub numbered_done : (k : ℕ) (before js : List Job) (xs : List Part) → jobs ≡ before ++ js → length before ≡ k → AllFrom part k xs → length xs ≡ length js → AreDone hash nonce nodes records root (entries_of cs) js xs
+    numbered_done k before [] [] is at h same = tt
+    numbered_done k before [] (x ∷ xs) is at h same = absurd (omega arith)
+    numbered_done k before (j ∷ js) [] is at h same = absurd (omega arith)
+    numbered_done k before (j ∷ js) (x ∷ xs) is at h same = (here, numbered_done (suc k) (before ++ j ∷ []) js xs (is ∙ sym (append_assoc before (j ∷ []) js)) (omega (arith, length-append before (j ∷ []))) h.1 (omega arith))
+      where
+        there : (bs : List Job) (n : ℕ) → length bs ≡ n → slice_get (bs ++ j ∷ js) n ≡ Some j
+        there [] zero e = refl
+        there [] (suc n) e = absurd (omega arith)
+        there (b ∷ bs) zero e = absurd (omega arith)
+        there (b ∷ bs) (suc n) e = there bs n (omega arith)
+
+        here : IsGrown hash nonce nodes records root j.prefix (in_range j (entries_of cs)) x
+        here = let f = each k x h.0 in
+            let same_job : f.0 ≡ j = some_same (sym f.1 ∙ ap (λ l. slice_get l k) is ∙ there before k at) in
+            let same_range : entries_of (in_range j cs) ≡ in_range j (entries_of cs) = range_of_entries j cs in
+            subst (λ es. IsGrown hash nonce nodes records root j.prefix es x) same_range (subst (λ (b : Job). IsGrown hash nonce nodes records root b.prefix (entries_of (in_range b cs)) x) same_job f.2)
+
+  -- the parts of all jobs, from the root on
+  pub parts_ready : (depth : ℕ) (p : List Bool) (es : List Numbered) (js made : List Job) (xs : List Part) → p ≡ [] → js ≡ made → made ≡ jobs_below depth [] 0 es → AreDone hash nonce nodes records root es js xs
+      → AreGrown hash nonce nodes records root (depth - length p) p es xs
+  parts_ready depth p es js made xs p-is js-is made-is done =
+      subst (λ z. AreGrown hash nonce nodes records root (depth - length z) z es xs) (sym p-is)
+      (let whole : depth ≡ depth - 0 = omega arith in subst (λ h. AreGrown hash nonce nodes records root h [] es xs) whole (done_grown depth [] 0 es es xs (at_start es) (subst (λ l. AreDone hash nonce nodes records root es l xs) (js-is ∙ made-is) done)))
+
+  -- the parts of the two sides
+  pub rise_sides : (depth level : ℕ) (p q r : List Bool) (es ls rs : List Numbered) (xs : List Part) → level ≡ length p → length p < depth → 0 < length es
+      → q ≡ child p false → r ≡ child p true → ls ≡ side false level es → rs ≡ side true level es → AreGrown hash nonce nodes records root (depth - length p) p es xs
+      → (left : List Part) × (right : List Part) × (xs ≡ left ++ right) × AreGrown hash nonce nodes records root (depth - length q) q ls left × AreGrown hash nonce nodes records root (depth - length r) r rs right
+  rise_sides depth level p q r es ls rs xs level-is less some q-is r-is ls-is rs-is grown =
+      let s = grown_sides depth p es xs less some grown in
+      (s.0, s.1, s.2, there false q ls s.0 q-is ls-is s.3, there true r rs s.1 r-is rs-is s.4)
+    where
+      there : (b : Bool) (z : List Bool) (zs : List Numbered) (ys : List Part) → z ≡ child p b → zs ≡ side b level es
+          → AreGrown hash nonce nodes records root (depth - length (child p b)) (child p b) (side b (length p) es) ys → AreGrown hash nonce nodes records root (depth - length z) z zs ys
+      there b z zs ys z-is zs-is h =
+          subst (λ q. AreGrown hash nonce nodes records root (depth - length q) q zs ys) (sym z-is)
+          (subst (λ l. AreGrown hash nonce nodes records root (depth - length (child p b)) (child p b) l ys) (sym (zs-is ∙ ap (λ k. side b k es) level-is)) h)
+
+  -- a part of one side
+  pub side_of : (b : Bool) (level : ℕ) (p q : List Bool) (es some : List Numbered) (x : Part) → level ≡ length p → q ≡ child p b → some ≡ side b level es → IsGrown hash nonce nodes records root q some x
+      → IsGrown hash nonce nodes records root (child p b) (side b (length p) es) x
+  side_of b level p q es some x level-is q-is some-is h =
+      subst (λ l. IsGrown hash nonce nodes records root (child p b) l x) (some-is ∙ ap (λ k. side b k es) level-is) (subst (λ z. IsGrown hash nonce nodes records root z some x) q-is h)
+
+  -- without changes
+  pub unchanged_stands : (cs : List Change) (entries : List Numbered) (part : Part) → part ≡ unchanged root → length cs ≡ 0 → IsOldMap hash nonce nodes records root entries
+      → Stands hash nonce nodes records part [] (overwritten entries (entries_of cs))
+  unchanged_stands [] entries part is none old =
+      subst (Stands hash nonce nodes records part []) (sym (overwritten-nothing entries)) (subst (λ x. Stands hash nonce nodes records x [] entries) (sym is) (go root old))
+    where
+      go : (r : Option Root) → IsOldMap hash nonce nodes records r entries → Stands hash nonce nodes records (unchanged r) [] entries
+      go (Some r) shows = (shows, λ below. absurd (omega arith))
+      go None none = none
+  unchanged_stands (c ∷ cs) entries part is none old = absurd (omega arith)

@@ -1,0 +1,46 @@
+use Rattle.std.proofs.Common.{rules, arith, sym, ap, ◌∙◌, subst, ◌≡◌, ℕ, ◌<◌, length, List, Option}
+use Rattle.coniks_shared.specs.Drawers.{HasFirst}
+use Rattle.coniks_tree.specs.declared.part.Part.{Part}
+use Rattle.coniks_work.specs.declared.worker.Worker.{Worker}
+use Rattle.coniks_work.specs.Crews.{AllWorked, AllFinished, drawers_of}
+use Rattle.coniks_work.specs.Places.{StandsAt}
+use Rattle.coniks_work.proofs.CrewLemmas.{written, after_labour, first_after}
+use Rattle.coniks_work.proofs.crew.all_parts.Goals as goal
+
+pub collect-requires-clause-parts : goal.collect-requires-clause-parts
+collect-requires-clause-parts g c =
+    let part : ℕ → Part → Type 0 = g.W.Work.part c.args.work.now in
+    let vs = c.in-Ok-hire.crew.items in
+    let ws = c.labour_all.new.crew in
+    let was : c.as_mut_slice.result.now ≡ vs = c.as_mut_slice.ensures.value in
+    let len : length ws ≡ length vs = c.labour_all.ensures.len ∙ ap length was in
+    let k : c.in-Ok-hire.crew.len ≡ length vs = search rules in
+    let worked = subst (λ (l : List Worker). AllWorked part l ws) was c.labour_all.ensures.all in
+    subst (AllFinished c.in-Ok.claims part) (sym (written ws vs c.in-Ok-hire.crew.len len k)) (after_labour c.in-Ok.claims part vs ws len c.in-Ok-hire.ensures.fresh.1 worked)
+
+pub collect-requires-clause-first : goal.collect-requires-clause-first
+collect-requires-clause-first g c =
+    let part : ℕ → Part → Type 0 = g.W.Work.part c.args.work.now in
+    let vs = c.in-Ok-hire.crew.items in
+    let ws = c.labour_all.new.crew in
+    let was : c.as_mut_slice.result.now ≡ vs = c.as_mut_slice.ensures.value in
+    let len : length ws ≡ length vs = c.labour_all.ensures.len ∙ ap length was in
+    let k : c.in-Ok-hire.crew.len ≡ length vs = search rules in
+    let worked = subst (λ (l : List Worker). AllWorked part l ws) was c.labour_all.ensures.all in
+    let some = c.in-Ok-hire.ensures.fresh.0 in
+    subst (λ (l : List Worker). (0 < length l) × HasFirst (drawers_of l) (length l)) (sym (written ws vs c.in-Ok-hire.crew.len len k))
+    (omega arith, first_after part vs ws (length ws) len worked (subst (HasFirst (drawers_of vs)) (sym len) c.in-Ok-hire.ensures.first))
+
+pub unwrapped-requires : goal.unwrapped-requires
+unwrapped-requires g c j less =
+    let part : ℕ → Part → Type 0 = g.W.Work.part c.args.work.now in
+    let vs = c.in_ok-placed.placed.items in
+    let ws = c.collect.new.placed in
+    let was : c.as_mut_slice-2.result.now ≡ vs = c.as_mut_slice-2.ensures.value in
+    let len : length ws ≡ length vs = c.in_ok-collect.ensures.len ∙ ap length was in
+    let k : c.in_ok-placed.placed.len ≡ length vs = search rules in
+    let now : c.as_mut_slice-3.result.now ≡ ws = c.as_mut_slice-3.ensures.value ∙ written ws vs c.in_ok-placed.placed.len len k in
+    let n : length vs ≡ c.args.count = c.in_ok-placed.ensures in
+    let m : c.in-Ok.claims.limit ≡ c.args.count = search rules in
+    let l : length c.as_mut_slice-3.result.now ≡ length ws = ap length now in
+    subst (λ (p : List (Option Part)). StandsAt part p j) (sym now) (c.in_ok-collect.ensures.stand j (omega arith))

@@ -1,0 +1,54 @@
+-- What stands under a prefix once the changes are made.
+use Rattle.std.specs.Prelude.{◌≡◌, ◌≤◌, ◌+◌, ◌*◌, ◌-◌, ℕ, zero, suc, List, [], ◌∷◌, ◌++◌, length, Bool, true, false, Option, Some, None, slice_get}
+use Rattle.coniks_proof.specs.Bits.{child}
+use Rattle.coniks_proof.specs.Entries.{under}
+use Rattle.coniks_proof.specs.Changes.{overwritten, AreApart, AreInOrder}
+use Rattle.coniks_tree.specs.Table.{Numbered, Shows, Extends, entry_of_record}
+use Rattle.coniks_tree.specs.Parts.{Stands, Fits, Placed, node_count}
+use Rattle.coniks_tree.specs.declared.table.Node.{Node}
+use Rattle.coniks_tree.specs.declared.table.Record.{Record}
+use Rattle.coniks_tree.specs.declared.table.Root.{Root}
+use Rattle.coniks_tree.specs.declared.part.Part.{Part, Nothing, Kept}
+use Rattle.coniks_work.specs.Jobs.{in_range}
+use Rattle.coniks_work.specs.Sides.{side}
+use Rattle.coniks_work.specs.declared.jobs.Job.{Job}
+
+-- the old map is what the root shows; where there is no root it is empty
+abbrev pub IsOldMap : (List ℕ → List ℕ) → List ℕ → List Node → List Record → Option Root → List Numbered → Type 0
+IsOldMap hash nonce nodes records (Some root) entries = Shows hash nonce nodes records root.0 [] entries
+IsOldMap hash nonce nodes records None entries = entries ≡ []
+
+-- the part where nothing changes: the old root, kept, and nothing where there is none
+abbrev pub unchanged : Option Root → Part
+unchanged (Some root) = Kept root
+unchanged None = Nothing
+
+-- the records of the entries are there
+abbrev pub AllStored : List Record → List Numbered → Type 0
+AllStored records [] = Unit {0}
+AllStored records (e ∷ es) = ((r : Record) × (slice_get records e.behind ≡ Some r) × (entry_of_record e.behind r ≡ e)) × AllStored records es
+
+module _ (hash : List ℕ → List ℕ) (nonce : List ℕ) (nodes : List Node) (records : List Record) (root : Option Root) where
+  -- the part is what the old map has under the prefix, overwritten by the entries, which are under the prefix
+  pub record IsGrown (prefix : List Bool) (entries : List Numbered) (part : Part) : Type 0 where
+    pub fits : Fits (length nodes) (length prefix) part
+    pub count : node_count part ≤ 1 + 2 * ((256 - length prefix) * length entries)
+    pub placed : (all : List Record) → Extends records all → AllStored all entries → Placed all part
+    pub stands : (old : List Numbered) → IsOldMap hash nonce nodes records root old
+        → AreInOrder (length prefix) entries → AreApart (length prefix) (overwritten (under prefix old) entries)
+        → Stands hash nonce nodes records part prefix (overwritten (under prefix old) entries)
+
+  -- the parts are, from left to right, those of the prefixes that are `height` bits longer, as far as one of the entries is under them
+  abbrev pub AreGrown : ℕ → List Bool → List Numbered → List Part → Type 0
+  AreGrown height prefix [] parts = parts ≡ []
+  AreGrown zero prefix (e ∷ es) parts = (part : Part) × (parts ≡ part ∷ []) × IsGrown prefix (e ∷ es) part
+  AreGrown (suc height) prefix (e ∷ es) parts = (left : List Part) × (right : List Part) × (parts ≡ left ++ right)
+      × AreGrown height (child prefix false) (side false (length prefix) (e ∷ es)) left
+      × AreGrown height (child prefix true) (side true (length prefix) (e ∷ es)) right
+
+  -- the parts are, in order, those of the jobs, for each the entries of its range
+  abbrev pub AreDone : List Numbered → List Job → List Part → Type 0
+  AreDone entries [] [] = Unit {0}
+  AreDone entries [] (part ∷ parts) = ⊥
+  AreDone entries (job ∷ jobs) [] = ⊥
+  AreDone entries (job ∷ jobs) (part ∷ parts) = IsGrown job.prefix (in_range job entries) part × AreDone entries jobs parts

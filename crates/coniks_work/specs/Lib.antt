@@ -1,0 +1,5 @@
+pub mod Crews
+pub mod Grown
+pub mod Jobs
+pub mod Places
+pub mod Sides

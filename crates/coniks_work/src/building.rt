@@ -1,0 +1,151 @@
+//! The part of a whole batch.
+
+ghost use Rattle.std.specs.Prelude.{◌≡◌, ◌<◌, ◌≤◌, ◌+◌, ◌*◌, List, [], length, IfOk, IfSome};
+ghost use Rattle.coniks_proof.specs.Changes.{overwritten, AreApart, AreInOrder};
+ghost use Rattle.coniks_tree.specs.Table.{Extends, Numbered};
+ghost use Rattle.coniks_tree.specs.Parts.{Stands, Fits, Placed, AllPlaced, node_count, entries_of};
+ghost use Rattle.coniks_tree.specs.declared.table.Record.{Record};
+ghost use Rattle.coniks_work.specs.Grown.{IsOldMap, IsGrown, AreDone, unchanged};
+ghost use Rattle.coniks_work.specs.Jobs.{LieWithin};
+
+use crate::crew::all_parts;
+use crate::gate::Gate;
+use crate::growing::Growing;
+use crate::jobs::{Job, MAX_DEPTH, all_jobs};
+use crate::rise::rise;
+use coniks_proof::{Hash32, Nonce, Prefix};
+use coniks_tree::{Change, OutOfMemory, Part, Root, Tree};
+use std::alloc::Global;
+use std::cmp::min;
+use std::thread::Threads;
+
+/// The most workers that one build has.
+pub const MAX_WORKERS: usize = 64;
+
+/// The part where nothing changes.
+fn unchanged_part(root: Option<Root>) -> Part
+    ensures { result ≡ unchanged root }
+{
+    match root {
+        Some(root) => Part::Kept(root),
+        None => Part::Nothing,
+    }
+}
+
+/// The part of the empty prefix for an epoch: what the old root shows, or the empty map where there is none, overwritten
+/// by the changes. It is the same for every number of workers and every depth, and so is the count of its new nodes.
+///
+/// `workers` is 1 to 64, and `depth`, the length in bits of the prefixes that are grown apart, 0 to 8. The changes are in
+/// increasing order of index, and each index once. The caller's thread is one of the workers; there are never more workers
+/// than jobs, so a lone job starts no thread. Where a thread, a drawer or the claims can't be had there are fewer workers.
+/// It is `OutOfMemory` where a job is refused memory, in whatever worker, or the call itself. The tree is only read.
+///
+/// For b changes, b at least 1, the part has at most `512 * b + 1` new nodes. Without changes it is the old root, kept, or
+/// nothing.
+pub fn build<H: Hash32 + Sync, G: Gate + Sync, R: Threads + Sync>(
+    rt: &R,
+    alloc: Global,
+    h: &H,
+    nonce: &Nonce,
+    tree: &Tree,
+    root: Option<Root>,
+    changes: &[Change],
+    depth: usize,
+    workers: usize,
+    gate: &G,
+) -> Result<Part, OutOfMemory>
+    requires root { IfSome root (λ r. r.0 < length tree.now.nodes.items) }
+    requires depth { depth ≤ MAX_DEPTH }
+    requires workers { (1 ≤ workers) × (workers ≤ MAX_WORKERS) }
+    ensures fits { IfOk result (λ part. Fits (length tree.now.nodes.items) 0 part) }
+    ensures same { IfOk result (λ part. length changes.now ≡ 0 → part ≡ unchanged root) }
+    ensures count { IfOk result (λ part. 0 < length changes.now → node_count part ≤ 512 * length changes.now + 1) }
+    ensures placed { IfOk result (λ part. (all : List Record) → Extends tree.now.records.items all → AllPlaced all changes.now → Placed all part) }
+    ensures stands { IfOk result (λ part. (entries : List Numbered)
+        → IsOldMap (H.digest_of h.now) nonce.now.0 tree.now.nodes.items tree.now.records.items root entries
+        → AreInOrder 0 (entries_of changes.now)
+        → AreApart 0 (overwritten entries (entries_of changes.now))
+        → Stands (H.digest_of h.now) nonce.now.0 tree.now.nodes.items tree.now.records.items part [] (overwritten entries (entries_of changes.now))) }
+{
+    if changes.is_empty() {
+        return Ok(unchanged_part(root));
+    }
+    Ok(changed_part(
+        rt, alloc, h, nonce, tree, root, changes, depth, workers, gate,
+    )?)
+}
+
+/// The part of changes, of which there is one at least.
+fn changed_part<H: Hash32 + Sync, G: Gate + Sync, R: Threads + Sync>(
+    rt: &R,
+    alloc: Global,
+    h: &H,
+    nonce: &Nonce,
+    tree: &Tree,
+    root: Option<Root>,
+    changes: &[Change],
+    depth: usize,
+    workers: usize,
+    gate: &G,
+) -> Result<Part, OutOfMemory>
+    requires root { IfSome root (λ r. r.0 < length tree.now.nodes.items) }
+    requires depth { depth ≤ MAX_DEPTH }
+    requires workers { (1 ≤ workers) × (workers ≤ MAX_WORKERS) }
+    requires some { 0 < length changes.now }
+    ensures { IfOk result (λ part. IsGrown (H.digest_of h.now) nonce.now.0 tree.now.nodes.items tree.now.records.items root [] (entries_of changes.now) part) }
+{
+    let jobs = all_jobs(alloc, changes, depth)?;
+    let count = jobs.len();
+    let mut parts = jobs_done(
+        rt,
+        alloc,
+        h,
+        nonce,
+        tree,
+        root,
+        changes,
+        &jobs,
+        min(workers, count),
+        gate,
+    )?;
+    Ok(rise(
+        tree,
+        h,
+        nonce,
+        root,
+        depth,
+        &Prefix::root(),
+        changes,
+        &mut parts,
+    )?)
+}
+
+/// The parts of the jobs, of which there is one at least, in their order.
+fn jobs_done<H: Hash32 + Sync, G: Gate + Sync, R: Threads + Sync>(
+    rt: &R,
+    alloc: Global,
+    h: &H,
+    nonce: &Nonce,
+    tree: &Tree,
+    root: Option<Root>,
+    changes: &[Change],
+    jobs: &[Job],
+    workers: usize,
+    gate: &G,
+) -> Result<Vec<Part>, OutOfMemory>
+    requires root { IfSome root (λ r. r.0 < length tree.now.nodes.items) }
+    requires workers { (1 ≤ workers) × (workers ≤ MAX_WORKERS) }
+    requires few { length jobs.now ≤ 256 }
+    requires within { LieWithin (length changes.now) jobs.now }
+    ensures { IfOk result (λ parts. AreDone (H.digest_of h.now) nonce.now.0 tree.now.nodes.items tree.now.records.items root (entries_of changes.now) jobs.now parts.items) }
+{
+    let growing = Growing {
+        tree,
+        h,
+        nonce,
+        root,
+        changes,
+        jobs,
+    };
+    Ok(all_parts(rt, alloc, jobs.len(), workers, &growing, gate)?)
+}

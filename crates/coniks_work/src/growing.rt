@@ -1,0 +1,96 @@
+//! The work of the jobs: each grows the part of its prefix.
+
+ghost use Rattle.std.specs.Prelude.{◌≡◌, ◌<◌, ◌≤◌, ℕ, List, [], length, slice_get, IfOk, IfSome, Some, false, All};
+ghost use Rattle.std.proofs.Props.{props};
+ghost use Rattle.coniks_proof.specs.Entries.{under};
+ghost use Rattle.coniks_tree.specs.Table.{Extends, Numbered};
+ghost use Rattle.coniks_tree.specs.Parts.{entries_of, is_made, node_count, Fits, Placed, Stands};
+ghost use Rattle.coniks_tree.specs.declared.table.Record.{Record};
+ghost use Rattle.coniks_work.specs.Grown.{IsGrown, IsOldMap};
+ghost use Rattle.coniks_work.specs.Jobs.{in_range, LieWithin};
+
+use crate::jobs::Job;
+use crate::work::Work;
+use coniks_proof::{Hash32, Nonce, Prefix};
+use coniks_tree::{Change, OutOfMemory, Part, Root, Tree};
+
+/// What the old root shows under a prefix, and nothing where there is no root.
+pub(crate) fn old_part(tree: &Tree, root: Option<Root>, prefix: &Prefix) -> Part
+    requires { IfSome root (λ r. r.0 < length tree.now.nodes.items) }
+    ensures unmade { is_made result ≡ false }
+    ensures fits { Fits (length tree.now.nodes.items) (length prefix.now) result }
+    ensures count { node_count result ≤ 1 }
+    ensures placed { (all : List Record) → Extends tree.now.records.items all → Placed all result }
+    ensures stands { (hash : List ℕ → List ℕ) (nonce : List ℕ) (old : List Numbered)
+        → IsOldMap hash nonce tree.now.nodes.items tree.now.records.items root old
+        → Stands hash nonce tree.now.nodes.items tree.now.records.items result prefix.now (under prefix.now old) }
+{
+    let _level = prefix.len();
+    match root {
+        Some(root) => tree.part_at(root, prefix),
+        None => Part::Nothing,
+    }
+}
+
+/// What the old root shows under a prefix, overwritten by changes of indices under it.
+pub(crate) fn grown_part<H: Hash32>(
+    tree: &Tree,
+    h: &H,
+    nonce: &Nonce,
+    root: Option<Root>,
+    prefix: &Prefix,
+    changes: &[Change],
+) -> Result<Part, OutOfMemory>
+    requires { IfSome root (λ r. r.0 < length tree.now.nodes.items) }
+    ensures { IfOk result (λ part. IsGrown (H.digest_of h.now) nonce.now.0 tree.now.nodes.items tree.now.records.items root prefix.now (entries_of changes.now) part) }
+{
+    let old = old_part(tree, root, prefix);
+    Ok(tree.grow(h, nonce, old, prefix, changes)?)
+}
+
+/// A job of this number.
+fn job_at(jobs: &[Job], number: usize) -> &Job
+    requires { number < length jobs.now }
+    ensures { slice_get jobs.now number ≡ Some result.now }
+{
+    &jobs[number]
+}
+
+/// Jobs, and what they are done with.
+#[derive(Drop)]
+pub(crate) struct Growing<'a, H> {
+    pub(crate) tree: &'a Tree,
+    pub(crate) h: &'a H,
+    pub(crate) nonce: &'a Nonce,
+    pub(crate) root: Option<Root>,
+    pub(crate) changes: &'a [Change],
+    pub(crate) jobs: &'a [Job],
+    pub(crate) ghost known: { IfSome root (λ r. r.0 < length tree.now.nodes.items) } by { Prim.hlevel props },
+    pub(crate) ghost within: { LieWithin (length changes.now) jobs.now },
+}
+
+impl<'a, H: Hash32> Work for Growing<'a, H> {
+    ghost use Rattle.std.specs.Prelude.{◌≡◌, length, slice_get, Some};
+    ghost use Rattle.coniks_tree.specs.Parts.{entries_of};
+    ghost use Rattle.coniks_work.specs.Grown.{IsGrown};
+    ghost use Rattle.coniks_work.specs.Jobs.{in_range};
+    ghost use Rattle.coniks_work.specs.declared.jobs.Job.{Job};
+
+    ghost count = { λ w. length w.jobs.now };
+
+    ghost part = { λ w number part. (job : Job) × (slice_get w.jobs.now number ≡ Some job)
+        × IsGrown (H.digest_of w.h.now) w.nonce.now.0 w.tree.now.nodes.items w.tree.now.records.items w.root job.prefix (entries_of (in_range job w.changes.now)) part };
+
+    fn run(&self, number: usize) -> Result<Part, OutOfMemory> {
+        let job = job_at(self.jobs, number);
+        let changes = &self.changes[job.from..job.to];
+        Ok(grown_part(
+            self.tree,
+            self.h,
+            self.nonce,
+            self.root,
+            &job.prefix,
+            changes,
+        )?)
+    }
+}

@@ -1,0 +1,80 @@
+//! The jobs of a batch.
+
+ghost use Rattle.std.specs.Prelude.{◌≡◌, ◌<◌, ◌≤◌, ◌+◌, ◌-◌, ◌++◌, ◌^◌, [], length, All, IfOk, OnOk};
+ghost use Rattle.coniks_proof.specs.Changes.{AreInOrder};
+ghost use Rattle.coniks_tree.specs.Parts.{entries_of};
+ghost use Rattle.coniks_work.specs.Jobs.{jobs_below, Cover, AreRising, LieWithin, TakeTheirs};
+
+use crate::sides::sides;
+use coniks_proof::Prefix;
+use coniks_tree::{Change, OutOfMemory};
+use std::alloc::{AllocError, Global};
+use std::cmp::min;
+
+/// The greatest cutting depth, in bits.
+pub const MAX_DEPTH: usize = 8;
+
+/// What a worker does at once: the part of one prefix, for the changes from one place, included, to another, left out.
+/// A job has at least one change.
+#[derive(Drop)]
+pub struct Job {
+    pub prefix: Prefix,
+    pub from: usize,
+    pub to: usize,
+}
+
+/// Adds the jobs of the changes under a prefix, which begin at this place among all changes.
+fn split_below(
+    jobs: &mut Vec<Job>,
+    depth: usize,
+    prefix: Prefix,
+    from: usize,
+    changes: &[Change],
+) -> Result<(), AllocError>
+    requires depth { (length prefix ≤ depth) × (depth ≤ MAX_DEPTH) }
+    requires room { from + length changes.now < 2 ^ 64 }
+    ensures { OnOk result (jobs.new.items ≡ jobs.old.items ++ jobs_below (depth - length prefix) prefix from (entries_of changes.now)) }
+{
+    if changes.is_empty() {
+        return Ok(());
+    }
+    let level = prefix.len();
+    if level == depth {
+        let to = from + changes.len();
+        jobs.push(Job { prefix, from, to })?;
+        return Ok(());
+    }
+    let (left, right) = sides(changes, level);
+    split_below(jobs, depth, prefix.child(false), from, left)?;
+    Ok(split_below(jobs, depth, prefix.child(true), from + left.len(), right)?)
+}
+
+/// The jobs of the changes, at most 256.
+pub(crate) fn all_jobs(
+    alloc: Global,
+    changes: &[Change],
+    depth: usize,
+) -> Result<Vec<Job>, AllocError>
+    requires { depth ≤ MAX_DEPTH }
+    ensures jobs { IfOk result (λ jobs. jobs.items ≡ jobs_below depth [] 0 (entries_of changes.now)) }
+    ensures few { IfOk result (λ jobs. length jobs.items ≤ 256) }
+    ensures some { IfOk result (λ jobs. 0 < length changes.now → 0 < length jobs.items) }
+    ensures within { IfOk result (λ jobs. LieWithin (length changes.now) jobs.items) }
+{
+    let mut jobs = Vec::with_capacity(alloc, min(changes.len(), 1 << depth))?;
+    split_below(&mut jobs, depth, Prefix::root(), 0, changes)?;
+    Ok(jobs)
+}
+
+/// The jobs of changes, which are in increasing order of index: one for each prefix of this depth, 0 to 8 bits, that
+/// begins a change's index, in increasing order, with its range of the changes. The ranges follow one another and leave
+/// no change out. No changes give no jobs, and depth 0 gives one job where there is a change. No change is copied.
+pub fn split(alloc: Global, changes: &[Change], depth: usize) -> Result<Vec<Job>, OutOfMemory>
+    requires { depth ≤ MAX_DEPTH }
+    ensures cover { IfOk result (λ jobs. Cover 0 (length changes.now) jobs.items) }
+    ensures long { IfOk result (λ jobs. All (λ job. length job.prefix ≡ depth) jobs.items) }
+    ensures rising { IfOk result (λ jobs. AreRising jobs.items) }
+    ensures theirs { IfOk result (λ jobs. AreInOrder 0 (entries_of changes.now) → TakeTheirs (entries_of changes.now) jobs.items) }
+{
+    Ok(all_jobs(alloc, changes, depth)?)
+}

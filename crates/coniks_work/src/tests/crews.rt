@@ -1,0 +1,86 @@
+//! Workers that do the jobs of one batch. Their digests were computed by another program.
+
+use crate::gate::Open;
+use crate::jobs::split;
+use crate::tests::batches::{Bound, changes_to, first_epoch, four, index_of};
+use crate::tests::gates::{Counts, Meeting};
+use std::alloc::{AllocError, Global};
+use std::test::Fail;
+
+const OF_FOUR: &str = "0d10d652bba80545e24f4d5e24bf33580588fb0d17ee964d3213748e6d7e6145";
+
+/// Of two jobs the first is held until the second has come, so they are on two threads.
+#[test]
+fn two_jobs_at_once(rt: HostRuntime) -> Result<(), Fail> {
+    let both = [
+        (index_of(0, 0), b'a', b'k'),
+        (index_of(0x80, 0), b'b', b'k'),
+    ];
+    let gate = Meeting::of(2);
+    let (nodes, root) = first_epoch(&rt, rt.alloc(), &both, 1, 2, &gate)?;
+    assert!(rt; gate.met());
+    assert_eq!(rt; nodes, 3);
+    assert_eq!(rt;
+        root.as_str(),
+        "46de554c28df523fe8bbcbf7cf90c45cc1f44d29be6fc4bf4fa5fd416437b6ba"
+    );
+    Ok(())
+}
+
+#[test]
+fn entered_once(rt: HostRuntime) -> Result<(), Fail> {
+    let gate = Counts::new();
+    let (nodes, root) = first_epoch(&rt, rt.alloc(), &four(), 8, 3, &gate)?;
+    assert!(rt; gate.once_each());
+    assert_eq!(rt; nodes, 7);
+    assert_eq!(rt; root.as_str(), OF_FOUR);
+    Ok(())
+}
+
+/// Of two workers one is held at its job until the other has come with the three that are left.
+#[test]
+fn draws_move(rt: HostRuntime) -> Result<(), Fail> {
+    let gate = Meeting::of(4);
+    let (nodes, root) = first_epoch(&rt, rt.alloc(), &four(), 8, 2, &gate)?;
+    assert!(rt; gate.met());
+    assert_eq!(rt; nodes, 7);
+    assert_eq!(rt; root.as_str(), OF_FOUR);
+    Ok(())
+}
+
+/// Forty names, whose indices have forty first bytes, in the order of their indices.
+fn forty(alloc: Global) -> Result<Vec<Bound>, AllocError> {
+    let mut names = Vec::new(alloc);
+    for j in 0..40u8 {
+        names.push((index_of(j * 5, j % 3), b'a' + j % 26, b'k'))?;
+    }
+    Ok(names)
+}
+
+#[test]
+fn same_for_every_crew(rt: HostRuntime) -> Result<(), Fail> {
+    let names = forty(rt.alloc())?;
+    for workers in [1, 2, 7, 64] {
+        for depth in [0, 1, 8] {
+            let (nodes, root) = first_epoch(&rt, rt.alloc(), &names, depth, workers, &Open)?;
+            assert_eq!(rt; nodes, 79);
+            assert_eq!(rt;
+                root.as_str(),
+                "2288c8bbb44a79286bb3a55394a2760c9e76740fc19461f8fc57104a8ed5e409"
+            );
+        }
+    }
+    Ok(())
+}
+
+#[test]
+fn jobs_of_four(rt: HostRuntime) -> Result<(), Fail> {
+    let changes = changes_to(rt.alloc(), &four())?;
+    for (depth, count) in [(0, 1), (1, 2), (2, 3), (3, 4), (8, 4)] {
+        let jobs = split(rt.alloc(), &changes, depth)?;
+        assert_eq!(rt; jobs.len(), count);
+    }
+    let none = split(rt.alloc(), &[], 8)?;
+    assert_eq!(rt; none.len(), 0);
+    Ok(())
+}

@@ -1,0 +1,52 @@
+//! Jobs that are refused memory, and claims that can't be had.
+
+ghost use Rattle.std.specs.Prelude.{ℕ};
+
+use crate::crew::{all_parts, alone};
+use crate::gate::Open;
+use crate::work::Work;
+use coniks_tree::{OutOfMemory, Part};
+use std::test::Fail;
+
+/// Five jobs, of which the fourth is refused memory, if any is.
+#[derive(Drop)]
+struct Five {
+    refuses: bool,
+}
+
+impl Work for Five {
+    ghost count = { λ w. 5 };
+
+    ghost part = { λ w job part. Unit {0} };
+
+    fn run(&self, job: usize) -> Result<Part, OutOfMemory> {
+        if self.refuses && job == 3 {
+            Err(OutOfMemory)
+        } else {
+            Ok(Part::Nothing)
+        }
+    }
+}
+
+/// A refusal in one job is the answer of all, on whatever thread the job is.
+#[test]
+fn one_job_refused(rt: HostRuntime) {
+    let work = Five { refuses: true };
+    for workers in [1, 3, 64] {
+        let parts = all_parts(&rt, rt.alloc(), 5, workers, &work, &Open);
+        assert!(rt; matches!(parts, Err(OutOfMemory)));
+    }
+    let parts = alone(rt.alloc(), 5, &work, &Open);
+    assert!(rt; matches!(parts, Err(OutOfMemory)));
+}
+
+/// Without claims the caller's thread does all jobs.
+#[test]
+fn without_claims(rt: HostRuntime) -> Result<(), Fail> {
+    let work = Five { refuses: false };
+    let parts = alone(rt.alloc(), 5, &work, &Open)?;
+    assert_eq!(rt; parts.len(), 5);
+    let parts = all_parts(&rt, rt.alloc(), 5, 3, &work, &Open)?;
+    assert_eq!(rt; parts.len(), 5);
+    Ok(())
+}
