@@ -1,23 +1,28 @@
 -- What the words choose, and why they may choose nothing.
-use Rattle.std.specs.Prelude.{List, [], ℕ, codes, Option, Some, None, is_none, option_map, unwrap_or, Bool, false, if◌then◌else◌}
+use Rattle.std.specs.Prelude.{List, [], ℕ, codes, ◌&&◌, Option, Some, None, is_none, is_some, option_map, unwrap_or, Bool, false, if◌then◌else◌}
 use Rattle.std.specs.Result.{result_ok}
 use Rattle.std.specs.Str.{bytes_eq}
 use Rattle.clap.specs.Words.{Row, Kinds, IsAmong, first_of, kind_of}
 use Rattle.hex.specs.Hex.{decode_sized}
+use Rattle.coniks_tool.specs.Expectations.{expectation_in}
 use Rattle.coniks_tool.specs.declared.choice.Settings.{Settings}
-use Rattle.coniks_tool.specs.declared.choice.Settings.TheVariants.{Run, Audit}
+use Rattle.coniks_tool.specs.declared.choice.Settings.TheVariants.{Run, Check, Audit, Monitor}
 use Rattle.coniks_tool.specs.declared.choice.WordsFault.{WordsFault}
 use Rattle.coniks_tool.specs.declared.choice.WordsFault.TheVariants.{Clap, OutOfMemory}
 
 -- what to do
 pub data Choice : Type 0 where
   run : Choice
+  check : Choice
   audit : (key : List ℕ) → Choice
+  monitor : (key name : List ℕ) (expect : Option (List ℕ)) → Choice
 
 -- the settings, without where their texts lie
 abbrev pub choice_of : Settings → Choice
 choice_of Run = run
+choice_of Check = check
 choice_of (Audit key) = audit key.now
+choice_of (Monitor key name expect) = monitor key.now name.now (option_map (λ text. text.now) expect)
 
 -- the text of an option, empty where it has none
 abbrev pub text_of : List ℕ → List Row → List ℕ
@@ -25,7 +30,11 @@ text_of name rows = unwrap_or (first_of name rows) []
 
 -- what a subcommand chooses, by its name and the options that were found
 abbrev pub choice_by : List ℕ → List Row → Choice
-choice_by name rows = if bytes_eq name (codes "run") then run else audit (text_of (codes "key") rows)
+choice_by name rows =
+    if bytes_eq name (codes "run") then run
+    else (if bytes_eq name (codes "check") then check
+    else (if bytes_eq name (codes "audit") then audit (text_of (codes "key") rows)
+    else monitor (text_of (codes "key") rows) (text_of (codes "name") rows) (first_of (codes "expect") rows)))
 
 -- what the subcommand that the words name chooses
 abbrev pub chosen : Option (List ℕ × List Row) → Option Choice
@@ -38,8 +47,18 @@ key_in text = result_ok (decode_sized text 32)
 -- a key is asked for, and its text isn't one
 abbrev pub lacks_key : Option Choice → Bool
 lacks_key (Some (audit key)) = is_none (key_in key)
+lacks_key (Some (monitor key name expect)) = is_none (key_in key)
 lacks_key (Some run) = false
+lacks_key (Some check) = false
 lacks_key None = false
+
+-- a key is asked for and given, and the text of the expectation isn't base64
+abbrev pub lacks_expectation : Option Choice → Bool
+lacks_expectation (Some (monitor key name expect)) = is_some (key_in key) && is_none (expectation_in expect)
+lacks_expectation (Some (audit key)) = false
+lacks_expectation (Some run) = false
+lacks_expectation (Some check) = false
+lacks_expectation None = false
 
 -- memory ran out, or it is an error of `clap` of one of these kinds
 abbrev pub IsRefusal : Kinds → WordsFault → Type 0

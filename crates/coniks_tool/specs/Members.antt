@@ -33,6 +33,10 @@ array_in name within = option_and_then as_array (get name within)
 abbrev pub digits_in : ℕ → List ℕ → Data → Option (List ℕ)
 digits_in n name within = option_and_then (λ text. result_ok (decode_sized text n)) (text_in name within)
 
--- the bytes of a member, in base64 of the standard alphabet with its padding (RFC 4648, section 4)
+-- the bytes of a text in base64 of the standard alphabet with its padding (RFC 4648, section 4)
+abbrev pub bytes_in : List ℕ → Option (List ℕ)
+bytes_in text = result_ok (decode_of standard text)
+
+-- the bytes of a member that is such a text
 abbrev pub base64_in : List ℕ → Data → Option (List ℕ)
-base64_in name within = option_and_then (λ text. result_ok (decode_of standard text)) (text_in name within)
+base64_in name within = option_and_then bytes_in (text_in name within)

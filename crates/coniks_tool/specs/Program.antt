@@ -8,13 +8,16 @@ use Rattle.coniks_lines.specs.Runs.{IsBeginning, WritesOn, CannotWrite, EndsWell
 use Rattle.coniks_lines.specs.declared.fault.RunFault.{RunFault}
 use Rattle.coniks_lines.specs.declared.fault.RunFault.TheVariants.{Read, Write, OutOfMemory}
 use Rattle.coniks_tool.specs.Audit.{AuditState, audit_answer, none_audited}
-use Rattle.coniks_tool.specs.Choice.{Choice, run, audit, chosen, key_in, lacks_key}
+use Rattle.coniks_tool.specs.Check.{Stateless, check_answer, stateless}
+use Rattle.coniks_tool.specs.Choice.{Choice, run, check, audit, monitor, chosen, key_in, lacks_key, lacks_expectation}
+use Rattle.coniks_tool.specs.Expectations.{expectation_in}
 use Rattle.coniks_tool.specs.Keydir.{keydir}
+use Rattle.coniks_tool.specs.Monitor.{MonitorState, monitor_answer, none_watched}
 use Rattle.coniks_tool.specs.Script.{State, script_answer}
 use Rattle.coniks_tool.specs.declared.choice.Unread.{Unread}
 use Rattle.coniks_tool.specs.declared.choice.Unread.TheVariants as unread
 use Rattle.coniks_tool.specs.declared.statuses.Ending.{Ending}
-use Rattle.coniks_tool.specs.declared.statuses.Ending.TheVariants.{Done, Refused, BadKey}
+use Rattle.coniks_tool.specs.declared.statuses.Ending.TheVariants.{Done, Refused, BadKey, BadExpectation}
 
 -- the line that tells of a fault
 abbrev pub fault_line : RunFault → List ℕ
@@ -35,6 +38,10 @@ unread_status unread.OutOfMemory = 3
 -- the line that tells of a key's text that isn't a key
 abbrev pub bad_key_line : List ℕ
 bad_key_line = codes "keydir: bad key\n"
+
+-- the line that tells of an expectation's text that isn't base64
+abbrev pub bad_expectation_line : List ℕ
+bad_expectation_line = codes "keydir: bad expectation\n"
 
 -- a text was written, and one flush followed
 pub record TellsWhole (old : Sink) (text : List ℕ) (new : Sink) : Type 0 where
@@ -71,7 +78,11 @@ HasMistake kinds = (kind : ErrorKind) × (IsAmong kind kinds × (is_asked_for ki
 abbrev pub Runs : Option Choice → Source → Source → Sink → Sink → Bool → Type 0
 Runs None from from' to to' all = ⊥
 Runs (Some run) from from' to to' all = (state : State) × EndsWell script_answer None from from' to to' state all
+Runs (Some check) from from' to to' all = (state : Stateless) × EndsWell check_answer stateless from from' to to' state all
 Runs (Some (audit text)) from from' to to' all = (key : List ℕ) × ((key_in text ≡ Some key) × ((state : AuditState) × EndsWell audit_answer (none_audited key) from from' to to' state all))
+Runs (Some (monitor text name expect)) from from' to to' all =
+    (key : List ℕ) × ((key_in text ≡ Some key) × ((expected : Option (List ℕ)) × ((expectation_in expect ≡ Some expected)
+    × ((state : MonitorState) × EndsWell monitor_answer (none_watched key name expected) from from' to to' state all))))
 
 -- `clap` finds no fault in the words, and what they choose was run
 pub record RunsFor (words : List (List ℕ)) (from from' : Source) (to to' : Sink) (all : Bool) : Type 0 where
@@ -83,18 +94,25 @@ pub record HasBadKey (words : List (List ℕ)) : Type 0 where
   pub faultless : fault_of keydir words ≡ []
   pub no_key : lacks_key (chosen (subcommand_of keydir words)) ≡ true
 
+-- `clap` finds no fault in the words and the key that they give is one, but the text of the expectation isn't base64
+pub record HasBadExpectation (words : List (List ℕ)) : Type 0 where
+  pub faultless : fault_of keydir words ≡ []
+  pub no_expectation : lacks_expectation (chosen (subcommand_of keydir words)) ≡ true
+
 -- the program may end in this way for the words
 abbrev pub EndsFor : List (List ℕ) → Source → Source → Sink → Sink → Ending → Type 0
 EndsFor words from from' to to' (Done true) = RunsFor words from from' to to' true ⊎ AsksForHelp (fault_of keydir words)
 EndsFor words from from' to to' (Done false) = RunsFor words from from' to to' false
 EndsFor words from from' to to' (Refused text) = HasMistake (fault_of keydir words)
 EndsFor words from from' to to' BadKey = HasBadKey words
+EndsFor words from from' to to' BadExpectation = HasBadExpectation words
 
 -- a choice ends in this way
 abbrev pub EndsBy : Option Choice → Source → Source → Sink → Sink → Ending → Type 0
 EndsBy choice from from' to to' (Done all) = Runs choice from from' to to' all
 EndsBy choice from from' to to' (Refused text) = ⊥
 EndsBy choice from from' to to' BadKey = lacks_key choice ≡ true
+EndsBy choice from from' to to' BadExpectation = lacks_expectation choice ≡ true
 
 -- an error of this kind is explained in this way
 abbrev pub IsExplained : ErrorKind → Ending → Type 0
@@ -102,15 +120,18 @@ IsExplained kind (Done true) = is_asked_for kind ≡ true
 IsExplained kind (Done false) = ⊥
 IsExplained kind (Refused text) = is_asked_for kind ≡ false
 IsExplained kind BadKey = ⊥
+IsExplained kind BadExpectation = ⊥
 
 -- the fact holds where `clap` refused the words
 abbrev pub IfRefused : Ending → Type 0 → Type 0
 IfRefused (Done accepted) fact = Unit {0}
 IfRefused (Refused text) fact = fact
 IfRefused BadKey fact = Unit {0}
+IfRefused BadExpectation fact = Unit {0}
 
 -- the fact holds where nothing was run or shown
 abbrev pub IfIdle : Ending → Type 0 → Type 0
 IfIdle (Done accepted) fact = Unit {0}
 IfIdle (Refused text) fact = fact
 IfIdle BadKey fact = fact
+IfIdle BadExpectation fact = fact

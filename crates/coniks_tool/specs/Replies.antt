@@ -8,7 +8,7 @@ use Rattle.coniks_tool.specs.Batch.{fault_is}
 use Rattle.coniks_tool.specs.Paths.{Path, path_of}
 use Rattle.coniks_tool.specs.ProofTexts.{digits, proof_data}
 use Rattle.coniks_tool.specs.declared.reply.Member.{Member}
-use Rattle.coniks_tool.specs.declared.reply.Member.TheVariants.{Key, Nonce, Policy, Epoch, Ops, Name}
+use Rattle.coniks_tool.specs.declared.reply.Member.TheVariants.{Key, Nonce, Policy, Epoch, Ops, Name, Index, Root, Proof, Entry}
 use Rattle.coniks_tool.specs.declared.reply.Reply.{Reply}
 use Rattle.coniks_tool.specs.declared.reply.Reply.TheVariants as reply
 
@@ -68,6 +68,10 @@ member_name Policy = codes "policy"
 member_name Epoch = codes "epoch"
 member_name Ops = codes "ops"
 member_name Name = codes "name"
+member_name Index = codes "index"
+member_name Root = codes "root"
+member_name Proof = codes "proof"
+member_name Entry = codes "entry"
 
 -- the name of an operation's fault
 abbrev pub fault_name : Fault → List ℕ

@@ -7,8 +7,19 @@ use clap::Error;
 pub enum Settings<'a> {
     /// Answer the lines of the standard input.
     Run,
+    /// Check the proofs of the standard input.
+    Check,
     /// Audit the entries of the standard input, under the key of this text.
-    Audit { key: &'a str },
+    Audit {
+        key: &'a str,
+    },
+    /// Watch the name over the lookups of the standard input, under the key of this text, for a client that expects what
+    /// a further text says, or no key where there is none.
+    Monitor {
+        key: &'a str,
+        name: &'a str,
+        expect: Option<&'a str>,
+    },
 }
 
 /// Why the words ask for nothing.

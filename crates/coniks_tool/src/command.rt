@@ -3,7 +3,7 @@
 ghost use Rattle.std.specs.Prelude.{◌≡◌, IfOk, false, true};
 ghost use Rattle.clap.specs.Words.{app_of, rule_of};
 ghost use Rattle.clap.specs.declared.builder.command.Command.TheViews.{out-Command as fields_of};
-ghost use Rattle.coniks_tool.specs.Keydir.{audit_app, key_rule, keydir, run_app};
+ghost use Rattle.coniks_tool.specs.Keydir.{audit_app, check_app, expect_rule, key_rule, keydir, monitor_app, name_rule, run_app, without_options};
 
 use clap::{Arg, Command};
 use std::alloc::{AllocError, Global};
@@ -13,6 +13,13 @@ fn run_command<'a>(alloc: Global) -> Command<'a>
     ensures local { (fields_of result).has_globals ≡ false }
 {
     Command::new(alloc, "run").about("Answers the lines of the standard input")
+}
+
+fn check_command<'a>(alloc: Global) -> Command<'a>
+    ensures app { app_of result ≡ check_app }
+    ensures local { (fields_of result).has_globals ≡ false }
+{
+    Command::new(alloc, "check").about("Checks the proofs of the standard input")
 }
 
 fn key_option<'a>(alloc: Global) -> Arg<'a>
@@ -33,12 +40,51 @@ fn audit_command<'a>(alloc: Global) -> Result<Command<'a>, AllocError>
     command.arg(key_option(alloc))
 }
 
-pub(crate) fn keydir_command<'a>(alloc: Global) -> Result<Command<'a>, AllocError>
-    ensures app { IfOk result (λ command. app_of command ≡ keydir) }
+fn name_option<'a>(alloc: Global) -> Arg<'a>
+    ensures rule { rule_of result ≡ name_rule }
+    ensures local { result.global ≡ false }
+{
+    Arg::new(alloc, "name")
+        .long("name")
+        .required(true)
+        .help("The name that is watched")
+}
+
+fn expect_option<'a>(alloc: Global) -> Arg<'a>
+    ensures rule { rule_of result ≡ expect_rule }
+    ensures local { result.global ≡ false }
+{
+    Arg::new(alloc, "expect").long("expect").help(
+        "The key that is expected, in base64; left out where none is",
+    )
+}
+
+fn monitor_command<'a>(alloc: Global) -> Result<Command<'a>, AllocError>
+    ensures app { IfOk result (λ command. app_of command ≡ monitor_app) }
+    ensures local { IfOk result (λ command. (fields_of command).has_globals ≡ false) }
+{
+    let command = Command::new(alloc, "monitor").about("Watches a name over the standard input");
+    let with_key = command.arg(key_option(alloc))?;
+    let with_name = with_key.arg(name_option(alloc))?;
+    with_name.arg(expect_option(alloc))
+}
+
+/// The command with the subcommands that have no options.
+fn without_options<'a>(alloc: Global) -> Result<Command<'a>, AllocError>
+    ensures app { IfOk result (λ command. app_of command ≡ without_options) }
     ensures local { IfOk result (λ command. (fields_of command).has_globals ≡ false) }
     ensures needs { IfOk result (λ command. (fields_of command).subcommand_required ≡ true) }
 {
     let top = Command::new(alloc, "keydir").subcommand_required(true);
     let with_run = top.subcommand(run_command(alloc))?;
-    with_run.subcommand(audit_command(alloc)?)
+    with_run.subcommand(check_command(alloc))
+}
+
+pub(crate) fn keydir_command<'a>(alloc: Global) -> Result<Command<'a>, AllocError>
+    ensures app { IfOk result (λ command. app_of command ≡ keydir) }
+    ensures local { IfOk result (λ command. (fields_of command).has_globals ≡ false) }
+    ensures needs { IfOk result (λ command. (fields_of command).subcommand_required ≡ true) }
+{
+    let with_audit = without_options(alloc)?.subcommand(audit_command(alloc)?)?;
+    with_audit.subcommand(monitor_command(alloc)?)
 }

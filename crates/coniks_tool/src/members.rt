@@ -4,7 +4,7 @@ ghost use Rattle.std.specs.Prelude.{◌≡◌, IfOk, option_map};
 ghost use Rattle.std.specs.Result.{result_ok};
 ghost use Rattle.serde_json.specs.View.{view, items_view};
 ghost use Rattle.hex.specs.Hex.{decode_sized};
-ghost use Rattle.coniks_tool.specs.Members.{object_in, text_in, number_in, array_in, digits_in, base64_in};
+ghost use Rattle.coniks_tool.specs.Members.{object_in, text_in, number_in, array_in, digits_in, base64_in, bytes_in};
 
 use base64::DecodeAllocError;
 use base64::engine::general_purpose::STANDARD;
@@ -78,9 +78,16 @@ pub fn bytes_of_digits<const N: usize>(digits: &str) -> Option<[u8; N]>
 pub fn base64(alloc: Global, object: &Value, name: &str) -> Result<Option<Vec<u8>>, AllocError>
     ensures { IfOk result (λ bytes. option_map (λ found. found.items) bytes ≡ base64_in name.now (view object.now)) }
 {
-    let Some(text) = text(object, name) else {
-        return Ok(None);
-    };
+    match text(object, name) {
+        Some(text) => bytes_of_base64(alloc, text),
+        None => Ok(None),
+    }
+}
+
+/// The bytes of a text in base64 of the standard alphabet with its padding.
+pub fn bytes_of_base64(alloc: Global, text: &str) -> Result<Option<Vec<u8>>, AllocError>
+    ensures { IfOk result (λ bytes. option_map (λ found. found.items) bytes ≡ bytes_in text.now) }
+{
     match STANDARD.decode(alloc, text.as_bytes()) {
         Ok(bytes) => Ok(Some(bytes)),
         Err(DecodeAllocError::OutOfMemory) => Err(AllocError),

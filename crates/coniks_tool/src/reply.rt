@@ -21,6 +21,10 @@ pub enum Member {
     Epoch,
     Ops,
     Name,
+    Index,
+    Root,
+    Proof,
+    Entry,
 }
 
 /// What a line is answered by.
@@ -140,7 +144,7 @@ fn value_of(alloc: Global, reply: &Reply) -> Result<Value, AllocError>
     }
 }
 
-fn member_text(member: Member) -> &'static str
+pub(crate) fn member_text(member: Member) -> &'static str
     ensures { result.now ≡ member_name member }
 {
     match member {
@@ -150,6 +154,10 @@ fn member_text(member: Member) -> &'static str
         Member::Epoch => "epoch",
         Member::Ops => "ops",
         Member::Name => "name",
+        Member::Index => "index",
+        Member::Root => "root",
+        Member::Proof => "proof",
+        Member::Entry => "entry",
     }
 }
 

@@ -1,20 +1,25 @@
 //! The whole program over its streams.
 
-ghost use Rattle.std.specs.Prelude.{◌≡◌, ◌≢◌, ◌⊎◌, ◌<◌, ◌≤◌, ◌+◌, ◌^◌, IfOk, Some, false, map, true};
+ghost use Rattle.std.specs.Prelude.{◌≡◌, ◌≢◌, ◌⊎◌, ◌<◌, ◌≤◌, ◌+◌, ◌^◌, IfOk, List, Some, false, map, option_map, true, ℕ};
 ghost use Rattle.clap.specs.Words.{fault_of, kind_of, takes};
 ghost use Rattle.coniks_lines.specs.declared.fault.RunFault.{RunFault as Fault};
 ghost use Rattle.coniks_tool.specs.Keydir.{keydir};
-ghost use Rattle.coniks_tool.specs.Choice.{choice_of};
-ghost use Rattle.coniks_tool.specs.Program.{bad_key_line, fault_line, unread_line, unread_status, AsksForHelp, EndsBy, EndsFor, HasBadKey, HasMistake, IfIdle, IfRefused, IsExplained, RunsFor, Tells};
+ghost use Rattle.coniks_tool.specs.Choice.{choice_of, key_in, monitor};
+ghost use Rattle.coniks_tool.specs.Expectations.{expectation_in};
+ghost use Rattle.coniks_tool.specs.Program.{bad_expectation_line, bad_key_line, fault_line, unread_line, unread_status, AsksForHelp, EndsBy, EndsFor, HasBadExpectation, HasBadKey, HasMistake, IfIdle, IfRefused, IsExplained, RunsFor, Tells};
 
 use crate::auditing::run_audit;
+use crate::checking::run_check;
 use crate::choice::{Settings, Unread, WordsFault};
+use crate::expectation::expectation;
 use crate::members::bytes_of_digits;
+use crate::monitoring::run_monitor;
 use crate::script::run_script;
 use crate::telling::tell;
 use crate::words::settings;
 use clap::Error;
 use coniks_lines::{ByteIn, ByteOut, RunFault};
+use coniks_proof::Bytes;
 use std::alloc::Global;
 use std::convert::AsStr;
 
@@ -27,18 +32,23 @@ enum Ending {
     Refused(String),
     /// The text of a key isn't 64 hexadecimal digits.
     BadKey,
+    /// The text of an expectation isn't base64.
+    BadExpectation,
 }
 
 /// The line that tells of a bad key.
 const BAD_KEY: &str = "keydir: bad key\n";
 
+/// The line that tells of a bad expectation.
+const BAD_EXPECTATION: &str = "keydir: bad expectation\n";
+
 /// Does what the words ask for, of which the first is the program's name, and answers the status.
 ///
 /// 0: the run accepted every line, or help was asked for, which goes to `writer`. 1: the run
-/// refused a line. 2: `clap` refused the words, and its text goes to `errors`; or the key that they
-/// give isn't 64 hexadecimal digits, and `errors` gets a line that says so. 3: a read or a write
-/// failed, or memory ran out; `errors` gets a line that says which. A failure of `errors` changes
-/// no status.
+/// refused a line, or a proof showed something else than what is expected. 2: `clap` refused the words, and its text goes to `errors`; or the key that they
+/// give isn't 64 hexadecimal digits, or the key is one and the expectation that they give isn't
+/// base64, and `errors` gets a line that says so. 3: a read or a write failed, or memory ran out;
+/// `errors` gets a line that says which. A failure of `errors` changes no status.
 pub fn program<S: AsStr, R: ByteIn, W: ByteOut, E: ByteOut>(
     alloc: Global,
     words: &[S],
@@ -52,18 +62,20 @@ pub fn program<S: AsStr, R: ByteIn, W: ByteOut, E: ByteOut>(
     ensures status { result ≤ 3 }
 
     // What `clap` finds in the words decides between a run, help and a refusal. A run is that of what they choose, under
-    // the key that they give, and the status is 0 or 1 as it accepted every line or not.
+    // the key and the expectation that they give, and the status is 0 or 1 as it accepted every line or not.
     ensures done { result ≡ 0 → RunsFor (map S.text words.entry.now) (R.source reader.old) (R.source reader.new) (W.sink writer.old) (W.sink writer.new) true ⊎ AsksForHelp (fault_of keydir (map S.text words.entry.now)) }
     ensures ran { result ≡ 1 → RunsFor (map S.text words.entry.now) (R.source reader.old) (R.source reader.new) (W.sink writer.old) (W.sink writer.new) false }
-    ensures refused { result ≡ 2 → HasMistake (fault_of keydir (map S.text words.entry.now)) ⊎ HasBadKey (map S.text words.entry.now) }
-    ensures taken { takes keydir (map S.text words.entry.now) ≡ true → result ≡ 2 → HasBadKey (map S.text words.entry.now) }
+    ensures refused { result ≡ 2 → HasMistake (fault_of keydir (map S.text words.entry.now)) ⊎ HasBadKey (map S.text words.entry.now) ⊎ HasBadExpectation (map S.text words.entry.now) }
+    ensures taken { takes keydir (map S.text words.entry.now) ≡ true → result ≡ 2 → HasBadKey (map S.text words.entry.now) ⊎ HasBadExpectation (map S.text words.entry.now) }
     ensures bad_key { HasBadKey (map S.text words.entry.now) → 2 ≤ result }
+    ensures bad_expectation { HasBadExpectation (map S.text words.entry.now) → 2 ≤ result }
 
     // Nothing is told where the run ends well. Refused words leave input and output alone.
     ensures quiet { result ≤ 1 → E.sink errors.new ≡ E.sink errors.old }
     ensures unread { result ≡ 2 → R.source reader.new ≡ R.source reader.old }
     ensures unwritten { result ≡ 2 → W.sink writer.new ≡ W.sink writer.old }
     ensures bad_key_told { HasBadKey (map S.text words.entry.now) → result ≡ 2 → Tells (E.sink errors.old) bad_key_line (E.sink errors.new) }
+    ensures bad_expectation_told { HasBadExpectation (map S.text words.entry.now) → result ≡ 2 → Tells (E.sink errors.old) bad_expectation_line (E.sink errors.new) }
     ensures told { result ≡ 3 → (fault : Fault) × Tells (E.sink errors.old) (fault_line fault) (E.sink errors.new) }
 {
     match obey(alloc, words, reader, writer) {
@@ -75,6 +87,10 @@ pub fn program<S: AsStr, R: ByteIn, W: ByteOut, E: ByteOut>(
         }
         Ok(Ending::BadKey) => {
             let _ = tell(errors, BAD_KEY);
+            2
+        }
+        Ok(Ending::BadExpectation) => {
+            let _ = tell(errors, BAD_EXPECTATION);
             2
         }
         Err(fault) => {
@@ -127,7 +143,7 @@ fn obey<S: AsStr, R: ByteIn, W: ByteOut>(
     }
 }
 
-/// Runs what the settings say, once the text of a key was read.
+/// Runs what the settings say, once the texts of a key and of an expectation were read.
 fn run<R: ByteIn, W: ByteOut>(
     alloc: Global,
     settings: Settings,
@@ -142,12 +158,60 @@ fn run<R: ByteIn, W: ByteOut>(
 {
     match settings {
         Settings::Run => Ok(Ending::Done(run_script(alloc, reader, writer)?)),
+        Settings::Check => Ok(Ending::Done(run_check(alloc, reader, writer)?)),
         Settings::Audit { key } => {
             let Some(key) = bytes_of_digits(key) else {
                 return Ok(Ending::BadKey);
             };
             Ok(Ending::Done(run_audit(alloc, key, reader, writer)?))
         }
+        Settings::Monitor { key, name, expect } => match bytes_of_digits(key) {
+            Some(key) => watch(alloc, key, name, expect, reader, writer),
+            None => Ok(Ending::BadKey),
+        },
+    }
+}
+
+/// Watches a name under a key, once the text of an expectation was read.
+fn watch<R: ByteIn, W: ByteOut>(
+    alloc: Global,
+    key: [u8; 32],
+    name: &str,
+    expect: Option<&str>,
+    reader: &mut R,
+    writer: &mut W,
+) -> Result<Ending, RunFault>
+    requires reads { (R.source reader.old).failed + 1 < 2 ^ 64 }
+    requires writes { (W.sink writer.old).failed + 1 < 2 ^ 64 }
+    ensures ends { (digits : List ℕ) → key_in digits ≡ Some key → IfOk result (EndsBy (Some (monitor digits name.now (option_map (λ text. text.now) expect.entry))) (R.source reader.old) (R.source reader.new) (W.sink writer.old) (W.sink writer.new)) }
+    ensures unread { IfOk result (λ ending. IfIdle ending (R.source reader.new ≡ R.source reader.old)) }
+    ensures unwritten { IfOk result (λ ending. IfIdle ending (W.sink writer.new ≡ W.sink writer.old)) }
+{
+    let Some(expected) = expectation_of(alloc, expect)? else {
+        return Ok(Ending::BadExpectation);
+    };
+    let name = copy_of(alloc, name)?;
+    let all = run_monitor(alloc, key, name, expected, reader, writer)?;
+    Ok(Ending::Done(all))
+}
+
+/// What the text of an expectation says, `None` where it isn't base64.
+fn expectation_of(alloc: Global, text: Option<&str>) -> Result<Option<Option<Bytes>>, RunFault>
+    ensures { IfOk result (λ expected. expected ≡ expectation_in (option_map (λ t. t.now) text.entry)) }
+{
+    match expectation(alloc, text) {
+        Ok(expected) => Ok(expected),
+        Err(_) => Err(RunFault::OutOfMemory),
+    }
+}
+
+/// The bytes of a text.
+fn copy_of(alloc: Global, text: &str) -> Result<Bytes, RunFault>
+    ensures { IfOk result (λ copy. copy ≡ text.now) }
+{
+    match Bytes::copy_of(alloc, text.as_bytes()) {
+        Ok(copy) => Ok(copy),
+        Err(_) => Err(RunFault::OutOfMemory),
     }
 }
 

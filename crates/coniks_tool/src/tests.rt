@@ -1,12 +1,4 @@
-mod audit_program;
-mod auditing;
-mod limits;
-mod lookups;
 mod paths;
-mod program;
 mod reading;
 mod registry;
 mod replies;
-mod scripts;
-mod seals;
-mod streams;

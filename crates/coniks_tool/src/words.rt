@@ -1,9 +1,9 @@
 //! Reads the program's words.
 
-ghost use Rattle.std.specs.Prelude.{◌≡◌, IfOk, IfErr, OnOk, Some, [], map, option_map, true, unwrap_or};
-ghost use Rattle.clap.specs.Words.{Kinds, HasKind, fault_of, found_of, kind_of, rows_of, subcommand_of, takes};
+ghost use Rattle.std.specs.Prelude.{◌≡◌, IfOk, IfErr, OnOk, Some, [], map, option_map, true};
+ghost use Rattle.clap.specs.Words.{Kinds, HasKind, fault_of, first_of, found_of, kind_of, rows_of, subcommand_of, takes};
 ghost use Rattle.coniks_tool.specs.Keydir.{keydir};
-ghost use Rattle.coniks_tool.specs.Choice.{choice_by, choice_of, chosen, IsRefusal};
+ghost use Rattle.coniks_tool.specs.Choice.{choice_by, choice_of, chosen, text_of, IsRefusal};
 ghost use Rattle.coniks_tool.specs.declared.choice.WordsFault.TheVariants.{OutOfMemory};
 
 use crate::choice::{Settings, WordsFault};
@@ -44,15 +44,32 @@ fn settings_by<'a>(name: &'a str, found: &ArgMatches<'a>) -> Settings<'a>
     if name == "run" {
         return Settings::Run;
     }
-    Settings::Audit {
-        key: text_or_empty(found.get_str("key")),
+    if name == "check" {
+        return Settings::Check;
+    }
+    let key = text_or_empty(found, "key");
+    if name == "audit" {
+        return Settings::Audit { key };
+    }
+    Settings::Monitor {
+        key,
+        name: text_or_empty(found, "name"),
+        expect: text(found, "expect"),
     }
 }
 
-fn text_or_empty<'a>(text: Option<&'a str>) -> &'a str
-    ensures { result.now ≡ unwrap_or (option_map (λ t. t.now) text.entry) [] }
+/// The text of an option, where it was found.
+fn text<'a>(found: &ArgMatches<'a>, name: &str) -> Option<&'a str>
+    ensures { option_map (λ t. t.now) result ≡ first_of name.now (rows_of (found_of found.now)) }
 {
-    match text {
+    found.get_str(name)
+}
+
+/// The text of an option that is required.
+fn text_or_empty<'a>(found: &ArgMatches<'a>, name: &str) -> &'a str
+    ensures { result.now ≡ text_of name.now (rows_of (found_of found.now)) }
+{
+    match text(found, name) {
         Some(text) => text,
         None => "",
     }

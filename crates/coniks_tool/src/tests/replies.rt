@@ -1,5 +1,7 @@
+use crate::audit_reply::{AuditReply, print_audit};
 use crate::batch::OpFault;
 use crate::reply::{Member, Reply, print};
+use coniks_chain::AuditFault;
 use coniks_proof::Digest;
 use std::test::Fail;
 
@@ -111,6 +113,54 @@ fn faults_of_operations(rt: HostRuntime) -> Result<(), Fail> {
         let mut out = Vec::new(rt.alloc());
         print(rt.alloc(), &reply, &mut out)?;
         assert!(rt; out.as_slice() == text.as_bytes(), "{text}");
+        assert!(rt; !reply.is_accepted(), "{text}");
+    }
+    Ok(())
+}
+
+/// The bytes of each reply, after what was there, and whether its line was accepted.
+#[test]
+fn audit_texts(rt: HostRuntime) -> Result<(), Fail> {
+    let cases = [
+        (AuditReply::NotJson, "{\"fault\":\"Json\"}"),
+        (
+            AuditReply::NoEntry,
+            "{\"fault\":\"Member\",\"member\":\"entry\"}",
+        ),
+        (
+            AuditReply::AtFault(AuditFault::Version),
+            "{\"fault\":\"Version\"}",
+        ),
+        (
+            AuditReply::AtFault(AuditFault::FirstEpoch),
+            "{\"fault\":\"FirstEpoch\"}",
+        ),
+        (
+            AuditReply::AtFault(AuditFault::NotLater),
+            "{\"fault\":\"NotLater\"}",
+        ),
+        (
+            AuditReply::AtFault(AuditFault::PreviousEpoch),
+            "{\"fault\":\"PreviousEpoch\"}",
+        ),
+        (
+            AuditReply::AtFault(AuditFault::PreviousLink),
+            "{\"fault\":\"PreviousLink\"}",
+        ),
+        (
+            AuditReply::AtFault(AuditFault::NonceChanged),
+            "{\"fault\":\"NonceChanged\"}",
+        ),
+        (
+            AuditReply::AtFault(AuditFault::Verdict),
+            "{\"fault\":\"Verdict\"}",
+        ),
+    ];
+    for (reply, text) in cases {
+        let mut out = Vec::from_slice(rt.alloc(), b">")?;
+        print_audit(rt.alloc(), &reply, &mut out)?;
+        assert!(rt; out.starts_with(b">"), "{text}");
+        assert!(rt; &out[1..] == text.as_bytes(), "{text}");
         assert!(rt; !reply.is_accepted(), "{text}");
     }
     Ok(())

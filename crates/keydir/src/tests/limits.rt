@@ -1,7 +1,6 @@
 //! The limits of a batch. The roots were computed by another program.
 
-use crate::script::run_script;
-use coniks_lines::{MemoryIn, MemoryOut};
+use coniks_tool::{MemoryIn, MemoryOut, run_script};
 use std::alloc::{AllocError, Global};
 use std::test::Fail;
 
@@ -19,7 +18,7 @@ fn operation(alloc: Global, name: &str, key: &str) -> Result<String, AllocError>
 }
 
 /// A text that stands so many times.
-fn repeated(alloc: Global, text: &str, count: usize) -> Result<String, AllocError> {
+pub(crate) fn repeated(alloc: Global, text: &str, count: usize) -> Result<String, AllocError> {
     let mut all = String::new(alloc);
     for _ in 0..count {
         all.push_str(text)?;

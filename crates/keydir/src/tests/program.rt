@@ -1,6 +1,5 @@
 use crate::tests::streams::{FailIn, ShortOut};
-use crate::{Unread, program, unread_words};
-use coniks_lines::{MemoryIn, MemoryOut};
+use coniks_tool::{MemoryIn, MemoryOut, Unread, program, unread_words};
 use std::alloc::{AllocError, Global};
 use std::test::Fail;
 

@@ -1,7 +1,7 @@
 //! The demonstration seal. The signatures were computed by another program.
 
-use crate::seal::DemoSeal;
 use coniks_chain::{Body, Sign, Signature, Verify};
+use coniks_tool::DemoSeal;
 use std::test::Fail;
 
 /// The bytes 0, 1, 2 and so on.

@@ -1,10 +1,9 @@
 //! `keydir audit`: each status, and what is told.
 
-use crate::program;
 use crate::tests::auditing::{ACCEPTED, ENTRIES, answers_of, lines_of};
 use crate::tests::program::run_of;
 use crate::tests::streams::{FailIn, ShortOut};
-use coniks_lines::{MemoryIn, MemoryOut};
+use coniks_tool::{MemoryIn, MemoryOut, program};
 use std::test::Fail;
 
 const ZEROS: &str = "0000000000000000000000000000000000000000000000000000000000000000";

@@ -1,9 +1,6 @@
 //! Lines that hold entries, audited. The entries and links were computed by another program.
 
-use crate::audit_reply::{AuditReply, print_audit};
-use crate::auditing::run_audit;
-use coniks_chain::AuditFault;
-use coniks_lines::{MemoryIn, MemoryOut};
+use coniks_tool::{MemoryIn, MemoryOut, run_audit};
 use std::alloc::{AllocError, Global};
 use std::test::Fail;
 
@@ -191,7 +188,7 @@ fn lines_with(alloc: Global, digits: &str, others: &str) -> Result<String, Alloc
     Ok(lines)
 }
 
-/// One digit of the version, of the first root, of the link before, of the policy and of the signature.
+/// One digit of the version, of the root, of the link before, of the nonce, of the policy and of the signature.
 #[test]
 fn changed_digits(rt: HostRuntime) -> Result<(), Fail> {
     let [one, two, three] = ACCEPTED;
@@ -203,6 +200,7 @@ fn changed_digits(rt: HostRuntime) -> Result<(), Fail> {
         ),
         ("1aa9b40c", "1aa9b40d", VERDICT),
         ("d87d9ee8", "d87d9ee9", "{\"fault\":\"PreviousLink\"}"),
+        ("f56016131", "f56016132", "{\"fault\":\"NonceChanged\"}"),
         ("333333336e627a8e", "333333346e627a8e", VERDICT),
         ("74323026", "74323027", VERDICT),
     ];
@@ -213,45 +211,6 @@ fn changed_digits(rt: HostRuntime) -> Result<(), Fail> {
             is_answered(rt.alloc(), 0, lines.as_str(), &answers, false)?,
             "{others}"
         );
-    }
-    Ok(())
-}
-
-/// The bytes of each reply, after what was there, and whether its line was accepted.
-#[test]
-fn texts(rt: HostRuntime) -> Result<(), Fail> {
-    let cases = [
-        (AuditReply::NotJson, NOT_JSON),
-        (AuditReply::NoEntry, NO_ENTRY),
-        (
-            AuditReply::AtFault(AuditFault::Version),
-            "{\"fault\":\"Version\"}",
-        ),
-        (
-            AuditReply::AtFault(AuditFault::FirstEpoch),
-            "{\"fault\":\"FirstEpoch\"}",
-        ),
-        (AuditReply::AtFault(AuditFault::NotLater), NOT_LATER),
-        (
-            AuditReply::AtFault(AuditFault::PreviousEpoch),
-            PREVIOUS_EPOCH,
-        ),
-        (
-            AuditReply::AtFault(AuditFault::PreviousLink),
-            "{\"fault\":\"PreviousLink\"}",
-        ),
-        (
-            AuditReply::AtFault(AuditFault::NonceChanged),
-            "{\"fault\":\"NonceChanged\"}",
-        ),
-        (AuditReply::AtFault(AuditFault::Verdict), VERDICT),
-    ];
-    for (reply, text) in cases {
-        let mut out = Vec::from_slice(rt.alloc(), b">")?;
-        print_audit(rt.alloc(), &reply, &mut out)?;
-        assert!(rt; out.starts_with(b">"), "{text}");
-        assert!(rt; &out[1..] == text.as_bytes(), "{text}");
-        assert!(rt; !reply.is_accepted(), "{text}");
     }
     Ok(())
 }

@@ -2,7 +2,7 @@
 
 ghost use Rattle.std.specs.Prelude.{◌≡◌};
 
-use coniks_lines::{ByteIn, ByteOut, Failed};
+use coniks_tool::{ByteIn, ByteOut, Failed};
 
 /// Each read fails.
 #[derive(Drop)]

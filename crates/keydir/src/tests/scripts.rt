@@ -1,8 +1,7 @@
 //! Scripts of `run`, line by line. The roots were computed by another program.
 
-use crate::script::run_script;
 use crate::tests::streams::{OneByteIn, ShortOut};
-use coniks_lines::{MemoryIn, MemoryOut, RunFault};
+use coniks_tool::{MemoryIn, MemoryOut, RunFault, run_script};
 use std::alloc::{AllocError, Global};
 use std::test::Fail;
 

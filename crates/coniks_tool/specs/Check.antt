@@ -1,0 +1,70 @@
+-- What `check` answers to a line.
+use Rattle.std.specs.Prelude.{ℕ, List, codes, Option, Some, None, Result, Ok, Err}
+use Rattle.serde_json.specs.Data.{Data}
+use Rattle.coniks_lines.specs.Machine.{Answer}
+use Rattle.coniks_proof.specs.Sha256.{sha256}
+use Rattle.coniks_proof.specs.Proofs.{answer_of}
+use Rattle.coniks_proof.specs.declared.paths.Proof.{Proof as ProofOf}
+use Rattle.coniks_proof.specs.declared.checker.CheckFault.{CheckFault}
+use Rattle.coniks_tool.specs.Members.{object_in, text_in, digits_in}
+use Rattle.coniks_tool.specs.ProofObjects.{proof_in}
+use Rattle.coniks_tool.specs.CheckFaults.{check_fault}
+use Rattle.coniks_tool.specs.CheckReplies.{CheckOutcome, answered, not_json, no_member, at_fault, check_text, is_answered}
+use Rattle.coniks_tool.specs.declared.question.Question.{Question}
+use Rattle.coniks_tool.specs.declared.reply.Member.{Member}
+use Rattle.coniks_tool.specs.declared.reply.Member.TheVariants.{Index, Name, Nonce, Root, Proof}
+
+-- what a checker is asked: whether a proof is accepted for a name and its index, under a root and a nonce
+pub record Asked : Type 0 where
+  pub index : List ℕ
+  pub name : List ℕ
+  pub nonce : List ℕ
+  pub root : List ℕ
+  pub proof : ProofOf
+
+-- a question, without the forms that the code gives to texts and digests
+abbrev pub asked_by : Question → Asked
+asked_by q = record { index = q.index.0; name = q.name.now; nonce = q.nonce.0; root = q.root.0; proof = q.proof }
+
+-- what was read, as the definitions see it
+abbrev pub question_read : Result Question Member → Result Asked Member
+question_read (Ok q) = Ok (asked_by q)
+question_read (Err m) = Err m
+
+-- what comes next where a member is as it should be
+abbrev pub needs : {A B : Type 0} → Member → Option A → (A → Result B Member) → Result B Member
+needs m None next = Err m
+needs m (Some a) next = next a
+
+-- the question of a line, by its members in the order of reading
+abbrev pub asked_in : Data → Result Asked Member
+asked_in d =
+    needs Index (digits_in 32 (codes "index") d) (λ index.
+    needs Name (text_in (codes "name") d) (λ name.
+    needs Nonce (digits_in 32 (codes "nonce") d) (λ nonce.
+    needs Root (digits_in 32 (codes "root") d) (λ root.
+    needs Proof (proof_in d) (λ proof.
+    Ok (record { index = index; name = name; nonce = nonce; root = root; proof = proof }))))))
+
+-- a proof with this first fault is refused; one with none answers what its end says
+abbrev pub judged : Asked → Option CheckFault → CheckOutcome
+judged q (Some fault) = at_fault fault
+judged q None = answered (answer_of q.proof.end)
+
+-- a question, where there is one
+abbrev pub question_outcome : Result Asked Member → CheckOutcome
+question_outcome (Err m) = no_member m
+question_outcome (Ok q) = judged q (check_fault sha256 q.nonce q.root q.index q.name q.proof)
+
+-- a line, where it is an object
+abbrev pub object_outcome : Option Data → CheckOutcome
+object_outcome None = not_json
+object_outcome (Some d) = question_outcome (asked_in d)
+
+-- no line is answered by what stood before it
+pub data Stateless : Type 0 where
+  stateless : Stateless
+
+-- what a line is answered by
+abbrev pub check_answer : Stateless → List ℕ → Answer Stateless
+check_answer s line = let outcome = object_outcome (object_in line) in record { text = check_text outcome; accepted = is_answered outcome; state = s }

@@ -1,0 +1,79 @@
+-- What `check` prints for a line.
+use Rattle.std.specs.Prelude.{ℕ, List, codes, Bool, true, false, Option, Some, None}
+use Rattle.serde_json.specs.Data.{Data, string, object, member, no_members}
+use Rattle.serde_json.specs.Written.{compact_text}
+use Rattle.base64.specs.GeneralPurpose.{encode_of}
+use Rattle.base64.specs.Engines.{standard}
+use Rattle.coniks_proof.specs.Proofs.{said}
+use Rattle.coniks_proof.specs.declared.checker.CheckFault.{CheckFault}
+use Rattle.coniks_proof.specs.declared.checker.CheckFault.TheVariants.{TooDeep, NameLength, KeyLength, WrongName, OtherIsSame, OtherOffPath, RootMismatch}
+use Rattle.coniks_tool.specs.Replies.{fault_data, bad_member_data, member_name}
+use Rattle.coniks_tool.specs.declared.reply.Member.{Member}
+use Rattle.coniks_tool.specs.declared.check_reply.CheckReply.{CheckReply}
+use Rattle.coniks_tool.specs.declared.check_reply.CheckReply.TheVariants as reply
+
+-- what comes of a line
+pub data CheckOutcome : Type 0 where
+  -- the proof is accepted: the name's key, or none
+  answered : (answer : Option (List ℕ)) → CheckOutcome
+  -- the line isn't a JSON object
+  not_json : CheckOutcome
+  -- a member is missing, of another kind or of a wrong text
+  no_member : Member → CheckOutcome
+  -- the proof isn't accepted
+  at_fault : CheckFault → CheckOutcome
+
+-- a reply, with the answer as the definitions of proofs see it
+abbrev pub check_outcome : CheckReply → CheckOutcome
+check_outcome (reply.Answered answer) = answered (said answer)
+check_outcome reply.NotJson = not_json
+check_outcome (reply.NoMember m) = no_member m
+check_outcome (reply.AtFault fault) = at_fault fault
+
+-- the name of a fault
+abbrev pub check_fault_name : CheckFault → List ℕ
+check_fault_name TooDeep = codes "TooDeep"
+check_fault_name NameLength = codes "NameLength"
+check_fault_name KeyLength = codes "KeyLength"
+check_fault_name WrongName = codes "WrongName"
+check_fault_name OtherIsSame = codes "OtherIsSame"
+check_fault_name OtherOffPath = codes "OtherOffPath"
+check_fault_name RootMismatch = codes "RootMismatch"
+
+-- {"answer":"key","key":BASE64,"ok":"check"}
+abbrev pub key_data : List ℕ → Data
+key_data key =
+    object
+    (member (codes "answer") (string (codes "key"))
+    (member (codes "key") (string (encode_of standard key))
+    (member (codes "ok") (string (codes "check")) no_members)))
+
+-- {"answer":"absent","ok":"check"}
+abbrev pub absent_data : Data
+absent_data =
+    object
+    (member (codes "answer") (string (codes "absent"))
+    (member (codes "ok") (string (codes "check")) no_members))
+
+-- the object of an answer
+abbrev pub answer_data : Option (List ℕ) → Data
+answer_data (Some key) = key_data key
+answer_data None = absent_data
+
+-- the object that is printed
+abbrev pub check_data : CheckOutcome → Data
+check_data (answered answer) = answer_data answer
+check_data not_json = fault_data (codes "Json")
+check_data (no_member m) = bad_member_data (member_name m)
+check_data (at_fault fault) = fault_data (check_fault_name fault)
+
+-- the text of a reply: JSON (RFC 8259) with no white space
+abbrev pub check_text : CheckOutcome → List ℕ
+check_text outcome = compact_text (check_data outcome)
+
+-- the line was accepted
+abbrev pub is_answered : CheckOutcome → Bool
+is_answered (answered answer) = true
+is_answered not_json = false
+is_answered (no_member m) = false
+is_answered (at_fault fault) = false

@@ -1,0 +1,94 @@
+-- What `monitor` answers to a line.
+use Rattle.std.specs.Prelude.{ℕ, List, codes, Bool, false, Option, Some, None, if◌then◌else◌}
+use Rattle.std.specs.Option.{option_map_or}
+use Rattle.std.specs.Str.{bytes_eq}
+use Rattle.serde_json.specs.Data.{Data}
+use Rattle.coniks_lines.specs.Machine.{Answer}
+use Rattle.coniks_proof.specs.Sha256.{sha256}
+use Rattle.coniks_proof.specs.Proofs.{answer_of}
+use Rattle.coniks_proof.specs.declared.paths.Proof.{Proof as ProofOf}
+use Rattle.coniks_proof.specs.declared.checker.CheckFault.{CheckFault}
+use Rattle.coniks_chain.specs.Chain.{before_of}
+use Rattle.coniks_chain.specs.Seen.{seen_of}
+use Rattle.coniks_chain.specs.Watch.{Watched}
+use Rattle.coniks_chain.specs.declared.auditor.AuditFault.{AuditFault}
+use Rattle.coniks_chain.specs.declared.auditor.Before.{Before}
+use Rattle.coniks_chain.specs.declared.entry.Entry.{Entry as EntryOf}
+use Rattle.coniks_chain.specs.declared.seen.MonitorFault.TheVariants.{Audit, Check}
+use Rattle.coniks_tool.specs.AuditFaults.{audit_fault}
+use Rattle.coniks_tool.specs.CheckFaults.{check_fault}
+use Rattle.coniks_tool.specs.Demo.{demo_index}
+use Rattle.coniks_tool.specs.EntryBytes.{entry_in}
+use Rattle.coniks_tool.specs.Expectations.{expected_in}
+use Rattle.coniks_tool.specs.Members.{object_in, text_in}
+use Rattle.coniks_tool.specs.MonitorReplies.{MonitorOutcome, watched, expecting, not_json, no_member, at_fault, monitor_text, is_as_expected}
+use Rattle.coniks_tool.specs.ProofObjects.{proof_in}
+use Rattle.coniks_tool.specs.Seal.{is_seal}
+use Rattle.coniks_tool.specs.declared.reply.Member.TheVariants.{Key, Proof, Entry}
+
+-- the key of the seal, the name and its index, what the next entry is compared with, and the key that is expected, if one is
+pub record MonitorState : Type 0 where
+  pub key : List ℕ
+  pub name : List ℕ
+  pub index : List ℕ
+  pub before : Option Before
+  pub expected : Option (List ℕ)
+
+-- no entry was accepted yet, and the index is that of the name
+abbrev pub none_watched : List ℕ → List ℕ → Option (List ℕ) → MonitorState
+none_watched key name expected = record { key = key; name = name; index = demo_index key name; before = None; expected = expected }
+
+-- what a monitor of the chain keeps, under the key of its seal
+abbrev pub watching : {H : Type 0} → List ℕ → Watched H → MonitorState
+watching key w = record { key = key; name = w.name; index = w.index; before = w.before; expected = w.expected }
+
+-- what comes of a line, and the state after it
+pub record MonitorTurn : Type 0 where
+  pub outcome : MonitorOutcome
+  pub state : MonitorState
+
+-- an accepted entry with a proof that has this first fault: the state stays. One with none is what the next one is compared with
+abbrev pub checked_turn : MonitorState → EntryOf → ProofOf → Option CheckFault → MonitorTurn
+checked_turn s entry proof (Some fault) = record { outcome = at_fault (Check fault); state = s }
+checked_turn s entry proof None = record { outcome = watched entry.body.t (seen_of s.expected (answer_of proof.end)); state = record s { before = Some (before_of sha256 entry) } }
+
+-- an entry with this first fault is refused and the state stays; under one with none the proof is checked, for the name at its index
+abbrev pub audited_turn : MonitorState → EntryOf → ProofOf → Option AuditFault → MonitorTurn
+audited_turn s entry proof (Some fault) = record { outcome = at_fault (Audit fault); state = s }
+audited_turn s entry proof None = checked_turn s entry proof (check_fault sha256 entry.body.nonce.0 entry.body.root.0 s.index s.name proof)
+
+-- an entry with its proof
+abbrev pub step_turn : MonitorState → EntryOf → ProofOf → MonitorTurn
+step_turn s entry proof = audited_turn s entry proof (audit_fault (is_seal s.key) s.before entry)
+
+-- a line with this entry and this proof, where there are such
+abbrev pub watch_turn : MonitorState → Option EntryOf → Option ProofOf → MonitorTurn
+watch_turn s None proof = record { outcome = no_member Entry; state = s }
+watch_turn s (Some entry) None = record { outcome = no_member Proof; state = s }
+watch_turn s (Some entry) (Some proof) = step_turn s entry proof
+
+-- a line that sets the expectation
+abbrev pub expect_turn : MonitorState → Option (Option (List ℕ)) → MonitorTurn
+expect_turn s None = record { outcome = no_member Key; state = s }
+expect_turn s (Some expected) = record { outcome = expecting; state = record s { expected = expected } }
+
+-- the line sets the expectation
+abbrev pub is_expect : Option (List ℕ) → Bool
+is_expect command = option_map_or (λ text. bytes_eq text (codes "expect")) command false
+
+-- an object
+abbrev pub object_turn : MonitorState → Data → MonitorTurn
+object_turn s d = if is_expect (text_in (codes "cmd") d) then expect_turn s (expected_in d) else watch_turn s (entry_in d) (proof_in d)
+
+-- a line, where it is an object
+abbrev pub monitor_object_turn : MonitorState → Option Data → MonitorTurn
+monitor_object_turn s None = record { outcome = not_json; state = s }
+monitor_object_turn s (Some d) = object_turn s d
+
+-- what comes of a line
+abbrev pub monitor_turn : MonitorState → List ℕ → MonitorTurn
+monitor_turn s line = monitor_object_turn s (object_in line)
+
+-- what a line is answered by
+abbrev pub monitor_answer : MonitorState → List ℕ → Answer MonitorState
+monitor_answer s line = let t = monitor_turn s line in record { text = monitor_text t.outcome; accepted = is_as_expected t.outcome; state = t.state }

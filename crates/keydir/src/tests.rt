@@ -1,0 +1,11 @@
+mod audit_program;
+mod auditing;
+mod checking;
+mod client_program;
+mod limits;
+mod lookups;
+mod monitoring;
+mod program;
+mod scripts;
+mod seals;
+mod streams;
