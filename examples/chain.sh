@@ -1,0 +1,6 @@
+#!/usr/bin/env bash
+# Audits a chain of three entries.
+set -u
+cd "$(dirname "${BASH_SOURCE[0]}")/.."
+key=0000000000000000000000000000000000000000000000000000000000000000
+./keydir audit --key "$key" < examples/chain.jsonl
