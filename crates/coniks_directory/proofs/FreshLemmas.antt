@@ -1,0 +1,84 @@
+-- An update that isn't stale is one of the directory as it is.
+use Rattle.std.proofs.Common.{◌≡◌, ℕ, List, [], ◌∷◌, ◌++◌, length, refl, sym, ap, subst, ◌∙◌, arith, length-append, append_assoc}
+use Rattle.std.proofs.lemmas.List.{append-nil}
+use Rattle.coniks_tree.proofs.PushLemmas.{Extends-trans, Fits-more, Stands-extended}
+use Rattle.coniks_tree.specs.declared.table.Record.{Record}
+use Rattle.coniks_directory.specs.State.{State, last_count}
+use Rattle.coniks_directory.specs.Updates.{Grows, IsUpdate, IsUpdateOf}
+use Rattle.coniks_directory.specs.declared.epochs.Epoch.{Epoch}
+use Rattle.coniks_directory.specs.declared.update.Prepared.{Prepared}
+
+none_more : {T : Type 0} (xs ys zs : List T) → zs ≡ xs ++ ys → length xs ≡ length zs → zs ≡ xs
+none_more xs [] zs is same = is ∙ append-nil xs
+none_more xs (y ∷ ys) zs is same = let sum = ap length is in let both = length-append xs (y ∷ ys) in absurd (omega (arith, sum, both))
+
+-- more nodes, another policy and another chain are of no account to an update
+onto : (hash of : List ℕ → List ℕ) (s t : State) (p : Prepared) → t.nonce ≡ s.nonce → t.records ≡ s.records → t.epochs ≡ s.epochs → Grows s t → IsUpdate hash of s p → IsUpdate hash of t p
+onto hash of s t p nonce records epochs grows u =
+    let over : IsUpdate hash of (record { nonce = s.nonce; policy = t.policy; nodes = t.nodes; records = s.records; epochs = s.epochs; chain = t.chain }) p = record {
+      base = u.base;
+      counted = u.counted;
+      version = u.version;
+      nonce = u.nonce;
+      fits = Fits-more (length s.nodes) (length t.nodes) 0 p.part grows.longer u.fits;
+      placed = u.placed;
+      entries = u.entries;
+      stands = Stands-extended hash p.nonce.0 s.nodes t.nodes s.records grows.nodes p.part [] u.entries u.stands;
+      mirrors = u.mirrors;
+    } in
+    subst (λ (es : List Epoch). IsUpdate hash of (record { nonce = t.nonce; policy = t.policy; nodes = t.nodes; records = t.records; epochs = es; chain = t.chain }) p) (sym epochs)
+    (subst (λ (rs : List Record). IsUpdate hash of (record { nonce = t.nonce; policy = t.policy; nodes = t.nodes; records = rs; epochs = s.epochs; chain = t.chain }) p) (sym records)
+    (subst (λ (n : List ℕ). IsUpdate hash of (record { nonce = n; policy = t.policy; nodes = t.nodes; records = s.records; epochs = s.epochs; chain = t.chain }) p) (sym nonce) over))
+
+pub fresh : (hash of : List ℕ → List ℕ) (s : State) (p : Prepared) → last_count s.epochs ≡ length s.records → IsUpdateOf hash of s p → p.base ≡ length s.epochs → IsUpdate hash of s p
+fresh hash of s p counted u base =
+    let old = u.earlier in
+    let lengths : length old.epochs ≡ length s.epochs = sym u.update.base ∙ base in
+    let epochs : s.epochs ≡ old.epochs = none_more old.epochs u.grows.more_epochs s.epochs u.grows.epochs lengths in
+    let count : length old.records ≡ length s.records = sym u.update.counted ∙ ap last_count (sym epochs) ∙ counted in
+    let records : s.records ≡ old.records = none_more old.records u.grows.more_records s.records u.grows.records count in
+    onto hash of old s p u.grows.nonce records epochs u.grows u.update
+
+-- the same behind the view of a directory
+pub fresh_in_view : {H X : Type 0} (digest : H → List ℕ → List ℕ) (index : X → List ℕ → List ℕ) (h : H) (x : X) (s : State) (v : H × X × State) (p : Prepared)
+    → (let w : H × X × State = (h, x, s) in w ≡ v) → IsUpdateOf (digest v.0) (index v.1) v.2 p → last_count s.epochs ≡ length s.records → p.base ≡ length s.epochs → IsUpdate (digest h) (index x) s p
+fresh_in_view {H} {X} digest index h x s v p is u counted base =
+    fresh (digest h) (index x) s p counted (subst (λ (w : H × X × State). IsUpdateOf (digest w.0) (index w.1) w.2 p) (sym is) u) base
+
+-- a state that stays has grown
+pub Grows-refl : (s : State) → Grows s s
+Grows-refl s = record {
+  nonce = refl;
+  policy = refl;
+  nodes = λ k v at. at;
+  longer = omega arith;
+  more_records = [];
+  records = sym (append-nil s.records);
+  more_epochs = [];
+  epochs = sym (append-nil s.epochs);
+}
+
+-- what grows and grows again has grown
+pub Grows-trans : (s t u : State) → Grows s t → Grows t u → Grows s u
+Grows-trans s t u a b = record {
+  nonce = b.nonce ∙ a.nonce;
+  policy = b.policy ∙ a.policy;
+  nodes = Extends-trans s.nodes t.nodes u.nodes a.nodes b.nodes;
+  longer = let x = a.longer in let y = b.longer in omega arith;
+  more_records = a.more_records ++ b.more_records;
+  records = b.records ∙ ap (λ rs. rs ++ b.more_records) a.records ∙ append_assoc s.records a.more_records b.more_records;
+  more_epochs = a.more_epochs ++ b.more_epochs;
+  epochs = b.epochs ∙ ap (λ es. es ++ b.more_epochs) a.epochs ∙ append_assoc s.epochs a.more_epochs b.more_epochs;
+}
+
+-- an update stays one of its directory
+pub stays : (hash of : List ℕ → List ℕ) (s t : State) (p : Prepared) → Grows s t → IsUpdateOf hash of s p → IsUpdateOf hash of t p
+stays hash of s t p grows u = record { earlier = u.earlier; grows = Grows-trans u.earlier s t u.grows grows; update = u.update }
+
+-- an update is one of the directory that it was prepared from
+pub prepared_of : (hash of : List ℕ → List ℕ) (s : State) (p : Prepared) → IsUpdate hash of s p → IsUpdateOf hash of s p
+prepared_of hash of s p u = record { earlier = s; grows = Grows-refl s; update = u }
+
+-- the same for a directory that keeps its hash
+pub stays_held : {H : Type 0} (digest : H → List ℕ → List ℕ) (of : List ℕ → List ℕ) (h h' : H) (s t : State) (p : Prepared) → h' ≡ h → Grows s t → IsUpdateOf (digest h) of s p → IsUpdateOf (digest h') of t p
+stays_held {H} digest of h h' s t p same grows u = subst (λ (x : H). IsUpdateOf (digest x) of t p) (sym same) (stays (digest h) of s t p grows u)

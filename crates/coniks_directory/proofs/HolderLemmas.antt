@@ -1,0 +1,91 @@
+-- Who has an index, and what that says of a name at it.
+use Rattle.std.proofs.Common.{◌≡◌, ℕ, List, [], ◌∷◌, map, true, false, refl, sym, ap, subst, ◌∙◌, not, inl, inr, Option, Some, None, is_some, slice_get}
+use Rattle.std.specs.Borrow.{Bor}
+use Rattle.std.specs.Str.{bytes_eq}
+use Rattle.std.proofs.lemmas.Slice.Eq.{bytes_eq-Decides}
+use Rattle.coniks_proof.specs.Entries.{Entry, IsIn, backed_by}
+use Rattle.coniks_proof.specs.Maps.{IsMap}
+use Rattle.coniks_proof.specs.Paths.{end_of}
+use Rattle.coniks_proof.specs.Registry.{Registered, Registry, has_name, entry_of, entries_of, IsFree}
+use Rattle.coniks_proof.specs.Batches.{clashes}
+use Rattle.coniks_proof.proofs.LookupLemmas.{end_of-in, end_of-present}
+use Rattle.coniks_proof.proofs.MapLemmas.{IsMap-apart, new_apart}
+use Rattle.coniks_proof.proofs.RegistryLemmas.{entry_in, in_entries, named_in}
+use Rattle.coniks_tree.specs.Table.{Numbered, entry_of_record, registered_at, registered_by}
+use Rattle.coniks_tree.specs.Paths.{Finds}
+use Rattle.coniks_tree.specs.declared.table.Node.{Node}
+use Rattle.coniks_tree.specs.declared.table.Record.{Record}
+use Rattle.coniks_tree.specs.declared.table.RecordNo.{RecordNo}
+use Rattle.coniks_directory.specs.State.{ShowsRegistry, registered_of}
+use Rattle.coniks_directory.specs.Holders.{HolderIs, IsHeld}
+use Rattle.coniks_directory.proofs.NameLemmas.{not_true, eq_same, named_of, same_bool, clash_found, clash_made}
+
+-- an entry with something else behind it was one before
+pub in_backed : {B C : Type 0} (f : B → C) (es : List (Entry B)) (e : Entry C) → IsIn e (map (backed_by f) es) → (x : Entry B) × IsIn x es × (backed_by f x ≡ e)
+in_backed f [] e there = absurd there
+in_backed f (x ∷ es) e (inl here) = (x, inl refl, here)
+in_backed f (x ∷ es) e (inr later) = let k = in_backed f es e later in (k.0, inr k.1, k.2)
+
+pub backed_in : {B C : Type 0} (f : B → C) (es : List (Entry B)) (x : Entry B) → IsIn x es → IsIn (backed_by f x) (map (backed_by f) es)
+backed_in f [] x there = absurd there
+backed_in f (y ∷ es) x (inl here) = inl (ap (backed_by f) here)
+backed_in f (y ∷ es) x (inr later) = inr (backed_in f es x later)
+
+-- two entries of a map that have one index are one
+pub same_entry : {B : Type 0} (es : List (Entry B)) (e f : Entry B) → IsMap es → IsIn e es → IsIn f es → e.index ≡ f.index → e ≡ f
+same_entry [] e f m one two same = absurd one
+same_entry (x ∷ es) e f m (inl one) (inl two) same = sym one ∙ two
+same_entry {B} (x ∷ es) e f m (inl one) (inr two) same = absurd (new_apart x.index f es m.1 two (ap (λ (y : Entry B). y.index) one ∙ same))
+same_entry {B} (x ∷ es) e f m (inr one) (inl two) same = absurd (new_apart x.index e es m.1 one (ap (λ (y : Entry B). y.index) two ∙ sym same))
+same_entry (x ∷ es) e f m (inr one) (inr two) same = same_entry es e f m.2 one two same
+
+module _ (hash of : List ℕ → List ℕ) (nonce : List ℕ) (nodes : List Node) (records : List Record) (root : ℕ) (registry : Registry) (s : ShowsRegistry hash of nonce nodes records root registry) where
+  pub found_none : (i : List ℕ) → Finds records i None (end_of [] i s.entries) → IsFree of registry i
+  found_none i finds = λ name at. not_true (has_name registry name) (λ h.
+      let n = named_of registry name h in
+      let k = in_backed (registered_at records) s.entries (entry_of hash of n.bound) (s.mirrors.same.back (entry_of hash of n.bound) (entry_in hash of n.bound registry n.there)) in
+      let index-is : k.0.index ≡ i = ap (λ (e : Entry Registered). e.index) k.2 ∙ ap of n.named ∙ at in
+      finds k.0 (end_of-present 256 [] i s.entries k.0 refl (IsMap-apart s.entries s.mirrors.indices) index-is k.1) index-is)
+
+  pub found_some : (i : List ℕ) (place : RecordNo) (r : Record) → Finds records i (Some place) (end_of [] i s.entries) → slice_get records place.0 ≡ Some r → IsHeld of registry i (registered_of r)
+  found_some i place r finds at =
+      let finds-at = finds.1 in
+      let one : finds.0 ≡ r = cc in
+      let e : Numbered = entry_of_record place.0 finds.0 in
+      let f = registered_at records in
+      let there : IsIn e s.entries = end_of-in 256 [] i s.entries e refl (IsMap-apart s.entries s.mirrors.indices) finds.2 in
+      let stands : IsIn (backed_by f e) (entries_of hash of registry) = s.mirrors.same.there (backed_by f e) (backed_in f s.entries e there) in
+      let own = in_entries hash of (backed_by f e) registry stands in
+      let binds : f place.0 ≡ registered_of r = ap registered_by at in
+      let b = registered_of r in
+      let bound : IsIn b registry = subst (λ (x : Registered). IsIn x registry) binds own.1 in
+      let at-index : of b.name ≡ i = ap (λ (x : Registered). of x.name) (sym binds) ∙ ap (λ (x : Entry Registered). x.index) own.0 ∙ finds.3 in
+      record {
+        at = at-index;
+        has = named_in b registry bound;
+        only = λ name there has.
+            let n = named_of registry name has in
+            let same = same_entry (entries_of hash of registry) (entry_of hash of n.bound) (entry_of hash of b) s.mirrors.names (entry_in hash of n.bound registry n.there) (entry_in hash of b registry bound)
+            (ap of n.named ∙ there ∙ sym at-index) in
+            sym n.named ∙ ap (λ (x : Entry Registered). x.behind.name) same;
+      }
+
+pub clash_free : (of : List ℕ → List ℕ) (registry : Registry) (name : List ℕ) → IsFree of registry (of name) → clashes of registry name ≡ false
+clash_free of registry name none = not_true (clashes of registry name) (λ h. let c = clash_found of registry name h in let there = c.there in let gone = none c.other c.at in cc)
+
+pub clash_held : (of : List ℕ → List ℕ) (registry : Registry) (name : List ℕ) (b : Registered) → IsHeld of registry (of name) b → clashes of registry name ≡ not (bytes_eq b.name name)
+clash_held of registry name b held = (elim (bytes_eq b.name name) as (λ v. bytes_eq b.name name ≡ v → clashes of registry name ≡ not v) [
+  | true ↦ λ is. not_true (clashes of registry name) (λ h. let c = clash_found of registry name h in c.apart (held.only c.other c.at c.there ∙ (bytes_eq-Decides b.name name).0 is))
+  | false ↦ λ is. clash_made of registry name (record { other = b.name; at = held.at; there = held.has; apart = λ same. let on = eq_same b.name name same in cc })
+]) refl
+
+pub named_held : (of : List ℕ → List ℕ) (registry : Registry) (name : List ℕ) (b : Registered) → IsHeld of registry (of name) b → has_name registry name ≡ bytes_eq b.name name
+named_held of registry name b held = same_bool (has_name registry name) (bytes_eq b.name name)
+    (λ h. eq_same b.name name (sym (held.only name refl h)))
+    (λ on. subst (λ n. has_name registry n ≡ true) ((bytes_eq-Decides b.name name).0 on) held.has)
+
+-- whoever has the index of a name that isn't there is another name
+pub clash_some : (of : List ℕ → List ℕ) (registry : Registry) (name : List ℕ) (holder : Option (Bor Record)) → HolderIs of registry (of name) holder → has_name registry name ≡ false → clashes of registry name ≡ is_some holder
+clash_some of registry name None held gone = clash_free of registry name held
+clash_some of registry name (Some r) held gone =
+    clash_held of registry name (registered_of r.now) held ∙ ap not (sym (named_held of registry name (registered_of r.now) held) ∙ gone)

@@ -1,0 +1,92 @@
+-- The faults of operations, and the operations in turn.
+use Rattle.std.proofs.Common.{◌≡◌, ℕ, zero, suc, ◌+◌, List, [], ◌∷◌, ◌++◌, length, map, take, drop, add-one, Bool, true, false, refl, sym, ap, ◌∙◌, ◌||◌, Option, Some, None, slice_get}
+use Rattle.coniks_proof.specs.Registry.{Registered, Registry, has_name}
+use Rattle.coniks_proof.specs.Batches.{Operation, Fault, clashes, fault_of, fault_from, first_fault, placed, kind_fault, fits, bound_by, name_twice, index_clash}
+use Rattle.coniks_proof.specs.declared.values.TheConstants.{MAX_KEY, MAX_NAME}
+use Rattle.std.proofs.lemmas.List.{map-append}
+use Rattle.coniks_directory.specs.Judged.{IsJudged}
+use Rattle.coniks_directory.proofs.NameLemmas.{clashes-append}
+
+pub or_true : (a b : Bool) → b ≡ true → a || b ≡ true
+or_true true b on = refl
+or_true false b on = on
+
+-- ---- the first fault that applies to an operation
+
+module _ (of : List ℕ → List ℕ) (registry : Registry) (before : List Registered) (op : Operation) (named : fits MAX_NAME op.name ≡ true) (keyed : fits MAX_KEY op.key ≡ true) where
+  pub at_twice : has_name before op.name ≡ true → fault_of of registry before op ≡ Some name_twice
+  at_twice twice = rw (named, keyed, twice) refl
+
+  pub at_kind : (fault : Fault) → has_name before op.name ≡ false → kind_fault op.kind (has_name registry op.name) ≡ Some fault → fault_of of registry before op ≡ Some fault
+  at_kind fault once kind = rw (named, keyed, once, kind) refl
+
+  pub at_clash : (a b : Bool) → has_name before op.name ≡ false → kind_fault op.kind (has_name registry op.name) ≡ None → clashes of registry op.name ≡ a → clashes of before op.name ≡ b → a || b ≡ true
+      → fault_of of registry before op ≡ Some index_clash
+  at_clash a b once kind ha hb on =
+      let clash : clashes of (registry ++ before) op.name ≡ true = clashes-append of registry before op.name ∙ ap (λ v. v || clashes of before op.name) ha ∙ ap (λ v. a || v) hb ∙ on in
+      rw (named, keyed, once, kind, clash) refl
+
+  pub at_none : (a b : Bool) → has_name before op.name ≡ false → kind_fault op.kind (has_name registry op.name) ≡ None → clashes of registry op.name ≡ a → clashes of before op.name ≡ b → a || b ≡ false
+      → fault_of of registry before op ≡ None
+  at_none a b once kind ha hb off =
+      let clash : clashes of (registry ++ before) op.name ≡ false = clashes-append of registry before op.name ∙ ap (λ v. v || clashes of before op.name) ha ∙ ap (λ v. a || v) hb ∙ off in
+      rw (named, keyed, once, kind, clash) refl
+
+-- ---- the operations in turn
+
+drop_all : {T : Type 0} (xs : List T) → drop (length xs) xs ≡ []
+drop_all [] = refl
+drop_all (x ∷ xs) = drop_all xs
+
+take_all : {T : Type 0} (xs : List T) → take (length xs) xs ≡ xs
+take_all [] = refl
+take_all (x ∷ xs) = ap (λ ys. x ∷ ys) (take_all xs)
+
+take_next : {T : Type 0} (xs : List T) (i : ℕ) (x : T) → slice_get xs i ≡ Some x → take (suc i) xs ≡ take i xs ++ x ∷ []
+take_next [] i x at = absurd (let never = at in cc)
+take_next (y ∷ ys) zero x at = let same : y ≡ x = cc in ap (λ z. z ∷ []) same
+take_next (y ∷ ys) (suc i) x at = ap (λ zs. y ∷ zs) (take_next ys i x at)
+
+drop_next : {T : Type 0} (xs : List T) (i : ℕ) (x : T) → slice_get xs i ≡ Some x → drop i xs ≡ x ∷ drop (suc i) xs
+drop_next [] i x at = absurd (let never = at in cc)
+drop_next (y ∷ ys) zero x at = let same : y ≡ x = cc in ap (λ z. z ∷ ys) same
+drop_next (y ∷ ys) (suc i) x at = drop_next ys i x at
+
+pub get-map : {S T : Type 0} (f : S → T) (xs : List S) (i : ℕ) (x : S) → slice_get xs i ≡ Some x → slice_get (map f xs) i ≡ Some (f x)
+get-map f [] i x at = absurd (let never = at in cc)
+get-map f (y ∷ ys) zero x at = let same : y ≡ x = cc in ap (λ z. Some (f z)) same
+get-map f (y ∷ ys) (suc i) x at = get-map f ys i x at
+
+-- what the operations up to the next one bind
+pub bound-next : (ops : List Operation) (i : ℕ) (op : Operation) → slice_get ops i ≡ Some op → map bound_by (take i ops) ++ bound_by op ∷ [] ≡ map bound_by (take (i + 1) ops)
+bound-next ops i op at = sym (ap (λ k. map bound_by (take k ops)) (add-one i) ∙ ap (map bound_by) (take_next ops i op at) ∙ map-append bound_by (take i ops) (op ∷ []))
+
+pub bound-all : (ops : List Operation) → map bound_by (take (length ops) ops) ≡ map bound_by ops
+bound-all ops = ap (map bound_by) (take_all ops)
+
+-- the next operation and then the others
+rest-next : (of : List ℕ → List ℕ) (registry : Registry) (ops : List Operation) (i : ℕ) (op : Operation) (f : Option Fault) → slice_get ops i ≡ Some op → IsJudged of registry ops i
+    → fault_of of registry (map bound_by (take i ops)) op ≡ f
+    → placed i f (fault_from of registry (map bound_by (take i ops) ++ bound_by op ∷ []) (i + 1) (drop (suc i) ops)) ≡ first_fault of registry ops
+rest-next of registry ops i op f at judged is =
+    let before = map bound_by (take i ops) in
+    sym (ap (fault_from of registry before i) (drop_next ops i op at) ∙ ap (λ g. placed i g (fault_from of registry (before ++ bound_by op ∷ []) (i + 1) (drop (suc i) ops))) is) ∙ judged
+
+pub judged-next : (of : List ℕ → List ℕ) (registry : Registry) (ops : List Operation) (i : ℕ) (op : Operation) → slice_get ops i ≡ Some op → IsJudged of registry ops i
+    → fault_of of registry (map bound_by (take i ops)) op ≡ None → IsJudged of registry ops (i + 1)
+judged-next of registry ops i op at judged none =
+    ap (λ bs. fault_from of registry bs (i + 1) (drop (i + 1) ops)) (sym (bound-next ops i op at))
+    ∙ ap (λ k. fault_from of registry (map bound_by (take i ops) ++ bound_by op ∷ []) (i + 1) (drop k ops)) (add-one i)
+    ∙ rest-next of registry ops i op None at judged none
+
+-- the next operation is the first at fault
+pub judged-fault : (of : List ℕ → List ℕ) (registry : Registry) (ops : List Operation) (i : ℕ) (op : Operation) (fault : Fault) → slice_get ops i ≡ Some op → IsJudged of registry ops i
+    → fault_of of registry (map bound_by (take i ops)) op ≡ Some fault → first_fault of registry ops ≡ Some (i, fault)
+judged-fault of registry ops i op fault at judged found = sym (rest-next of registry ops i op (Some fault) at judged found)
+
+pub judged-all : (of : List ℕ → List ℕ) (registry : Registry) (ops : List Operation) → IsJudged of registry ops (length ops) → first_fault of registry ops ≡ None
+judged-all of registry ops judged = sym judged ∙ ap (fault_from of registry (map bound_by (take (length ops) ops)) (length ops)) (drop_all ops)
+
+pub length-map : {S T : Type 0} (f : S → T) (xs : List S) → length (map f xs) ≡ length xs
+length-map f [] = refl
+length-map f (x ∷ xs) = ap suc (length-map f xs)

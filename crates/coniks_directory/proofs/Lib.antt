@@ -1,0 +1,17 @@
+pub mod StateLemmas
+pub mod MirrorLemmas
+pub mod NameLemmas
+pub mod HolderLemmas
+pub mod JudgeLemmas
+pub mod SeenLemmas
+pub mod OrderLemmas
+pub mod OverlaidLemmas
+pub mod BuiltLemmas
+pub mod NumberLemmas
+pub mod EpochLemmas
+pub mod LookupLemmas
+pub mod FreshLemmas
+pub mod ChainLemmas
+pub mod InstallLemmas
+pub mod HeadLemmas
+pub mod PrepareLemmas

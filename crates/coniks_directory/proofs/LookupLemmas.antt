@@ -1,0 +1,101 @@
+-- What a state shows at an epoch.
+use Rattle.std.proofs.Common.{◌≡◌, ◌==◌, ℕ, suc, List, [], ◌∷◌, map, true, false, refl, sym, ap, subst, ◌∙◌, cond, Option, Some, None, option_map, slice_get, is_some}
+use Rattle.std.specs.List.{find}
+use Rattle.coniks_proof.specs.Batches.{fits}
+use Rattle.coniks_proof.specs.Entries.{backed_by}
+use Rattle.coniks_proof.specs.Paths.{IsPath}
+use Rattle.coniks_proof.specs.Proofs.{Accepts}
+use Rattle.coniks_proof.specs.Registry.{IsLength, entries_of, has_name, key_of}
+use Rattle.coniks_proof.specs.Tree.{node}
+use Rattle.coniks_proof.specs.declared.paths.Proof.{Proof}
+use Rattle.coniks_proof.specs.declared.values.TheConstants.{MAX_NAME}
+use Rattle.coniks_proof.proofs.LookupLemmas.{path_accepted}
+use Rattle.coniks_tree.specs.Table.{Numbered, Shows, registered_at}
+use Rattle.coniks_tree.specs.declared.table.Record.{Record}
+use Rattle.coniks_directory.specs.History.{Shown, numbers_of, root_at, shown_at}
+use Rattle.coniks_directory.specs.Lookups.{IsAcceptedAt, IsFound, IsMissed}
+use Rattle.coniks_directory.specs.State.{HoldsEpoch, State, Whole, history_of, shown_of}
+use Rattle.coniks_directory.specs.declared.epochs.Epoch.{Epoch}
+use Rattle.coniks_directory.specs.declared.lookup.LookupFault.{LookupFault}
+use Rattle.coniks_directory.proofs.EpochLemmas.{numbers}
+use Rattle.coniks_directory.proofs.MirrorLemmas.{mirrored_path, mirrored_root}
+
+-- the numbers of the history are those of the epochs
+pub numbers-history : (records : List Record) (es : List Epoch) → numbers_of (map (shown_of records) es) ≡ numbers es
+numbers-history records [] = refl
+numbers-history records (e ∷ es) = ap (λ ns. e.t ∷ ns) (numbers-history records es)
+
+-- what the history shows of an epoch
+pub shown-found : (records : List Record) (es : List Epoch) (t : ℕ) → shown_at (map (shown_of records) es) t ≡ option_map (shown_of records) (find (λ (e : Epoch). e.t == t) es)
+shown-found records [] t = refl
+shown-found records (e ∷ es) t = (elim (e.t == t) as (λ v. cond v (Some (shown_of records e)) (shown_at (map (shown_of records) es) t) ≡ option_map (shown_of records) (cond v (Some e) (find (λ (f : Epoch). f.t == t) es))) [
+  | true ↦ refl
+  | false ↦ shown-found records es t
+])
+
+-- an epoch that is found holds what is true of it
+held_found : (hash of : List ℕ → List ℕ) (s : State) (es : List Epoch) (t : ℕ) (e : Epoch) → ((k : ℕ) (f : Epoch) → slice_get es k ≡ Some f → HoldsEpoch hash of s.nonce s.nodes s.records f)
+    → find (λ (f : Epoch). f.t == t) es ≡ Some e → HoldsEpoch hash of s.nonce s.nodes s.records e
+held_found hash of s [] t e held is = absurd (let never = is in cc)
+held_found hash of s (f ∷ fs) t e held is = (elim (f.t == t) as (λ v. cond v (Some f) (find (λ (g : Epoch). g.t == t) fs) ≡ Some e → HoldsEpoch hash of s.nonce s.nodes s.records e) [
+  | true ↦ λ h. let same : f ≡ e = cc in subst (HoldsEpoch hash of s.nonce s.nodes s.records) same (held 0 f refl)
+  | false ↦ λ h. held_found hash of s fs t e (λ k g there. held (suc k) g there) h
+]) is
+
+module _ (hash of : List ℕ → List ℕ) (s : State) (whole : Whole hash of s) (t : ℕ) (e : Epoch) (found : find (λ (f : Epoch). f.t == t) s.epochs ≡ Some e) where
+  pub holds : HoldsEpoch hash of s.nonce s.nodes s.records e
+  holds = held_found hash of s s.epochs t e whole.held found
+
+  pub shown_there : shown_at (history_of s) t ≡ Some (shown_of s.records e)
+  shown_there = shown-found s.records s.epochs t ∙ ap (option_map (shown_of s.records)) found
+
+  -- the hash of its root is that of its registry
+  pub rooted : (root : List ℕ) → ((entries : List Numbered) → Shows hash e.nonce.0 s.nodes s.records e.root.0 [] entries → root ≡ node hash e.nonce.0 [] entries)
+      → Some root ≡ option_map (root_at hash of) (shown_at (history_of s) t)
+  rooted root is =
+      let r = holds.registry in
+      ap Some (is r.entries r.shows ∙ mirrored_root hash of e.nonce.0 s.records r.entries (shown_of s.records e).registry r.mirrors)
+      ∙ sym (ap (option_map (root_at hash of)) shown_there)
+
+  -- a path from its root is one in its registry's tree
+  pub pathed : (j : List ℕ) (proof : Proof) → ((entries : List Numbered) → Shows hash e.nonce.0 s.nodes s.records e.root.0 [] entries → IsPath hash e.nonce.0 (map (backed_by (registered_at s.records)) entries) j proof)
+      → IsPath hash e.nonce.0 (entries_of hash of (shown_of s.records e).registry) j proof
+  pathed j proof is = let r = holds.registry in mirrored_path hash of e.nonce.0 s.records r.entries (shown_of s.records e).registry r.mirrors j proof (is r.entries r.shows)
+
+  pub found_there : (name : List ℕ) (proof : Proof) → fits MAX_NAME name ≡ true → IsPath hash e.nonce.0 (entries_of hash of (shown_of s.records e).registry) (of name) proof → IsFound hash of (history_of s) t name proof
+  found_there name proof sized path = record { shown = shown_of s.records e; installed = shown_there; sized = sized; path = path }
+
+  pub accepted_there : (name : List ℕ) (proof : Proof) → IsLength MAX_NAME name → IsPath hash e.nonce.0 (entries_of hash of (shown_of s.records e).registry) (of name) proof → IsAcceptedAt hash of (history_of s) t name proof
+  accepted_there name proof sized path shown there alone =
+      let same : shown_of s.records e ≡ shown = one_shown (shown_of s.records e) shown (sym shown_there ∙ there) in
+      let m = holds.registry.mirrors in
+      subst (λ (x : Shown). ((other : List ℕ) → has_name x.registry other ≡ true → of other ≡ of name → other ≡ name) → Accepts hash x.nonce (root_at hash of x) (of name) name proof (key_of x.registry name)) same
+      (λ own. path_accepted hash of e.nonce.0 (root_at hash of (shown_of s.records e)) (shown_of s.records e).registry name proof m.names m.limits refl path own sized) alone
+    where
+      one_shown : (x y : Shown) → Some x ≡ Some y → x ≡ y
+      one_shown x y h = cc
+
+pub none_there : (s : State) (t : ℕ) → find (λ (f : Epoch). f.t == t) s.epochs ≡ None → shown_at (history_of s) t ≡ None
+none_there s t none = shown-found s.records s.epochs t ∙ ap (option_map (shown_of s.records)) none
+
+pub some_there : (s : State) (t : ℕ) (e : Epoch) → find (λ (f : Epoch). f.t == t) s.epochs ≡ Some e → is_some (shown_at (history_of s) t) ≡ true
+some_there s t e found = ap is_some (shown-found s.records s.epochs t ∙ ap (option_map (shown_of s.records)) found)
+
+-- ---- through the view
+
+pub third : {H X : Type 0} {s : State} {h : H} {x : X} {v : H × X × State} → (let w : H × X × State = (h, x, s) in w ≡ v) → s ≡ v.2
+third {H} {X} {s} {h} {x} {v} same = ap (λ (w : H × X × State). w.2) same
+
+module _ {H X : Type 0} (digest : H → List ℕ → List ℕ) (index : X → List ℕ → List ℕ) (h : H) (x : X) (s : State) (v : H × X × State) (same : (let w : H × X × State = (h, x, s) in w ≡ v)) where
+  pub root_in_view : (t : ℕ) (found : Option (List ℕ)) → found ≡ option_map (root_at (digest h) (index x)) (shown_at (history_of s) t)
+      → found ≡ option_map (root_at (digest v.0) (index v.1)) (shown_at (history_of v.2) t)
+  root_in_view t found is = subst (λ (w : H × X × State). found ≡ option_map (root_at (digest w.0) (index w.1)) (shown_at (history_of w.2) t)) same is
+
+  pub found_in_view : (t : ℕ) (name : List ℕ) (proof : Proof) → IsFound (digest h) (index x) (history_of s) t name proof → IsFound (digest v.0) (index v.1) (history_of v.2) t name proof
+  found_in_view t name proof is = subst (λ (w : H × X × State). IsFound (digest w.0) (index w.1) (history_of w.2) t name proof) same is
+
+  pub accepted_in_view : (t : ℕ) (name : List ℕ) (proof : Proof) → IsAcceptedAt (digest h) (index x) (history_of s) t name proof → IsAcceptedAt (digest v.0) (index v.1) (history_of v.2) t name proof
+  accepted_in_view t name proof is = subst (λ (w : H × X × State). IsAcceptedAt (digest w.0) (index w.1) (history_of w.2) t name proof) same is
+
+  pub missed_in_view : (t : ℕ) (name : List ℕ) (fault : LookupFault) → IsMissed (history_of s) t name fault → IsMissed (history_of v.2) t name fault
+  missed_in_view t name fault is = subst (λ (w : H × X × State). IsMissed (history_of w.2) t name fault) same is

@@ -1,0 +1,60 @@
+-- The entries under a root and the bindings of the registry that they mirror.
+use Rattle.std.proofs.Common.{◌≡◌, ℕ, List, [], ◌∷◌, map, refl, sym, ap, subst, ◌∙◌, inl, inr}
+use Rattle.coniks_proof.specs.Entries.{Entry, IsIn, backed_by}
+use Rattle.coniks_proof.specs.Maps.{IsMap, IsNew, SameEntries}
+use Rattle.coniks_proof.specs.Paths.{EndIs, IsPath}
+use Rattle.coniks_proof.specs.Registry.{Registered, Registry, entries_of, root_of}
+use Rattle.coniks_proof.specs.Tree.{node}
+use Rattle.coniks_proof.specs.declared.paths.Proof.{Proof}
+use Rattle.coniks_proof.proofs.BackedLemmas.{node-backed}
+use Rattle.coniks_proof.proofs.MapLemmas.{node-same, siblings-same, end_of-same}
+use Rattle.coniks_tree.specs.Table.{Numbered, Extends, registered_at, registered_by}
+use Rattle.coniks_tree.specs.declared.table.Record.{Record}
+use Rattle.coniks_directory.specs.State.{IsStored, Mirrors}
+
+-- what a stored entry's record binds stays
+pub registered_at-extended : (records more : List Record) (e : Numbered) → Extends records more → IsStored records e → registered_at more e.behind ≡ registered_at records e.behind
+registered_at-extended records more e kept s = ap registered_by (kept e.behind s.0 s.1 ∙ sym s.1)
+
+backed-extended : (records more : List Record) (es : List Numbered) → Extends records more → ((e : Numbered) → IsIn e es → IsStored records e)
+    → map (backed_by (registered_at more)) es ≡ map (backed_by (registered_at records)) es
+backed-extended records more [] kept s = refl
+backed-extended records more (e ∷ es) kept s =
+    let entry : Registered → Entry Registered = λ b. record { index = e.index; commitment = e.commitment; behind = b } in
+    ap (λ b. entry b ∷ map (backed_by (registered_at more)) es) (registered_at-extended records more e kept (s e (inl refl)))
+    ∙ ap (λ xs. entry (registered_at records e.behind) ∷ xs) (backed-extended records more es kept (λ x is. s x (inr is)))
+
+-- entries that mirror a registry do so with more records
+pub Mirrors-extended : (hash of : List ℕ → List ℕ) (records more : List Record) (es : List Numbered) (registry : Registry) → Extends records more → Mirrors hash of records es registry → Mirrors hash of more es registry
+Mirrors-extended hash of records more es registry kept m = record {
+  stored = λ e is. let s = m.stored e is in (s.0, kept e.behind s.0 s.1, s.2);
+  indices = m.indices;
+  names = m.names;
+  same = subst (λ (xs : List (Entry Registered)). SameEntries xs (entries_of hash of registry)) (sym (backed-extended records more es kept m.stored)) m.same;
+  limits = m.limits;
+}
+
+IsNew-backed : {B C : Type 0} (f : B → C) (index : List ℕ) (es : List (Entry B)) → IsNew index es → IsNew index (map (backed_by f) es)
+IsNew-backed f index [] new = tt
+IsNew-backed f index (e ∷ es) new = (new.0, IsNew-backed f index es new.1)
+
+pub IsMap-backed : {B C : Type 0} (f : B → C) (es : List (Entry B)) → IsMap es → IsMap (map (backed_by f) es)
+IsMap-backed f [] m = tt
+IsMap-backed f (e ∷ es) m = (m.0, IsNew-backed f e.index es m.1, IsMap-backed f es m.2)
+
+module _ (hash of : List ℕ → List ℕ) (nonce : List ℕ) (records : List Record) (es : List Numbered) (registry : Registry) (m : Mirrors hash of records es registry) where
+  -- the root over the entries is that of the registry
+  pub mirrored_root : node hash nonce [] es ≡ root_of hash of nonce registry
+  mirrored_root =
+      sym (node-backed (registered_at records) hash nonce [] es)
+      ∙ node-same hash nonce [] (map (backed_by (registered_at records)) es) (entries_of hash of registry) (IsMap-backed (registered_at records) es m.indices) m.names m.same
+
+  -- a path in the tree over the entries is one in the tree over the registry
+  pub mirrored_path : (j : List ℕ) (proof : Proof) → IsPath hash nonce (map (backed_by (registered_at records)) es) j proof → IsPath hash nonce (entries_of hash of registry) j proof
+  mirrored_path j proof path =
+      let backed = map (backed_by (registered_at records)) es in
+      let indices = IsMap-backed (registered_at records) es m.indices in
+      record {
+        siblings_are = path.siblings_are ∙ siblings-same hash nonce [] j backed (entries_of hash of registry) indices m.names m.same;
+        end_is = subst (λ (xs : List (Entry Registered)). EndIs j xs proof.end) (end_of-same [] j backed (entries_of hash of registry) indices m.names m.same) path.end_is;
+      }

@@ -1,0 +1,179 @@
+-- The names of a registry that is rebound or overlaid, and clashes of their indices.
+use Rattle.std.proofs.Common.{◌≡◌, ◌≢◌, ℕ, List, [], ◌∷◌, ◌++◌, Bool, true, false, refl, sym, ap, subst, ◌∙◌, cond, not, ◌||◌, ◌&&◌, ◌⊎◌, inl, inr}
+use Rattle.std.specs.List.{filter}
+use Rattle.std.specs.Str.{bytes_eq}
+use Rattle.std.proofs.lemmas.Slice.Eq.{bytes_eq-Decides}
+use Rattle.coniks_proof.specs.Entries.{IsIn}
+use Rattle.coniks_proof.specs.Maps.{IsIndex, IsNew, IsMap}
+use Rattle.coniks_proof.specs.Registry.{Registered, Registry, has_name, rebound, overlaid, entries_of}
+use Rattle.coniks_proof.specs.Batches.{clashes}
+use Rattle.coniks_proof.proofs.MapLemmas.{IsIn-filter, of_filter, passes}
+use Rattle.coniks_proof.proofs.RegistryLemmas.{named_in}
+
+pub not_true : (b : Bool) → (b ≡ true → ⊥) → b ≡ false
+not_true true h = absurd (h refl)
+not_true false h = refl
+
+pub eq_same : (x y : List ℕ) → x ≡ y → bytes_eq x y ≡ true
+eq_same x y same = (bytes_eq-Decides x y).1 same
+
+pub eq_apart : (x y : List ℕ) → x ≢ y → bytes_eq x y ≡ false
+eq_apart x y apart = not_true (bytes_eq x y) (λ on. apart ((bytes_eq-Decides x y).0 on))
+
+-- a binding of this name
+pub record Named (registry : Registry) (name : List ℕ) : Type 0 where
+  pub bound : Registered
+  pub there : IsIn bound registry
+  pub named : bound.name ≡ name
+
+pub named_of : (registry : Registry) (name : List ℕ) → has_name registry name ≡ true → Named registry name
+named_of [] name h = absurd (let found = h in cc)
+named_of (b ∷ bs) name h = (elim (bytes_eq b.name name) as (λ v. bytes_eq b.name name ≡ v → v || has_name bs name ≡ true → Named (b ∷ bs) name) [
+  | true ↦ λ on _. record { bound = b; there = inl refl; named = (bytes_eq-Decides b.name name).0 on }
+  | false ↦ λ _ k. let n = named_of bs name k in record { bound = n.bound; there = inr n.there; named = n.named }
+]) refl h
+
+pub has_of : (registry : Registry) (name : List ℕ) (b : Registered) → IsIn b registry → b.name ≡ name → has_name registry name ≡ true
+has_of registry name b there same = subst (λ n. has_name registry n ≡ true) same (named_in b registry there)
+
+-- ---- rebound
+
+IsIn-append_left : {T : Type 0} (x : T) (xs ys : List T) → IsIn x xs → IsIn x (xs ++ ys)
+IsIn-append_left x [] ys there = absurd there
+IsIn-append_left x (z ∷ xs) ys (inl here) = inl here
+IsIn-append_left x (z ∷ xs) ys (inr later) = inr (IsIn-append_left x xs ys later)
+
+IsIn-last : {T : Type 0} (x : T) (xs : List T) → IsIn x (xs ++ x ∷ [])
+IsIn-last x [] = inl refl
+IsIn-last x (z ∷ xs) = inr (IsIn-last x xs)
+
+IsIn-split : {T : Type 0} (x y : T) (xs : List T) → IsIn x (xs ++ y ∷ []) → IsIn x xs ⊎ (y ≡ x)
+IsIn-split x y [] (inl here) = inr here
+IsIn-split x y [] (inr later) = absurd later
+IsIn-split x y (z ∷ xs) (inl here) = inl (inl here)
+IsIn-split x y (z ∷ xs) (inr later) = elim (IsIn-split x y xs later) [ inl there ↦ inl (inr there) | inr same ↦ inr same ]
+
+not_named : (b c : Registered) → not (bytes_eq c.name b.name) ≡ true → c.name ≢ b.name
+not_named b c on same = let here = eq_same c.name b.name same in cc
+
+-- the bindings of a registry that is rebound: the new one, and those of other names
+pub in_rebound : (registry : Registry) (b c : Registered) → IsIn c (rebound registry b) → (b ≡ c) ⊎ (IsIn c registry × (c.name ≢ b.name))
+in_rebound registry b c there = elim (IsIn-split c b (filter (λ x. not (bytes_eq x.name b.name)) registry) there) [
+  | inl old ↦ inr (of_filter c (λ x. not (bytes_eq x.name b.name)) registry old, not_named b c (passes c (λ x. not (bytes_eq x.name b.name)) registry old))
+  | inr same ↦ inl same
+]
+
+pub rebound_new : (registry : Registry) (b : Registered) → IsIn b (rebound registry b)
+rebound_new registry b = IsIn-last b (filter (λ x. not (bytes_eq x.name b.name)) registry)
+
+pub rebound_old : (registry : Registry) (b c : Registered) → IsIn c registry → c.name ≢ b.name → IsIn c (rebound registry b)
+rebound_old registry b c there apart =
+    let on : not (bytes_eq c.name b.name) ≡ true = ap not (eq_apart c.name b.name apart) in
+    IsIn-append_left c (filter (λ x. not (bytes_eq x.name b.name)) registry) (b ∷ []) (IsIn-filter c (λ x. not (bytes_eq x.name b.name)) registry on there)
+
+-- ---- names
+
+or_assoc : (a b c : Bool) → (a || b) || c ≡ a || (b || c)
+or_assoc true b c = refl
+or_assoc false b c = refl
+
+or_right : (a : Bool) → a || true ≡ true
+or_right true = refl
+or_right false = refl
+
+-- two tests that hold of the same are the same
+pub same_bool : (a b : Bool) → (a ≡ true → b ≡ true) → (b ≡ true → a ≡ true) → a ≡ b
+same_bool true b f g = sym (f refl)
+same_bool false true f g = g refl
+same_bool false false f g = refl
+
+pub or_cases : (a b : Bool) → a || b ≡ true → (a ≡ true) ⊎ (b ≡ true)
+or_cases true b h = inl refl
+or_cases false b h = inr h
+
+pub has_name-append : (xs ys : List Registered) (name : List ℕ) → has_name (xs ++ ys) name ≡ has_name xs name || has_name ys name
+has_name-append [] ys name = refl
+has_name-append (x ∷ xs) ys name = ap (λ v. bytes_eq x.name name || v) (has_name-append xs ys name) ∙ sym (or_assoc (bytes_eq x.name name) (has_name xs name) (has_name ys name))
+
+pub overlaid-append : (registry : Registry) (xs ys : List Registered) → overlaid registry (xs ++ ys) ≡ overlaid (overlaid registry xs) ys
+overlaid-append registry [] ys = refl
+overlaid-append registry (x ∷ xs) ys = overlaid-append (rebound registry x) xs ys
+
+-- ---- maps
+
+IsNew-kept : (hash of : List ℕ → List ℕ) (f : Registered → Bool) (index : List ℕ) (bs : Registry) → IsNew index (entries_of hash of bs) → IsNew index (entries_of hash of (filter f bs))
+IsNew-kept hash of f index [] new = tt
+IsNew-kept hash of f index (b ∷ bs) new = elim (f b) as (λ v. IsNew index (entries_of hash of (cond v (b ∷ filter f bs) (filter f bs)))) [
+  | true ↦ (new.0, IsNew-kept hash of f index bs new.1)
+  | false ↦ IsNew-kept hash of f index bs new.1
+]
+
+IsMap-kept : (hash of : List ℕ → List ℕ) (f : Registered → Bool) (bs : Registry) → IsMap (entries_of hash of bs) → IsMap (entries_of hash of (filter f bs))
+IsMap-kept hash of f [] map = tt
+IsMap-kept hash of f (b ∷ bs) map = elim (f b) as (λ v. IsMap (entries_of hash of (cond v (b ∷ filter f bs) (filter f bs)))) [
+  | true ↦ (map.0, IsNew-kept hash of f (of b.name) bs map.1, IsMap-kept hash of f bs map.2)
+  | false ↦ IsMap-kept hash of f bs map.2
+]
+
+IsNew-one_more : (hash of : List ℕ → List ℕ) (index : List ℕ) (bs : Registry) (b : Registered) → IsNew index (entries_of hash of bs) → index ≢ of b.name → IsNew index (entries_of hash of (bs ++ b ∷ []))
+IsNew-one_more hash of index [] b new apart = (apart, tt)
+IsNew-one_more hash of index (c ∷ bs) b new apart = (new.0, IsNew-one_more hash of index bs b new.1 apart)
+
+pub IsMap-one_more : (hash of : List ℕ → List ℕ) (bs : Registry) (b : Registered) → IsMap (entries_of hash of bs) → IsIndex (of b.name) → ((c : Registered) → IsIn c bs → of c.name ≢ of b.name)
+    → IsMap (entries_of hash of (bs ++ b ∷ []))
+IsMap-one_more hash of [] b map index apart = (index, tt, tt)
+IsMap-one_more hash of (c ∷ bs) b map index apart =
+    (map.0, IsNew-one_more hash of (of c.name) bs b map.1 (apart c (inl refl)), IsMap-one_more hash of bs b map.2 index (λ d there. apart d (inr there)))
+
+-- a registry that is rebound at an index of which no other name is, is a map
+pub IsMap-rebound : (hash of : List ℕ → List ℕ) (registry : Registry) (b : Registered) → IsMap (entries_of hash of registry) → IsIndex (of b.name)
+    → ((c : Registered) → IsIn c registry → c.name ≢ b.name → of c.name ≢ of b.name) → IsMap (entries_of hash of (rebound registry b))
+IsMap-rebound hash of registry b map index apart =
+    let kept : Registered → Bool = λ x. not (bytes_eq x.name b.name) in
+    IsMap-one_more hash of (filter kept registry) b (IsMap-kept hash of kept registry map) index
+    (λ c there. apart c (of_filter c kept registry there) (not_named b c (passes c kept registry there)))
+
+-- ---- clashes
+
+-- another name with the index
+pub record Clash (of : List ℕ → List ℕ) (registry : Registry) (name : List ℕ) : Type 0 where
+  pub other : List ℕ
+  pub at : of other ≡ of name
+  pub there : has_name registry other ≡ true
+  pub apart : other ≢ name
+
+clash_test : (of : List ℕ → List ℕ) (b : Registered) (name : List ℕ) → bytes_eq (of b.name) (of name) && not (bytes_eq b.name name) ≡ true → (of b.name ≡ of name) × (b.name ≢ name)
+clash_test of b name on =
+    (elim (bytes_eq (of b.name) (of name)) as (λ v. bytes_eq (of b.name) (of name) ≡ v → v && not (bytes_eq b.name name) ≡ true → (of b.name ≡ of name) × (b.name ≢ name)) [
+      | true ↦ λ same h. ((bytes_eq-Decides (of b.name) (of name)).0 same, λ is. let here = eq_same b.name name is in cc)
+      | false ↦ λ _ h. absurd (let never = h in cc)
+    ]) refl on
+
+pub clash_found : (of : List ℕ → List ℕ) (registry : Registry) (name : List ℕ) → clashes of registry name ≡ true → Clash of registry name
+clash_found of [] name h = absurd (let never = h in cc)
+clash_found of (b ∷ bs) name h = elim (or_cases (bytes_eq (of b.name) (of name) && not (bytes_eq b.name name)) (clashes of bs name) h) [
+  | inl here ↦ let t = clash_test of b name here in record { other = b.name; at = t.0; there = named_in b (b ∷ bs) (inl refl); apart = t.1 }
+  | inr later ↦ let c = clash_found of bs name later in record { other = c.other; at = c.at; there = ap (λ v. bytes_eq b.name c.other || v) c.there ∙ or_right (bytes_eq b.name c.other); apart = c.apart }
+]
+
+pub clash_of : (of : List ℕ → List ℕ) (registry : Registry) (name : List ℕ) (b : Registered) → IsIn b registry → of b.name ≡ of name → b.name ≢ name → clashes of registry name ≡ true
+clash_of of [] name b there at apart = absurd there
+clash_of of (c ∷ cs) name b (inl here) at apart =
+    let on : bytes_eq (of c.name) (of name) ≡ true = eq_same (of c.name) (of name) (ap (λ (x : Registered). of x.name) here ∙ at) in
+    let off : bytes_eq c.name name ≡ false = eq_apart c.name name (λ same. apart (ap (λ (x : Registered). x.name) (sym here) ∙ same)) in
+    rw (on, off) refl
+clash_of of (c ∷ cs) name b (inr later) at apart =
+    let later' = clash_of of cs name b later at apart in
+    ap (λ v. (bytes_eq (of c.name) (of name) && not (bytes_eq c.name name)) || v) later' ∙ or_right (bytes_eq (of c.name) (of name) && not (bytes_eq c.name name))
+
+pub clash_made : (of : List ℕ → List ℕ) (registry : Registry) (name : List ℕ) → Clash of registry name → clashes of registry name ≡ true
+clash_made of registry name c =
+    let n = named_of registry c.other c.there in
+    clash_of of registry name n.bound n.there (ap of n.named ∙ c.at) (λ same. c.apart (sym n.named ∙ same))
+
+-- the clashes with two lists are those with either
+pub clashes-append : (of : List ℕ → List ℕ) (xs ys : List Registered) (name : List ℕ) → clashes of (xs ++ ys) name ≡ clashes of xs name || clashes of ys name
+clashes-append of [] ys name = refl
+clashes-append of (x ∷ xs) ys name =
+    let here = bytes_eq (of x.name) (of name) && not (bytes_eq x.name name) in
+    ap (λ v. here || v) (clashes-append of xs ys name) ∙ sym (or_assoc here (clashes of xs name) (clashes of ys name))

@@ -1,0 +1,142 @@
+-- An update of a batch on the state of a directory.
+use Rattle.std.proofs.Common.{◌≡◌, ℕ, zero, suc, ◌+◌, ◌*◌, ◌-◌, ◌<◌, ◌≤◌, List, [], ◌∷◌, ◌++◌, length, map, arith, refl, sym, ap, subst, ◌∙◌, Option, Some, None, IfErr, IfSome, Result, Err, option_map, slice_get}
+use Rattle.std.specs.Option.{option_map_or}
+use Rattle.std.proofs.lemmas.List.{map-append}
+use Rattle.coniks_proof.specs.Batches.{Operation, after, bound_by}
+use Rattle.coniks_proof.specs.Registry.{Registered, Registry, overlaid}
+use Rattle.coniks_proof.specs.declared.values.Nonce.{Nonce}
+use Rattle.coniks_proof.specs.declared.values.TheConstants.{MAX_OPERATIONS}
+use Rattle.coniks_tree.specs.Parts.{Fits, Stands, node_count}
+use Rattle.coniks_tree.specs.declared.table.Root.{Root}
+use Rattle.coniks_work.specs.Grown.{unchanged}
+use Rattle.coniks_work.specs.declared.jobs.TheConstants.{MAX_DEPTH}
+use Rattle.coniks_directory.specs.Batches.{AreWorkers, IsAccepted, IsBatchFault, most_nodes}
+use Rattle.coniks_directory.specs.Built.{IsBuilt}
+use Rattle.coniks_directory.specs.History.{Shown, latest_nonce, latest_registry}
+use Rattle.coniks_directory.specs.Holders.{ShowsLatest}
+use Rattle.coniks_directory.specs.Judged.{IsJudgedFault}
+use Rattle.coniks_directory.specs.State.{Mirrors, ShowsRegistry, State, Whole, history_of, registered_of, shown_of}
+use Rattle.coniks_directory.specs.Updates.{IsUpdate, records_after, registry_after}
+use Rattle.coniks_directory.specs.declared.batch.BatchFault.{BatchFault}
+use Rattle.coniks_directory.specs.declared.batch.BatchFault.TheVariants.{Workers, Depth, BatchTooLong, At, OutOfMemory}
+use Rattle.coniks_directory.specs.declared.epochs.Epoch.{Epoch}
+use Rattle.coniks_directory.specs.declared.update.Prepared.{Prepared}
+use Rattle.coniks_directory.proofs.NameLemmas.{overlaid-append}
+use Rattle.coniks_directory.proofs.StateLemmas.{latest-is, latest-last, nonce-last, registry_at-all}
+
+some_at : {T : Type 0} (xs : List T) (n : ℕ) → n < length xs → slice_get xs n ≡ None → ⊥
+some_at [] n within none = absurd (omega arith)
+some_at (x ∷ xs) zero within none = let never = none in cc
+some_at (x ∷ xs) (suc n) within none = some_at xs n (omega arith) none
+
+none_last : {T : Type 0} (xs : List T) → slice_get xs (length xs - 1) ≡ None → xs ≡ []
+none_last [] none = refl
+none_last (x ∷ xs) none = absurd (some_at (x ∷ xs) (length (x ∷ xs) - 1) (omega arith) none)
+
+-- the root of the last epoch, and the nonce under which the next tree is hashed
+abbrev pub root_of_last : Option Epoch → Option Root
+root_of_last last = option_map (λ (e : Epoch). e.root) last
+
+module _ (hash of : List ℕ → List ℕ) (s : State) (whole : Whole hash of s) where
+  -- the next tree is hashed under the latest nonce
+  pub nonce_is : (last : Option Epoch) (opened : Nonce) → last ≡ slice_get s.epochs (length s.epochs - 1) → opened.0 ≡ s.nonce
+      → (option_map_or (λ (e : Epoch). e.nonce) last opened).0 ≡ latest_nonce s.nonce (history_of s)
+  nonce_is None opened is same = same ∙ sym (ap (λ (es : List Epoch). latest_nonce s.nonce (map (shown_of s.records) es)) (none_last s.epochs (sym is)))
+  nonce_is (Some e) opened is same = sym (nonce-last s e (sym is))
+
+  -- the last root shows the latest registry
+  pub shows_latest : (last : Option Epoch) → last ≡ slice_get s.epochs (length s.epochs - 1)
+      → ShowsLatest hash of (latest_nonce s.nonce (history_of s)) s.nodes s.records (root_of_last last) (latest_registry (history_of s))
+  shows_latest None is = ap (λ (es : List Epoch). latest_registry (map (shown_of s.records) es)) (none_last s.epochs (sym is))
+  shows_latest (Some e) is =
+      let held = whole.held (length s.epochs - 1) e (sym is) in
+      subst (λ (n : List ℕ). ShowsRegistry hash of n s.nodes s.records e.root.0 (latest_registry (history_of s))) (sym (nonce-last s e (sym is)))
+      (subst (λ (R : Registry). ShowsRegistry hash of e.nonce.0 s.nodes s.records e.root.0 R) (sym (latest-last s e (sym is))) held.registry)
+
+  -- and it is the number of a node
+  pub known_root : (last : Option Epoch) → last ≡ slice_get s.epochs (length s.epochs - 1) → IfSome (root_of_last last) (λ r. r.0 < length s.nodes)
+  known_root None is = tt
+  known_root (Some e) is = (whole.held (length s.epochs - 1) e (sym is)).known
+
+  -- what is left of the latest registry after a batch is what all records leave
+  pub registry_is : (p : Prepared) (ops : List Operation) → map registered_of p.records.items ≡ map bound_by ops → registry_after s p ≡ after (latest_registry (history_of s)) ops
+  registry_is p ops binds =
+      registry_at-all (s.records ++ p.records.items)
+      ∙ ap (overlaid []) (map-append registered_of s.records p.records.items ∙ ap (λ (bs : List Registered). map registered_of s.records ++ bs) binds)
+      ∙ overlaid-append [] (map registered_of s.records) (map bound_by ops)
+      ∙ ap (λ (R : Registry). overlaid R (map bound_by ops)) (sym (latest-is hash of s whole ∙ registry_at-all s.records))
+
+  -- and so it does as the code finds it
+  pub shown_now : (last : Option Epoch) (opened nonce : Nonce) (root : Option Root) → last ≡ slice_get s.epochs (length s.epochs - 1) → opened.0 ≡ s.nonce → root ≡ root_of_last last
+      → nonce ≡ option_map_or (λ (e : Epoch). e.nonce) last opened → ShowsLatest hash of nonce.0 s.nodes s.records root (latest_registry (history_of s))
+  shown_now last opened nonce root is same root-is nonce-is =
+      let R = latest_registry (history_of s) in
+      let now : nonce.0 ≡ latest_nonce s.nonce (history_of s) = ap (λ (n : Nonce). n.0) nonce-is ∙ nonce_is last opened is same in
+      subst (λ (n : List ℕ). ShowsLatest hash of n s.nodes s.records root R) (sym now)
+      (subst (λ (r : Option Root). ShowsLatest hash of (latest_nonce s.nonce (history_of s)) s.nodes s.records r R) (sym root-is) (shows_latest last is))
+
+  pub is_update : (p : Prepared) (ops : List Operation) (base : ℕ) (nonce : Nonce) → base ≡ length s.epochs → p.base ≡ base → p.version ≡ 1 → p.nonce ≡ nonce → nonce.0 ≡ latest_nonce s.nonce (history_of s)
+      → Fits (length s.nodes) 0 p.part → IsBuilt hash of nonce.0 s.nodes s.records (latest_registry (history_of s)) ops p.part p.records.items → IsUpdate hash of s p
+  is_update p ops base nonce base-is at-base version under now fits b = record {
+    base = at-base ∙ base-is;
+    counted = whole.last;
+    version = version;
+    nonce = ap (λ (n : Nonce). n.0) under ∙ now;
+    fits = fits;
+    placed = b.placed;
+    entries = b.entries;
+    stands = subst (λ (n : Nonce). Stands hash n.0 s.nodes s.records p.part [] b.entries) (sym under) b.stands;
+    mirrors = subst (λ (R : Registry). Mirrors hash of (records_after s p) b.entries R) (sym (registry_is p ops b.binds)) b.mirrors;
+  }
+
+  -- how many nodes an update without operations adds
+  pub none_added : (last : Option Epoch) → last ≡ slice_get s.epochs (length s.epochs - 1) → node_count (unchanged (root_of_last last)) ≡ most_nodes (history_of s) 0
+  none_added None is = sym (ap (λ (es : List Epoch). most_nodes (map (shown_of s.records) es) 0) (none_last s.epochs (sym is)))
+  none_added (Some e) is = some_there s.epochs (sym is)
+    where
+      some_there : (es : List Epoch) → slice_get es (length es - 1) ≡ Some e → 0 ≡ most_nodes (map (shown_of s.records) es) 0
+      some_there [] at = absurd (let never = at in cc)
+      some_there (x ∷ es) at = refl
+
+most_some : (history : List Shown) (n : ℕ) → most_nodes history (suc n) ≡ 512 * suc n + 1
+most_some [] n = refl
+most_some (s ∷ ss) n = refl
+
+-- how many nodes an update adds at most
+pub few_added : (history : List Shown) (n added : ℕ) → (0 < n → added ≤ 512 * n + 1) → (n ≡ 0 → added ≡ most_nodes history 0) → added ≤ most_nodes history n
+few_added history zero added some none = let same = none refl in omega arith
+few_added history (suc n) added some none = let few = some (omega arith) in let most = most_some history n in omega arith
+
+-- the fault of an operation is one of the batch, whose workers, depth and length are within their limits
+pub batch_fault : (of : List ℕ → List ℕ) (registry : Registry) (ops : List Operation) (depth workers : ℕ) (fault : BatchFault) → AreWorkers workers → depth ≤ MAX_DEPTH → length ops ≤ MAX_OPERATIONS
+    → IsJudgedFault of registry ops fault → IsBatchFault of registry ops depth workers fault
+batch_fault of registry ops depth workers Workers crew shallow few f = absurd f
+batch_fault of registry ops depth workers Depth crew shallow few f = absurd f
+batch_fault of registry ops depth workers BatchTooLong crew shallow few f = absurd f
+batch_fault of registry ops depth workers (At place fault) crew shallow few f = (crew, shallow, few, f)
+batch_fault of registry ops depth workers OutOfMemory crew shallow few f = (crew, shallow, few)
+
+-- ---- through the view
+
+module _ {H X : Type 0} (digest : H → List ℕ → List ℕ) (index : X → List ℕ → List ℕ) (h : H) (x : X) (s : State) (v : H × X × State) (same : (h, x, s) ≡ v) where
+  pub update_in_view : (p : Prepared) → IsUpdate (digest h) (index x) s p → IsUpdate (digest v.0) (index v.1) v.2 p
+  update_in_view p is = subst (λ (w : H × X × State). IsUpdate (digest w.0) (index w.1) w.2 p) same is
+
+  pub registry_in_view : (p : Prepared) (ops : List Operation) → registry_after s p ≡ after (latest_registry (history_of s)) ops → registry_after v.2 p ≡ after (latest_registry (history_of v.2)) ops
+  registry_in_view p ops is = subst (λ (w : H × X × State). registry_after w.2 p ≡ after (latest_registry (history_of w.2)) ops) same is
+
+  pub few_in_view : (n added : ℕ) → added ≤ most_nodes (history_of s) n → added ≤ most_nodes (history_of v.2) n
+  few_in_view n added is = subst (λ (w : H × X × State). added ≤ most_nodes (history_of w.2) n) same is
+
+  pub none_in_view : (added : ℕ) → added ≡ most_nodes (history_of s) 0 → added ≡ most_nodes (history_of v.2) 0
+  none_in_view added is = subst (λ (w : H × X × State). added ≡ most_nodes (history_of w.2) 0) same is
+
+  pub accepted_in_view : (ops : List Operation) (depth workers : ℕ) → IsAccepted (index x) (latest_registry (history_of s)) ops depth workers → IsAccepted (index v.1) (latest_registry (history_of v.2)) ops depth workers
+  accepted_in_view ops depth workers is = subst (λ (w : H × X × State). IsAccepted (index w.1) (latest_registry (history_of w.2)) ops depth workers) same is
+
+  pub refused_in_view : (ops : List Operation) (depth workers : ℕ) (fault : BatchFault) → IsBatchFault (index x) (latest_registry (history_of s)) ops depth workers fault → IsBatchFault (index v.1) (latest_registry (history_of v.2)) ops depth workers fault
+  refused_in_view ops depth workers fault is = subst (λ (w : H × X × State). IsBatchFault (index w.1) (latest_registry (history_of w.2)) ops depth workers fault) same is
+
+-- what is true of a fault is true of an answer with that fault
+pub answered : {T E : Type 0} (result : Result T E) (fault : E) (P : E → Type 0) → result ≡ Err fault → P fault → IfErr result P
+answered result fault P is p = subst (λ r. IfErr r P) (sym is) p

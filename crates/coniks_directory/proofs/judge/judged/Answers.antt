@@ -1,0 +1,61 @@
+use Rattle.std.proofs.Common.{◌≡◌, List, ℕ, Some, None, Ok, length, map, take, slice_get, option_map, arith, sym, subst, ap, ◌∙◌, refl}
+use Rattle.coniks_proof.specs.Batches.{bound_by}
+use Rattle.coniks_proof.specs.Registry.{Registered}
+use Rattle.coniks_directory.specs.Batches.{fault_is, operation_of, operations}
+use Rattle.coniks_directory.specs.Judged.{AreSeen, IsJudged}
+use Rattle.coniks_directory.proofs.SeenLemmas.{get_from}
+use Rattle.coniks_directory.proofs.JudgeLemmas.{bound-next, bound-all, get-map, length-map, judged-next, judged-fault, judged-all}
+use Rattle.coniks_directory.proofs.judge.judged.Goals as goal
+
+pub loop-position-init : goal.loop-position-init
+loop-position-init g c = record {
+  seen = c.in-Ok.ensures (g.H.Hash32.digest_of c.args.h.now) (g.X.IndexSource.index_of c.args.source.now);
+  rest = λ nonce registry shown. refl;
+}
+
+pub loop-position-preserved : goal.loop-position-preserved
+loop-position-preserved g c =
+    let hash : List ℕ → List ℕ = g.H.Hash32.digest_of c.args.h.now in
+    let of : List ℕ → List ℕ = g.X.IndexSource.index_of c.args.source.now in
+    let l = c.loop-position in
+    let i = l.position in
+    let op = c.index-ops-position.result in
+    let ops = operations c.args.ops.now in
+    let before = map bound_by (take i ops) in
+    let at : slice_get ops i ≡ Some (operation_of op) = get-map operation_of c.args.ops.now i op (get_from c.args.ops.now i op c.loop-position-test.true c.index-ops-position.is) in
+    let is : c.judge_one.result ≡ Ok None = c.in-Ok-None.is ∙ ap Ok c.in-Ok-None.field-0-is in
+    record {
+      seen = subst (λ (bs : List Registered). AreSeen hash of bs c.judge_one.new.seen.records.items c.judge_one.new.seen.numbers) (bound-next ops i (operation_of op) at) (c.judge_one.ensures.seen is before l.invariant.seen);
+      rest = λ nonce registry shown.
+          judged-next of registry ops i (operation_of op) at (l.invariant.rest nonce registry shown) (sym (c.in-Ok-None.ensures.fault nonce registry before shown l.invariant.seen) ∙ ap (option_map fault_is) c.in-Ok-None.field-0-is);
+    }
+
+pub returns-in-Ok-Some-clause-fault : goal.returns-in-Ok-Some-clause-fault
+returns-in-Ok-Some-clause-fault g c = λ nonce registry shown.
+    let of : List ℕ → List ℕ = g.X.IndexSource.index_of c.args.source.now in
+    let l = c.loop-position in
+    let i = l.position in
+    let op = c.index-ops-position.result in
+    let ops = operations c.args.ops.now in
+    let at : slice_get ops i ≡ Some (operation_of op) = get-map operation_of c.args.ops.now i op (get_from c.args.ops.now i op c.loop-position-test.true c.index-ops-position.is) in
+    judged-fault of registry ops i (operation_of op) (fault_is c.in-Ok-Some.fault) at (l.invariant.rest nonce registry shown)
+    (sym (c.in-Ok-Some.ensures.fault nonce registry (map bound_by (take i ops)) shown l.invariant.seen) ∙ ap (option_map fault_is) c.in-Ok-Some.field-0-is)
+
+pub returns-clause-seen : goal.returns-clause-seen
+returns-clause-seen g c =
+    let hash : List ℕ → List ℕ = g.H.Hash32.digest_of c.args.h.now in
+    let of : List ℕ → List ℕ = g.X.IndexSource.index_of c.args.source.now in
+    let l = c.loop-position in
+    let ops = operations c.args.ops.now in
+    let all : l.position ≡ length c.args.ops.now = omega arith in
+    let end : l.position ≡ length ops = all ∙ sym (length-map operation_of c.args.ops.now) in
+    subst (λ (bs : List Registered). AreSeen hash of bs l.seen.records.items l.seen.numbers) (ap (λ i. map bound_by (take i ops)) end ∙ bound-all ops) l.invariant.seen
+
+pub returns-clause-faultless : goal.returns-clause-faultless
+returns-clause-faultless g c = λ nonce registry shown.
+    let of : List ℕ → List ℕ = g.X.IndexSource.index_of c.args.source.now in
+    let l = c.loop-position in
+    let ops = operations c.args.ops.now in
+    let all : l.position ≡ length c.args.ops.now = omega arith in
+    let end : l.position ≡ length ops = all ∙ sym (length-map operation_of c.args.ops.now) in
+    judged-all of registry ops (subst (IsJudged of registry ops) end (l.invariant.rest nonce registry shown))

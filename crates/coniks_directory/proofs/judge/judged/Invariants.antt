@@ -1,0 +1,14 @@
+use Rattle.std.proofs.Common.{ℕ, List, map, take}
+use Rattle.coniks_proof.specs.Registry.{Registry}
+use Rattle.coniks_proof.specs.Batches.{bound_by}
+use Rattle.coniks_directory.specs.Batches.{operations}
+use Rattle.coniks_directory.specs.Holders.{ShowsLatest}
+use Rattle.coniks_directory.specs.Judged.{AreSeen, IsJudged}
+use Rattle.coniks_directory.proofs.judge.judged.Given as goal
+
+abbrev pub invariant-loop-position : goal.invariant-loop-position
+invariant-loop-position g l = record {
+  seen : AreSeen (g.H.Hash32.digest_of l.h) (g.X.IndexSource.index_of l.source) (map bound_by (take l.position (operations l.ops))) l.seen.records.items l.seen.numbers;
+  rest : (nonce : List ℕ) (registry : Registry) → ShowsLatest (g.H.Hash32.digest_of l.h) (g.X.IndexSource.index_of l.source) nonce l.tree.nodes.items l.tree.records.items l.root registry
+      → IsJudged (g.X.IndexSource.index_of l.source) registry (operations l.ops) l.position;
+}

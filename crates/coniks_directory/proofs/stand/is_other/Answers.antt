@@ -1,0 +1,15 @@
+use Rattle.std.proofs.Common.{rules, ◌≡◌, not, sym, subst, ◌∙◌}
+use Rattle.std.specs.Str.{bytes_eq}
+use Rattle.coniks_directory.specs.Holders.{HolderIs, IsHeld}
+use Rattle.coniks_directory.specs.State.{registered_of}
+use Rattle.coniks_directory.proofs.HolderLemmas.{clash_free, clash_held}
+use Rattle.coniks_directory.proofs.stand.is_other.Goals as goal
+
+pub returns-in-None : goal.returns-in-None
+returns-in-None c = λ of registry h. sym (clash_free of registry c.args.name.now (subst (λ f. HolderIs of registry (of c.args.name.now) f) c.in-None.is h))
+
+pub returns-in-Some : goal.returns-in-Some
+returns-in-Some c = λ of registry h.
+    let held : IsHeld of registry (of c.args.name.now) (registered_of c.in-Some.record.now) = subst (λ f. HolderIs of registry (of c.args.name.now) f) c.in-Some.is h in
+    let other : c.ne.result ≡ not (bytes_eq c.in-Some.record.now.binding.name c.args.name.now) = search rules in
+    other ∙ sym (clash_held of registry c.args.name.now (registered_of c.in-Some.record.now) held)

@@ -1,0 +1,60 @@
+-- Batches as the definitions of registries see them, and why one isn't accepted.
+use Rattle.std.specs.Prelude.{◌≡◌, ◌<◌, ◌≤◌, ◌+◌, ◌*◌, ◌⊎◌, ℕ, zero, suc, List, [], ◌∷◌, length, map, Some, None}
+use Rattle.coniks_proof.specs.Registry.{Registry}
+use Rattle.coniks_proof.specs.Batches.{Kind, register, change, Operation, Fault, name_length, key_length, name_twice, name_taken, name_unknown, index_clash, first_fault}
+use Rattle.coniks_proof.specs.declared.values.TheConstants.{MAX_OPERATIONS}
+use Rattle.coniks_work.specs.declared.building.TheConstants.{MAX_WORKERS}
+use Rattle.coniks_work.specs.declared.jobs.TheConstants.{MAX_DEPTH}
+use Rattle.coniks_directory.specs.History.{Shown}
+use Rattle.coniks_directory.specs.declared.batch.Op.{Op}
+use Rattle.coniks_directory.specs.declared.batch.OpKind.{OpKind}
+use Rattle.coniks_directory.specs.declared.batch.OpKind.TheVariants.{Register, Change}
+use Rattle.coniks_directory.specs.declared.batch.OpFault.{OpFault}
+use Rattle.coniks_directory.specs.declared.batch.OpFault.TheVariants.{NameLength, KeyLength, NameTwice, NameTaken, NameUnknown, IndexClash}
+use Rattle.coniks_directory.specs.declared.batch.BatchFault.{BatchFault}
+use Rattle.coniks_directory.specs.declared.batch.BatchFault.TheVariants.{Workers, Depth, BatchTooLong, At, OutOfMemory}
+
+abbrev pub kind_of : OpKind → Kind
+kind_of Register = register
+kind_of Change = change
+
+abbrev pub operation_of : Op → Operation
+operation_of op = record { kind = kind_of op.kind; name = op.name; key = op.key; opening = op.opening.0 }
+
+-- the operations of a batch
+abbrev pub operations : List Op → List Operation
+operations ops = map operation_of ops
+
+abbrev pub fault_is : OpFault → Fault
+fault_is NameLength = name_length
+fault_is KeyLength = key_length
+fault_is NameTwice = name_twice
+fault_is NameTaken = name_taken
+fault_is NameUnknown = name_unknown
+fault_is IndexClash = index_clash
+
+-- the number of workers is within its limits
+abbrev pub AreWorkers : ℕ → Type 0
+AreWorkers workers = (1 ≤ workers) × (workers ≤ MAX_WORKERS)
+
+-- workers, depth and the batch's length are within their limits, and no operation is at fault
+pub record IsAccepted (of : List ℕ → List ℕ) (registry : Registry) (ops : List Operation) (depth workers : ℕ) : Type 0 where
+  pub crew : AreWorkers workers
+  pub shallow : depth ≤ MAX_DEPTH
+  pub few : length ops ≤ MAX_OPERATIONS
+  pub faultless : first_fault of registry ops ≡ None
+
+-- why a batch isn't accepted: of what applies, the first in the order of the faults; or a growth was refused
+abbrev pub IsBatchFault : (List ℕ → List ℕ) → Registry → List Operation → ℕ → ℕ → BatchFault → Type 0
+IsBatchFault of registry ops depth workers Workers = (workers ≡ 0) ⊎ (MAX_WORKERS < workers)
+IsBatchFault of registry ops depth workers Depth = AreWorkers workers × (MAX_DEPTH < depth)
+IsBatchFault of registry ops depth workers BatchTooLong = AreWorkers workers × (depth ≤ MAX_DEPTH) × (MAX_OPERATIONS < length ops)
+IsBatchFault of registry ops depth workers (At position fault) =
+    AreWorkers workers × (depth ≤ MAX_DEPTH) × (length ops ≤ MAX_OPERATIONS) × (first_fault of registry ops ≡ Some (position, fault_is fault))
+IsBatchFault of registry ops depth workers OutOfMemory = AreWorkers workers × (depth ≤ MAX_DEPTH) × (length ops ≤ MAX_OPERATIONS)
+
+-- how many nodes an epoch takes at most, which comes after this history with so many operations; without operations it takes just so many
+abbrev pub most_nodes : List Shown → ℕ → ℕ
+most_nodes [] zero = 1
+most_nodes (shown ∷ history) zero = 0
+most_nodes history (suc n) = 512 * suc n + 1

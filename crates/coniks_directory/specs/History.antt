@@ -1,0 +1,52 @@
+-- The history of a directory: its epochs, each with the registry that its batch left.
+use Rattle.std.specs.Prelude.{◌≡◌, ◌==◌, ◌<◌, ℕ, List, [], ◌∷◌, map, slice_get, Option, Some}
+use Rattle.std.specs.List.{find}
+use Rattle.coniks_proof.specs.Registry.{Registry, root_of}
+
+-- an epoch: its number, the version of its entry, the nonce under which its tree is hashed, and its registry
+pub record Shown : Type 0 where
+  pub t : ℕ
+  pub version : ℕ
+  pub nonce : List ℕ
+  pub registry : Registry
+
+-- the epochs' numbers
+abbrev pub numbers_of : List Shown → List ℕ
+numbers_of history = map (λ (s : Shown). s.t) history
+
+-- each number is greater than the one before it, the first one than this
+abbrev pub AreRising : ℕ → List ℕ → Type 0
+AreRising t [] = Unit {0}
+AreRising t (n ∷ ns) = (t < n) × AreRising n ns
+
+-- the last number, or this where there is none
+abbrev pub last_number : ℕ → List ℕ → ℕ
+last_number t [] = t
+last_number t (n ∷ ns) = last_number n ns
+
+-- the latest epoch, or 0 where there is none
+abbrev pub latest_epoch : List Shown → ℕ
+latest_epoch history = last_number 0 (numbers_of history)
+
+-- the latest registry, which is empty where there is no epoch
+abbrev pub latest_registry : List Shown → Registry
+latest_registry [] = []
+latest_registry (s ∷ []) = s.registry
+latest_registry (s ∷ r ∷ ss) = latest_registry (r ∷ ss)
+
+-- the latest epoch's nonce, or this where there is none
+abbrev pub latest_nonce : List ℕ → List Shown → List ℕ
+latest_nonce nonce [] = nonce
+latest_nonce nonce (s ∷ ss) = latest_nonce s.nonce ss
+
+-- each epoch was made under this nonce, and its entry is of version 1
+abbrev pub AllUnder : List ℕ → List Shown → Type 0
+AllUnder nonce history = (k : ℕ) (s : Shown) → slice_get history k ≡ Some s → (s.version ≡ 1) × (s.nonce ≡ nonce)
+
+-- the epoch of exactly this number
+abbrev pub shown_at : List Shown → ℕ → Option Shown
+shown_at history t = find (λ (s : Shown). s.t == t) history
+
+-- the root of an epoch
+abbrev pub root_at : (List ℕ → List ℕ) → (List ℕ → List ℕ) → Shown → List ℕ
+root_at hash of shown = root_of hash of shown.nonce shown.registry

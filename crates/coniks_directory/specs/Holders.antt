@@ -1,0 +1,24 @@
+-- Who has an index.
+use Rattle.std.specs.Prelude.{◌≡◌, ℕ, List, [], true, Option, Some, None}
+use Rattle.std.specs.Borrow.{Bor}
+use Rattle.coniks_proof.specs.Registry.{Registered, Registry, has_name, IsFree}
+use Rattle.coniks_tree.specs.declared.table.Record.{Record}
+use Rattle.coniks_tree.specs.declared.table.Node.{Node}
+use Rattle.coniks_tree.specs.declared.table.Root.{Root}
+use Rattle.coniks_directory.specs.State.{ShowsRegistry, registered_of}
+
+-- the one name of the registry that has the index
+pub record IsHeld (of : List ℕ → List ℕ) (registry : Registry) (index : List ℕ) (b : Registered) : Type 0 where
+  pub at : of b.name ≡ index
+  pub has : has_name registry b.name ≡ true
+  pub only : (name : List ℕ) → of name ≡ index → has_name registry name ≡ true → name ≡ b.name
+
+-- who has the index: nobody, or the one name of this record
+abbrev pub HolderIs : (List ℕ → List ℕ) → Registry → List ℕ → Option (Bor Record) → Type 0
+HolderIs of registry index None = IsFree of registry index
+HolderIs of registry index (Some r) = IsHeld of registry index (registered_of r.now)
+
+-- the root shows the registry; where there is no root it is empty
+abbrev pub ShowsLatest : (List ℕ → List ℕ) → (List ℕ → List ℕ) → List ℕ → List Node → List Record → Option Root → Registry → Type 0
+ShowsLatest hash of nonce nodes records (Some root) registry = ShowsRegistry hash of nonce nodes records root.0 registry
+ShowsLatest hash of nonce nodes records None registry = registry ≡ []

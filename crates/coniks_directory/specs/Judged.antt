@@ -1,0 +1,58 @@
+-- The operations of a batch that were judged: their records, found by index.
+use Rattle.std.specs.Prelude.{◌≡◌, ◌+◌, ℕ, List, length, map, take, drop, slice_get, Option, Some}
+use Rattle.std.specs.Ordering.{nat_cmp}
+use Rattle.std.specs.Cmp.Lexicographic.{slice_cmp}
+use Rattle.std.specs.BTreeMap.{BTreeMap, btree_map_len, get, IsOrdered}
+use Rattle.coniks_proof.specs.Changes.{AreIncreasing}
+use Rattle.coniks_proof.specs.Entries.{IsIn}
+use Rattle.coniks_proof.specs.Maps.{IsIndex, IsMap}
+use Rattle.coniks_proof.specs.Registry.{Registry, Registered, commitment_to, entries_of, IsLength}
+use Rattle.coniks_proof.specs.Batches.{Operation, bound_by, fault_from, first_fault}
+use Rattle.coniks_proof.specs.declared.values.TheConstants.{MAX_KEY, MAX_NAME}
+use Rattle.coniks_tree.specs.Table.{Numbered, entry_of_record}
+use Rattle.coniks_tree.specs.declared.table.Record.{Record}
+use Rattle.coniks_directory.specs.Batches.{fault_is}
+use Rattle.coniks_directory.specs.State.{registered_of}
+use Rattle.coniks_directory.specs.declared.batch.BatchFault.{BatchFault}
+use Rattle.coniks_directory.specs.declared.batch.BatchFault.TheVariants.{Workers, Depth, BatchTooLong, At, OutOfMemory}
+
+-- the record's index is its name's, and its commitment is that to its binding
+pub record IsSealed (hash of : List ℕ → List ℕ) (r : Record) : Type 0 where
+  pub indexed : r.index.0 ≡ of r.binding.name
+  pub ranged : IsIndex r.index.0
+  pub committed : r.commitment.0 ≡ commitment_to hash (registered_of r)
+  pub named : IsLength MAX_NAME r.binding.name
+  pub keyed : IsLength MAX_KEY r.binding.key
+
+-- the number of the record at an index
+abbrev pub number_at : BTreeMap (List ℕ) ℕ → List ℕ → Option ℕ
+number_at numbers index = get (slice_cmp nat_cmp) numbers index
+
+-- the records are those of the bindings, in their order, with indices of their own, and the map finds each by its index, and no other
+pub record AreSeen (hash of : List ℕ → List ℕ) (bound : List Registered) (records : List Record) (numbers : BTreeMap (List ℕ) ℕ) : Type 0 where
+  pub binds : map registered_of records ≡ bound
+  pub sealed : (n : ℕ) (r : Record) → slice_get records n ≡ Some r → IsSealed hash of r
+  pub kept : (index : List ℕ) (n : ℕ) → number_at numbers index ≡ Some n → (r : Record) × (slice_get records n ≡ Some r) × (r.index.0 ≡ index)
+  pub all : (n : ℕ) (r : Record) → slice_get records n ≡ Some r → number_at numbers r.index.0 ≡ Some n
+  pub ordered : IsOrdered (slice_cmp nat_cmp) numbers
+  pub counted : btree_map_len numbers ≡ length records
+  pub distinct : IsMap (entries_of hash of bound)
+
+-- of a batch on a registry, none of the first `i` operations has a fault: the first one is the first from there on
+abbrev pub IsJudged : (List ℕ → List ℕ) → Registry → List Operation → ℕ → Type 0
+IsJudged of registry ops i = fault_from of registry (map bound_by (take i ops)) i (drop i ops) ≡ first_fault of registry ops
+
+-- the entries are those of the records, which are to stand from a place on, each once and in increasing order of index
+pub record AreChangesOf (base : ℕ) (records : List Record) (entries : List Numbered) : Type 0 where
+  pub increasing : AreIncreasing entries
+  pub each : (n : ℕ) (r : Record) → slice_get records n ≡ Some r → IsIn (entry_of_record (base + n) r) entries
+  pub only : (e : Numbered) → IsIn e entries → (n : ℕ) × (r : Record) × (slice_get records n ≡ Some r) × (entry_of_record (base + n) r ≡ e)
+  pub counted : length entries ≡ length records
+
+-- the first operation at fault, and its first fault; or memory
+abbrev pub IsJudgedFault : (List ℕ → List ℕ) → Registry → List Operation → BatchFault → Type 0
+IsJudgedFault of registry ops Workers = ⊥
+IsJudgedFault of registry ops Depth = ⊥
+IsJudgedFault of registry ops BatchTooLong = ⊥
+IsJudgedFault of registry ops (At position fault) = first_fault of registry ops ≡ Some (position, fault_is fault)
+IsJudgedFault of registry ops OutOfMemory = Unit {0}

@@ -1,0 +1,20 @@
+-- The index source of the tests: each letter of the worked examples has an index of its own, and every other name the one of zeros.
+use Rattle.std.specs.Prelude.{ℕ, List, if◌then◌else◌, codes, slice_set}
+use Rattle.std.specs.Str.{bytes_eq}
+use Rattle.coniks_proof.specs.Preimages.{zeros}
+
+-- the first byte of a name's index
+abbrev pub high : List ℕ → ℕ
+high name =
+    if bytes_eq name (codes "b") then 0x80
+    else (if bytes_eq name (codes "c") then 0x40
+    else (if bytes_eq name (codes "d") then 0x20
+    else (if bytes_eq name (codes "p") then 0x10
+    else (if bytes_eq name (codes "q") then 0x10 else 0))))
+
+-- its last byte
+abbrev pub low : List ℕ → ℕ
+low name = if bytes_eq name (codes "z") then 1 else 0
+
+abbrev pub index_of_letter : List ℕ → List ℕ
+index_of_letter name = slice_set (slice_set zeros 0 (high name)) 31 (low name)

@@ -1,0 +1,10 @@
+pub mod Batches
+pub mod History
+pub mod Chain
+pub mod State
+pub mod Updates
+pub mod Lookups
+pub mod Holders
+pub mod Judged
+pub mod Letters
+pub mod Built

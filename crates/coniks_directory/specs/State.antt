@@ -1,0 +1,76 @@
+-- What a directory holds, what it shows of it, and what is true of it.
+use Rattle.std.specs.Prelude.{◌≡◌, ◌<◌, ◌≤◌, ℕ, List, [], ◌∷◌, length, map, take, slice_get, Some}
+use Rattle.coniks_proof.specs.Entries.{IsIn, backed_by}
+use Rattle.coniks_proof.specs.Maps.{IsMap, SameEntries}
+use Rattle.coniks_proof.specs.Registry.{Registered, Registry, overlaid, entries_of, AreWithin}
+use Rattle.coniks_tree.specs.Table.{Numbered, Shows, entry_of_record, registered_at, registered_by}
+use Rattle.coniks_tree.specs.declared.table.Node.{Node}
+use Rattle.coniks_tree.specs.declared.table.Record.{Record}
+use Rattle.coniks_chain.specs.declared.entry.Entry.{Entry}
+use Rattle.coniks_directory.specs.History.{Shown, AreRising, numbers_of}
+use Rattle.coniks_directory.specs.Chain.{IsChainOf}
+use Rattle.coniks_directory.specs.declared.epochs.Epoch.{Epoch}
+
+-- what a directory holds; the nonce is that of `open`
+pub record State : Type 0 where
+  pub nonce : List ℕ
+  pub policy : List ℕ
+  pub nodes : List Node
+  pub records : List Record
+  pub epochs : List Epoch
+  pub chain : List Entry
+
+-- what a record binds
+abbrev pub registered_of : Record → Registered
+registered_of r = registered_by (Some r)
+
+-- the registry that the first `count` records leave
+unfoldable pub registry_at : List Record → ℕ → Registry
+registry_at records count = overlaid [] (map registered_of (take count records))
+
+-- an epoch with its registry
+abbrev pub shown_of : List Record → Epoch → Shown
+shown_of records e = record { t = e.t; version = e.version; nonce = e.nonce.0; registry = registry_at records e.count }
+
+-- the epochs with their registries
+abbrev pub history_of : State → List Shown
+history_of s = map (shown_of s.records) s.epochs
+
+-- the record of the entry is there
+abbrev pub IsStored : List Record → Numbered → Type 0
+IsStored records e = (r : Record) × (slice_get records e.behind ≡ Some r) × (entry_of_record e.behind r ≡ e)
+
+-- the entries, with what their records bind behind them, are those of the registry
+pub record Mirrors (hash of : List ℕ → List ℕ) (records : List Record) (entries : List Numbered) (registry : Registry) : Type 0 where
+  pub stored : (e : Numbered) → IsIn e entries → IsStored records e
+  pub indices : IsMap entries
+  pub names : IsMap (entries_of hash of registry)
+  pub same : SameEntries (map (backed_by (registered_at records)) entries) (entries_of hash of registry)
+  pub limits : AreWithin registry
+
+-- a root shows a registry
+pub record ShowsRegistry (hash of : List ℕ → List ℕ) (nonce : List ℕ) (nodes : List Node) (records : List Record) (root : ℕ) (registry : Registry) : Type 0 where
+  pub entries : List Numbered
+  pub shows : Shows hash nonce nodes records root [] entries
+  pub mirrors : Mirrors hash of records entries registry
+
+-- what is true of an epoch: it was made under the nonce of `open`, in version 1, and its root shows its registry
+pub record HoldsEpoch (hash of : List ℕ → List ℕ) (nonce : List ℕ) (nodes : List Node) (records : List Record) (e : Epoch) : Type 0 where
+  pub first_version : e.version ≡ 1
+  pub same_nonce : e.nonce.0 ≡ nonce
+  pub known : e.root.0 < length nodes
+  pub counted : e.count ≤ length records
+  pub registry : ShowsRegistry hash of e.nonce.0 nodes records e.root.0 (registry_at records e.count)
+
+-- how many records there are after the last epoch
+abbrev pub last_count : List Epoch → ℕ
+last_count [] = 0
+last_count (e ∷ []) = e.count
+last_count (e ∷ f ∷ es) = last_count (f ∷ es)
+
+-- what is true of what a directory holds
+pub record Whole (hash of : List ℕ → List ℕ) (s : State) : Type 0 where
+  pub held : (k : ℕ) (e : Epoch) → slice_get s.epochs k ≡ Some e → HoldsEpoch hash of s.nonce s.nodes s.records e
+  pub last : last_count s.epochs ≡ length s.records
+  pub rising : AreRising 0 (numbers_of (history_of s))
+  pub chain : IsChainOf hash of s.policy (history_of s) s.chain

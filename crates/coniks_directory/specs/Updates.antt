@@ -1,0 +1,107 @@
+-- Updates that were prepared, and what an install of one leaves.
+use Rattle.std.specs.Prelude.{◌≡◌, ◌≢◌, ◌<◌, ◌≤◌, ℕ, List, [], ◌++◌, length}
+use Rattle.coniks_proof.specs.Batches.{Operation, after}
+use Rattle.coniks_proof.specs.Registry.{Registry}
+use Rattle.coniks_tree.specs.Table.{Numbered, Extends}
+use Rattle.coniks_tree.specs.Parts.{Stands, Fits, Placed}
+use Rattle.coniks_tree.specs.declared.table.Record.{Record}
+use Rattle.coniks_directory.specs.Batches.{IsAccepted, IsBatchFault}
+use Rattle.coniks_directory.specs.History.{Shown, latest_epoch, latest_nonce, latest_registry}
+use Rattle.coniks_directory.specs.State.{State, Mirrors, history_of, last_count, registry_at}
+use Rattle.coniks_directory.specs.declared.epochs.Epoch.{Epoch}
+use Rattle.coniks_directory.specs.declared.update.Prepared.{Prepared}
+use Rattle.coniks_directory.specs.declared.update.CommitFault.{CommitFault}
+use Rattle.coniks_directory.specs.declared.update.CommitFault.TheVariants.{Batch, Install}
+use Rattle.coniks_directory.specs.declared.update.InstallFault.{InstallFault}
+use Rattle.coniks_directory.specs.declared.update.InstallFault.TheVariants.{Stale, EpochNotLater, BoardFull, OutOfMemory, SignerRefused}
+
+-- how many nodes an install of the update adds
+abbrev pub nodes_added : Prepared → ℕ
+nodes_added p = p.new_nodes
+
+-- how many epochs there were when the update was prepared
+abbrev pub base_of : Prepared → ℕ
+base_of p = p.base
+
+-- all records once the update is installed
+abbrev pub records_after : State → Prepared → List Record
+records_after s p = s.records ++ p.records.items
+
+-- the registry that the update leaves
+abbrev pub registry_after : State → Prepared → Registry
+registry_after s p = registry_at (records_after s p) (length (records_after s p))
+
+-- the epoch that an install of the update under a number makes
+abbrev pub shown_after : State → Prepared → ℕ → Shown
+shown_after s p t = record { t = t; version = p.version; nonce = p.nonce.0; registry = registry_after s p }
+
+-- the epoch that a commit of a batch makes under a number
+abbrev pub shown_next : State → List Operation → ℕ → Shown
+shown_next s ops t = record {
+  t = t;
+  version = 1;
+  nonce = latest_nonce s.nonce (history_of s);
+  registry = after (latest_registry (history_of s)) ops;
+}
+
+-- the update was prepared from a directory in this state
+pub record IsUpdate (hash of : List ℕ → List ℕ) (s : State) (p : Prepared) : Type 0 where
+  pub base : p.base ≡ length s.epochs
+  pub counted : last_count s.epochs ≡ length s.records
+  pub version : p.version ≡ 1
+  pub nonce : p.nonce.0 ≡ latest_nonce s.nonce (history_of s)
+  pub fits : Fits (length s.nodes) 0 p.part
+  pub placed : Placed (records_after s p) p.part
+  pub entries : List Numbered
+  pub stands : Stands hash p.nonce.0 s.nodes s.records p.part [] entries
+  pub mirrors : Mirrors hash of (records_after s p) entries (registry_after s p)
+
+-- the second state is a later one of the same directory
+pub record Grows (s t : State) : Type 0 where
+  pub nonce : t.nonce ≡ s.nonce
+  pub policy : t.policy ≡ s.policy
+  pub nodes : Extends s.nodes t.nodes
+  pub longer : length s.nodes ≤ length t.nodes
+  pub more_records : List Record
+  pub records : t.records ≡ s.records ++ more_records
+  pub more_epochs : List Epoch
+  pub epochs : t.epochs ≡ s.epochs ++ more_epochs
+
+-- the update was prepared from this directory, in this state or an earlier one
+pub record IsUpdateOf (hash of : List ℕ → List ℕ) (s : State) (p : Prepared) : Type 0 where
+  pub earlier : State
+  pub grows : Grows earlier s
+  pub update : IsUpdate hash of earlier p
+
+-- an update that was prepared when there were `base` epochs may be installed under the number t, with so many heads on a board of this capacity
+pub record MayInstall (s : State) (base t published capacity : ℕ) : Type 0 where
+  pub fresh : base ≡ length s.epochs
+  pub later : latest_epoch (history_of s) < t
+  pub room : published ≢ capacity
+
+-- why an update is refused: of what applies, the first in the order of the faults
+abbrev pub IsRefused : State → ℕ → ℕ → ℕ → ℕ → InstallFault → Type 0
+IsRefused s base t published capacity (Stale latest) = (latest ≡ latest_epoch (history_of s)) × (base ≢ length s.epochs)
+IsRefused s base t published capacity (EpochNotLater latest) = (latest ≡ latest_epoch (history_of s)) × (base ≡ length s.epochs) × (t ≤ latest)
+IsRefused s base t published capacity BoardFull = (base ≡ length s.epochs) × (latest_epoch (history_of s) < t) × (published ≡ capacity)
+IsRefused s base t published capacity OutOfMemory = MayInstall s base t published capacity
+IsRefused s base t published capacity SignerRefused = MayInstall s base t published capacity
+
+-- how often the signer refused in an install that answered this fault
+abbrev pub refusals : InstallFault → ℕ
+refusals (Stale latest) = 0
+refusals (EpochNotLater latest) = 0
+refusals BoardFull = 0
+refusals OutOfMemory = 0
+refusals SignerRefused = 1
+
+-- why a batch isn't committed: it isn't accepted, or its update is refused, which is never stale
+abbrev pub IsCommitFault : (List ℕ → List ℕ) → State → List Operation → ℕ → ℕ → ℕ → ℕ → ℕ → CommitFault → Type 0
+IsCommitFault of s ops depth workers t published capacity (Batch fault) = IsBatchFault of (latest_registry (history_of s)) ops depth workers fault
+IsCommitFault of s ops depth workers t published capacity (Install fault) =
+    IsAccepted of (latest_registry (history_of s)) ops depth workers × IsRefused s (length s.epochs) t published capacity fault
+
+-- how often the signer refused in a commit that answered this fault
+abbrev pub commit_refusals : CommitFault → ℕ
+commit_refusals (Batch fault) = 0
+commit_refusals (Install fault) = refusals fault

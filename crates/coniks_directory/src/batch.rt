@@ -1,0 +1,57 @@
+//! Operations on the registry, and why a batch of them isn't accepted.
+
+use coniks_proof::{Bytes, Opening};
+use thiserror::Error;
+
+/// Whether an operation registers a new name or changes the key of one that is there.
+#[derive(Clone, Copy, Debug, PartialEq, Eq)]
+pub enum OpKind {
+    Register,
+    Change,
+}
+
+/// One operation of a batch.
+#[derive(Drop)]
+pub struct Op {
+    pub kind: OpKind,
+    /// 1 to 255 bytes.
+    pub name: Bytes,
+    /// 1 to 4,096 bytes.
+    pub key: Bytes,
+    /// What opens the commitment to the name and the key.
+    pub opening: Opening,
+}
+
+/// What is wrong with an operation: of what applies, the first in this order.
+#[derive(Clone, Copy, Debug, Drop, PartialEq, Eq, Error)]
+pub enum OpFault {
+    #[error("the name is empty or longer than 255 bytes")]
+    NameLength,
+    #[error("the key is empty or longer than 4,096 bytes")]
+    KeyLength,
+    #[error("an earlier operation has this name")]
+    NameTwice,
+    #[error("the name is registered")]
+    NameTaken,
+    #[error("the name isn't registered")]
+    NameUnknown,
+    #[error("another name has this name's index")]
+    IndexClash,
+}
+
+/// Why a batch isn't accepted: of what applies, the first in this order. `OutOfMemory` may come in place of the fault of
+/// an operation.
+#[derive(Clone, Copy, Debug, Drop, PartialEq, Eq, Error)]
+pub enum BatchFault {
+    #[error("the number of workers isn't 1 to 64")]
+    Workers,
+    #[error("the depth is more than 8")]
+    Depth,
+    #[error("there are more than 4,096 operations")]
+    BatchTooLong,
+    /// The first operation at fault, counted from 0, and its first fault.
+    #[error("operation {position}: {fault}")]
+    At { position: usize, fault: OpFault },
+    #[error("out of memory")]
+    OutOfMemory,
+}

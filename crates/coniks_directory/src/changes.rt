@@ -1,0 +1,37 @@
+//! The changes of a batch that was judged.
+
+ghost use Rattle.std.specs.Prelude.{◌≡◌, ◌<◌, ◌+◌, ◌^◌, All, List, ℕ, IfOk, length};
+ghost use Rattle.std.specs.BTreeMap.{values};
+ghost use Rattle.coniks_proof.specs.Registry.{Registered};
+ghost use Rattle.coniks_tree.specs.Parts.{entries_of, entry_of_change};
+ghost use Rattle.coniks_tree.specs.Table.{entry_of_record};
+ghost use Rattle.coniks_directory.specs.Judged.{AreChangesOf, AreSeen};
+
+use crate::seen::Seen;
+use coniks_tree::{Change, Record, RecordNo};
+use std::alloc::{AllocError, Global};
+
+/// The change that puts a record into the tree, which is to stand at a place.
+fn change_to(place: usize, new: &Record) -> Change
+    ensures { entry_of_change result ≡ entry_of_record place new.now }
+{
+    Change {
+        index: new.index,
+        commitment: new.commitment,
+        place: RecordNo(place),
+    }
+}
+
+/// The changes that put the records into the tree, which are to stand from a place on, in increasing order of index.
+pub(crate) fn changes_of(alloc: Global, base: usize, seen: &Seen) -> Result<Vec<Change>, AllocError>
+    requires numbered { All (λ n. n < length seen.now.records.items) (values seen.now.numbers) }
+    requires fits { base + length seen.now.records.items < 2 ^ 64 }
+    ensures { IfOk result (λ changes. (hash of : List ℕ → List ℕ) (bound : List Registered) → AreSeen hash of bound seen.now.records.items seen.now.numbers
+        → AreChangesOf base seen.now.records.items (entries_of changes.items)) }
+{
+    let mut changes = Vec::with_capacity(alloc, seen.records.len())?;
+    for &number in seen.numbers.values() {
+        changes.push(change_to(base + number, &seen.records[number]))?;
+    }
+    Ok(changes)
+}

@@ -1,0 +1,80 @@
+//! Epochs, found by their numbers.
+
+ghost use Rattle.std.specs.Prelude.{◌≡◌, ◌==◌, ◌-◌, length, map, option_map, slice_get};
+ghost use Rattle.std.specs.Option.{option_map_or};
+ghost use Rattle.std.specs.List.{find};
+ghost use Rattle.coniks_directory.specs.History.{AreRising, last_number};
+
+use coniks_proof::Nonce;
+use coniks_tree::Root;
+
+/// An installed epoch.
+#[derive(Clone, Copy, Debug)]
+pub struct Epoch {
+    /// Its number, from 1 on.
+    pub t: u64,
+    /// The version of its entry.
+    pub version: u8,
+    /// The nonce under which its tree is hashed.
+    pub nonce: Nonce,
+    /// The root of its tree.
+    pub root: Root,
+    /// How many records there were once it was installed.
+    pub count: usize,
+}
+
+impl Epoch {
+    ghost use Rattle.coniks_directory.specs.declared.epochs.Epoch.{Epoch};
+
+    /// The epoch of exactly this number, among epochs whose numbers rise. It halves the list until one is left.
+    pub(crate) fn of_number(epochs: &[Epoch], t: u64) -> Option<Epoch>
+        ensures { AreRising 0 (map (λ (e : Epoch). e.t) epochs.now) → result ≡ find (λ (e : Epoch). e.t == t) epochs.now }
+    {
+        let place = epochs.partition_point(|epoch| epoch.t < t);
+        match Epoch::at(epochs, place) {
+            Some(epoch) if epoch.t == t => Some(epoch),
+            _ => None,
+        }
+    }
+
+    /// The epoch at a place, if there is one.
+    fn at(epochs: &[Epoch], place: usize) -> Option<Epoch>
+        ensures { result ≡ slice_get epochs.now place }
+    {
+        epochs.get(place).copied()
+    }
+
+    /// The latest number, or 0 where there is none.
+    pub(crate) fn latest(epochs: &[Epoch]) -> u64
+        ensures { result ≡ last_number 0 (map (λ (e : Epoch). e.t) epochs.now) }
+    {
+        match Epoch::last(epochs) {
+            Some(epoch) => epoch.t,
+            None => 0,
+        }
+    }
+
+    /// The last epoch, if there is one.
+    pub(crate) fn last(epochs: &[Epoch]) -> Option<Epoch>
+        ensures { result ≡ slice_get epochs.now (length epochs.now - 1) }
+    {
+        epochs.last().copied()
+    }
+
+    /// The root of an epoch, if there is one.
+    pub(crate) fn root_of(epoch: Option<Epoch>) -> Option<Root>
+        ensures { result ≡ option_map (λ (e : Epoch). e.root) epoch }
+    {
+        epoch.map(|epoch| epoch.root)
+    }
+
+    /// The nonce of an epoch, or this one where there is none.
+    pub(crate) fn nonce_of(epoch: Option<Epoch>, nonce: Nonce) -> Nonce
+        ensures { result ≡ option_map_or (λ (e : Epoch). e.nonce) epoch nonce }
+    {
+        match epoch {
+            Some(epoch) => epoch.nonce,
+            None => nonce,
+        }
+    }
+}

@@ -1,0 +1,88 @@
+//! The operations of a batch that were judged: their records, found by index.
+
+ghost use Rattle.std.specs.Prelude.{◌≡◌, ◌++◌, ◌∷◌, [], List, ℕ, IfOk, MatchOption, None, OnOk, Some, slice_get};
+ghost use Rattle.coniks_proof.specs.Batches.{bound_by};
+ghost use Rattle.coniks_proof.specs.Registry.{IsFree, IsLength, Registered};
+ghost use Rattle.coniks_directory.specs.Batches.{operation_of};
+ghost use Rattle.coniks_directory.specs.Holders.{HolderIs};
+ghost use Rattle.coniks_directory.specs.Judged.{AreSeen, IsSealed};
+ghost use Rattle.coniks_directory.specs.State.{registered_of};
+
+use crate::batch::Op;
+use coniks_proof::{Binding, Bytes, Hash32, Index, MAX_KEY, MAX_NAME, commit_hash};
+use coniks_tree::Record;
+use std::alloc::{AllocError, Global};
+use std::collections::BTreeMap;
+
+/// The records of the operations that were judged, in their order, and the number of the record at each index.
+#[derive(Drop)]
+pub(crate) struct Seen {
+    pub(crate) records: Vec<Record>,
+    pub(crate) numbers: BTreeMap<[u8; 32], usize>,
+}
+
+impl Seen {
+    /// No operations, with room for the records of so many.
+    pub(crate) fn new(alloc: Global, operations: usize) -> Result<Seen, AllocError>
+        ensures { IfOk result (λ seen. (hash of : List ℕ → List ℕ) → AreSeen hash of [] seen.records.items seen.numbers) }
+    {
+        Ok(Seen {
+            records: Vec::with_capacity(alloc, operations)?,
+            numbers: BTreeMap::new(alloc),
+        })
+    }
+
+    /// The record at an index, if one of the operations has it.
+    pub(crate) fn holder(&self, index: &Index) -> Option<&Record>
+        ensures { (hash of : List ℕ → List ℕ) (bound : List Registered) → AreSeen hash of bound self.now.records.items self.now.numbers
+            → HolderIs of bound index.now.0 result }
+    {
+        let number = self.numbers.get(&index.0)?;
+        record_at(&self.records, *number)
+    }
+
+    /// Adds the record of the next operation, at whose index there is none.
+    pub(crate) fn add(&mut self, made: Record) -> Result<(), AllocError>
+        ensures { OnOk result ((hash of : List ℕ → List ℕ) (bound : List Registered) → AreSeen hash of bound self.old.records.items self.old.numbers
+            → IsSealed hash of made → IsFree of bound made.index.0
+            → AreSeen hash of (bound ++ registered_of made ∷ []) self.new.records.items self.new.numbers) }
+    {
+        let index = made.index.0;
+        let number = self.records.len();
+        self.records.push(made)?;
+        self.numbers.insert(index, number)?;
+        Ok(())
+    }
+}
+
+/// The record of a number, if there is one.
+fn record_at(records: &[Record], number: usize) -> Option<&Record>
+    ensures { MatchOption result (slice_get records.now number ≡ None) (λ found. slice_get records.now number ≡ Some found.now) }
+{
+    records.get(number)
+}
+
+/// The record of an operation, whose name has this index.
+pub(crate) fn record_of<H: Hash32>(
+    alloc: Global,
+    h: &H,
+    index: Index,
+    op: &Op,
+) -> Result<Record, AllocError>
+    requires name { IsLength MAX_NAME op.now.name }
+    requires key { IsLength MAX_KEY op.now.key }
+    ensures binds { IfOk result (λ r. registered_of r ≡ bound_by (operation_of op.now)) }
+    ensures sealed { IfOk result (λ r. (of : List ℕ → List ℕ) → index.0 ≡ of op.now.name → IsSealed (H.digest_of h.now) of r) }
+    ensures indexed { IfOk result (λ r. r.index.0 ≡ index.0) }
+{
+    index.known();
+    let commitment = commit_hash(h, &op.opening, op.name.as_slice(), op.key.as_slice());
+    let name = Bytes::copy_of(alloc, op.name.as_slice())?;
+    let key = Bytes::copy_of(alloc, op.key.as_slice())?;
+    Ok(Record {
+        index,
+        binding: Binding { name, key },
+        opening: op.opening,
+        commitment,
+    })
+}

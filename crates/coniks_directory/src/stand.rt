@@ -1,0 +1,86 @@
+//! Who has an index, and the fault of an operation there.
+
+ghost use Rattle.std.specs.Prelude.{◌≡◌, ◌<◌, List, ℕ, Bool, IfSome, None, length, option_map};
+ghost use Rattle.coniks_proof.specs.Batches.{clashes, fault_of, kind_fault};
+ghost use Rattle.coniks_proof.specs.Registry.{IsLength, Registered, Registry, has_name};
+ghost use Rattle.coniks_directory.specs.Batches.{fault_is, kind_of, operation_of};
+ghost use Rattle.coniks_directory.specs.Holders.{HolderIs, ShowsLatest};
+
+use crate::batch::{Op, OpFault, OpKind};
+use crate::lengths::is_length;
+use coniks_proof::{Index, MAX_KEY, MAX_NAME};
+use coniks_tree::{Record, Root, Tree};
+
+/// The record of the name that has an index under a root. None where there is no root.
+pub(crate) fn holder_at<'a>(tree: &'a Tree, root: Option<Root>, index: &Index) -> Option<&'a Record>
+    requires { IfSome root (λ r. r.0 < length tree.now.nodes.items) }
+    ensures { (hash of : List ℕ → List ℕ) (nonce : List ℕ) (registry : Registry)
+        → ShowsLatest hash of nonce tree.now.nodes.items tree.now.records.items root registry → HolderIs of registry index.now.0 result }
+{
+    let place = tree.find(root?, index)?;
+    Some(tree.record(place))
+}
+
+/// Whether the record at a name's index is of the name.
+fn is_named(holder: Option<&Record>, name: &[u8]) -> bool
+    ensures { (of : List ℕ → List ℕ) (registry : Registry) → HolderIs of registry (of name.now) holder.entry → result ≡ has_name registry name.now }
+{
+    match holder {
+        None => false,
+        Some(record) => record.binding.name.as_slice() == name,
+    }
+}
+
+/// Whether the record at a name's index is of another name.
+fn is_other(holder: Option<&Record>, name: &[u8]) -> bool
+    ensures { (of : List ℕ → List ℕ) (registry : Registry) → HolderIs of registry (of name.now) holder.entry → result ≡ clashes of registry name.now }
+{
+    match holder {
+        None => false,
+        Some(record) => record.binding.name.as_slice() != name,
+    }
+}
+
+/// The fault of an operation of a kind, where its name is present or not.
+fn fault_of_kind(kind: OpKind, is_present: bool) -> Option<OpFault>
+    ensures { option_map fault_is result ≡ kind_fault (kind_of kind) is_present }
+{
+    match (kind, is_present) {
+        (OpKind::Register, true) => Some(OpFault::NameTaken),
+        (OpKind::Change, false) => Some(OpFault::NameUnknown),
+        _ => None,
+    }
+}
+
+/// The first fault that applies to an operation, by the records at its name's index in the registry and among the earlier
+/// operations.
+pub(crate) fn op_fault(
+    op: &Op,
+    present: Option<&Record>,
+    earlier: Option<&Record>,
+) -> Option<OpFault>
+    ensures fault { (of : List ℕ → List ℕ) (registry : Registry) (before : List Registered)
+        → HolderIs of registry (of op.now.name) present.entry → HolderIs of before (of op.now.name) earlier.entry
+        → option_map fault_is result ≡ fault_of of registry before (operation_of op.now) }
+    ensures lengths { result ≡ None → IsLength MAX_NAME op.now.name × IsLength MAX_KEY op.now.key }
+    ensures free { result ≡ None → earlier.entry ≡ None }
+{
+    let name = op.name.as_slice();
+    if !is_length(name, MAX_NAME) {
+        return Some(OpFault::NameLength);
+    }
+    if !is_length(op.key.as_slice(), MAX_KEY) {
+        return Some(OpFault::KeyLength);
+    }
+    if is_named(earlier, name) {
+        return Some(OpFault::NameTwice);
+    }
+    if let Some(fault) = fault_of_kind(op.kind, is_named(present, name)) {
+        return Some(fault);
+    }
+    // What an earlier operation has at the index is of another name: NameTwice came before.
+    if is_other(present, name) || earlier.is_some() {
+        return Some(OpFault::IndexClash);
+    }
+    None
+}

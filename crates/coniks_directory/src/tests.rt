@@ -1,0 +1,14 @@
+//! Tests. Digests and entries were computed by another program.
+
+mod answers;
+mod batches;
+mod boards;
+mod clerk;
+mod clients;
+mod epochs;
+mod gates;
+mod installs;
+mod refused;
+mod together;
+mod updates;
+mod watchers;
