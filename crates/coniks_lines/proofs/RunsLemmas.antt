@@ -6,7 +6,7 @@ use Rattle.coniks_lines.specs.Lines.{whole_after, rest_after, last_line, lines_o
 use Rattle.coniks_lines.specs.Machine.{Answer, replies, state_after, all_accepted}
 use Rattle.coniks_lines.specs.Runs.{IsBeginning, WritesOn, count_after, ComesToEnd, CannotWrite, AnswersLine, AnswersWhole, AnswersAll, WritesPart, FailsToWrite, StopsBetween, FailsAt, FailsAmong, RunFails, EndsWell, EndsBadly}
 use Rattle.coniks_lines.specs.declared.fault.RunFault.{RunFault}
-use Rattle.coniks_lines.specs.declared.fault.RunFault.TheVariants.{Read, Write, OutOfMemory}
+use Rattle.coniks_lines.specs.declared.fault.RunFault.TheVariants.{Read, Write, OutOfMemory, NoBoard}
 use Rattle.coniks_lines.proofs.KnownLemmas.{Appends-then, Appends-none, Appends-same}
 use Rattle.coniks_lines.proofs.LinesLemmas.{NoNewlineBefore, whole_after-append, rest_after-append, line_ended, lines_around, no_lines}
 use Rattle.coniks_lines.proofs.MachineLemmas.{replies-append, state_after-append, all_accepted-append}
@@ -155,12 +155,14 @@ module _ {S : Type 0} (answer : S → List ℕ → Answer S) where
     begins = begins-then xs h.done ys h.begins;
     written = subst (λ (r : List ℕ). Appends old r new) (sym (replies-append answer s xs h.done)) (Appends-then old mid new (replies answer s xs) (replies answer (state_after answer s xs) h.done) w h.written);
   }
+  FailsAmong-then s xs ys old mid new NoBoard on w h = h
 
   -- a fault at the first of these lines
   FailsAt-first : (t : S) (line : List ℕ) (lines : List (List ℕ)) (old new : Sink) (e : RunFault) → FailsAt answer t line old new e → FailsAmong answer t (line ∷ lines) old new e
   FailsAt-first t line lines old new Read h = h
   FailsAt-first t line lines old new Write h = FailsToWrite-longer t (line ∷ []) lines old new h
   FailsAt-first t line lines old new OutOfMemory h = record { done = []; begins = record { more = line ∷ lines; whole = refl }; written = Appends-same old old new [] (Appends-none old) h }
+  FailsAt-first t line lines old new NoBoard h = h
 
   -- a fault at a line that ends in the chunk
   pub fails_at_line : (s t : S) (held line chunk front xs ys : List ℕ) (old mid new : Sink) (a : Bool) (e : RunFault)
@@ -205,6 +207,7 @@ module _ {S : Type 0} (answer : S → List ℕ → Answer S) where
         of_cases Read h = absurd h
         of_cases Write h = inl h
         of_cases OutOfMemory h = h
+        of_cases NoBoard h = h
 
   -- the lines of bytes after whose last newline this line stands
   lines_of-last : (line bytes : List ℕ) → line ≢ [] → line ≡ rest_after [] bytes → lines_of bytes ≡ whole_after [] bytes ++ line ∷ []
@@ -227,6 +230,7 @@ module _ {S : Type 0} (answer : S → List ℕ → Answer S) where
     begins = record { more = []; whole = append-nil (whole_after [] bytes) };
     written = Appends-same old mid new (replies answer s (whole_after [] bytes)) p.written h;
   }
+  fails_at_last s t line bytes from from' old mid new a NoBoard some ended p h = h
 
   -- the end, where nothing is held
   pub ends_empty : (s t : S) (line bytes : List ℕ) (old new : Sink) (all : Bool)
@@ -313,6 +317,7 @@ module _ {S : Type 0} (answer : S → List ℕ → Answer S) where
             let none : [] ≡ rest = sym (f.0.none_left rest is) in
             subst (λ (bytes : List ℕ). WritesPart answer s (lines_of bytes) to to') (sym (append-nil h.bytes) ∙ ap (λ (r : List ℕ). h.bytes ++ r) none) f.1.writes
         by_fault rest is OutOfMemory f = begins_input s h.bytes rest to to' (StopsBetween-part s (whole_lines h.bytes) to to' f)
+        by_fault rest is NoBoard f = absurd f
 
         by_left : (left : Option (List ℕ)) → from'.left ≡ left → WritesPart answer s (lines_of input) to to'
         by_left None is =

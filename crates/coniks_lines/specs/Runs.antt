@@ -4,7 +4,7 @@ use Rattle.coniks_lines.specs.Known.{Source, Sink, Takes, Appends, HasNoneLeft, 
 use Rattle.coniks_lines.specs.Lines.{whole_after, rest_after, whole_lines, lines_of}
 use Rattle.coniks_lines.specs.Machine.{Answer, replies, state_after, all_accepted, output}
 use Rattle.coniks_lines.specs.declared.fault.RunFault.{RunFault}
-use Rattle.coniks_lines.specs.declared.fault.RunFault.TheVariants.{Read, Write, OutOfMemory}
+use Rattle.coniks_lines.specs.declared.fault.RunFault.TheVariants.{Read, Write, OutOfMemory, NoBoard}
 
 -- xs begins ys
 pub record IsBeginning {X : Type 0} (xs ys : List X) : Type 0 where
@@ -77,12 +77,14 @@ abbrev pub FailsAt : {S : Type 0} → (S → List ℕ → Answer S) → S → Li
 FailsAt answer start line old new Read = ⊥
 FailsAt answer start line old new Write = FailsToWrite answer start (line ∷ []) old new
 FailsAt answer start line old new OutOfMemory = new.written ≡ old.written
+FailsAt answer start line old new NoBoard = ⊥
 
 -- what stands after a fault among these lines
 abbrev pub FailsAmong : {S : Type 0} → (S → List ℕ → Answer S) → S → List (List ℕ) → Sink → Sink → RunFault → Type 0
 FailsAmong answer start lines old new Read = ⊥
 FailsAmong answer start lines old new Write = FailsToWrite answer start lines old new
 FailsAmong answer start lines old new OutOfMemory = StopsBetween answer start lines old new
+FailsAmong answer start lines old new NoBoard = ⊥
 
 -- a read failed, or 2^63 reads, each of at least one byte, met no end
 abbrev pub CannotRead : Source → Source → List ℕ → Type 0
@@ -96,6 +98,7 @@ RunFails answer start bytes from from' to to' Write =
     FailsToWrite answer start (whole_lines bytes) to to'
     ⊎ (ComesToEnd from from' × FailsToWrite answer start (lines_of bytes) to to')
 RunFails answer start bytes from from' to to' OutOfMemory = StopsBetween answer start (whole_lines bytes) to to'
+RunFails answer start bytes from from' to to' NoBoard = ⊥
 
 -- a run that came to its source's end: each line of all that was read is answered
 pub record EndsWell {S : Type 0} (answer : S → List ℕ → Answer S) (start : S) (from from' : Source) (to to' : Sink) (state : S) (all : Bool) : Type 0 where

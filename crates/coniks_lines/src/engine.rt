@@ -34,6 +34,9 @@ pub trait LineMachine {
     /// The answer to a line: its text, whether the line was accepted, and the state after it.
     ghost answer: { State → List ℕ → Answer State };
 
+    /// What a step needs that its machine can't hold, as that threads may share a type's values.
+    ghost Needs: { Type 0 };
+
     /// Adds the answer's text to `out`, without a newline, and tells whether the line was accepted.
     /// The line comes without its newline.
     ///
@@ -41,6 +44,7 @@ pub trait LineMachine {
     ///
     /// `AllocError` where memory is refused: `out` and the machine's state are then open.
     fn step(&mut self, line: &[u8], out: &mut Vec<u8>) -> Result<bool, AllocError>
+        requires needs { Needs }
         ensures text { OnOk result (out.new.items ≡ out.old.items ++ (answer (state self.old) line.now).text) }
         ensures accepted { IfOk result (λ accepted. accepted ≡ (answer (state self.old) line.now).accepted) }
         ensures state { OnOk result (state self.new ≡ (answer (state self.old) line.now).state) };
@@ -54,7 +58,7 @@ pub trait LineMachine {
 /// other, and the run goes on. The reader is read 64 KiB at a time. A line may have any length that
 /// memory holds: one that lies whole in what one read gave isn't copied, another is copied once.
 ///
-/// The `failures` of both streams must be below 2^64 - 1.
+/// The `failures` of both streams must be below 2^64 - 1, and what the machine needs must hold.
 ///
 /// # Errors
 ///
@@ -71,6 +75,7 @@ pub fn run_lines<M: LineMachine, R: ByteIn, W: ByteOut>(
     reader: &mut R,
     writer: &mut W,
 ) -> Result<bool, RunFault>
+    requires needs { M.Needs }
     requires reads { (R.source reader.old).failed + 1 < 2 ^ 64 }
     requires writes { (W.sink writer.old).failed + 1 < 2 ^ 64 }
     ensures ok { IfOk result (EndsWell M.answer (M.state machine.old)
@@ -106,6 +111,7 @@ fn read_lines<M: LineMachine, R: ByteIn, W: ByteOut>(
     buffer: &mut [u8],
 ) -> Result<bool, RunFault>
     requires room { 0 < length buffer.old }
+    requires needs { M.Needs }
     requires reads { (R.source reader.old).failed + 1 < 2 ^ 64 }
     requires writes { (W.sink writer.old).failed + 1 < 2 ^ 64 }
     ensures ok { IfOk result (EndsWell M.answer (M.state machine.old)
@@ -144,7 +150,8 @@ fn take_chunk<M: LineMachine, W: ByteOut>(
     out: &mut Vec<u8>,
     writer: &mut W,
 ) -> Result<bool, RunFault>
-    requires { (W.sink writer.old).failed + 1 < 2 ^ 64 }
+    requires needs { M.Needs }
+    requires writes { (W.sink writer.old).failed + 1 < 2 ^ 64 }
     ensures ok { IfOk result (AnswersWhole M.answer (M.state machine.old) held.old.items chunk.now
         (W.sink writer.old) (W.sink writer.new)
         (M.state machine.new) held.new.items) }
@@ -173,7 +180,8 @@ fn end_line<M: LineMachine, W: ByteOut>(
     out: &mut Vec<u8>,
     writer: &mut W,
 ) -> Result<bool, RunFault>
-    requires { (W.sink writer.old).failed + 1 < 2 ^ 64 }
+    requires needs { M.Needs }
+    requires writes { (W.sink writer.old).failed + 1 < 2 ^ 64 }
     ensures ok { IfOk result (AnswersLine M.answer (M.state machine.old) (held.old.items ++ part.now)
         (W.sink writer.old) (W.sink writer.new)
         (M.state machine.new)) }
@@ -199,7 +207,8 @@ fn answer_line<M: LineMachine, W: ByteOut>(
     out: &mut Vec<u8>,
     writer: &mut W,
 ) -> Result<bool, RunFault>
-    requires { (W.sink writer.old).failed + 1 < 2 ^ 64 }
+    requires needs { M.Needs }
+    requires writes { (W.sink writer.old).failed + 1 < 2 ^ 64 }
     ensures ok { IfOk result (AnswersLine M.answer (M.state machine.old) line.now
         (W.sink writer.old) (W.sink writer.new)
         (M.state machine.new)) }

@@ -14,4 +14,7 @@ pub enum RunFault {
     /// Memory was refused.
     #[error("out of memory")]
     OutOfMemory,
+    /// A run that publishes on a board could have none. `run_lines` itself doesn't answer it.
+    #[error("no board")]
+    NoBoard,
 }

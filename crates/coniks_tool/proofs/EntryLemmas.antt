@@ -17,6 +17,15 @@ two_parts one two low high long_low long_high long first second =
     let begin : take 32 one ≡ low = ap (λ n. take n one) (sym long_low) ∙ first in
     sym all ∙ sym end ∙ second ∙ ap (λ x. x ++ high) begin
 
+-- the parts of an entry's bytes, one behind the other
+pub body_and_signature : (one two body signature : List ℕ) → length body ≡ 145 → length signature ≡ 64 → length two ≡ 209 → take (length body) one ≡ body → take (145 + length signature) two ≡ take 145 one ++ signature
+    → two ≡ body ++ signature
+body_and_signature one two body signature long_body long_signature long first second =
+    let all : take 209 two ≡ two = take_all 209 two (omega arith) in
+    let end : take (145 + length signature) two ≡ take 209 two = ap (λ n. take n two) (ap (λ n. 145 + n) long_signature) in
+    let begin : take 145 one ≡ body = ap (λ n. take n one) (sym long_body) ∙ first in
+    sym all ∙ sym end ∙ second ∙ ap (λ x. x ++ signature) begin
+
 -- the beginning and the rest of a list in two parts
 front : (n : ℕ) (a b : List ℕ) → length a ≡ n → take n (a ++ b) ≡ a
 front n a b long = ap (λ k. take k (a ++ b)) (sym long) ∙ take-append_seam a b

@@ -6,8 +6,8 @@ use Rattle.serde_json.specs.Data.{item}
 use Rattle.serde_json.specs.View.{view, items_view}
 use Rattle.serde_json.specs.declared.value.Value.{Value}
 use Rattle.coniks_proof.specs.Batches.{Operation}
-use Rattle.coniks_tool.specs.Batch.{operation_of}
-use Rattle.coniks_tool.specs.declared.batch.Op.{Op}
+use Rattle.coniks_directory.specs.Batches.{operation_of}
+use Rattle.coniks_directory.specs.declared.batch.Op.{Op}
 use Rattle.coniks_tool.specs.Operations.{operation_in, operations_from, with_first}
 
 -- the same after the operations that were found

@@ -38,7 +38,7 @@ there_and_not (Some key) b none both = false≢true none
 
 lacks_one : (choice : Option Choice) → lacks_key choice ≡ true → lacks_expectation choice ≡ true → ⊥
 lacks_one None key expectation = false≢true key
-lacks_one (Some run) key expectation = false≢true key
+lacks_one (Some (run workers depth)) key expectation = false≢true key
 lacks_one (Some check) key expectation = false≢true key
 lacks_one (Some (audit text)) key expectation = false≢true expectation
 lacks_one (Some (monitor text name expect)) key expectation = there_and_not (key_in text) (is_none (expectation_in expect)) key expectation

@@ -5,7 +5,7 @@ use Rattle.serde_json.specs.View.{items_of}
 use Rattle.serde_json.specs.Written.{has_float, items_have_float}
 use Rattle.coniks_tool.specs.Paths.{PathEnd, no_entry, other_entry, its_entry, Path}
 use Rattle.coniks_tool.specs.ProofTexts.{digits, end_data, proof_data}
-use Rattle.coniks_tool.specs.Replies.{Outcome, opened, installed, looked_up, not_json, no_command, bad_member, bad_operation, not_open, already_open, batch_too_long, bad_batch, epoch_not_later, unknown_epoch, bad_name_length, reply_data}
+use Rattle.coniks_tool.specs.Replies.{Outcome, opened, installed, looked_up, not_json, no_command, bad_member, bad_operation, not_open, already_open, batch_too_long, bad_batch, epoch_not_later, board_full, unknown_epoch, bad_name_length, reply_data}
 
 no_floats : (xs : List (List ℕ)) → items_have_float (items_of (map digits xs)) ≡ false
 no_floats [] = refl
@@ -21,8 +21,8 @@ proof_plain p = rw (end_plain p.end, no_floats p.siblings) refl
 
 pub no_float : (o : Outcome) → has_float (reply_data o) ≡ false
 no_float opened = refl
-no_float (installed epoch root) = refl
-no_float (looked_up epoch index name nonce path root) = rw (proof_plain path) refl
+no_float (installed entry link) = refl
+no_float (looked_up entry index name path) = rw (proof_plain path) refl
 no_float not_json = refl
 no_float no_command = refl
 no_float (bad_member m) = refl
@@ -32,5 +32,6 @@ no_float already_open = refl
 no_float batch_too_long = refl
 no_float (bad_batch place fault) = refl
 no_float (epoch_not_later latest) = refl
+no_float board_full = refl
 no_float unknown_epoch = refl
 no_float bad_name_length = refl

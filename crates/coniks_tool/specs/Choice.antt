@@ -1,9 +1,14 @@
 -- What the words choose, and why they may choose nothing.
-use Rattle.std.specs.Prelude.{List, [], ℕ, codes, ◌&&◌, Option, Some, None, is_none, is_some, option_map, unwrap_or, Bool, false, if◌then◌else◌}
+use Rattle.std.specs.Prelude.{◌≤◌, max, min, List, [], ℕ, codes, ◌&&◌, Option, Some, None, is_none, is_some, option_map, unwrap_or, Bool, false, if◌then◌else◌}
+use Rattle.std.specs.Option.{option_map_or}
 use Rattle.std.specs.Result.{result_ok}
 use Rattle.std.specs.Str.{bytes_eq}
+use Rattle.clap.specs.Walk.{byte_or_zero}
 use Rattle.clap.specs.Words.{Row, Kinds, IsAmong, first_of, kind_of}
+use Rattle.coniks_directory.specs.Batches.{AreWorkers}
 use Rattle.hex.specs.Hex.{decode_sized}
+use Rattle.coniks_work.specs.declared.building.TheConstants.{MAX_WORKERS}
+use Rattle.coniks_work.specs.declared.jobs.TheConstants.{MAX_DEPTH}
 use Rattle.coniks_tool.specs.Expectations.{expectation_in}
 use Rattle.coniks_tool.specs.declared.choice.Settings.{Settings}
 use Rattle.coniks_tool.specs.declared.choice.Settings.TheVariants.{Run, Check, Audit, Monitor}
@@ -12,14 +17,14 @@ use Rattle.coniks_tool.specs.declared.choice.WordsFault.TheVariants.{Clap, OutOf
 
 -- what to do
 pub data Choice : Type 0 where
-  run : Choice
+  run : (workers depth : ℕ) → Choice
   check : Choice
   audit : (key : List ℕ) → Choice
   monitor : (key name : List ℕ) (expect : Option (List ℕ)) → Choice
 
 -- the settings, without where their texts lie
 abbrev pub choice_of : Settings → Choice
-choice_of Run = run
+choice_of (Run workers depth) = run workers depth
 choice_of Check = check
 choice_of (Audit key) = audit key.now
 choice_of (Monitor key name expect) = monitor key.now name.now (option_map (λ text. text.now) expect)
@@ -28,10 +33,28 @@ choice_of (Monitor key name expect) = monitor key.now name.now (option_map (λ t
 abbrev pub text_of : List ℕ → List Row → List ℕ
 text_of name rows = unwrap_or (first_of name rows) []
 
+-- the number of an option, or this where it has none
+abbrev pub number_of : List ℕ → ℕ → List Row → ℕ
+number_of name missing rows = option_map_or byte_or_zero (first_of name rows) missing
+
+-- the workers and the depth that the options ask for; those that `clap` takes are within these limits
+abbrev pub workers_of : List Row → ℕ
+workers_of rows = min (max (number_of (codes "workers") 1 rows) 1) MAX_WORKERS
+
+abbrev pub depth_of : List Row → ℕ
+depth_of rows = min (number_of (codes "depth") 0 rows) MAX_DEPTH
+
+-- the numbers of a run are within their limits
+abbrev pub IsWithin : Settings → Type 0
+IsWithin (Run workers depth) = AreWorkers workers × (depth ≤ MAX_DEPTH)
+IsWithin Check = Unit {0}
+IsWithin (Audit key) = Unit {0}
+IsWithin (Monitor key name expect) = Unit {0}
+
 -- what a subcommand chooses, by its name and the options that were found
 abbrev pub choice_by : List ℕ → List Row → Choice
 choice_by name rows =
-    if bytes_eq name (codes "run") then run
+    if bytes_eq name (codes "run") then run (workers_of rows) (depth_of rows)
     else (if bytes_eq name (codes "check") then check
     else (if bytes_eq name (codes "audit") then audit (text_of (codes "key") rows)
     else monitor (text_of (codes "key") rows) (text_of (codes "name") rows) (first_of (codes "expect") rows)))
@@ -48,7 +71,7 @@ key_in text = result_ok (decode_sized text 32)
 abbrev pub lacks_key : Option Choice → Bool
 lacks_key (Some (audit key)) = is_none (key_in key)
 lacks_key (Some (monitor key name expect)) = is_none (key_in key)
-lacks_key (Some run) = false
+lacks_key (Some (run workers depth)) = false
 lacks_key (Some check) = false
 lacks_key None = false
 
@@ -56,7 +79,7 @@ lacks_key None = false
 abbrev pub lacks_expectation : Option Choice → Bool
 lacks_expectation (Some (monitor key name expect)) = is_some (key_in key) && is_none (expectation_in expect)
 lacks_expectation (Some (audit key)) = false
-lacks_expectation (Some run) = false
+lacks_expectation (Some (run workers depth)) = false
 lacks_expectation (Some check) = false
 lacks_expectation None = false
 

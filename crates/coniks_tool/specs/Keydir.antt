@@ -1,11 +1,28 @@
 -- The command that reads the program's words, as `clap`'s definitions see it.
-use Rattle.std.specs.Prelude.{codes, true, Some}
+use Rattle.std.specs.Prelude.{codes, pos, true, [], ◌∷◌, Some}
 use Rattle.clap.specs.Words.{App, Rule, new_app, new_rule, with_rule, with_subcommand}
 use Rattle.clap.specs.Simple.{on_top}
+use Rattle.clap.specs.declared.builder.value_parser.ValueParser.TheVariants as parser
 
--- `run`, which has no options
+-- `--workers`, a number from 1 to 64
+abbrev pub workers_rule : Rule
+workers_rule = record (new_rule (codes "workers")) {
+  long = Some (codes "workers");
+  defaults = codes "1" ∷ [];
+  parser = Some (parser.Signed (pos 1) (pos 64));
+}
+
+-- `--depth`, a number from 0 to 8
+abbrev pub depth_rule : Rule
+depth_rule = record (new_rule (codes "depth")) {
+  long = Some (codes "depth");
+  defaults = codes "0" ∷ [];
+  parser = Some (parser.Signed (pos 0) (pos 8));
+}
+
+-- `run`, which has workers and a depth
 abbrev pub run_app : App
-run_app = new_app (codes "run")
+run_app = with_rule (with_rule (new_app (codes "run")) workers_rule) depth_rule
 
 -- `--key`, which is required
 abbrev pub key_rule : Rule
@@ -35,10 +52,10 @@ monitor_app = with_rule (with_rule (with_rule (new_app (codes "monitor")) key_ru
 abbrev pub keydir_top : App
 keydir_top = on_top (λ shape. record shape { subcommand_required = true }) (new_app (codes "keydir"))
 
--- the command with the subcommands that have no options
-abbrev pub without_options : App
-without_options = with_subcommand (with_subcommand keydir_top run_app.top) check_app.top
+-- the command with the subcommands that ask for no key
+abbrev pub with_run_and_check : App
+with_run_and_check = with_subcommand (with_subcommand keydir_top run_app.top) check_app.top
 
 -- the command with its subcommands
 abbrev pub keydir : App
-keydir = with_subcommand (with_subcommand without_options audit_app.top) monitor_app.top
+keydir = with_subcommand (with_subcommand with_run_and_check audit_app.top) monitor_app.top

@@ -4,9 +4,9 @@ use Rattle.std.specs.Str.{bytes_eq}
 use Rattle.std.specs.declared.alloc.Global.{Global}
 use Rattle.serde_json.specs.Data.{Data, Items, no_items, item}
 use Rattle.coniks_proof.specs.Batches.{Kind, register, change, Operation}
-use Rattle.coniks_tool.specs.Batch.{operation_of}
+use Rattle.coniks_directory.specs.Batches.{operation_of}
+use Rattle.coniks_directory.specs.declared.batch.Op.{Op}
 use Rattle.coniks_tool.specs.Members.{text_in, digits_in, base64_in}
-use Rattle.coniks_tool.specs.declared.batch.Op.{Op}
 
 -- the kind that a text names
 abbrev pub kind_named : List ℕ → Option Kind

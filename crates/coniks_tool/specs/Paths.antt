@@ -1,16 +1,12 @@
 -- The path that a lookup answers, in byte lists.
-use Rattle.std.specs.Prelude.{◌≡◌, ℕ, Bool, List, [], ◌∷◌, ◌++◌, Option, Some, None, if◌then◌else◌}
-use Rattle.std.specs.Borrow.{Bor}
+use Rattle.std.specs.Prelude.{ℕ, List, [], ◌∷◌, if◌then◌else◌}
 use Rattle.std.specs.Str.{bytes_eq}
 use Rattle.coniks_proof.specs.Entries.{Entry}
 use Rattle.coniks_proof.specs.Paths.{siblings, end_of, digests}
 use Rattle.coniks_proof.specs.Registry.{Registered, Registry, entries_of}
-use Rattle.coniks_proof.specs.declared.values.Digest.{Digest}
 use Rattle.coniks_proof.specs.declared.paths.Proof.{Proof}
 use Rattle.coniks_proof.specs.declared.paths.End.{End}
 use Rattle.coniks_proof.specs.declared.paths.End.TheVariants.{Empty, Other, Here}
-use Rattle.coniks_tool.specs.Records.{entry_of_record}
-use Rattle.coniks_tool.specs.declared.records.Record.{Record}
 
 -- where a path to an index ends
 pub data PathEnd : Type 0 where
@@ -52,13 +48,3 @@ end_shown (Here name key opening) = its_entry name key opening.0
 -- a proof, without these forms
 abbrev pub path_of : Proof → Path
 path_of proof = record { siblings = digests proof.siblings; end = end_shown proof.end }
-
--- the entry of a record, where there is one
-abbrev pub shown_in : Option (Bor Record) → List (Entry Registered)
-shown_in None = []
-shown_in (Some r) = entry_of_record r.now ∷ []
-
--- the way to an index, from a prefix with these entries down, adds its siblings to those before and ends with this record
-pub record IsWalked (hash : List ℕ → List ℕ) (nonce index : List ℕ) (prefix : List Bool) (entries : List (Entry Registered)) (before after : List Digest) (last : Option (Bor Record)) : Type 0 where
-  pub told : digests after ≡ digests before ++ siblings hash nonce prefix index entries
-  pub ends : shown_in last ≡ end_of prefix index entries

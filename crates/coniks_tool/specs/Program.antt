@@ -6,7 +6,7 @@ use Rattle.clap.specs.declared.error.kind.ErrorKind.TheVariants.{DisplayHelp, Di
 use Rattle.coniks_lines.specs.Known.{Source, Sink, Appends, next_count}
 use Rattle.coniks_lines.specs.Runs.{IsBeginning, WritesOn, CannotWrite, EndsWell}
 use Rattle.coniks_lines.specs.declared.fault.RunFault.{RunFault}
-use Rattle.coniks_lines.specs.declared.fault.RunFault.TheVariants.{Read, Write, OutOfMemory}
+use Rattle.coniks_lines.specs.declared.fault.RunFault.TheVariants.{Read, Write, OutOfMemory, NoBoard}
 use Rattle.coniks_tool.specs.Audit.{AuditState, audit_answer, none_audited}
 use Rattle.coniks_tool.specs.Check.{Stateless, check_answer, stateless}
 use Rattle.coniks_tool.specs.Choice.{Choice, run, check, audit, monitor, chosen, key_in, lacks_key, lacks_expectation}
@@ -24,6 +24,7 @@ abbrev pub fault_line : RunFault → List ℕ
 fault_line Read = codes "keydir: read failed\n"
 fault_line Write = codes "keydir: write failed\n"
 fault_line OutOfMemory = codes "keydir: out of memory\n"
+fault_line NoBoard = codes "keydir: no board\n"
 
 -- the line that tells why there are no words
 abbrev pub unread_line : Unread → List ℕ
@@ -77,7 +78,7 @@ HasMistake kinds = (kind : ErrorKind) × (IsAmong kind kinds × (is_asked_for ki
 -- the run that was chosen came to its source's end, and this says whether each line was accepted
 abbrev pub Runs : Option Choice → Source → Source → Sink → Sink → Bool → Type 0
 Runs None from from' to to' all = ⊥
-Runs (Some run) from from' to to' all = (state : State) × EndsWell script_answer None from from' to to' state all
+Runs (Some (run workers depth)) from from' to to' all = (state : State) × EndsWell script_answer None from from' to to' state all
 Runs (Some check) from from' to to' all = (state : Stateless) × EndsWell check_answer stateless from from' to to' state all
 Runs (Some (audit text)) from from' to to' all = (key : List ℕ) × ((key_in text ≡ Some key) × ((state : AuditState) × EndsWell audit_answer (none_audited key) from from' to to' state all))
 Runs (Some (monitor text name expect)) from from' to to' all =

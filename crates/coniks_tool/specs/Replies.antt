@@ -4,11 +4,13 @@ use Rattle.std.specs.String.{string_bytes}
 use Rattle.serde_json.specs.Data.{Data, string, number, unsigned, object, member, no_members}
 use Rattle.serde_json.specs.Written.{compact_text}
 use Rattle.coniks_proof.specs.Batches.{Fault, name_length, key_length, name_twice, name_taken, name_unknown, index_clash}
-use Rattle.coniks_tool.specs.Batch.{fault_is}
+use Rattle.coniks_chain.specs.declared.entry.Entry.{Entry}
+use Rattle.coniks_directory.specs.Batches.{fault_is}
+use Rattle.coniks_tool.specs.EntryBytes.{entry_bytes}
 use Rattle.coniks_tool.specs.Paths.{Path, path_of}
 use Rattle.coniks_tool.specs.ProofTexts.{digits, proof_data}
 use Rattle.coniks_tool.specs.declared.reply.Member.{Member}
-use Rattle.coniks_tool.specs.declared.reply.Member.TheVariants.{Key, Nonce, Policy, Epoch, Ops, Name, Index, Root, Proof, Entry}
+use Rattle.coniks_tool.specs.declared.reply.Member.TheVariants as named
 use Rattle.coniks_tool.specs.declared.reply.Reply.{Reply}
 use Rattle.coniks_tool.specs.declared.reply.Reply.TheVariants as reply
 
@@ -16,10 +18,10 @@ use Rattle.coniks_tool.specs.declared.reply.Reply.TheVariants as reply
 pub data Outcome : Type 0 where
   -- the registry is open
   opened : Outcome
-  -- a batch was installed
-  installed : (epoch : ℕ) (root : List ℕ) → Outcome
-  -- a lookup was answered by the path to the name's index in the tree of the epoch
-  looked_up : (epoch : ℕ) (index name nonce : List ℕ) (path : Path) (root : List ℕ) → Outcome
+  -- a batch was installed: the entry that it added to the chain, and the entry's link
+  installed : (entry : Entry) (link : List ℕ) → Outcome
+  -- a lookup was answered by the path to the name's index in the tree of the epoch with this entry
+  looked_up : (entry : Entry) (index name : List ℕ) (path : Path) → Outcome
   -- the line isn't a JSON object
   not_json : Outcome
   -- the line has no known command
@@ -38,6 +40,8 @@ pub data Outcome : Type 0 where
   bad_batch : (place : ℕ) → Fault → Outcome
   -- the epoch isn't later than the latest one
   epoch_not_later : (latest : ℕ) → Outcome
+  -- the board has no room for a further head
+  board_full : Outcome
   -- no epoch has exactly the number asked
   unknown_epoch : Outcome
   -- the name asked is empty or too long
@@ -46,8 +50,8 @@ pub data Outcome : Type 0 where
 -- a reply, without the forms that the code gives to numbers and digests
 abbrev pub outcome_of : Reply → Outcome
 outcome_of reply.Opened = opened
-outcome_of (reply.Installed epoch root) = installed epoch root.0
-outcome_of (reply.LookedUp epoch index name nonce proof root) = looked_up epoch index.0 (string_bytes name) nonce.0 (path_of proof) root.0
+outcome_of (reply.Installed entry link) = installed entry link.0
+outcome_of (reply.LookedUp entry index name proof) = looked_up entry index.0 (string_bytes name) (path_of proof)
 outcome_of reply.NotJson = not_json
 outcome_of reply.NoCommand = no_command
 outcome_of (reply.BadMember m) = bad_member m
@@ -57,21 +61,22 @@ outcome_of reply.AlreadyOpen = already_open
 outcome_of reply.BatchTooLong = batch_too_long
 outcome_of (reply.BadBatch place fault) = bad_batch place (fault_is fault)
 outcome_of (reply.EpochNotLater latest) = epoch_not_later latest
+outcome_of reply.BoardFull = board_full
 outcome_of reply.UnknownEpoch = unknown_epoch
 outcome_of reply.NameLength = bad_name_length
 
 -- a member's name
 abbrev pub member_name : Member → List ℕ
-member_name Key = codes "key"
-member_name Nonce = codes "nonce"
-member_name Policy = codes "policy"
-member_name Epoch = codes "epoch"
-member_name Ops = codes "ops"
-member_name Name = codes "name"
-member_name Index = codes "index"
-member_name Root = codes "root"
-member_name Proof = codes "proof"
-member_name Entry = codes "entry"
+member_name named.Key = codes "key"
+member_name named.Nonce = codes "nonce"
+member_name named.Policy = codes "policy"
+member_name named.Epoch = codes "epoch"
+member_name named.Ops = codes "ops"
+member_name named.Name = codes "name"
+member_name named.Index = codes "index"
+member_name named.Root = codes "root"
+member_name named.Proof = codes "proof"
+member_name named.Entry = codes "entry"
 
 -- the name of an operation's fault
 abbrev pub fault_name : Fault → List ℕ
@@ -119,31 +124,34 @@ epoch_not_later_data latest =
 abbrev pub opened_data : Data
 opened_data = object (member (codes "ok") (string (codes "open")) no_members)
 
--- {"epoch":NUM,"ok":"batch","root":DIGITS}
-abbrev pub installed_data : ℕ → List ℕ → Data
-installed_data epoch root =
+-- {"entry":DIGITS,"epoch":NUM,"link":DIGITS,"ok":"batch","root":DIGITS}
+abbrev pub installed_data : Entry → List ℕ → Data
+installed_data entry link =
     object
-    (member (codes "epoch") (number (unsigned epoch))
+    (member (codes "entry") (digits (entry_bytes entry))
+    (member (codes "epoch") (number (unsigned entry.body.t))
+    (member (codes "link") (digits link)
     (member (codes "ok") (string (codes "batch"))
-    (member (codes "root") (digits root) no_members)))
+    (member (codes "root") (digits entry.body.root.0) no_members)))))
 
--- {"epoch":NUM,"index":DIGITS,"name":TEXT,"nonce":DIGITS,"ok":"lookup","proof":PROOF,"root":DIGITS}
-abbrev pub looked_up_data : ℕ → List ℕ → List ℕ → List ℕ → Path → List ℕ → Data
-looked_up_data epoch index name nonce path root =
+-- {"entry":DIGITS,"epoch":NUM,"index":DIGITS,"name":TEXT,"nonce":DIGITS,"ok":"lookup","proof":PROOF,"root":DIGITS}
+abbrev pub looked_up_data : Entry → List ℕ → List ℕ → Path → Data
+looked_up_data entry index name path =
     object
-    (member (codes "epoch") (number (unsigned epoch))
+    (member (codes "entry") (digits (entry_bytes entry))
+    (member (codes "epoch") (number (unsigned entry.body.t))
     (member (codes "index") (digits index)
     (member (codes "name") (string name)
-    (member (codes "nonce") (digits nonce)
+    (member (codes "nonce") (digits entry.body.nonce.0)
     (member (codes "ok") (string (codes "lookup"))
     (member (codes "proof") (proof_data path)
-    (member (codes "root") (digits root) no_members)))))))
+    (member (codes "root") (digits entry.body.root.0) no_members))))))))
 
 -- the object that is printed
 abbrev pub reply_data : Outcome → Data
 reply_data opened = opened_data
-reply_data (installed epoch root) = installed_data epoch root
-reply_data (looked_up epoch index name nonce path root) = looked_up_data epoch index name nonce path root
+reply_data (installed entry link) = installed_data entry link
+reply_data (looked_up entry index name path) = looked_up_data entry index name path
 reply_data not_json = fault_data (codes "Json")
 reply_data no_command = fault_data (codes "Command")
 reply_data (bad_member m) = bad_member_data (member_name m)
@@ -153,6 +161,7 @@ reply_data already_open = fault_data (codes "AlreadyOpen")
 reply_data batch_too_long = fault_data (codes "BatchTooLong")
 reply_data (bad_batch place fault) = placed_fault_data (fault_name fault) place
 reply_data (epoch_not_later latest) = epoch_not_later_data latest
+reply_data board_full = fault_data (codes "BoardFull")
 reply_data unknown_epoch = fault_data (codes "UnknownEpoch")
 reply_data bad_name_length = fault_data (codes "NameLength")
 
@@ -163,8 +172,8 @@ reply_text outcome = compact_text (reply_data outcome)
 -- the line was accepted
 abbrev pub is_accepted : Outcome → Bool
 is_accepted opened = true
-is_accepted (installed epoch root) = true
-is_accepted (looked_up epoch index name nonce path root) = true
+is_accepted (installed entry link) = true
+is_accepted (looked_up entry index name path) = true
 is_accepted not_json = false
 is_accepted no_command = false
 is_accepted (bad_member m) = false
@@ -174,5 +183,6 @@ is_accepted already_open = false
 is_accepted batch_too_long = false
 is_accepted (bad_batch place fault) = false
 is_accepted (epoch_not_later latest) = false
+is_accepted board_full = false
 is_accepted unknown_epoch = false
 is_accepted bad_name_length = false

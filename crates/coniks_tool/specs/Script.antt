@@ -1,18 +1,25 @@
 -- What `run` answers to a line.
-use Rattle.std.specs.Prelude.{ℕ, List, [], ◌∷◌, ◌++◌, codes, Option, Some, None, Result, Ok, Err, if◌then◌else◌}
+use Rattle.std.specs.Prelude.{◌≡◌, ℕ, List, [], ◌∷◌, ◌++◌, codes, Option, Some, None, Result, Ok, Err, if◌then◌else◌}
 use Rattle.std.specs.Str.{bytes_eq}
 use Rattle.serde_json.specs.Data.{Data, Items}
+use Rattle.coniks_lines.specs.Known.{Source, Sink}
 use Rattle.coniks_lines.specs.Machine.{Answer}
+use Rattle.coniks_lines.specs.Runs.{EndsBadly}
+use Rattle.coniks_lines.specs.declared.fault.RunFault.{RunFault}
+use Rattle.coniks_lines.specs.declared.fault.RunFault.TheVariants.{Read, Write, OutOfMemory, NoBoard}
 use Rattle.coniks_proof.specs.Sha256.{sha256}
-use Rattle.coniks_proof.specs.Registry.{Registry, root_of}
 use Rattle.coniks_proof.specs.Batches.{Operation, after, fits}
 use Rattle.coniks_proof.specs.declared.values.TheConstants.{MAX_NAME}
+use Rattle.coniks_chain.specs.Entries.{link_preimage}
+use Rattle.coniks_chain.specs.declared.entry.Entry.{Entry}
+use Rattle.coniks_directory.specs.History.{Shown, latest_nonce, latest_registry, shown_at}
+use Rattle.coniks_tool.specs.Chains.{chain_of, entry_at, next_entry}
 use Rattle.coniks_tool.specs.Demo.{demo_index}
-use Rattle.coniks_tool.specs.History.{Shown, latest_registry, registry_of, Refusal, refusal, too_long, at, not_later}
 use Rattle.coniks_tool.specs.Members.{object_in, text_in, number_in, array_in, digits_in}
 use Rattle.coniks_tool.specs.Operations.{operations_in}
 use Rattle.coniks_tool.specs.Paths.{path_to}
-use Rattle.coniks_tool.specs.Replies.{Outcome, opened, installed, looked_up, unknown_epoch, bad_name_length, not_json, no_command, bad_member, bad_operation, not_open, already_open, batch_too_long, bad_batch, epoch_not_later, reply_text, is_accepted}
+use Rattle.coniks_tool.specs.Refusals.{Refusal, refusal, too_long, at, not_later, full}
+use Rattle.coniks_tool.specs.Replies.{Outcome, opened, installed, looked_up, unknown_epoch, bad_name_length, not_json, no_command, bad_member, bad_operation, not_open, already_open, batch_too_long, bad_batch, epoch_not_later, board_full, reply_text, is_accepted}
 use Rattle.coniks_tool.specs.declared.reply.Member.TheVariants.{Key, Nonce, Policy, Epoch, Ops, Name}
 
 -- a directory that was opened: its key, nonce and policy, and its history
@@ -52,15 +59,36 @@ abbrev pub refusal_outcome : Refusal → Outcome
 refusal_outcome too_long = batch_too_long
 refusal_outcome (at place fault) = bad_batch place fault
 refusal_outcome (not_later latest) = epoch_not_later latest
+refusal_outcome full = board_full
 
--- a batch on an opened directory: it is refused, or installed with the registry that it leaves
+-- the epoch that a batch makes: of version 1, under the nonce of `open`, with the registry that the batch leaves
+abbrev pub shown_next : Opened → ℕ → List Operation → Shown
+shown_next o epoch ops = record {
+  t = epoch;
+  version = 1;
+  nonce = latest_nonce o.nonce o.history;
+  registry = after (latest_registry o.history) ops;
+}
+
+-- the entry that this epoch adds to the chain
+abbrev pub entry_next : Opened → Shown → Entry
+entry_next o shown = next_entry o.key o.policy o.history shown
+
+-- a batch was installed: nothing refuses it, this is the entry that it added, and this is what the directory holds then
+pub record Installs (old : Opened) (epoch : ℕ) (ops : List Operation) (entry : Entry) (new : Opened) : Type 0 where
+  pub faultless : refusal (demo_index old.key) old.history epoch ops ≡ None
+  pub entry_is : entry ≡ entry_next old (shown_next old epoch ops)
+  pub state_is : new ≡ record old { history = old.history ++ shown_next old epoch ops ∷ [] }
+
+-- a batch on an opened directory: it is refused, or installed as an epoch of its own
 abbrev pub batch_on : Opened → ℕ → List Operation → Option Refusal → Turn
 batch_on o epoch ops (Some why) = refused (Some o) (refusal_outcome why)
 batch_on o epoch ops None =
-    let registry = after (latest_registry o.history) ops in
+    let shown = shown_next o epoch ops in
+    let entry = entry_next o shown in
     record {
-      outcome = installed epoch (root_of sha256 (demo_index o.key) o.nonce registry);
-      state = Some (record o { history = o.history ++ record { epoch = epoch; registry = registry } ∷ [] });
+      outcome = installed entry (sha256 (link_preimage entry));
+      state = Some (record o { history = o.history ++ shown ∷ [] });
     }
 
 -- a batch that was read
@@ -79,19 +107,28 @@ batch_turn s None items = refused s (bad_member Epoch)
 batch_turn s (Some epoch) None = refused s (bad_member Ops)
 batch_turn s (Some epoch) (Some items) = batch_read s epoch (operations_in items)
 
--- a lookup on an opened directory, where this is the registry of the epoch asked
-abbrev pub lookup_in : Opened → ℕ → List ℕ → Option Registry → Outcome
-lookup_in o epoch name None = unknown_epoch
-lookup_in o epoch name (Some registry) =
-    let of = demo_index o.key in
-    if fits MAX_NAME name
-    then looked_up epoch (of name) name o.nonce (path_to sha256 of o.nonce registry (of name)) (root_of sha256 of o.nonce registry)
-    else bad_name_length
+-- the path to a name's index in the tree of an epoch, with the epoch's entry
+abbrev pub path_at : (List ℕ → List ℕ) → List ℕ → Shown → Entry → Outcome
+path_at of name shown entry = looked_up entry (of name) name (path_to sha256 of shown.nonce shown.registry (of name))
+
+-- a lookup of a name of a name's length, at an epoch with this entry
+abbrev pub lookup_at : Opened → List ℕ → Shown → Option Entry → Outcome
+lookup_at o name shown None = unknown_epoch
+lookup_at o name shown (Some entry) = path_at (demo_index o.key) name shown entry
+
+-- a lookup on an opened directory, where these are the epoch asked and its entry
+abbrev pub lookup_in : Opened → List ℕ → Option Shown → Option Entry → Outcome
+lookup_in o name None entry = unknown_epoch
+lookup_in o name (Some shown) entry = if fits MAX_NAME name then lookup_at o name shown entry else bad_name_length
+
+-- a lookup at an epoch of an opened directory
+abbrev pub lookup_on : Opened → ℕ → List ℕ → Outcome
+lookup_on o epoch name = lookup_in o name (shown_at o.history epoch) (entry_at (chain_of o.key o.policy o.history) epoch)
 
 -- a lookup that was read
 abbrev pub lookup_with : State → ℕ → List ℕ → Outcome
 lookup_with None epoch name = not_open
-lookup_with (Some o) epoch name = lookup_in o epoch name (registry_of o.history epoch)
+lookup_with (Some o) epoch name = lookup_on o epoch name
 
 -- `lookup`, by its members in the order of reading
 abbrev pub lookup_outcome : State → Option ℕ → Option (List ℕ) → Outcome
@@ -124,3 +161,10 @@ turn s line = object_turn s (object_in line)
 -- what a line is answered by
 abbrev pub script_answer : State → List ℕ → Answer State
 script_answer s line = let t = turn s line in record { text = reply_text t.outcome; accepted = is_accepted t.outcome; state = t.state }
+
+-- what stands after a fault of `run`: that of its lines; where no board could be had, nothing was read or written
+abbrev pub ScriptFails : Source → Source → Sink → Sink → RunFault → Type 0
+ScriptFails from from' to to' Read = EndsBadly script_answer None from from' to to' Read
+ScriptFails from from' to to' Write = EndsBadly script_answer None from from' to to' Write
+ScriptFails from from' to to' OutOfMemory = EndsBadly script_answer None from from' to to' OutOfMemory
+ScriptFails from from' to to' NoBoard = (from' ≡ from) × (to' ≡ to)

@@ -62,6 +62,8 @@ impl LineMachine for Auditing {
 
     ghost answer = { audit_answer };
 
+    ghost Needs = { Unit {0} };
+
     fn step(&mut self, line: &[u8], out: &mut Vec<u8>) -> Result<bool, AllocError> {
         let reply = self.reply(line)?;
         print_audit(self.alloc, &reply, out)?;

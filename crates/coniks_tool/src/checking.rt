@@ -54,6 +54,8 @@ impl LineMachine for Checking {
 
     ghost answer = { check_answer };
 
+    ghost Needs = { Unit {0} };
+
     fn step(&mut self, line: &[u8], out: &mut Vec<u8>) -> Result<bool, AllocError> {
         let Some(object) = read_object(self.alloc, line)? else {
             return reply(self.alloc, &CheckReply::NotJson, out);

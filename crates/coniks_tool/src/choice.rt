@@ -5,8 +5,12 @@ use clap::Error;
 /// What the words ask for.
 #[derive(Clone, Copy, Debug, PartialEq, Eq)]
 pub enum Settings<'a> {
-    /// Answer the lines of the standard input.
-    Run,
+    /// Answer the lines of the standard input. Epochs are built by so many workers, 1 to 64, over prefixes of so many
+    /// bits, 0 to 8.
+    Run {
+        workers: usize,
+        depth: usize,
+    },
     /// Check the proofs of the standard input.
     Check,
     /// Audit the entries of the standard input, under the key of this text.

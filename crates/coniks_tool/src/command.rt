@@ -3,16 +3,40 @@
 ghost use Rattle.std.specs.Prelude.{◌≡◌, IfOk, false, true};
 ghost use Rattle.clap.specs.Words.{app_of, rule_of};
 ghost use Rattle.clap.specs.declared.builder.command.Command.TheViews.{out-Command as fields_of};
-ghost use Rattle.coniks_tool.specs.Keydir.{audit_app, check_app, expect_rule, key_rule, keydir, monitor_app, name_rule, run_app, without_options};
+ghost use Rattle.coniks_tool.specs.Keydir.{audit_app, check_app, depth_rule, expect_rule, key_rule, keydir, monitor_app, name_rule, run_app, with_run_and_check, workers_rule};
 
 use clap::{Arg, Command};
 use std::alloc::{AllocError, Global};
 
-fn run_command<'a>(alloc: Global) -> Command<'a>
-    ensures app { app_of result ≡ run_app }
-    ensures local { (fields_of result).has_globals ≡ false }
+fn workers_option<'a>(alloc: Global) -> Arg<'a>
+    ensures rule { rule_of result ≡ workers_rule }
+    ensures local { result.global ≡ false }
 {
-    Command::new(alloc, "run").about("Answers the lines of the standard input")
+    Arg::new(alloc, "workers")
+        .long("workers")
+        .value_parser(clap::value_parser!(u8).range(1..=64))
+        .default_value("1")
+        .help("How many workers build an epoch, 1 to 64")
+}
+
+fn depth_option<'a>(alloc: Global) -> Arg<'a>
+    ensures rule { rule_of result ≡ depth_rule }
+    ensures local { result.global ≡ false }
+{
+    Arg::new(alloc, "depth")
+        .long("depth")
+        .value_parser(clap::value_parser!(u8).range(0..=8))
+        .default_value("0")
+        .help("The length in bits of the prefixes that are built apart, 0 to 8")
+}
+
+fn run_command<'a>(alloc: Global) -> Result<Command<'a>, AllocError>
+    ensures app { IfOk result (λ command. app_of command ≡ run_app) }
+    ensures local { IfOk result (λ command. (fields_of command).has_globals ≡ false) }
+{
+    let command = Command::new(alloc, "run").about("Answers the lines of the standard input");
+    let with_workers = command.arg(workers_option(alloc))?;
+    with_workers.arg(depth_option(alloc))
 }
 
 fn check_command<'a>(alloc: Global) -> Command<'a>
@@ -69,14 +93,14 @@ fn monitor_command<'a>(alloc: Global) -> Result<Command<'a>, AllocError>
     with_name.arg(expect_option(alloc))
 }
 
-/// The command with the subcommands that have no options.
-fn without_options<'a>(alloc: Global) -> Result<Command<'a>, AllocError>
-    ensures app { IfOk result (λ command. app_of command ≡ without_options) }
+/// The command with the subcommands that ask for no key.
+fn with_run_and_check<'a>(alloc: Global) -> Result<Command<'a>, AllocError>
+    ensures app { IfOk result (λ command. app_of command ≡ with_run_and_check) }
     ensures local { IfOk result (λ command. (fields_of command).has_globals ≡ false) }
     ensures needs { IfOk result (λ command. (fields_of command).subcommand_required ≡ true) }
 {
     let top = Command::new(alloc, "keydir").subcommand_required(true);
-    let with_run = top.subcommand(run_command(alloc))?;
+    let with_run = top.subcommand(run_command(alloc)?)?;
     with_run.subcommand(check_command(alloc))
 }
 
@@ -85,6 +109,6 @@ pub(crate) fn keydir_command<'a>(alloc: Global) -> Result<Command<'a>, AllocErro
     ensures local { IfOk result (λ command. (fields_of command).has_globals ≡ false) }
     ensures needs { IfOk result (λ command. (fields_of command).subcommand_required ≡ true) }
 {
-    let with_audit = without_options(alloc)?.subcommand(audit_command(alloc)?)?;
+    let with_audit = with_run_and_check(alloc)?.subcommand(audit_command(alloc)?)?;
     with_audit.subcommand(monitor_command(alloc)?)
 }

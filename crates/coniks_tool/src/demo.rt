@@ -2,7 +2,7 @@
 
 ghost use Rattle.std.specs.Prelude.{◌≡◌};
 
-use crate::source::IndexSource;
+use coniks_directory::IndexSource;
 use coniks_proof::{Hash32, Index, Sha256Hash};
 use std::marker::Model;
 

@@ -1,11 +1,12 @@
 //! Entries in bytes and in lines.
 
-ghost use Rattle.std.specs.Prelude.{◌≡◌, length};
+ghost use Rattle.std.specs.Prelude.{◌≡◌, ◌++◌, length};
 ghost use Rattle.serde_json.specs.View.{view};
 ghost use Rattle.coniks_chain.specs.Entries.{IsEntry};
 ghost use Rattle.coniks_tool.specs.EntryBytes.{entry_bytes, entry_from, entry_in};
 
 use crate::members::{bytes_of_digits, text};
+use crate::parts::put;
 use coniks_chain::{Body, Entry, Signature};
 use serde_json::Value;
 
@@ -31,6 +32,23 @@ fn entry_of(bytes: &[u8; 209]) -> Entry
     body.known();
     let signature = Signature(array_of(&bytes[145..]));
     Entry { body, signature }
+}
+
+/// A body's bytes, and a signature's behind them.
+fn joined(body: &[u8; 145], signature: &[u8; 64]) -> [u8; 209]
+    ensures { result ≡ body.now ++ signature.now }
+{
+    let mut bytes = [0; 209];
+    put(&mut bytes, 0, body);
+    put(&mut bytes, 145, signature);
+    bytes
+}
+
+/// The 209 bytes of an entry.
+pub fn bytes_of(entry: &Entry) -> [u8; 209]
+    ensures { result ≡ entry_bytes entry.now }
+{
+    joined(&entry.body.bytes(), &entry.signature.0)
 }
 
 /// The entry of a line: its member `entry`, in 418 hexadecimal digits of either case.

@@ -19,8 +19,8 @@ use crate::monitor_reply::{MonitorReply, print_monitor};
 use crate::proof_object::read_proof;
 use crate::reply::Member;
 use crate::seal::DemoSeal;
-use crate::source::IndexSource;
 use coniks_chain::{Entry, Monitor};
+use coniks_directory::IndexSource;
 use coniks_lines::{ByteIn, ByteOut, LineMachine, RunFault, run_lines};
 use coniks_proof::{Bytes, Proof, Sha256Hash};
 use serde_json::Value;
@@ -114,6 +114,8 @@ impl LineMachine for Monitoring {
     ghost state = { λ m. watching m.seal.key m.monitor };
 
     ghost answer = { monitor_answer };
+
+    ghost Needs = { Unit {0} };
 
     fn step(&mut self, line: &[u8], out: &mut Vec<u8>) -> Result<bool, AllocError> {
         let reply = self.reply(line)?;

@@ -2,11 +2,11 @@
 
 ghost use Rattle.std.specs.Prelude.{◌≡◌, IfOk, option_map};
 ghost use Rattle.serde_json.specs.View.{view, items_view};
-ghost use Rattle.coniks_tool.specs.Batch.{kind_of, operation_of};
+ghost use Rattle.coniks_directory.specs.Batches.{kind_of, operation_of};
 ghost use Rattle.coniks_tool.specs.Operations.{kind_in, operation_in, operations_in, operations_read};
 
-use crate::batch::{Op, OpKind};
 use crate::members::{base64, digits32, text};
+use coniks_directory::{Op, OpKind};
 use coniks_proof::{Bytes, Opening};
 use serde_json::Value;
 use std::alloc::{AllocError, Global};

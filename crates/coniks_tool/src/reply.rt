@@ -2,13 +2,15 @@
 
 ghost use Rattle.std.specs.Prelude.{◌≡◌, ◌++◌, IfOk, OnOk, OnErr};
 ghost use Rattle.serde_json.specs.View.{view};
-ghost use Rattle.coniks_tool.specs.Batch.{fault_is};
+ghost use Rattle.coniks_directory.specs.Batches.{fault_is};
 ghost use Rattle.coniks_tool.specs.Paths.{path_of};
 ghost use Rattle.coniks_tool.specs.Replies.{outcome_of, reply_data, reply_text, member_name, fault_name, fault_data, placed_fault_data, looked_up_data, bad_member_data, bad_operation_data, epoch_not_later_data, opened_data, installed_data};
 
-use crate::batch::OpFault;
+use crate::entries::bytes_of;
 use crate::proof_text::proof_value;
-use coniks_proof::{Digest, Index, Nonce, Proof};
+use coniks_chain::Entry;
+use coniks_directory::OpFault;
+use coniks_proof::{Digest, Index, Proof};
 use serde_json::{Value, json};
 use std::alloc::{AllocError, Global};
 
@@ -32,19 +34,17 @@ pub enum Member {
 pub enum Reply {
     /// The registry is open.
     Opened,
-    /// A batch was installed.
+    /// A batch was installed: the entry that it added to the chain, and the entry's link.
     Installed {
-        epoch: u64,
-        root: Digest,
+        entry: Entry,
+        link: Digest,
     },
-    /// A lookup found the path to the name's index in the tree of the epoch.
+    /// A lookup found the path to the name's index in the tree of the epoch with this entry.
     LookedUp {
-        epoch: u64,
+        entry: Entry,
         index: Index,
         name: String,
-        nonce: Nonce,
         proof: Proof,
-        root: Digest,
     },
     /// The line isn't a JSON object.
     NotJson,
@@ -69,6 +69,8 @@ pub enum Reply {
     EpochNotLater {
         latest: u64,
     },
+    /// The board has no room for a further head.
+    BoardFull,
     /// No epoch has exactly the number asked.
     UnknownEpoch,
     /// The name asked is empty or too long.
@@ -93,6 +95,7 @@ impl Reply {
             | Reply::BatchTooLong
             | Reply::BadBatch { .. }
             | Reply::EpochNotLater { .. }
+            | Reply::BoardFull
             | Reply::UnknownEpoch
             | Reply::NameLength => false,
         }
@@ -121,15 +124,13 @@ fn value_of(alloc: Global, reply: &Reply) -> Result<Value, AllocError>
 {
     match reply {
         Reply::Opened => opened(alloc),
-        Reply::Installed { epoch, root } => installed(alloc, *epoch, root),
+        Reply::Installed { entry, link } => installed(alloc, entry, link),
         Reply::LookedUp {
-            epoch,
+            entry,
             index,
             name,
-            nonce,
             proof,
-            root,
-        } => looked_up(alloc, *epoch, index, name.as_str(), nonce, proof, root),
+        } => looked_up(alloc, entry, index, name.as_str(), proof),
         Reply::NotJson => fault(alloc, "Json"),
         Reply::NoCommand => fault(alloc, "Command"),
         Reply::BadMember(member) => bad_member(alloc, member_text(*member)),
@@ -139,6 +140,7 @@ fn value_of(alloc: Global, reply: &Reply) -> Result<Value, AllocError>
         Reply::BatchTooLong => fault(alloc, "BatchTooLong"),
         Reply::BadBatch { position, fault } => placed_fault(alloc, fault_text(*fault), *position),
         Reply::EpochNotLater { latest } => epoch_not_later(alloc, *latest),
+        Reply::BoardFull => fault(alloc, "BoardFull"),
         Reply::UnknownEpoch => fault(alloc, "UnknownEpoch"),
         Reply::NameLength => fault(alloc, "NameLength"),
     }
@@ -180,29 +182,39 @@ fn opened(alloc: Global) -> Result<Value, AllocError>
     json!(in alloc; {"ok": "open"})
 }
 
-fn installed(alloc: Global, epoch: u64, root: &Digest) -> Result<Value, AllocError>
-    ensures { IfOk result (λ value. view value ≡ installed_data epoch root.now.0) }
+fn installed(alloc: Global, entry: &Entry, link: &Digest) -> Result<Value, AllocError>
+    ensures { IfOk result (λ value. view value ≡ installed_data entry.now link.now.0) }
 {
-    let root = hex::encode(alloc, &root.0)?;
-    json!(in alloc; {"epoch": epoch, "ok": "batch", "root": root})
+    let epoch = entry.body.t;
+    let digits = hex::encode(alloc, &bytes_of(entry))?;
+    let link = hex::encode(alloc, &link.0)?;
+    let root = hex::encode(alloc, &entry.body.root.0)?;
+    json!(in alloc; {
+        "entry": digits,
+        "epoch": epoch,
+        "link": link,
+        "ok": "batch",
+        "root": root,
+    })
 }
 
 fn looked_up(
     alloc: Global,
-    epoch: u64,
+    entry: &Entry,
     index: &Index,
     name: &str,
-    nonce: &Nonce,
     proof: &Proof,
-    root: &Digest,
 ) -> Result<Value, AllocError>
-    ensures { IfOk result (λ value. view value ≡ looked_up_data epoch index.now.0 name.now nonce.now.0 (path_of proof.now) root.now.0) }
+    ensures { IfOk result (λ value. view value ≡ looked_up_data entry.now index.now.0 name.now (path_of proof.now)) }
 {
+    let epoch = entry.body.t;
+    let digits = hex::encode(alloc, &bytes_of(entry))?;
     let index = hex::encode(alloc, &index.0)?;
-    let nonce = hex::encode(alloc, &nonce.0)?;
+    let nonce = hex::encode(alloc, &entry.body.nonce.0)?;
     let proof = proof_value(alloc, proof)?;
-    let root = hex::encode(alloc, &root.0)?;
+    let root = hex::encode(alloc, &entry.body.root.0)?;
     json!(in alloc; {
+        "entry": digits,
         "epoch": epoch,
         "index": index,
         "name": name,

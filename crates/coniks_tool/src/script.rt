@@ -1,89 +1,38 @@
 //! The machine of `run`, and its engine.
 
-ghost use Rattle.std.specs.Prelude.{◌≡◌, ◌<◌, ◌+◌, ◌^◌, ℕ, List, None, Some, IfOk, IfErr, OnOk, OnErr, codes, map};
+ghost use Rattle.std.specs.Prelude.{◌≡◌, ◌<◌, ◌≤◌, ◌+◌, ◌^◌, ℕ, List, None, Some, IfOk, IfErr, OnOk, OnErr, codes};
 ghost use Rattle.serde_json.specs.View.{view};
+ghost use Rattle.coniks_directory.specs.Batches.{AreWorkers};
 ghost use Rattle.coniks_lines.specs.Lines.{lines_of};
-ghost use Rattle.coniks_lines.specs.Runs.{AnswersAll, EndsBadly, EndsWell, WritesPart};
-ghost use Rattle.coniks_tool.specs.Batch.{operation_of};
-ghost use Rattle.coniks_tool.specs.History.{registry_of};
+ghost use Rattle.coniks_lines.specs.Runs.{AnswersAll, EndsWell, WritesPart};
+ghost use Rattle.coniks_work.specs.declared.jobs.TheConstants.{MAX_DEPTH};
 ghost use Rattle.coniks_tool.specs.Members.{array_in, digits_in, number_in, text_in};
 ghost use Rattle.coniks_tool.specs.Replies.{outcome_of};
-ghost use Rattle.coniks_tool.specs.Script.{State, batch_turn, batch_with, command_turn, lookup_in, lookup_outcome, open_turn, open_with, script_answer, turn};
-ghost use Rattle.coniks_tool.specs.Machine.{opened_of, state_of};
+ghost use Rattle.coniks_tool.specs.Script.{State, ScriptFails, batch_turn, command_turn, lookup_outcome, open_turn, script_answer, turn};
 
-use crate::batch::Op;
-use crate::demo::DemoIndex;
+use crate::crew::Crew;
 use crate::members::{array, digits32, number, read_object, text};
 use crate::operations::read_ops;
-use crate::plain::{CommitFault, LookupFault, PlainDirectory};
 use crate::reply::{Member, Reply, print};
+use crate::store::Store;
 use coniks_lines::{ByteIn, ByteOut, LineMachine, RunFault, run_lines};
-use coniks_proof::{Digest, Nonce};
 use serde_json::Value;
 use std::alloc::{AllocError, Global};
+use std::thread::Threads;
 
-/// An opened directory, and the digest of its policy.
+/// Answers the lines of a script, with the crew that builds its epochs.
 #[derive(Drop)]
-pub struct Open {
-    directory: PlainDirectory<DemoIndex>,
-    policy: Digest,
-}
-
-impl Open {
-    /// Looks a name up at an epoch.
-    fn look_up(&self, alloc: Global, epoch: u64, name: &str) -> Result<Reply, AllocError>
-        ensures { IfOk result (λ reply. outcome_of reply ≡ lookup_in (opened_of self.now) epoch name.now (registry_of (opened_of self.now).history epoch)) }
-    {
-        let proof = match self.directory.lookup(epoch, name.as_bytes()) {
-            Ok(proof) => proof,
-            Err(LookupFault::UnknownEpoch) => return Ok(Reply::UnknownEpoch),
-            Err(LookupFault::NameLength) => return Ok(Reply::NameLength),
-            Err(LookupFault::OutOfMemory) => return Err(AllocError),
-        };
-        let Some(root) = self.directory.root_at(epoch) else {
-            return Ok(Reply::UnknownEpoch);
-        };
-        let index = self.directory.index(name.as_bytes());
-        let name = String::from_str(alloc, name)?;
-        Ok(Reply::LookedUp {
-            epoch,
-            index,
-            name,
-            nonce: self.directory.nonce(),
-            proof,
-            root,
-        })
-    }
-}
-
-/// Answers the lines of a script: nothing is open before a line opens a directory.
-#[derive(Drop)]
-pub struct Script {
+pub struct Script<'r, T: Threads + Sync> {
     alloc: Global,
-    opened: Option<Open>,
+    crew: Crew<'r, T>,
+    store: Store,
 }
 
-impl Script {
-    /// Opens a directory, once.
-    fn open_with(&mut self, key: [u8; 32], nonce: [u8; 32], policy: [u8; 32]) -> Reply
-        ensures reply { outcome_of result ≡ (open_with (state_of self.old.opened) key nonce policy).outcome }
-        ensures state { state_of self.new.opened ≡ (open_with (state_of self.old.opened) key nonce policy).state }
-    {
-        if self.opened.is_some() {
-            return Reply::AlreadyOpen;
-        }
-        let directory = PlainDirectory::new(self.alloc, DemoIndex::new(key), Nonce(nonce));
-        self.opened = Some(Open {
-            directory,
-            policy: Digest(policy),
-        });
-        Reply::Opened
-    }
-
+impl<'r, T: Threads + Sync> Script<'r, T> {
     fn open(&mut self, object: &Value) -> Reply
-        ensures reply { outcome_of result ≡ (open_turn (state_of self.old.opened) (digits_in 32 (codes "key") (view object.now))
+        ensures reply { outcome_of result ≡ (open_turn self.old.store (digits_in 32 (codes "key") (view object.now))
             (digits_in 32 (codes "nonce") (view object.now)) (digits_in 32 (codes "policy") (view object.now))).outcome }
-        ensures state { state_of self.new.opened ≡ (open_turn (state_of self.old.opened) (digits_in 32 (codes "key") (view object.now))
+        ensures state { self.new.store ≡ (open_turn self.old.store (digits_in 32 (codes "key") (view object.now))
             (digits_in 32 (codes "nonce") (view object.now)) (digits_in 32 (codes "policy") (view object.now))).state }
     {
         let Some(key) = digits32(object, "key") else {
@@ -95,31 +44,12 @@ impl Script {
         let Some(policy) = digits32(object, "policy") else {
             return Reply::BadMember(Member::Policy);
         };
-        self.open_with(key, nonce, policy)
-    }
-
-    /// Installs a batch that was read.
-    fn install(&mut self, epoch: u64, ops: &[Op]) -> Result<Reply, AllocError>
-        ensures reply { IfOk result (λ reply. outcome_of reply ≡ (batch_with (state_of self.old.opened) epoch (map operation_of ops.now)).outcome) }
-        ensures state { OnOk result (state_of self.new.opened ≡ (batch_with (state_of self.old.opened) epoch (map operation_of ops.now)).state) }
-    {
-        let Some(mut opened) = self.opened.take() else {
-            return Ok(Reply::NotOpen);
-        };
-        let committed = opened.directory.commit(epoch, ops);
-        self.opened = Some(opened);
-        match committed {
-            Ok(root) => Ok(Reply::Installed { epoch, root }),
-            Err(CommitFault::BatchTooLong) => Ok(Reply::BatchTooLong),
-            Err(CommitFault::At { position, fault }) => Ok(Reply::BadBatch { position, fault }),
-            Err(CommitFault::EpochNotLater { latest }) => Ok(Reply::EpochNotLater { latest }),
-            Err(CommitFault::OutOfMemory) => Err(AllocError),
-        }
+        self.store.open_with(key, nonce, policy)
     }
 
     fn batch(&mut self, object: &Value) -> Result<Reply, AllocError>
-        ensures reply { IfOk result (λ reply. outcome_of reply ≡ (batch_turn (state_of self.old.opened) (number_in (codes "epoch") (view object.now)) (array_in (codes "ops") (view object.now))).outcome) }
-        ensures state { OnOk result (state_of self.new.opened ≡ (batch_turn (state_of self.old.opened) (number_in (codes "epoch") (view object.now)) (array_in (codes "ops") (view object.now))).state) }
+        ensures reply { IfOk result (λ reply. outcome_of reply ≡ (batch_turn self.old.store (number_in (codes "epoch") (view object.now)) (array_in (codes "ops") (view object.now))).outcome) }
+        ensures state { OnOk result (self.new.store ≡ (batch_turn self.old.store (number_in (codes "epoch") (view object.now)) (array_in (codes "ops") (view object.now))).state) }
     {
         let Some(epoch) = number(object, "epoch") else {
             return Ok(Reply::BadMember(Member::Epoch));
@@ -128,13 +58,13 @@ impl Script {
             return Ok(Reply::BadMember(Member::Ops));
         };
         match read_ops(self.alloc, elements)? {
-            Ok(ops) => Ok(self.install(epoch, &ops)?),
+            Ok(ops) => Ok(self.store.install(&self.crew, epoch, &ops)?),
             Err(place) => Ok(Reply::BadOperation(place)),
         }
     }
 
     fn lookup(&self, object: &Value) -> Result<Reply, AllocError>
-        ensures { IfOk result (λ reply. outcome_of reply ≡ lookup_outcome (state_of self.now.opened) (number_in (codes "epoch") (view object.now)) (text_in (codes "name") (view object.now))) }
+        ensures { IfOk result (λ reply. outcome_of reply ≡ lookup_outcome self.now.store (number_in (codes "epoch") (view object.now)) (text_in (codes "name") (view object.now))) }
     {
         let Some(epoch) = number(object, "epoch") else {
             return Ok(Reply::BadMember(Member::Epoch));
@@ -142,15 +72,12 @@ impl Script {
         let Some(name) = text(object, "name") else {
             return Ok(Reply::BadMember(Member::Name));
         };
-        match &self.opened {
-            Some(opened) => Ok(opened.look_up(self.alloc, epoch, name)?),
-            None => Ok(Reply::NotOpen),
-        }
+        Ok(self.store.look_up(epoch, name)?)
     }
 
     fn command(&mut self, object: &Value) -> Result<Reply, AllocError>
-        ensures reply { IfOk result (λ reply. outcome_of reply ≡ (command_turn (state_of self.old.opened) (view object.now) (text_in (codes "cmd") (view object.now))).outcome) }
-        ensures state { OnOk result (state_of self.new.opened ≡ (command_turn (state_of self.old.opened) (view object.now) (text_in (codes "cmd") (view object.now))).state) }
+        ensures reply { IfOk result (λ reply. outcome_of reply ≡ (command_turn self.old.store (view object.now) (text_in (codes "cmd") (view object.now))).outcome) }
+        ensures state { OnOk result (self.new.store ≡ (command_turn self.old.store (view object.now) (text_in (codes "cmd") (view object.now))).state) }
     {
         let Some(name) = text(object, "cmd") else {
             return Ok(Reply::NoCommand);
@@ -168,8 +95,8 @@ impl Script {
     }
 
     fn reply(&mut self, line: &[u8]) -> Result<Reply, AllocError>
-        ensures reply { IfOk result (λ reply. outcome_of reply ≡ (turn (state_of self.old.opened) line.now).outcome) }
-        ensures state { OnOk result (state_of self.new.opened ≡ (turn (state_of self.old.opened) line.now).state) }
+        ensures reply { IfOk result (λ reply. outcome_of reply ≡ (turn self.old.store line.now).outcome) }
+        ensures state { OnOk result (self.new.store ≡ (turn self.old.store line.now).state) }
     {
         match read_object(self.alloc, line)? {
             Some(object) => Ok(self.command(&object)?),
@@ -178,15 +105,17 @@ impl Script {
     }
 }
 
-impl LineMachine for Script {
+impl<'r, T: Threads + Sync> LineMachine for Script<'r, T> {
+    ghost use Rattle.std.specs.Thread.{IsSync};
     ghost use Rattle.coniks_tool.specs.Script.{State, script_answer};
-    ghost use Rattle.coniks_tool.specs.Machine.{state_of};
 
     ghost State = { State };
 
-    ghost state = { λ s. state_of s.opened };
+    ghost state = { λ s. s.store };
 
     ghost answer = { script_answer };
+
+    ghost Needs = { IsSync T.row };
 
     fn step(&mut self, line: &[u8], out: &mut Vec<u8>) -> Result<bool, AllocError> {
         let reply = self.reply(line)?;
@@ -196,23 +125,29 @@ impl LineMachine for Script {
 }
 
 /// Answers each line of the reader by one line and one flush, until a read answers 0: `open`, `batch` and `lookup` over
-/// a directory that keeps a plain registry for each epoch. Tells whether each line was accepted.
+/// one directory, whose epochs are built by `workers` workers, 1 to 64, over prefixes of `depth` bits, 0 to 8. No answer
+/// depends on either. Tells whether each line was accepted. It may wait, as it joins its workers.
 ///
 /// # Errors
 ///
-/// Those of `run_lines`.
-pub fn run_script<R: ByteIn, W: ByteOut>(
+/// Those of `run_lines`, and `NoBoard` where the board for the directory's heads can't be had; nothing was read then.
+pub fn run_script<T: Threads + Sync, R: ByteIn, W: ByteOut>(
+    rt: &T,
     alloc: Global,
     reader: &mut R,
     writer: &mut W,
+    workers: usize,
+    depth: usize,
 ) -> Result<bool, RunFault>
+    requires workers { AreWorkers workers }
+    requires depth { depth ≤ MAX_DEPTH }
     requires reads { (R.source reader.old).failed + 1 < 2 ^ 64 }
     requires writes { (W.sink writer.old).failed + 1 < 2 ^ 64 }
     ensures ok { IfOk result (λ all. (state : State) × EndsWell script_answer None
         (R.source reader.old) (R.source reader.new)
         (W.sink writer.old) (W.sink writer.new)
         state all) }
-    ensures err { IfErr result (EndsBadly script_answer None
+    ensures err { IfErr result (ScriptFails
         (R.source reader.old) (R.source reader.new)
         (W.sink writer.old) (W.sink writer.new)) }
 
@@ -226,9 +161,11 @@ pub fn run_script<R: ByteIn, W: ByteOut>(
         → OnErr result (WritesPart script_answer None (lines_of input)
         (W.sink writer.old) (W.sink writer.new)) }
 {
-    let mut script = Script {
-        alloc,
-        opened: None,
+    let store = match Store::new(alloc) {
+        Ok(store) => store,
+        Err(_) => return Err(RunFault::NoBoard),
     };
+    let crew = Crew { rt, workers, depth };
+    let mut script = Script { alloc, crew, store };
     run_lines(alloc, &mut script, reader, writer)
 }

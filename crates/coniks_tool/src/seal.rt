@@ -1,10 +1,11 @@
 //! The demonstration seal, which claims no security.
 
-ghost use Rattle.std.specs.Prelude.{◌≡◌, ◌<◌, ◌≤◌, ◌+◌, ◌-◌, ◌^◌, ◌∷◌, ◌++◌, None, Some, IsSome, IfSome, length, take};
+ghost use Rattle.std.specs.Prelude.{◌≡◌, ◌<◌, ◌+◌, ◌-◌, ◌^◌, ◌∷◌, ◌++◌, None, Some, IsSome, IfSome};
 ghost use Rattle.coniks_proof.specs.Sha256.{sha256};
 ghost use Rattle.coniks_chain.specs.Entries.{IsBody, body_bytes, signed};
 ghost use Rattle.coniks_tool.specs.Seal.{is_seal, seal_of};
 
+use crate::parts::put;
 use coniks_chain::{Body, Entry, Sign, Signature, Verify};
 use coniks_proof::{Digest, Hash32, Sha256Hash};
 use std::marker::Model;
@@ -69,14 +70,6 @@ fn joined(low: &[u8; 32], high: &[u8; 32]) -> [u8; 64]
     put(&mut bytes, 0, low);
     put(&mut bytes, 32, high);
     bytes
-}
-
-/// Writes a part behind the first `at` bytes. Nothing is said of the bytes after the part.
-fn put(bytes: &mut [u8], at: usize, part: &[u8])
-    requires { at + length part.now ≤ length bytes.old }
-    ensures { take (at + length part.now) bytes.new ≡ take at bytes.old ++ part.now }
-{
-    bytes[at..at + part.len()].copy_from_slice(part);
 }
 
 impl Verify for DemoSeal {

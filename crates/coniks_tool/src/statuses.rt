@@ -4,7 +4,7 @@ ghost use Rattle.std.specs.Prelude.{◌≡◌, ◌≢◌, ◌⊎◌, ◌<◌, �
 ghost use Rattle.clap.specs.Words.{fault_of, kind_of, takes};
 ghost use Rattle.coniks_lines.specs.declared.fault.RunFault.{RunFault as Fault};
 ghost use Rattle.coniks_tool.specs.Keydir.{keydir};
-ghost use Rattle.coniks_tool.specs.Choice.{choice_of, key_in, monitor};
+ghost use Rattle.coniks_tool.specs.Choice.{choice_of, key_in, monitor, IsWithin};
 ghost use Rattle.coniks_tool.specs.Expectations.{expectation_in};
 ghost use Rattle.coniks_tool.specs.Program.{bad_expectation_line, bad_key_line, fault_line, unread_line, unread_status, AsksForHelp, EndsBy, EndsFor, HasBadExpectation, HasBadKey, HasMistake, IfIdle, IfRefused, IsExplained, RunsFor, Tells};
 
@@ -22,6 +22,7 @@ use coniks_lines::{ByteIn, ByteOut, RunFault};
 use coniks_proof::Bytes;
 use std::alloc::Global;
 use std::convert::AsStr;
+use std::thread::Threads;
 
 /// What came of the words.
 #[derive(Drop)]
@@ -49,7 +50,8 @@ const BAD_EXPECTATION: &str = "keydir: bad expectation\n";
 /// give isn't 64 hexadecimal digits, or the key is one and the expectation that they give isn't
 /// base64, and `errors` gets a line that says so. 3: a read or a write failed, or memory ran out;
 /// `errors` gets a line that says which. A failure of `errors` changes no status.
-pub fn program<S: AsStr, R: ByteIn, W: ByteOut, E: ByteOut>(
+pub fn program<T: Threads + Sync, S: AsStr, R: ByteIn, W: ByteOut, E: ByteOut>(
+    rt: &T,
     alloc: Global,
     words: &[S],
     reader: &mut R,
@@ -78,7 +80,7 @@ pub fn program<S: AsStr, R: ByteIn, W: ByteOut, E: ByteOut>(
     ensures bad_expectation_told { HasBadExpectation (map S.text words.entry.now) → result ≡ 2 → Tells (E.sink errors.old) bad_expectation_line (E.sink errors.new) }
     ensures told { result ≡ 3 → (fault : Fault) × Tells (E.sink errors.old) (fault_line fault) (E.sink errors.new) }
 {
-    match obey(alloc, words, reader, writer) {
+    match obey(rt, alloc, words, reader, writer) {
         Ok(Ending::Done(true)) => 0,
         Ok(Ending::Done(false)) => 1,
         Ok(Ending::Refused(text)) => {
@@ -123,7 +125,8 @@ fn unread_text(why: Unread) -> &'static str
     }
 }
 
-fn obey<S: AsStr, R: ByteIn, W: ByteOut>(
+fn obey<T: Threads + Sync, S: AsStr, R: ByteIn, W: ByteOut>(
+    rt: &T,
     alloc: Global,
     words: &[S],
     reader: &mut R,
@@ -137,19 +140,21 @@ fn obey<S: AsStr, R: ByteIn, W: ByteOut>(
     ensures unwritten { IfOk result (λ ending. IfIdle ending (W.sink writer.new ≡ W.sink writer.old)) }
 {
     match settings(alloc, words) {
-        Ok(settings) => run(alloc, settings, reader, writer),
+        Ok(settings) => run(rt, alloc, settings, reader, writer),
         Err(WordsFault::Clap(error)) => explain(alloc, error, writer),
         Err(WordsFault::OutOfMemory) => Err(RunFault::OutOfMemory),
     }
 }
 
 /// Runs what the settings say, once the texts of a key and of an expectation were read.
-fn run<R: ByteIn, W: ByteOut>(
+fn run<T: Threads + Sync, R: ByteIn, W: ByteOut>(
+    rt: &T,
     alloc: Global,
     settings: Settings,
     reader: &mut R,
     writer: &mut W,
 ) -> Result<Ending, RunFault>
+    requires within { IsWithin settings }
     requires reads { (R.source reader.old).failed + 1 < 2 ^ 64 }
     requires writes { (W.sink writer.old).failed + 1 < 2 ^ 64 }
     ensures ends { IfOk result (EndsBy (Some (choice_of settings.entry)) (R.source reader.old) (R.source reader.new) (W.sink writer.old) (W.sink writer.new)) }
@@ -157,7 +162,10 @@ fn run<R: ByteIn, W: ByteOut>(
     ensures unwritten { IfOk result (λ ending. IfIdle ending (W.sink writer.new ≡ W.sink writer.old)) }
 {
     match settings {
-        Settings::Run => Ok(Ending::Done(run_script(alloc, reader, writer)?)),
+        Settings::Run { workers, depth } => {
+            let all = run_script(rt, alloc, reader, writer, workers, depth)?;
+            Ok(Ending::Done(all))
+        }
         Settings::Check => Ok(Ending::Done(run_check(alloc, reader, writer)?)),
         Settings::Audit { key } => {
             let Some(key) = bytes_of_digits(key) else {
@@ -238,5 +246,6 @@ fn fault_text(fault: RunFault) -> &'static str
         RunFault::Read => "keydir: read failed\n",
         RunFault::Write => "keydir: write failed\n",
         RunFault::OutOfMemory => "keydir: out of memory\n",
+        RunFault::NoBoard => "keydir: no board\n",
     }
 }

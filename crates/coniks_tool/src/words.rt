@@ -1,15 +1,17 @@
 //! Reads the program's words.
 
 ghost use Rattle.std.specs.Prelude.{◌≡◌, IfOk, IfErr, OnOk, Some, [], map, option_map, true};
+ghost use Rattle.clap.specs.Walk.{byte_or_zero};
 ghost use Rattle.clap.specs.Words.{Kinds, HasKind, fault_of, first_of, found_of, kind_of, rows_of, subcommand_of, takes};
 ghost use Rattle.coniks_tool.specs.Keydir.{keydir};
-ghost use Rattle.coniks_tool.specs.Choice.{choice_by, choice_of, chosen, text_of, IsRefusal};
+ghost use Rattle.coniks_tool.specs.Choice.{choice_by, choice_of, chosen, depth_of, number_of, run, text_of, workers_of, IsRefusal, IsWithin};
 ghost use Rattle.coniks_tool.specs.declared.choice.WordsFault.TheVariants.{OutOfMemory};
 
 use crate::choice::{Settings, WordsFault};
 use crate::command::keydir_command;
 use clap::error::ErrorKind;
 use clap::{ArgMatches, Error};
+use coniks_work::{MAX_DEPTH, MAX_WORKERS};
 use std::alloc::Global;
 use std::convert::AsStr;
 
@@ -19,6 +21,7 @@ pub fn settings<'a, S: AsStr>(alloc: Global, words: &'a [S]) -> Result<Settings<
     // What `clap` defines for these words is chosen, and only where it finds no fault in them.
     ensures ok { IfOk result (λ settings. chosen (subcommand_of keydir (map S.text words.entry.now)) ≡ Some (choice_of settings)) }
     ensures faultless { OnOk result (fault_of keydir (map S.text words.entry.now) ≡ []) }
+    ensures within { IfOk result IsWithin }
 
     // Words that `clap` takes are refused only for want of memory, others also for their fault.
     ensures passes { IfErr result (λ fault. takes keydir (map S.text words.entry.now) ≡ true → fault ≡ OutOfMemory) }
@@ -37,12 +40,41 @@ pub fn settings<'a, S: AsStr>(alloc: Global, words: &'a [S]) -> Result<Settings<
     }
 }
 
+/// The number of a text, 0 where it is none below 256.
+fn byte(text: &str) -> u8
+    ensures { result ≡ byte_or_zero text.now }
+{
+    text.parse::<u8>().unwrap_or(0)
+}
+
+/// The number of an option, or this where it isn't there.
+fn number_or(found: &ArgMatches<'_>, name: &str, missing: u8) -> usize
+    ensures { result ≡ number_of name.now missing (rows_of (found_of found.now)) }
+{
+    match text(found, name) {
+        Some(text) => usize::from(byte(text)),
+        None => usize::from(missing),
+    }
+}
+
+/// What `run` asks for, by the options that were found. Those that `clap` takes are within the limits.
+fn run_by<'a>(found: &ArgMatches<'a>) -> Settings<'a>
+    ensures numbers { choice_of result ≡ run (workers_of (rows_of (found_of found.now))) (depth_of (rows_of (found_of found.now))) }
+    ensures within { IsWithin result }
+{
+    Settings::Run {
+        workers: number_or(found, "workers", 1).max(1).min(MAX_WORKERS),
+        depth: number_or(found, "depth", 0).min(MAX_DEPTH),
+    }
+}
+
 /// What a subcommand asks for, by its name and the options that were found.
 fn settings_by<'a>(name: &'a str, found: &ArgMatches<'a>) -> Settings<'a>
-    ensures { choice_of result ≡ choice_by name.entry.now (rows_of (found_of found.now)) }
+    ensures choice { choice_of result ≡ choice_by name.entry.now (rows_of (found_of found.now)) }
+    ensures within { IsWithin result }
 {
     if name == "run" {
-        return Settings::Run;
+        return run_by(found);
     }
     if name == "check" {
         return Settings::Check;

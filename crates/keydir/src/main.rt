@@ -18,6 +18,7 @@ fn main(rt: HostRuntime) -> ExitCode {
     let mut reader = SystemIn::new(rt.stdin());
     let mut writer = SystemOut::new(rt.stdout());
     let status = program(
+        &rt,
         rt.alloc(),
         words.as_slice(),
         &mut reader,

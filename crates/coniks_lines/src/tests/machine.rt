@@ -25,6 +25,8 @@ impl LineMachine for Echo {
         then record { text = 63 ∷ []; accepted = false; state = odd }
         else record { text = (if odd then 49 else 48) ∷ line; accepted = true; state = not odd } };
 
+    ghost Needs = { Unit {0} };
+
     fn step(&mut self, line: &[u8], out: &mut Vec<u8>) -> Result<bool, AllocError> {
         if line.len() > 0 && line[0] == b'!' {
             out.push(b'?')?;

@@ -18,7 +18,7 @@ fn accepted(rt: HostRuntime) -> Result<(), Fail> {
     let input = lines_of(rt.alloc(), &ENTRIES)?;
     let output = answers_of(rt.alloc(), &ACCEPTED)?;
     let words = ["keydir", "audit", "--key", ZEROS];
-    let run = run_of(rt.alloc(), &words, input.as_str())?;
+    let run = run_of(&rt, rt.alloc(), &words, input.as_str())?;
     assert_eq!(rt; run.status, 0);
     assert!(rt; run.output.bytes() == output.as_bytes());
     assert!(rt; run.errors.bytes().is_empty());
@@ -35,7 +35,7 @@ fn refused(rt: HostRuntime) -> Result<(), Fail> {
         &["keydir", "audit", KEY_OF_LETTERS],
     ];
     for words in cases {
-        let run = run_of(rt.alloc(), words, input.as_str())?;
+        let run = run_of(&rt, rt.alloc(), words, input.as_str())?;
         assert_eq!(rt; run.status, 1);
         assert!(rt; run.output.bytes() == "{\"fault\":\"Verdict\"}\n".as_bytes());
         assert!(rt; run.errors.bytes().is_empty());
@@ -55,7 +55,7 @@ fn bad_keys(rt: HostRuntime) -> Result<(), Fail> {
     ];
     for key in keys {
         let words = ["keydir", "audit", "--key", key];
-        let run = run_of(rt.alloc(), &words, "[1]\n")?;
+        let run = run_of(&rt, rt.alloc(), &words, "[1]\n")?;
         assert_eq!(rt; run.status, 2, "{key}");
         assert!(rt; run.output.bytes().is_empty(), "{key}");
         assert!(rt;
@@ -88,7 +88,7 @@ fn refused_words(rt: HostRuntime) -> Result<(), Fail> {
         ),
     ];
     for (words, line) in cases {
-        let run = run_of(rt.alloc(), words, "[1]\n")?;
+        let run = run_of(&rt, rt.alloc(), words, "[1]\n")?;
         assert_eq!(rt; run.status, 2, "{line}");
         assert!(rt; run.output.bytes().is_empty(), "{line}");
         assert!(rt; run.errors.bytes().starts_with(line.as_bytes()), "{line}");
@@ -102,7 +102,7 @@ fn help(rt: HostRuntime) -> Result<(), Fail> {
     let text = "Audits the entries of the standard input\n\nUsage: keydir audit --key <key>\n";
     let cases: [&[&str]; 2] = [&["keydir", "help", "audit"], &["keydir", "audit", "--help"]];
     for words in cases {
-        let run = run_of(rt.alloc(), words, "[1]\n")?;
+        let run = run_of(&rt, rt.alloc(), words, "[1]\n")?;
         assert_eq!(rt; run.status, 0);
         assert!(rt; run.output.bytes().starts_with(text.as_bytes()));
         assert!(rt; run.errors.bytes().is_empty());
@@ -116,7 +116,14 @@ fn failing_reads(rt: HostRuntime) {
     let mut output = MemoryOut::new(rt.alloc());
     let mut errors = MemoryOut::new(rt.alloc());
     let words = ["keydir", "audit", "--key", ZEROS];
-    let status = program(rt.alloc(), &words, &mut reader, &mut output, &mut errors);
+    let status = program(
+        &rt,
+        rt.alloc(),
+        &words,
+        &mut reader,
+        &mut output,
+        &mut errors,
+    );
     assert_eq!(rt; status, 3);
     assert!(rt; output.bytes().is_empty());
     assert!(rt; errors.bytes() == "keydir: read failed\n".as_bytes());
@@ -139,7 +146,7 @@ fn failing_writes(rt: HostRuntime) -> Result<(), Fail> {
             flushes: 0,
         };
         let mut errors = MemoryOut::new(alloc);
-        let status = program(alloc, &words, &mut reader, &mut output, &mut errors);
+        let status = program(&rt, alloc, &words, &mut reader, &mut output, &mut errors);
         assert!(rt; whole.as_bytes().starts_with(&output.bytes));
         if status != 3 {
             assert_eq!(rt; status, 0);
@@ -167,7 +174,14 @@ fn failing_errors(rt: HostRuntime) {
                 flushes: 0,
             };
             let words = ["keydir", "audit", "--key", key];
-            let status_told = program(rt.alloc(), &words, &mut reader, &mut output, &mut errors);
+            let status_told = program(
+                &rt,
+                rt.alloc(),
+                &words,
+                &mut reader,
+                &mut output,
+                &mut errors,
+            );
             assert_eq!(rt; status_told, status);
             assert_eq!(rt; errors.bytes.len() as u64, calls);
         }

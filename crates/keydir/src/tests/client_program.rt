@@ -6,6 +6,7 @@ use crate::tests::streams::{FailIn, ShortOut};
 use coniks_tool::{MemoryIn, MemoryOut, program};
 use std::alloc::{AllocError, Global};
 use std::test::Fail;
+use std::thread::Threads;
 
 const ZEROS: &str = "0000000000000000000000000000000000000000000000000000000000000000";
 
@@ -22,7 +23,8 @@ const FOURTH_CHANGED: &str = "{\"epoch\":4,\"ok\":\"monitor\",\"seen\":\"changed
 const FIRST_CHANGED: &str = "{\"epoch\":1,\"ok\":\"monitor\",\"seen\":\"changed\"}";
 
 /// Whether a run for these words ends with this status and these answers, and tells nothing.
-fn ends_so(
+fn ends_so<T: Threads + Sync>(
+    rt: &T,
     alloc: Global,
     words: &[&str],
     lines: &[&str],
@@ -31,7 +33,7 @@ fn ends_so(
 ) -> Result<bool, AllocError> {
     let input = answers_of(alloc, lines)?;
     let output = answers_of(alloc, answers)?;
-    let run = run_of(alloc, words, input.as_str())?;
+    let run = run_of(rt, alloc, words, input.as_str())?;
     let told = run.errors.bytes().is_empty();
     Ok(run.status == status && told && run.output.bytes() == output.as_bytes())
 }
@@ -43,10 +45,10 @@ fn checked(rt: HostRuntime) -> Result<(), Fail> {
         "{\"answer\":\"key\",\"key\":\"aw==\",\"ok\":\"check\"}",
         "{\"answer\":\"key\",\"key\":\"bA==\",\"ok\":\"check\"}",
     ];
-    assert!(rt; ends_so(rt.alloc(), &words, &LOOKUPS, &answers, 0)?);
+    assert!(rt; ends_so(&rt, rt.alloc(), &words, &LOOKUPS, &answers, 0)?);
     let refused = ["{\"fault\":\"Json\"}"];
-    assert!(rt; ends_so(rt.alloc(), &words, &["7"], &refused, 1)?);
-    assert!(rt; ends_so(rt.alloc(), &words, &[], &[], 0)?);
+    assert!(rt; ends_so(&rt, rt.alloc(), &words, &["7"], &refused, 1)?);
+    assert!(rt; ends_so(&rt, rt.alloc(), &words, &[], &[], 0)?);
     Ok(())
 }
 
@@ -56,7 +58,7 @@ fn watched(rt: HostRuntime) -> Result<(), Fail> {
         "keydir", "monitor", "--key", ZEROS, "--name", "a", "--expect", "aw==",
     ];
     let answers = [FIRST_SAME, FOURTH_CHANGED];
-    assert!(rt; ends_so(rt.alloc(), &words, &LOOKUPS, &answers, 1)?);
+    assert!(rt; ends_so(&rt, rt.alloc(), &words, &LOOKUPS, &answers, 1)?);
     let [first, fourth] = LOOKUPS;
     let lines = [first, "{\"cmd\":\"expect\",\"key\":\"bA==\"}", fourth];
     let answers = [
@@ -64,7 +66,7 @@ fn watched(rt: HostRuntime) -> Result<(), Fail> {
         "{\"ok\":\"expect\"}",
         "{\"epoch\":4,\"ok\":\"monitor\",\"seen\":\"same\"}",
     ];
-    assert!(rt; ends_so(rt.alloc(), &words, &lines, &answers, 0)?);
+    assert!(rt; ends_so(&rt, rt.alloc(), &words, &lines, &answers, 0)?);
     Ok(())
 }
 
@@ -120,7 +122,7 @@ fn options(rt: HostRuntime) -> Result<(), Fail> {
     ];
     for (words, answer, status) in cases {
         assert!(rt;
-            ends_so(rt.alloc(), words, &[first], &[answer], status)?,
+            ends_so(&rt, rt.alloc(), words, &[first], &[answer], status)?,
             "{answer}"
         );
     }
@@ -147,7 +149,7 @@ fn bad_texts(rt: HostRuntime) -> Result<(), Fail> {
         let words = [
             "keydir", "monitor", "--key", digits, "--name", "a", "--expect", expect,
         ];
-        let run = run_of(rt.alloc(), &words, "")?;
+        let run = run_of(&rt, rt.alloc(), &words, "")?;
         let status = if text == "" { 0 } else { 2 };
         assert_eq!(rt; run.status, status, "{expect}");
         assert!(rt; run.output.bytes().is_empty(), "{expect}");
@@ -180,7 +182,7 @@ fn refused_words(rt: HostRuntime) -> Result<(), Fail> {
         ),
     ];
     for (words, line) in cases {
-        let run = run_of(rt.alloc(), words, "[1]\n")?;
+        let run = run_of(&rt, rt.alloc(), words, "[1]\n")?;
         assert_eq!(rt; run.status, 2, "{line}");
         assert!(rt; run.output.bytes().is_empty(), "{line}");
         assert!(rt; run.errors.bytes().starts_with(line.as_bytes()), "{line}");
@@ -200,7 +202,7 @@ fn help(rt: HostRuntime) -> Result<(), Fail> {
         (&["keydir", "monitor", "--help"], monitor),
     ];
     for (words, text) in cases {
-        let run = run_of(rt.alloc(), words, "[1]\n")?;
+        let run = run_of(&rt, rt.alloc(), words, "[1]\n")?;
         assert_eq!(rt; run.status, 0, "{text}");
         assert!(rt; run.output.bytes().starts_with(text.as_bytes()), "{text}");
         assert!(rt; run.errors.bytes().is_empty(), "{text}");
@@ -218,7 +220,14 @@ fn failing_reads(rt: HostRuntime) {
         let mut reader = FailIn { failures: 0 };
         let mut output = MemoryOut::new(rt.alloc());
         let mut errors = MemoryOut::new(rt.alloc());
-        let status = program(rt.alloc(), words, &mut reader, &mut output, &mut errors);
+        let status = program(
+            &rt,
+            rt.alloc(),
+            words,
+            &mut reader,
+            &mut output,
+            &mut errors,
+        );
         assert_eq!(rt; status, 3);
         assert!(rt; output.bytes().is_empty());
         assert!(rt; errors.bytes() == "keydir: read failed\n".as_bytes());
@@ -226,9 +235,14 @@ fn failing_reads(rt: HostRuntime) {
 }
 
 /// Whether what a run writes is a beginning of its output where a call on it fails, and how the run ends.
-fn ends_with_calls(alloc: Global, words: &[&str], calls: u64) -> Result<Option<u8>, AllocError> {
+fn ends_with_calls<T: Threads + Sync>(
+    rt: &T,
+    alloc: Global,
+    words: &[&str],
+    calls: u64,
+) -> Result<Option<u8>, AllocError> {
     let input = answers_of(alloc, &LOOKUPS)?;
-    let whole = run_of(alloc, words, input.as_str())?;
+    let whole = run_of(rt, alloc, words, input.as_str())?;
     let mut reader = MemoryIn::new(Vec::from_slice(alloc, input.as_bytes())?);
     let mut output = ShortOut {
         bytes: Vec::new(alloc),
@@ -237,7 +251,7 @@ fn ends_with_calls(alloc: Global, words: &[&str], calls: u64) -> Result<Option<u
         flushes: 0,
     };
     let mut errors = MemoryOut::new(alloc);
-    let status = program(alloc, words, &mut reader, &mut output, &mut errors);
+    let status = program(rt, alloc, words, &mut reader, &mut output, &mut errors);
     if !whole.output.bytes().starts_with(&output.bytes) {
         return Ok(None);
     }
@@ -251,9 +265,9 @@ fn failing_writes(rt: HostRuntime) -> Result<(), Fail> {
     let monitor = ["keydir", "monitor", "--key", ZEROS, "--name", "a"];
     for (calls, end) in [(0, [3, 3]), (30, [3, 3]), (2000, [0, 1])] {
         let [checked, watched] = end;
-        let found = ends_with_calls(rt.alloc(), &check, calls)?;
+        let found = ends_with_calls(&rt, rt.alloc(), &check, calls)?;
         assert!(rt; found == Some(checked), "{calls}");
-        let found = ends_with_calls(rt.alloc(), &monitor, calls)?;
+        let found = ends_with_calls(&rt, rt.alloc(), &monitor, calls)?;
         assert!(rt; found == Some(watched), "{calls}");
     }
     Ok(())

@@ -2,6 +2,7 @@ use crate::tests::streams::{FailIn, ShortOut};
 use coniks_tool::{MemoryIn, MemoryOut, Unread, program, unread_words};
 use std::alloc::{AllocError, Global};
 use std::test::Fail;
+use std::thread::Threads;
 
 /// What a run of the program came to.
 #[derive(Drop)]
@@ -11,11 +12,25 @@ pub(crate) struct Ended {
     pub(crate) errors: MemoryOut,
 }
 
-pub(crate) fn run_of(alloc: Global, words: &[&str], input: &str) -> Result<Ended, AllocError> {
-    let mut reader = MemoryIn::new(Vec::from_slice(alloc, input.as_bytes())?);
+pub(crate) fn run_of<T: Threads + Sync>(
+    rt: &T,
+    alloc: Global,
+    words: &[&str],
+    input: &str,
+) -> Result<Ended, AllocError> {
+    run_on(rt, alloc, words, input.as_bytes())
+}
+
+pub(crate) fn run_on<T: Threads + Sync>(
+    rt: &T,
+    alloc: Global,
+    words: &[&str],
+    input: &[u8],
+) -> Result<Ended, AllocError> {
+    let mut reader = MemoryIn::new(Vec::from_slice(alloc, input)?);
     let mut output = MemoryOut::new(alloc);
     let mut errors = MemoryOut::new(alloc);
-    let status = program(alloc, words, &mut reader, &mut output, &mut errors);
+    let status = program(rt, alloc, words, &mut reader, &mut output, &mut errors);
     Ok(Ended {
         status,
         output,
@@ -31,7 +46,7 @@ fn runs(rt: HostRuntime) -> Result<(), Fail> {
         ("\n[", 1, "{\"fault\":\"Json\"}\n{\"fault\":\"Json\"}\n"),
     ];
     for (input, status, output) in cases {
-        let run = run_of(rt.alloc(), &["keydir", "run"], input)?;
+        let run = run_of(&rt, rt.alloc(), &["keydir", "run"], input)?;
         assert_eq!(rt; run.status, status, "{input}");
         assert!(rt; run.output.bytes() == output.as_bytes(), "{input}");
         assert!(rt; run.errors.bytes().is_empty(), "{input}");
@@ -43,7 +58,7 @@ fn runs(rt: HostRuntime) -> Result<(), Fail> {
 #[test]
 fn refused_words(rt: HostRuntime) -> Result<(), Fail> {
     let missing = "error: 'keydir' requires a subcommand but one was not provided\n";
-    let cases: [(&[&str], &str); 6] = [
+    let cases: [(&[&str], &str); 9] = [
         (&[], missing),
         (&["keydir"], missing),
         (
@@ -62,9 +77,21 @@ fn refused_words(rt: HostRuntime) -> Result<(), Fail> {
             &["keydir", "run", "--fast"],
             "error: unexpected argument '--fast' found\n",
         ),
+        (
+            &["keydir", "run", "--workers", "0"],
+            "error: invalid value '0' for '--workers <workers>': 0 is not in 1..=64\n",
+        ),
+        (
+            &["keydir", "run", "--workers", "65"],
+            "error: invalid value '65' for '--workers <workers>': 65 is not in 1..=64\n",
+        ),
+        (
+            &["keydir", "run", "--depth", "9"],
+            "error: invalid value '9' for '--depth <depth>': 9 is not in 0..=8\n",
+        ),
     ];
     for (words, line) in cases {
-        let run = run_of(rt.alloc(), words, "[1]\n")?;
+        let run = run_of(&rt, rt.alloc(), words, "[1]\n")?;
         assert_eq!(rt; run.status, 2, "{line}");
         assert!(rt; run.output.bytes().is_empty(), "{line}");
         assert!(rt; run.errors.bytes().starts_with(line.as_bytes()), "{line}");
@@ -76,7 +103,7 @@ fn refused_words(rt: HostRuntime) -> Result<(), Fail> {
 #[test]
 fn help(rt: HostRuntime) -> Result<(), Fail> {
     let whole = "Usage: keydir <COMMAND>\n";
-    let of_run = "Answers the lines of the standard input\n\nUsage: keydir run\n";
+    let of_run = "Answers the lines of the standard input\n\nUsage: keydir run [OPTIONS]\n";
     let cases: [(&[&str], &str); 4] = [
         (&["keydir", "--help"], whole),
         (&["keydir", "help"], whole),
@@ -84,7 +111,7 @@ fn help(rt: HostRuntime) -> Result<(), Fail> {
         (&["keydir", "run", "--help"], of_run),
     ];
     for (words, text) in cases {
-        let run = run_of(rt.alloc(), words, "[1]\n")?;
+        let run = run_of(&rt, rt.alloc(), words, "[1]\n")?;
         assert_eq!(rt; run.status, 0, "{text}");
         assert!(rt; run.output.bytes().starts_with(text.as_bytes()), "{text}");
         assert!(rt; run.errors.bytes().is_empty(), "{text}");
@@ -97,7 +124,7 @@ fn help(rt: HostRuntime) -> Result<(), Fail> {
 fn failing_writes(rt: HostRuntime) -> Result<(), Fail> {
     let alloc = rt.alloc();
     for words in [["keydir", "run"], ["keydir", "help"]] {
-        let whole = run_of(alloc, &words, "[1]\n\n")?;
+        let whole = run_of(&rt, alloc, &words, "[1]\n\n")?;
         let mut ends = 0;
         for calls in 0..2000u64 {
             let mut reader = MemoryIn::new(Vec::from_slice(alloc, b"[1]\n\n")?);
@@ -108,7 +135,7 @@ fn failing_writes(rt: HostRuntime) -> Result<(), Fail> {
                 flushes: 0,
             };
             let mut errors = MemoryOut::new(alloc);
-            let status = program(alloc, &words, &mut reader, &mut output, &mut errors);
+            let status = program(&rt, alloc, &words, &mut reader, &mut output, &mut errors);
             assert!(rt; whole.output.bytes().starts_with(&output.bytes));
             if status != 3 {
                 assert_eq!(rt; status, whole.status);
@@ -130,6 +157,7 @@ fn failing_reads(rt: HostRuntime) {
     let mut output = MemoryOut::new(rt.alloc());
     let mut errors = MemoryOut::new(rt.alloc());
     let status = program(
+        &rt,
         rt.alloc(),
         &["keydir", "run"],
         &mut reader,
@@ -155,7 +183,14 @@ fn failing_errors(rt: HostRuntime) {
                 flushes: 0,
             };
             let words = ["keydir", word];
-            let status_told = program(rt.alloc(), &words, &mut reader, &mut output, &mut errors);
+            let status_told = program(
+                &rt,
+                rt.alloc(),
+                &words,
+                &mut reader,
+                &mut output,
+                &mut errors,
+            );
             assert_eq!(rt; status_told, status);
             assert_eq!(rt; errors.bytes.len() as u64, calls);
         }

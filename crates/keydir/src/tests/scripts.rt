@@ -4,6 +4,7 @@ use crate::tests::streams::{OneByteIn, ShortOut};
 use coniks_tool::{MemoryIn, MemoryOut, RunFault, run_script};
 use std::alloc::{AllocError, Global};
 use std::test::Fail;
+use std::thread::Threads;
 
 /// The line that opens a directory under a key of zeros.
 const OPEN: &str =
@@ -11,16 +12,20 @@ const OPEN: &str =
 
 /// What a script was answered by, and whether each line was accepted.
 #[derive(Drop)]
-struct Ran {
-    all: bool,
-    output: MemoryOut,
+pub struct Ran {
+    pub all: bool,
+    pub output: MemoryOut,
 }
 
-/// Runs the bytes of a script.
-fn run_of(alloc: Global, input: &[u8]) -> Result<Option<Ran>, AllocError> {
+/// Runs the bytes of a script with one worker.
+pub fn run_of<T: Threads + Sync>(
+    rt: &T,
+    alloc: Global,
+    input: &[u8],
+) -> Result<Option<Ran>, AllocError> {
     let mut reader = MemoryIn::new(Vec::from_slice(alloc, input)?);
     let mut output = MemoryOut::new(alloc);
-    match run_script(alloc, &mut reader, &mut output) {
+    match run_script(rt, alloc, &mut reader, &mut output, 1, 0) {
         Ok(all) => Ok(Some(Ran { all, output })),
         Err(_) => Ok(None),
     }
@@ -47,10 +52,15 @@ fn answers_of(alloc: Global, lines: &[(&str, &str)]) -> Result<String, AllocErro
 }
 
 /// Whether the lines are answered as written beside them, and `all` says whether each is accepted.
-pub fn is_answered(alloc: Global, lines: &[(&str, &str)], all: bool) -> Result<bool, AllocError> {
+pub fn is_answered<T: Threads + Sync>(
+    rt: &T,
+    alloc: Global,
+    lines: &[(&str, &str)],
+    all: bool,
+) -> Result<bool, AllocError> {
     let script = script_of(alloc, lines)?;
     let answers = answers_of(alloc, lines)?;
-    match run_of(alloc, script.as_bytes())? {
+    match run_of(rt, alloc, script.as_bytes())? {
         Some(ran) => Ok(ran.all == all && ran.output.bytes() == answers.as_bytes()),
         None => Ok(false),
     }
@@ -70,14 +80,14 @@ fn the_first_path(rt: HostRuntime) -> Result<(), Fail> {
         ),
         (
             "{\"cmd\":\"batch\",\"epoch\":1,\"ops\":[]}",
-            "{\"epoch\":1,\"ok\":\"batch\",\"root\":\"1aa9b40c9d34d625d7329003c097925b7d4c7809b864b047b71defb140aca216\"}",
+            "{\"entry\":\"01000000000000000100000000000000001aa9b40c9d34d625d7329003c097925b7d4c7809b864b047b71defb140aca216000000000000000000000000000000000000000000000000000000000000000011111111111111111111111111111111111111111111111111111111111111113333333333333333333333333333333333333333333333333333333333333333ae9682aec203eb680ce14cbd31a5a2681c03a354e3547be4380b2395c04d53f3504b9e0a20a3b47553f91f4dc70ae65654d8dab064060782b030be26232859e8\",\"epoch\":1,\"link\":\"d87d9ee85e421cb7c8a5324caf11dcf32e482758aabdac5a142b5c44f5601613\",\"ok\":\"batch\",\"root\":\"1aa9b40c9d34d625d7329003c097925b7d4c7809b864b047b71defb140aca216\"}",
         ),
         (
             "{\"cmd\":\"batch\",\"epoch\":1,\"ops\":[]}",
             "{\"fault\":\"EpochNotLater\",\"latest\":1}",
         ),
     ];
-    assert!(rt; is_answered(rt.alloc(), &lines, false)?);
+    assert!(rt; is_answered(&rt, rt.alloc(), &lines, false)?);
     Ok(())
 }
 
@@ -91,10 +101,10 @@ fn accepted_whole(rt: HostRuntime) -> Result<(), Fail> {
         ),
         (
             "{\"cmd\":\"batch\",\"epoch\":1,\"ops\":[]}",
-            "{\"epoch\":1,\"ok\":\"batch\",\"root\":\"1aa9b40c9d34d625d7329003c097925b7d4c7809b864b047b71defb140aca216\"}",
+            "{\"entry\":\"01000000000000000100000000000000001aa9b40c9d34d625d7329003c097925b7d4c7809b864b047b71defb140aca216000000000000000000000000000000000000000000000000000000000000000011111111111111111111111111111111111111111111111111111111111111113333333333333333333333333333333333333333333333333333333333333333ae9682aec203eb680ce14cbd31a5a2681c03a354e3547be4380b2395c04d53f3504b9e0a20a3b47553f91f4dc70ae65654d8dab064060782b030be26232859e8\",\"epoch\":1,\"link\":\"d87d9ee85e421cb7c8a5324caf11dcf32e482758aabdac5a142b5c44f5601613\",\"ok\":\"batch\",\"root\":\"1aa9b40c9d34d625d7329003c097925b7d4c7809b864b047b71defb140aca216\"}",
         ),
     ];
-    assert!(rt; is_answered(rt.alloc(), &lines, true)?);
+    assert!(rt; is_answered(&rt, rt.alloc(), &lines, true)?);
     Ok(())
 }
 
@@ -108,26 +118,26 @@ fn epochs(rt: HostRuntime) -> Result<(), Fail> {
         ),
         (
             "{\"cmd\":\"batch\",\"epoch\":1,\"ops\":[{\"key\":\"aw==\",\"name\":\"a\",\"op\":\"register\",\"opening\":\"2222222222222222222222222222222222222222222222222222222222222222\"}]}",
-            "{\"epoch\":1,\"ok\":\"batch\",\"root\":\"8c33c01f7c7464c4c6e45d59306e11d36aa55c793d59ab9963bbb1f48e58a7fc\"}",
+            "{\"entry\":\"01000000000000000100000000000000008c33c01f7c7464c4c6e45d59306e11d36aa55c793d59ab9963bbb1f48e58a7fc00000000000000000000000000000000000000000000000000000000000000001111111111111111111111111111111111111111111111111111111111111111333333333333333333333333333333333333333333333333333333333333333352580478c2e0556c626b32e263c339b262ec04384ea79f70afe2f48fc04ebfdade32febdc542d7ba6ca63a72833bb5a6324817fb1dedf7c579e0f5006eaa74fa\",\"epoch\":1,\"link\":\"60131ac4b030779265aacc673539c9a92168b3b060f2cfa8453cf7982fe0c8de\",\"ok\":\"batch\",\"root\":\"8c33c01f7c7464c4c6e45d59306e11d36aa55c793d59ab9963bbb1f48e58a7fc\"}",
         ),
         (
             "{\"cmd\":\"batch\",\"epoch\":4,\"ops\":[{\"key\":\"bA==\",\"name\":\"a\",\"op\":\"change\",\"opening\":\"2222222222222222222222222222222222222222222222222222222222222222\"}]}",
-            "{\"epoch\":4,\"ok\":\"batch\",\"root\":\"ec0d713692cadd48020e8df31a1742135e0c794e167a816b36835d3df17d3a75\"}",
+            "{\"entry\":\"0100000000000000040000000000000001ec0d713692cadd48020e8df31a1742135e0c794e167a816b36835d3df17d3a7560131ac4b030779265aacc673539c9a92168b3b060f2cfa8453cf7982fe0c8de1111111111111111111111111111111111111111111111111111111111111111333333333333333333333333333333333333333333333333333333333333333331b7119c7fd03717d0c81518fdb4d46b2de596895cc0feed60866d91644d7a8d2581c16d58caf7362b5f1e22c6b60d7f09c33c24a9a204618766791b9b73772d\",\"epoch\":4,\"link\":\"06bbe5acb7e928cd56e6206e871a8601cda934d3d014dec93b2514dc76575343\",\"ok\":\"batch\",\"root\":\"ec0d713692cadd48020e8df31a1742135e0c794e167a816b36835d3df17d3a75\"}",
         ),
         (
             "{\"cmd\":\"batch\",\"epoch\":5,\"ops\":[]}",
-            "{\"epoch\":5,\"ok\":\"batch\",\"root\":\"ec0d713692cadd48020e8df31a1742135e0c794e167a816b36835d3df17d3a75\"}",
+            "{\"entry\":\"0100000000000000050000000000000004ec0d713692cadd48020e8df31a1742135e0c794e167a816b36835d3df17d3a7506bbe5acb7e928cd56e6206e871a8601cda934d3d014dec93b2514dc76575343111111111111111111111111111111111111111111111111111111111111111133333333333333333333333333333333333333333333333333333333333333335fec955e0900e486edeb7479a3026f587038d8b06d03bab2413c0c858036d601a3dc6da210704641b99478e6664cbe3b542e7ea31d44516aa7859324988317ee\",\"epoch\":5,\"link\":\"f11ac262639bd7166953d13970f89b98de36836e89b1b3a520c317af48a2af8f\",\"ok\":\"batch\",\"root\":\"ec0d713692cadd48020e8df31a1742135e0c794e167a816b36835d3df17d3a75\"}",
         ),
         (
             "{\"cmd\":\"batch\",\"epoch\":18446744073709551615,\"ops\":[{\"key\":\"aw==\",\"name\":\"b\",\"op\":\"register\",\"opening\":\"2222222222222222222222222222222222222222222222222222222222222222\"}]}",
-            "{\"epoch\":18446744073709551615,\"ok\":\"batch\",\"root\":\"cc88bcefdde260d1c38a11ae4d30fe007c9b0764ecbc7f0616b96a07854c8c9b\"}",
+            "{\"entry\":\"01ffffffffffffffff0000000000000005cc88bcefdde260d1c38a11ae4d30fe007c9b0764ecbc7f0616b96a07854c8c9bf11ac262639bd7166953d13970f89b98de36836e89b1b3a520c317af48a2af8f11111111111111111111111111111111111111111111111111111111111111113333333333333333333333333333333333333333333333333333333333333333fea187959dbc7aa666e14ce34a43cc0a8c0db304e2038b771141771225da688263ced481fee99d4f3b428eab309a3b33a7b4933382136c7d89102d062d1fc899\",\"epoch\":18446744073709551615,\"link\":\"79d79c3a2c83149f9640a0e10ceddf589ac89283bb3e54a1c801a395ff95755c\",\"ok\":\"batch\",\"root\":\"cc88bcefdde260d1c38a11ae4d30fe007c9b0764ecbc7f0616b96a07854c8c9b\"}",
         ),
         (
             "{\"cmd\":\"batch\",\"epoch\":18446744073709551615,\"ops\":[]}",
             "{\"fault\":\"EpochNotLater\",\"latest\":18446744073709551615}",
         ),
     ];
-    assert!(rt; is_answered(rt.alloc(), &lines, false)?);
+    assert!(rt; is_answered(&rt, rt.alloc(), &lines, false)?);
     Ok(())
 }
 
@@ -141,14 +151,14 @@ fn three_names(rt: HostRuntime) -> Result<(), Fail> {
         ),
         (
             "{\"cmd\":\"batch\",\"epoch\":2,\"ops\":[{\"key\":\"aw==\",\"name\":\"a\",\"op\":\"register\",\"opening\":\"2222222222222222222222222222222222222222222222222222222222222222\"},{\"key\":\"aw==\",\"name\":\"b\",\"op\":\"register\",\"opening\":\"2222222222222222222222222222222222222222222222222222222222222222\"},{\"key\":\"aw==\",\"name\":\"c\",\"op\":\"register\",\"opening\":\"2222222222222222222222222222222222222222222222222222222222222222\"}]}",
-            "{\"epoch\":2,\"ok\":\"batch\",\"root\":\"5ce6bb0a66303d818beeb7ce8bb5154241041df4c8f3ab2790797e9561535956\"}",
+            "{\"entry\":\"01000000000000000200000000000000005ce6bb0a66303d818beeb7ce8bb5154241041df4c8f3ab2790797e9561535956000000000000000000000000000000000000000000000000000000000000000011111111111111111111111111111111111111111111111111111111111111113333333333333333333333333333333333333333333333333333333333333333f60aa0a319b1f68574b1b1d7cc4dc847c401eb8a6c226355d00bbd2e161dc97a1061838ea19a6031bd8fc81feb77928d52430533ef8b2598c0a7a598d795a867\",\"epoch\":2,\"link\":\"25c4b2c9dc4ef44cadef372920cd35a7357135a94f5e49d88586f5dc976a6d80\",\"ok\":\"batch\",\"root\":\"5ce6bb0a66303d818beeb7ce8bb5154241041df4c8f3ab2790797e9561535956\"}",
         ),
         (
             "{\"cmd\":\"batch\",\"epoch\":3,\"ops\":[{\"key\":\"bA==\",\"name\":\"b\",\"op\":\"change\",\"opening\":\"2222222222222222222222222222222222222222222222222222222222222222\"}]}",
-            "{\"epoch\":3,\"ok\":\"batch\",\"root\":\"5724a835ca3679d2e0e3d110b696a542934dadc39b014b17046b7c62e375d62d\"}",
+            "{\"entry\":\"01000000000000000300000000000000025724a835ca3679d2e0e3d110b696a542934dadc39b014b17046b7c62e375d62d25c4b2c9dc4ef44cadef372920cd35a7357135a94f5e49d88586f5dc976a6d8011111111111111111111111111111111111111111111111111111111111111113333333333333333333333333333333333333333333333333333333333333333afe87625137dfd124b99b1be495f4262184ae0af97bf8752d86f10c0a3fd37c73597784958657512d7be43ec4286ea14234410026401e59736206ed6b97bd2ab\",\"epoch\":3,\"link\":\"cf8360b695ff23239024d7749f23e650ea16d817d7662343ea4cc89e35fc1369\",\"ok\":\"batch\",\"root\":\"5724a835ca3679d2e0e3d110b696a542934dadc39b014b17046b7c62e375d62d\"}",
         ),
     ];
-    assert!(rt; is_answered(rt.alloc(), &lines, true)?);
+    assert!(rt; is_answered(&rt, rt.alloc(), &lines, true)?);
     Ok(())
 }
 
@@ -162,7 +172,7 @@ fn with_a_name_present(rt: HostRuntime) -> Result<(), Fail> {
         ),
         (
             "{\"cmd\":\"batch\",\"epoch\":1,\"ops\":[{\"key\":\"aw==\",\"name\":\"a\",\"op\":\"register\",\"opening\":\"2222222222222222222222222222222222222222222222222222222222222222\"}]}",
-            "{\"epoch\":1,\"ok\":\"batch\",\"root\":\"8c33c01f7c7464c4c6e45d59306e11d36aa55c793d59ab9963bbb1f48e58a7fc\"}",
+            "{\"entry\":\"01000000000000000100000000000000008c33c01f7c7464c4c6e45d59306e11d36aa55c793d59ab9963bbb1f48e58a7fc00000000000000000000000000000000000000000000000000000000000000001111111111111111111111111111111111111111111111111111111111111111333333333333333333333333333333333333333333333333333333333333333352580478c2e0556c626b32e263c339b262ec04384ea79f70afe2f48fc04ebfdade32febdc542d7ba6ca63a72833bb5a6324817fb1dedf7c579e0f5006eaa74fa\",\"epoch\":1,\"link\":\"60131ac4b030779265aacc673539c9a92168b3b060f2cfa8453cf7982fe0c8de\",\"ok\":\"batch\",\"root\":\"8c33c01f7c7464c4c6e45d59306e11d36aa55c793d59ab9963bbb1f48e58a7fc\"}",
         ),
         (
             "{\"cmd\":\"batch\",\"epoch\":2,\"ops\":[{\"key\":\"aw==\",\"name\":\"b\",\"op\":\"register\",\"opening\":\"2222222222222222222222222222222222222222222222222222222222222222\"},{\"key\":\"aw==\",\"name\":\"b\",\"op\":\"register\",\"opening\":\"2222222222222222222222222222222222222222222222222222222222222222\"}]}",
@@ -190,10 +200,10 @@ fn with_a_name_present(rt: HostRuntime) -> Result<(), Fail> {
         ),
         (
             "{\"cmd\":\"batch\",\"epoch\":2,\"ops\":[]}",
-            "{\"epoch\":2,\"ok\":\"batch\",\"root\":\"8c33c01f7c7464c4c6e45d59306e11d36aa55c793d59ab9963bbb1f48e58a7fc\"}",
+            "{\"entry\":\"01000000000000000200000000000000018c33c01f7c7464c4c6e45d59306e11d36aa55c793d59ab9963bbb1f48e58a7fc60131ac4b030779265aacc673539c9a92168b3b060f2cfa8453cf7982fe0c8de111111111111111111111111111111111111111111111111111111111111111133333333333333333333333333333333333333333333333333333333333333337d683a723ad098175d3477addaa89978b9e5e36ffd336574b51f6fadebdbcdcc5e89c5fe4ea78f1920ce229704b2d01bb6c3c0b40e3f057ec0bc53ad5065b144\",\"epoch\":2,\"link\":\"2f37738bb8f74798970f6198c1eaa05754f2c1235a6c28b66c649c52cb79a61a\",\"ok\":\"batch\",\"root\":\"8c33c01f7c7464c4c6e45d59306e11d36aa55c793d59ab9963bbb1f48e58a7fc\"}",
         ),
     ];
-    assert!(rt; is_answered(rt.alloc(), &lines, false)?);
+    assert!(rt; is_answered(&rt, rt.alloc(), &lines, false)?);
     Ok(())
 }
 
@@ -285,10 +295,10 @@ fn first_faults(rt: HostRuntime) -> Result<(), Fail> {
         ("{\"cmd\":\"open\"", "{\"fault\":\"Json\"}"),
         (
             "{\"cmd\":\"batch\",\"epoch\":1,\"ops\":[{\"key\":\"aw==\",\"name\":\"a\",\"op\":\"register\",\"opening\":\"2222222222222222222222222222222222222222222222222222222222222222\"},{\"key\":\"aw==\",\"name\":\"b\",\"op\":\"register\",\"opening\":\"2222222222222222222222222222222222222222222222222222222222222222\"}]}",
-            "{\"epoch\":1,\"ok\":\"batch\",\"root\":\"15a6aa01575cdbffedd8ff254626a0da2891e86624be6eefde5a70462a6e8e24\"}",
+            "{\"entry\":\"010000000000000001000000000000000015a6aa01575cdbffedd8ff254626a0da2891e86624be6eefde5a70462a6e8e240000000000000000000000000000000000000000000000000000000000000000111111111111111111111111111111111111111111111111111111111111111133333333333333333333333333333333333333333333333333333333333333338db1ab387328713ccde14efef954ff8eafe253d8e11c9a79df2c7b0a60830c29e8f13c0610145afe56996ff987f8d022c281bb41c24fe4df3182922e1885cf68\",\"epoch\":1,\"link\":\"27233b879020377f06c247661c7f914eb35b9d2a0aedad44373bf431faa401fc\",\"ok\":\"batch\",\"root\":\"15a6aa01575cdbffedd8ff254626a0da2891e86624be6eefde5a70462a6e8e24\"}",
         ),
     ];
-    assert!(rt; is_answered(rt.alloc(), &lines, false)?);
+    assert!(rt; is_answered(&rt, rt.alloc(), &lines, false)?);
     Ok(())
 }
 
@@ -300,8 +310,8 @@ fn ends_of_lines(rt: HostRuntime) -> Result<(), Fail> {
     script.extend_from_slice(OPEN.as_bytes())?;
     script.extend_from_slice(b"\r\n{\"cmd\":\"batch\",\"epoch\":1,\"ops\":[]}")?;
     let want =
-        "{\"fault\":\"Json\"}\n{\"fault\":\"Json\"}\n{\"ok\":\"open\"}\n{\"epoch\":1,\"ok\":\"batch\",\"root\":\"1aa9b40c9d34d625d7329003c097925b7d4c7809b864b047b71defb140aca216\"}\n";
-    match run_of(rt.alloc(), &script)? {
+        "{\"fault\":\"Json\"}\n{\"fault\":\"Json\"}\n{\"ok\":\"open\"}\n{\"entry\":\"01000000000000000100000000000000001aa9b40c9d34d625d7329003c097925b7d4c7809b864b047b71defb140aca216000000000000000000000000000000000000000000000000000000000000000011111111111111111111111111111111111111111111111111111111111111113333333333333333333333333333333333333333333333333333333333333333ae9682aec203eb680ce14cbd31a5a2681c03a354e3547be4380b2395c04d53f3504b9e0a20a3b47553f91f4dc70ae65654d8dab064060782b030be26232859e8\",\"epoch\":1,\"link\":\"d87d9ee85e421cb7c8a5324caf11dcf32e482758aabdac5a142b5c44f5601613\",\"ok\":\"batch\",\"root\":\"1aa9b40c9d34d625d7329003c097925b7d4c7809b864b047b71defb140aca216\"}\n";
+    match run_of(&rt, rt.alloc(), &script)? {
         Some(ran) => {
             assert!(rt; ran.output.bytes() == want.as_bytes());
             assert_eq!(rt; ran.all, false);
@@ -323,7 +333,7 @@ fn byte_by_byte(rt: HostRuntime) -> Result<(), Fail> {
         failures: 0,
         flushes: 0,
     };
-    let ran = run_script(rt.alloc(), &mut reader, &mut writer);
+    let ran = run_script(&rt, rt.alloc(), &mut reader, &mut writer, 1, 0);
     assert_eq!(rt; ran, Ok(false));
     assert!(rt; writer.bytes.as_slice() == b"{\"ok\":\"open\"}\n{\"fault\":\"Json\"}\n".as_slice());
     Ok(())

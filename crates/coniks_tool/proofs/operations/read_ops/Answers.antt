@@ -2,7 +2,7 @@ use Rattle.std.proofs.Common.{◌≡◌, [], ◌∷◌, ◌++◌, arith}
 use Rattle.std.specs.Prelude.{Some}
 use Rattle.std.proofs.lemmas.Grind.{common_steps}
 use Rattle.serde_json.specs.View.{view}
-use Rattle.coniks_tool.specs.Batch.{operation_of}
+use Rattle.coniks_directory.specs.Batches.{operation_of}
 use Rattle.coniks_tool.specs.Operations.{operation_in}
 use Rattle.coniks_tool.proofs.OperationsLemmas.{one_more_operation}
 use Rattle.coniks_tool.proofs.operations.read_ops.Goals as goal

@@ -1,7 +1,7 @@
 use Rattle.std.proofs.Common.{◌≡◌, drop}
 use Rattle.std.specs.Prelude.{map}
 use Rattle.serde_json.specs.View.{items_view}
-use Rattle.coniks_tool.specs.Batch.{operation_of}
+use Rattle.coniks_directory.specs.Batches.{operation_of}
 use Rattle.coniks_tool.specs.Operations.{operations_from}
 use Rattle.coniks_tool.proofs.OperationsLemmas.{after}
 use Rattle.coniks_tool.proofs.operations.read_ops.Given as goal

@@ -1,0 +1,195 @@
+-- Commits on an opened directory.
+use Rattle.std.proofs.Common.{◌≡◌, ◌≢◌, ◌<◌, ◌≤◌, ◌+◌, ◌⊎◌, ℕ, suc, List, [], ◌∷◌, ◌++◌, length, length-append, map, Bool, true, false, refl, sym, ap, subst, ◌∙◌, arith, inl, inr, Option, Some, None, Result, Ok, Err}
+use Rattle.std.specs.Prelude.{is_some, nat_le, nat_lt, IfOk, IfErr, OnOk, OnErr, option_map}
+use Rattle.std.proofs.lemmas.Bool.{false≢true}
+use Rattle.std.proofs.lemmas.Bool.Decides.{nat_tests}
+use Rattle.coniks_proof.specs.Sha256.{sha256}
+use Rattle.coniks_proof.specs.Batches.{Operation}
+use Rattle.coniks_proof.specs.declared.values.Head.{Head}
+use Rattle.coniks_proof.specs.declared.values.TheConstants.{MAX_OPERATIONS}
+use Rattle.coniks_chain.specs.Chain.{GoodChain}
+use Rattle.coniks_chain.specs.Entries.{link_preimage}
+use Rattle.coniks_chain.specs.declared.entry.Entry.{Entry}
+use Rattle.coniks_directory.specs.Batches.{AreWorkers, IsAccepted}
+use Rattle.coniks_directory.specs.Chain.{IsChainOf, head_at, heads_of}
+use Rattle.coniks_directory.specs.History.{Shown, latest_epoch, latest_registry}
+use Rattle.coniks_directory.specs.State.{State, history_of}
+use Rattle.coniks_directory.specs.Updates.{Grows, IsCommitFault, MayInstall, commit_refusals, shown_next}
+use Rattle.coniks_directory.specs.declared.batch.BatchFault.TheVariants as batch
+use Rattle.coniks_directory.specs.declared.update.CommitFault.{CommitFault}
+use Rattle.coniks_directory.specs.declared.update.CommitFault.TheVariants.{Batch, Install}
+use Rattle.coniks_directory.specs.declared.update.InstallFault.TheVariants as install
+use Rattle.coniks_work.specs.declared.jobs.TheConstants.{MAX_DEPTH}
+use Rattle.coniks_tool.specs.Demo.{demo_index}
+use Rattle.coniks_tool.specs.Refusals.{IsRefusedBy, Refusal, not_later, refusal}
+use Rattle.coniks_tool.specs.Replies.{Outcome, installed, outcome_of}
+use Rattle.coniks_tool.specs.declared.reply.Reply.{Reply}
+use Rattle.coniks_tool.specs.Script.{Installs, Opened, State as Held, Turn, batch_on, batch_with, refusal_outcome, refused, shown_next as shown_epoch}
+use Rattle.coniks_tool.specs.Seal.{is_seal}
+use Rattle.coniks_tool.specs.Stores.{opened_by, opened_of, state_of}
+use Rattle.coniks_tool.specs.declared.store.Service.{Service}
+use Rattle.coniks_tool.specs.declared.store.TheConstants.{BOARD_HEADS}
+use Rattle.coniks_tool.proofs.SealedLemmas.{entry_is}
+
+-- what is accepted isn't refused
+accepted_is : (of : List ℕ → List ℕ) (history : List Shown) (epoch : ℕ) (ops : List Operation) (depth workers published : ℕ) → IsAccepted of (latest_registry history) ops depth workers
+    → latest_epoch history < epoch → published ≢ BOARD_HEADS → published ≤ BOARD_HEADS → published ≡ length history → refusal of history epoch ops ≡ None
+accepted_is of history epoch ops depth workers published a later room most same =
+    let few : nat_le (length ops) MAX_OPERATIONS ≡ true = (let f = a.few in grind (arith, nat_tests)) in
+    let rises : nat_lt (latest_epoch history) epoch ≡ true = grind (arith, nat_tests) in
+    let fits : nat_lt (length history) BOARD_HEADS ≡ true = grind (arith, nat_tests) in
+    rw (few, a.faultless, rises, fits) refl
+
+-- a commit's fault is why the batch is refused
+pub refused_is : (of : List ℕ → List ℕ) (s : State) (ops : List Operation) (depth workers epoch published capacity : ℕ) (fault : CommitFault) → AreWorkers workers → depth ≤ MAX_DEPTH
+    → published ≡ length (history_of s) → capacity ≡ BOARD_HEADS → 0 ≡ 0 + commit_refusals fault → IsCommitFault of s ops depth workers epoch published capacity fault
+    → IsRefusedBy (refusal of (history_of s) epoch ops) fault
+refused_is of s ops depth workers epoch published capacity (Batch batch.Workers) crew shallow long full signed f = none crew f
+  where
+    none : {n : ℕ} → AreWorkers n → (n ≡ 0) ⊎ (64 < n) → ⊥
+    none crew (inl zero_is) = let least = crew.0 in omega arith
+    none crew (inr more) = let most = crew.1 in omega arith
+refused_is of s ops depth workers epoch published capacity (Batch batch.Depth) crew shallow long full signed f = let deep = f.1 in omega arith
+refused_is of s ops depth workers epoch published capacity (Batch batch.BatchTooLong) crew shallow long full signed f =
+    let many = f.2 in
+    let off : nat_le (length ops) MAX_OPERATIONS ≡ false = grind (arith, nat_tests) in
+    rw off refl
+refused_is of s ops depth workers epoch published capacity (Batch (batch.At position fault)) crew shallow long full signed f =
+    let few = f.2 in
+    let on : nat_le (length ops) MAX_OPERATIONS ≡ true = grind (arith, nat_tests) in
+    rw (on, f.3) refl
+refused_is of s ops depth workers epoch published capacity (Batch batch.OutOfMemory) crew shallow long full signed f = tt
+refused_is of s ops depth workers epoch published capacity (Install (install.Stale latest)) crew shallow long full signed f = f.1.1 refl
+refused_is of s ops depth workers epoch published capacity (Install (install.EpochNotLater latest)) crew shallow long full signed f =
+    let few = f.0.few in
+    let on : nat_le (length ops) MAX_OPERATIONS ≡ true = grind (arith, nat_tests) in
+    let same : latest ≡ latest_epoch (history_of s) = f.1.0 in
+    let low : epoch ≤ latest = f.1.2 in
+    let off : nat_lt (latest_epoch (history_of s)) epoch ≡ false = grind (arith, nat_tests) in
+    rw (on, f.0.faultless, off) (ap (λ n. Some (not_later n)) (sym same))
+refused_is of s ops depth workers epoch published capacity (Install install.BoardFull) crew shallow long full signed f =
+    let few = f.0.few in
+    let on : nat_le (length ops) MAX_OPERATIONS ≡ true = grind (arith, nat_tests) in
+    let later = f.1.1 in
+    let rises : nat_lt (latest_epoch (history_of s)) epoch ≡ true = grind (arith, nat_tests) in
+    let all = f.1.2 in
+    let off : nat_lt (length (history_of s)) BOARD_HEADS ≡ false = grind (arith, nat_tests) in
+    rw (on, f.0.faultless, rises, off) refl
+refused_is of s ops depth workers epoch published capacity (Install install.OutOfMemory) crew shallow long full signed f = tt
+refused_is of s ops depth workers epoch published capacity (Install install.SignerRefused) crew shallow long full signed f = omega arith
+
+-- a batch that was committed is installed
+pub installs : (key key' : List ℕ) (s t : State) (ops : List Operation) (depth workers epoch published capacity : ℕ) (entry : Entry) (verdict : List ℕ → List ℕ → Bool)
+    → ((bytes signature : List ℕ) → verdict bytes signature ≡ is_seal key bytes signature) → key' ≡ key → Grows s t → history_of t ≡ history_of s ++ shown_next s ops epoch ∷ [] → t.chain ≡ s.chain ++ entry ∷ []
+    → IsChainOf sha256 (demo_index key') t.policy (history_of t) t.chain → GoodChain sha256 verdict t.chain
+    → IsAccepted (demo_index key) (latest_registry (history_of s)) ops depth workers → MayInstall s (length s.epochs) epoch published capacity
+    → published ≡ length (history_of s) → capacity ≡ BOARD_HEADS → published ≤ BOARD_HEADS
+    → Installs (opened_by key s) epoch ops entry (opened_by key' t)
+installs key key' s t ops depth workers epoch published capacity entry verdict own same_key grows history chain is good accepted may long full most =
+    let shown = shown_next s ops epoch in
+    let is' : IsChainOf sha256 (demo_index key) s.policy (history_of s ++ shown ∷ []) (s.chain ++ entry ∷ []) =
+    subst (λ (h : List Shown). IsChainOf sha256 (demo_index key) s.policy h (s.chain ++ entry ∷ [])) history
+    (subst (λ (es : List Entry). IsChainOf sha256 (demo_index key) s.policy (history_of t) es) chain
+    (subst (λ (p : List ℕ). IsChainOf sha256 (demo_index key) p (history_of t) t.chain) grows.policy
+    (subst (λ (k : List ℕ). IsChainOf sha256 (demo_index k) t.policy (history_of t) t.chain) same_key is))) in
+    let good' : GoodChain sha256 verdict (s.chain ++ entry ∷ []) = subst (λ (es : List Entry). GoodChain sha256 verdict es) chain good in
+    let room : published ≢ BOARD_HEADS = subst (λ n. published ≢ n) full may.room in
+    record {
+      faultless = accepted_is (demo_index key) (history_of s) epoch ops depth workers published accepted may.later room most long;
+      entry_is = entry_is key s.policy verdict own (history_of s) shown s.chain entry is' good';
+      state_is = same_opened key' key t.nonce s.nonce t.policy s.policy (history_of t) (history_of s ++ shown ∷ []) same_key grows.nonce grows.policy history;
+    }
+  where
+    same_opened : (k k' n n' p p' : List ℕ) (h h' : List Shown) → k ≡ k' → n ≡ n' → p ≡ p' → h ≡ h'
+        → (let o : Opened = record { key = k; nonce = n; policy = p; history = h } in o) ≡ (let o : Opened = record { key = k'; nonce = n'; policy = p'; history = h' } in o)
+    same_opened k k' n n' p p' h h' ek en ep eh = cc
+
+length-map : {A B : Type 0} (f : A → B) (xs : List A) → length (map f xs) ≡ length xs
+length-map f [] = refl
+length-map f (x ∷ xs) = ap suc (length-map f xs)
+
+-- as many heads are published as the chain has entries
+pub as_many : (heads : List Head) (chain : List Entry) → heads ≡ heads_of sha256 chain → length heads ≡ length chain
+as_many heads chain same = ap length same ∙ length-map (head_at sha256) chain
+
+-- after a commit there are as many signatures as entries, and no more than the board takes
+pub made_and_room : {H X P : Type 0} (result : Result Entry CommitFault) (v v' : H × X × State) (p p' : P) (made made' refused refused' epoch published capacity : ℕ) (last last' : Option Entry)
+    → OnOk result ((made' ≡ made + 1) × (refused' ≡ refused)) → IfOk result (λ e. v'.2.chain ≡ v.2.chain ++ e ∷ [])
+    → OnOk result (MayInstall v.2 (length v.2.epochs) epoch published capacity) → IfErr result (λ fault. (made' ≡ made) × (refused' ≡ refused + commit_refusals fault) × (last' ≡ last)) → OnErr result ((v' ≡ v) × (p' ≡ p))
+    → made ≡ length v.2.chain → length v.2.chain ≤ BOARD_HEADS → published ≡ length v.2.chain → capacity ≡ BOARD_HEADS → (made' ≡ length v'.2.chain) × (length v'.2.chain ≤ BOARD_HEADS)
+made_and_room {H} {X} {P} (Ok e) v v' p p' made made' refused refused' epoch published capacity last last' one more may kept same own most long full =
+    let up = one.0 in
+    let longer : length v'.2.chain ≡ length v.2.chain + 1 = ap length more ∙ length-append v.2.chain (e ∷ []) in
+    let room : published ≢ BOARD_HEADS = subst (λ n. published ≢ n) full may.room in
+    (omega arith, below (length v.2.chain) (length v'.2.chain) longer most (λ at. room (long ∙ at)))
+  where
+    below : (n m : ℕ) → m ≡ n + 1 → n ≤ 1024 → (n ≡ 1024 → ⊥) → m ≤ 1024
+    below n m next most apart = grind (arith, nat_tests)
+made_and_room {H} {X} {P} (Err e) v v' p p' made made' refused refused' epoch published capacity last last' one more may kept same own most long full =
+    let long' : length v'.2.chain ≡ length v.2.chain = ap (λ (w : H × X × State). length w.2.chain) same.0 in
+    (kept.0 ∙ own ∙ sym long', omega arith)
+
+-- a commit's fault, whatever it is
+pub refused_by : {H X P : Type 0} (of of' : List ℕ → List ℕ) (v v' : H × X × State) (p p' : P) (ops : List Operation) (depth workers epoch published capacity made made' : ℕ) (last last' : Option Entry) (result : Result Entry CommitFault) → AreWorkers workers → depth ≤ MAX_DEPTH
+    → published ≡ length v.2.chain → capacity ≡ BOARD_HEADS → IfErr result (λ fault. (made' ≡ made) × (0 ≡ 0 + commit_refusals fault) × (last' ≡ last)) → IfErr result (IsCommitFault of v.2 ops depth workers epoch published capacity)
+    → OnErr result ((v' ≡ v) × (p' ≡ p)) → IsChainOf sha256 of' v'.2.policy (history_of v'.2) v'.2.chain → IfErr result (IsRefusedBy (refusal of (history_of v.2) epoch ops))
+refused_by {H} {X} {P} of of' v v' p p' ops depth workers epoch published capacity made made' last last' (Ok e) crew shallow long full unsigned f same is = tt
+refused_by {H} {X} {P} of of' v v' p p' ops depth workers epoch published capacity made made' last last' (Err fault) crew shallow long full unsigned f same is =
+    let long' : length v.2.chain ≡ length (history_of v.2) = subst (λ (w : H × X × State). length w.2.chain ≡ length (history_of w.2)) same.0 is.long in
+    refused_is of v.2 ops depth workers epoch published capacity fault crew shallow (long ∙ long') full unsigned.1 f
+
+-- a commit's entry, where there is one
+pub installed_by : (key key' : List ℕ) (s t : State) (ops : List Operation) (depth workers epoch published capacity : ℕ) (verdict : List ℕ → List ℕ → Bool) (result : Result Entry CommitFault)
+    → ((bytes signature : List ℕ) → verdict bytes signature ≡ is_seal key bytes signature) → key' ≡ key → Grows s t → OnOk result (history_of t ≡ history_of s ++ shown_next s ops epoch ∷ []) → IfOk result (λ entry. t.chain ≡ s.chain ++ entry ∷ [])
+    → IsChainOf sha256 (demo_index key') t.policy (history_of t) t.chain → GoodChain sha256 verdict t.chain
+    → OnOk result (IsAccepted (demo_index key) (latest_registry (history_of s)) ops depth workers) → OnOk result (MayInstall s (length s.epochs) epoch published capacity)
+    → published ≡ length s.chain → capacity ≡ BOARD_HEADS → length s.chain ≤ BOARD_HEADS
+    → IfOk result (λ entry. Installs (opened_by key s) epoch ops entry (opened_by key' t))
+installed_by key key' s t ops depth workers epoch published capacity verdict (Err fault) own same_key grows history chain is good accepted may long full most = tt
+installed_by key key' s t ops depth workers epoch published capacity verdict (Ok entry) own same_key grows history chain is good accepted may long full most =
+    let entries : length t.chain ≡ length s.chain + 1 = ap length chain ∙ length-append s.chain (entry ∷ []) in
+    let epochs : length (history_of t) ≡ length (history_of s) + 1 = ap length history ∙ length-append (history_of s) (shown_next s ops epoch ∷ []) in
+    let long' : published ≡ length (history_of s) = (let both = is.long in omega arith) in
+    let most' : published ≤ BOARD_HEADS = omega arith in
+    installs key key' s t ops depth workers epoch published capacity entry verdict own same_key grows history chain is good accepted may long' full most'
+
+-- a refused batch
+pub refused_turn : (o : Opened) (epoch : ℕ) (ops : List Operation) (why : Option Refusal) (outcome : Outcome) → option_map refusal_outcome why ≡ Some outcome → batch_on o epoch ops why ≡ refused (Some o) outcome
+refused_turn o epoch ops None outcome is = absurd (let never = is in cc)
+refused_turn o epoch ops (Some why) outcome is = let same : refusal_outcome why ≡ outcome = cc in ap (refused (Some o)) same
+
+-- what comes of a batch that adds this entry
+abbrev pub turn_of : Entry → Opened → Turn
+turn_of entry o = record { outcome = installed entry (sha256 (link_preimage entry)); state = Some o }
+
+-- an installed batch
+pub installed_turn : (o o' : Opened) (epoch : ℕ) (ops : List Operation) (entry : Entry) (v : Held) → v ≡ Some o → Installs o epoch ops entry o' → batch_with v epoch ops ≡ turn_of entry o'
+installed_turn o o' epoch ops entry v same i =
+    ap (λ (s : Held). batch_with s epoch ops) same
+    ∙ ap (batch_on o epoch ops) i.faultless
+    ∙ ap (λ (e : Entry). turn_of e (record o { history = o.history ++ shown_epoch o epoch ops ∷ [] })) (sym i.entry_is)
+    ∙ ap (turn_of entry) (sym i.state_is)
+
+-- a refused batch is answered by why
+pub reply_refused : {E : Type 0} (o : Opened) (epoch : ℕ) (ops : List Operation) (v : Held) (result : Result Reply E) → v ≡ Some o
+    → IfOk result (λ reply. option_map refusal_outcome (refusal (demo_index o.key) o.history epoch ops) ≡ Some (outcome_of reply)) → IfOk result (λ reply. outcome_of reply ≡ (batch_with v epoch ops).outcome)
+reply_refused {E} o epoch ops v (Err e) same told = tt
+reply_refused {E} o epoch ops v (Ok reply) same told =
+    sym (ap (λ (s : Held). (batch_with s epoch ops).outcome) same ∙ ap (λ (t : Turn). t.outcome) (refused_turn o epoch ops (refusal (demo_index o.key) o.history epoch ops) (outcome_of reply) told))
+
+-- and leaves the state
+pub state_refused : {E : Type 0} (o o' : Opened) (epoch : ℕ) (ops : List Operation) (v : Held) (result : Result Reply E) → v ≡ Some o → o' ≡ o
+    → IfOk result (λ reply. option_map refusal_outcome (refusal (demo_index o.key) o.history epoch ops) ≡ Some (outcome_of reply)) → OnOk result ((let w : Held = Some o' in w) ≡ (batch_with v epoch ops).state)
+state_refused {E} o o' epoch ops v (Err e) same kept told = tt
+state_refused {E} o o' epoch ops v (Ok reply) same kept told =
+    ap (λ (p : Opened). let w : Held = Some p in w) kept
+    ∙ sym (ap (λ (s : Held). (batch_with s epoch ops).state) same ∙ ap (λ (t : Turn). t.state) (refused_turn o epoch ops (refusal (demo_index o.key) o.history epoch ops) (outcome_of reply) told))
+
+-- what an open store shows
+pub shown_open : (opened : Option Service) (service : Service) (v : Held) → Some service ≡ opened → state_of opened ≡ v → v ≡ Some (opened_of service)
+shown_open opened service v same view = sym view ∙ ap state_of (sym same)
+
+-- what isn't there is None
+pub none_opened : (opened : Option Service) → is_some opened ≡ false → opened ≡ None
+none_opened None off = refl
+none_opened (Some s) off = absurd (false≢true (sym off))

@@ -1,0 +1,54 @@
+-- Why a batch is refused.
+use Rattle.std.specs.Prelude.{◌≡◌, ℕ, List, length, nat_lt, nat_le, Option, Some, None, if◌then◌else◌}
+use Rattle.coniks_proof.specs.Batches.{Operation, Fault, first_fault}
+use Rattle.coniks_proof.specs.declared.values.TheConstants.{MAX_OPERATIONS}
+use Rattle.coniks_directory.specs.Batches.{fault_is}
+use Rattle.coniks_directory.specs.History.{Shown, latest_epoch, latest_registry}
+use Rattle.coniks_directory.specs.declared.batch.BatchFault.TheVariants as batch
+use Rattle.coniks_directory.specs.declared.update.CommitFault.{CommitFault}
+use Rattle.coniks_directory.specs.declared.update.CommitFault.TheVariants.{Batch, Install}
+use Rattle.coniks_directory.specs.declared.update.InstallFault.TheVariants as install
+use Rattle.coniks_tool.specs.declared.store.TheConstants.{BOARD_HEADS}
+
+-- why a batch is refused
+pub data Refusal : Type 0 where
+  -- it has too many operations
+  too_long : Refusal
+  -- the operation at this place has this fault
+  at : (position : ℕ) (fault : Fault) → Refusal
+  -- its epoch isn't later than the latest one
+  not_later : (latest : ℕ) → Refusal
+  -- the board has no room for a further head
+  full : Refusal
+
+-- why no batch is installed under a number: it isn't later, else there are as many epochs as the board takes heads
+abbrev pub number_refusal : List Shown → ℕ → Option Refusal
+number_refusal history epoch =
+    if nat_lt (latest_epoch history) epoch
+    then (if nat_lt (length history) BOARD_HEADS then None else Some full)
+    else Some (not_later (latest_epoch history))
+
+-- the first operation at fault refuses the batch, else its number may
+abbrev pub refusal_from : List Shown → ℕ → Option (ℕ × Fault) → Option Refusal
+refusal_from history epoch (Some found) = Some (at found.0 found.1)
+refusal_from history epoch None = number_refusal history epoch
+
+-- why the history refuses a batch under a number, where `of` gives each name its index
+abbrev pub refusal : (List ℕ → List ℕ) → List Shown → ℕ → List Operation → Option Refusal
+refusal of history epoch ops =
+    if nat_le (length ops) MAX_OPERATIONS
+    then refusal_from history epoch (first_fault of (latest_registry history) ops)
+    else Some too_long
+
+-- a commit's fault is this refusal; or a growth was refused
+abbrev pub IsRefusedBy : Option Refusal → CommitFault → Type 0
+IsRefusedBy why (Batch batch.Workers) = ⊥
+IsRefusedBy why (Batch batch.Depth) = ⊥
+IsRefusedBy why (Batch batch.BatchTooLong) = why ≡ Some too_long
+IsRefusedBy why (Batch (batch.At position fault)) = why ≡ Some (at position (fault_is fault))
+IsRefusedBy why (Batch batch.OutOfMemory) = Unit {0}
+IsRefusedBy why (Install (install.Stale latest)) = ⊥
+IsRefusedBy why (Install (install.EpochNotLater latest)) = why ≡ Some (not_later latest)
+IsRefusedBy why (Install install.BoardFull) = why ≡ Some full
+IsRefusedBy why (Install install.OutOfMemory) = Unit {0}
+IsRefusedBy why (Install install.SignerRefused) = ⊥

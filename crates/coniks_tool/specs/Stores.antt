@@ -1,0 +1,44 @@
+-- What a store holds, as a state, and what is true of it.
+use Rattle.std.specs.Prelude.{◌≡◌, ◌≤◌, ℕ, List, [], length, Option, Some, None}
+use Rattle.coniks_proof.specs.Sha256.{sha256}
+use Rattle.coniks_chain.specs.Chain.{GoodChain}
+use Rattle.coniks_directory.specs.Chain.{heads_of}
+use Rattle.coniks_directory.specs.State.{State as Directory, history_of}
+use Rattle.coniks_shared.specs.Boards.{Boarded, BoardEnd}
+use Rattle.coniks_tool.specs.Script.{Opened, State}
+use Rattle.coniks_tool.specs.Seal.{is_seal}
+use Rattle.coniks_tool.specs.declared.store.TheConstants.{BOARD_HEADS}
+use Rattle.coniks_tool.specs.declared.store.Service.{Service}
+
+-- a directory of a key, in this state
+abbrev pub opened_by : List ℕ → Directory → Opened
+opened_by key s = record { key = key; nonce = s.nonce; policy = s.policy; history = history_of s }
+
+-- what an opened directory holds
+abbrev pub opened_of : Service → Opened
+opened_of s = opened_by s.directory.1 s.directory.2
+
+abbrev pub state_of : Option Service → State
+state_of None = None
+state_of (Some s) = Some (opened_of s)
+
+-- the directory's index source and its signer have one key, the signer made just the chain's entries, which are a good chain, and
+-- the heads of the chain are those that are published
+pub record IsServed (published : BoardEnd) (s : Service) : Type 0 where
+  pub same_key : s.index ≡ s.directory.1
+  pub verdicts : (bytes signature : List ℕ) → is_seal s.signer.key bytes signature ≡ is_seal s.directory.1 bytes signature
+  pub good : GoodChain sha256 (is_seal s.signer.key) s.directory.2.chain
+  pub made : s.signer.made ≡ length s.directory.2.chain
+  pub heads : published.heads ≡ heads_of sha256 s.directory.2.chain
+  pub room : length s.directory.2.chain ≤ BOARD_HEADS
+
+-- before a directory is opened no head is published
+abbrev pub IsServedIf : BoardEnd → Option Service → Type 0
+IsServedIf published None = published.heads ≡ []
+IsServedIf published (Some s) = IsServed published s
+
+-- the board is the publisher's, and what is opened is served
+pub record IsKept (board : Boarded) (published : BoardEnd) (opened : Option Service) : Type 0 where
+  pub table : published.table ≡ board.table
+  pub capacity : board.capacity ≡ BOARD_HEADS
+  pub served : IsServedIf published opened

@@ -1,0 +1,17 @@
+//! Who builds the epochs of a run.
+
+ghost use Rattle.std.specs.Prelude.{◌≤◌};
+ghost use Rattle.coniks_directory.specs.Batches.{AreWorkers};
+ghost use Rattle.coniks_work.specs.declared.jobs.TheConstants.{MAX_DEPTH};
+
+use std::thread::Threads;
+
+/// How many workers build an epoch, 1 to 64, and the length in bits of the prefixes that they build apart, 0 to 8. No
+/// answer depends on either.
+#[derive(Drop)]
+pub struct Crew<'r, T: Threads + Sync> {
+    pub rt: &'r T,
+    pub workers: usize,
+    pub depth: usize,
+    pub ghost within: { AreWorkers workers × (depth ≤ MAX_DEPTH) },
+}

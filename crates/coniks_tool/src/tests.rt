@@ -1,4 +1,0 @@
-mod paths;
-mod reading;
-mod registry;
-mod replies;
