@@ -97,7 +97,7 @@ pub(crate) fn alone<W: Work, G: Gate>(
 }
 
 /// What all jobs make, in the order of their numbers, by at most so many workers. Where the claims, a drawer, the
-/// crew or a thread can't be had there are fewer.
+/// crew or a thread can't be had there are fewer. A lone worker draws nothing.
 pub(crate) fn all_parts<W: Work + Sync, G: Gate + Sync, R: Threads + Sync>(
     rt: &R,
     alloc: Global,
@@ -110,6 +110,9 @@ pub(crate) fn all_parts<W: Work + Sync, G: Gate + Sync, R: Threads + Sync>(
     requires count { (count ≡ W.count work.now) × (count ≤ 4096) }
     ensures { IfOk result (λ v. AllFrom (W.part work.now) 0 v.items × (length v.items ≡ count)) }
 {
+    if workers == 1 {
+        return Ok(alone(alloc, count, work, gate)?);
+    }
     let Ok((claims, first)) = Claims::new(alloc, count) else {
         return Ok(alone(alloc, count, work, gate)?);
     };
@@ -117,7 +120,7 @@ pub(crate) fn all_parts<W: Work + Sync, G: Gate + Sync, R: Threads + Sync>(
         return Ok(alone(alloc, count, work, gate)?);
     };
     let mut placed = room(alloc, count)?;
-    labour_all(rt, crew.as_mut_slice(), &claims, work, gate);
+    labour_all(rt, &claims, work, gate, crew.as_mut_slice());
     collect(alloc, claims, crew, placed.as_mut_slice(), work)?;
     Ok(unwrapped(alloc, placed.as_mut_slice(), work)?)
 }

@@ -1,6 +1,7 @@
 //! Workers, each of which draws jobs and does them.
 
 ghost use Rattle.std.specs.Prelude.{◌≡◌, ◌<◌, length};
+ghost use Rattle.std.specs.Thread.{IsSync};
 ghost use Rattle.coniks_work.specs.Crews.{IsFresh, Worked, AllFresh, AllWorked};
 
 use crate::gate::Gate;
@@ -36,30 +37,54 @@ fn labour<W: Work, G: Gate>(worker: &mut Worker, claims: &Claims, work: &W, gate
     }
 }
 
-/// All workers at once, each on a thread of its own but the last, which is on the caller's. Where a thread can't be had,
-/// its worker comes later, on a thread that is there.
+/// All workers at once, each on a thread of its own but the last, which is on the caller's. The caller starts one thread
+/// after another: threads that start each other at once are often put on one processor while another is idle. Where a
+/// thread can't be had, its worker comes later, on the caller's.
+#[cycle(crew)]
 pub(crate) fn labour_all<W: Work + Sync, G: Gate + Sync, R: Threads + Sync>(
     rt: &R,
-    crew: &mut [Worker],
     claims: &Claims,
     work: &W,
     gate: &G,
+    crew: &mut [Worker],
 )
     requires some { 0 < length crew.old }
     requires fresh { AllFresh claims.now (W.count work.now) crew.old }
     ensures len { length crew.new ≡ length crew.old }
     ensures all { AllWorked (W.part work.now) crew.old crew.new }
 {
-    let threads = crew.len();
-    thread::for_each_mut(
-        rt,
-        crew,
-        threads,
-        &|_place, worker: &mut Worker|
-            requires { IsFresh claims.now (W.count work.now) worker.now }
-            ensures { Worked (W.part work.entry.now) worker.entry.now worker.exit.now }
-        {
-            labour(worker, claims, work, gate);
-        },
-    );
+    if crew.len() == 1 {
+        labour(&mut crew[0], claims, work, gate);
+        return;
+    }
+    let (first, others) = crew.split_at_mut(1);
+    labour_apart(rt, claims, work, gate, &mut first[0], others);
+}
+
+/// A worker on a thread of its own, and the others meanwhile.
+#[cycle(crew)]
+fn labour_apart<W: Work + Sync, G: Gate + Sync, R: Threads + Sync>(
+    rt: &R,
+    claims: &Claims,
+    work: &W,
+    gate: &G,
+    first: &mut Worker,
+    others: &mut [Worker],
+)
+    requires some { 0 < length others.old }
+    requires first { IsFresh claims.now (W.count work.now) first.old }
+    requires others { AllFresh claims.now (W.count work.now) others.old }
+    ensures first { Worked (W.part work.now) first.old first.new }
+    ensures len { length others.new ≡ length others.old }
+    ensures others { AllWorked (W.part work.now) others.old others.new }
+{
+    let mut apart = ||
+        requires { IsFresh claims.now (W.count work.now) first.now }
+        ensures { Worked (W.part work.entry.now) first.entry.now first.exit.now }
+    { labour(first, claims, work, gate) };
+    let mut here = ||
+        requires { IsSync R.row × IsSync W.row × IsSync G.row × (0 < length others.now) × AllFresh claims.now (W.count work.now) others.now }
+        ensures { (length others.exit.now ≡ length others.entry.now) × AllWorked (W.part work.entry.now) others.entry.now others.exit.now }
+    { labour_all(rt, claims, work, gate, others) };
+    thread::join_mut(rt, &mut apart, &mut here);
 }
