@@ -200,38 +200,76 @@ fn presence(rt: HostRuntime) -> Result<(), Fail> {
     Ok(())
 }
 
-#[test]
-fn absence(rt: HostRuntime) -> Result<(), Fail> {
+/// A tree of `a` and `c`, which part at the second bit, so that the right side of its root is empty.
+#[derive(Drop)]
+struct Parted {
+    root: Digest,
+    left: Digest,
+    c: Digest,
+    empty: Digest,
+}
+
+fn two_leaves() -> Parted {
     let a = leaf_hash(&Sha256Hash, &NONCE, &index_of(0), 2, &sealed(b"a"));
     let c = leaf_hash(&Sha256Hash, &NONCE, &index_of(0x40), 2, &sealed(b"c"));
-    let empty = empty_hash(&Sha256Hash, &NONCE, &Prefix::of(&index_of(0x80), 1));
     let left = inner_hash(&Sha256Hash, &a, &c);
-    let root = inner_hash(&Sha256Hash, &left, &empty);
+    let empty = empty_hash(&Sha256Hash, &NONCE, &Prefix::of(&index_of(0x80), 1));
+    Parted {
+        root: inner_hash(&Sha256Hash, &left, &empty),
+        left,
+        c,
+        empty,
+    }
+}
+
+/// The leaf of `a`, where `d` would stand; asked for another index, and with its last sibling cut off.
+#[test]
+fn absence_beside_a_leaf(rt: HostRuntime) -> Result<(), Fail> {
+    let tree = two_leaves();
     assert_eq!(rt;
-        digits(rt.alloc(), &root)?.as_str(),
+        digits(rt.alloc(), &tree.root)?.as_str(),
         "cedf53d7b5eac39a73da7f3fd65c38a4c7cf69a351dfde142aa469ba07e25efd"
     );
-    let d = Proof {
-        siblings: Digests::new(vec![in rt.alloc(); empty, c]?),
-        end: other(index_of(0), sealed(b"a")),
-    };
-    let answer = check(&Sha256Hash, &NONCE, &root, &index_of(0x20), b"d", &d)?;
-    assert_eq!(rt; answer == Answer::Absent, true);
-    let off = check(&Sha256Hash, &NONCE, &root, &index_of(0x80), b"b", &d).err();
-    assert_eq!(rt; off, Some(CheckFault::OtherOffPath));
-    let same = check(&Sha256Hash, &NONCE, &root, &index_of(0), b"a", &d).err();
-    assert_eq!(rt; same, Some(CheckFault::OtherIsSame));
-    let cut = Proof {
-        siblings: Digests::new(vec![in rt.alloc(); empty]?),
-        end: other(index_of(0), sealed(b"a")),
-    };
-    let short = check(&Sha256Hash, &NONCE, &root, &index_of(0x20), b"d", &cut).err();
-    assert_eq!(rt; short, Some(CheckFault::RootMismatch));
-    let b = Proof {
-        siblings: Digests::new(vec![in rt.alloc(); left]?),
+    let whole: &[Digest] = &[tree.empty, tree.c];
+    for (name, first, siblings, want) in [
+        (b"d", 0x20, whole, None),
+        (b"b", 0x80, whole, Some(CheckFault::OtherOffPath)),
+        (b"a", 0, whole, Some(CheckFault::OtherIsSame)),
+        (b"d", 0x20, &whole[..1], Some(CheckFault::RootMismatch)),
+    ] {
+        let proof = Proof {
+            siblings: Digests::new(Vec::from_slice(rt.alloc(), siblings)?),
+            end: other(index_of(0), sealed(b"a")),
+        };
+        let checked = check(
+            &Sha256Hash,
+            &NONCE,
+            &tree.root,
+            &index_of(first),
+            name,
+            &proof,
+        );
+        assert_eq!(rt; checked.err(), want);
+    }
+    Ok(())
+}
+
+/// An empty node, where `b` would stand.
+#[test]
+fn absence_at_an_empty_node(rt: HostRuntime) -> Result<(), Fail> {
+    let tree = two_leaves();
+    let proof = Proof {
+        siblings: Digests::new(vec![in rt.alloc(); tree.left]?),
         end: End::Empty,
     };
-    let answer = check(&Sha256Hash, &NONCE, &root, &index_of(0x80), b"b", &b)?;
+    let answer = check(
+        &Sha256Hash,
+        &NONCE,
+        &tree.root,
+        &index_of(0x80),
+        b"b",
+        &proof,
+    )?;
     assert_eq!(rt; answer == Answer::Absent, true);
     Ok(())
 }

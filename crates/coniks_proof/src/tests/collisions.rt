@@ -45,65 +45,69 @@ fn joined(alloc: Global, pieces: &[&[u8]]) -> Result<Vec<u8>, AllocError> {
     Ok(bytes)
 }
 
-/// The 67 bytes of the empty node at the root.
-fn empty_root(alloc: Global) -> Result<Vec<u8>, AllocError> {
-    joined(alloc, &[b"E", &NONCE.0, &ZERO.0, b"\0\0"])
+/// A proof of the name `a` by its siblings and the key at its end, with none where it ends with nothing.
+type Shape<'a> = (&'a [Digest], Option<&'a [u8]>);
+
+fn shaped(alloc: Global, shape: Shape<'_>) -> Result<Proof, AllocError> {
+    let (siblings, key) = shape;
+    let end = match key {
+        Some(key) => here(alloc, b"a", key)?,
+        None => End::Empty,
+    };
+    proof_of(alloc, siblings, end)
 }
 
+/// An end against a leaf, a key against another, an end against an interior node, a sibling against another, and an end
+/// against a leaf below the same sibling: each with the pieces of the byte strings that the two give.
 #[test]
-fn empty_against_leaf(rt: HostRuntime) -> Result<(), Fail> {
+fn first_that_differ(rt: HostRuntime) -> Result<(), Fail> {
     let alloc = rt.alloc();
-    let empty = proof_of(alloc, &[], End::Empty)?;
-    let leaf = proof_of(alloc, &[], here(alloc, b"a", b"k")?)?;
-    let x = empty_root(alloc)?;
-    let y = joined(alloc, &[b"L", &NONCE.0, &ZERO.0, b"\0\0", &ZERO.0])?;
-    assert!(rt; give(alloc, &empty, &leaf, x.as_slice(), y.as_slice())?);
-    assert!(rt; give(alloc, &leaf, &empty, y.as_slice(), x.as_slice())?);
-    Ok(())
-}
-
-#[test]
-fn key_against_key(rt: HostRuntime) -> Result<(), Fail> {
-    let alloc = rt.alloc();
-    let first = proof_of(alloc, &[], here(alloc, b"a", b"k")?)?;
-    let second = proof_of(alloc, &[], here(alloc, b"a", b"l")?)?;
-    let x = joined(alloc, &[b"C", &OPENING.0, b"\0\x01a\0\0\0\x01k"])?;
-    let y = joined(alloc, &[b"C", &OPENING.0, b"\0\x01a\0\0\0\x01l"])?;
-    assert!(rt; give(alloc, &first, &second, x.as_slice(), y.as_slice())?);
-    assert!(rt; give_nothing(alloc, &first, &first)?);
-    Ok(())
-}
-
-#[test]
-fn end_against_interior_node(rt: HostRuntime) -> Result<(), Fail> {
-    let alloc = rt.alloc();
-    let short = proof_of(alloc, &[], End::Empty)?;
-    let long = proof_of(alloc, &[ZERO], here(alloc, b"a", b"k")?)?;
-    let x = empty_root(alloc)?;
-    let y = joined(alloc, &[b"I", &ZERO.0, &ZERO.0])?;
-    assert!(rt; give(alloc, &short, &long, x.as_slice(), y.as_slice())?);
-    Ok(())
-}
-
-#[test]
-fn sibling_against_sibling(rt: HostRuntime) -> Result<(), Fail> {
-    let alloc = rt.alloc();
-    let empty = proof_of(alloc, &[ZERO], End::Empty)?;
-    let leaf = proof_of(alloc, &[ONES], here(alloc, b"a", b"k")?)?;
-    let x = joined(alloc, &[b"I", &ZERO.0, &ZERO.0])?;
-    let y = joined(alloc, &[b"I", &ZERO.0, &ONES.0])?;
-    assert!(rt; give(alloc, &empty, &leaf, x.as_slice(), y.as_slice())?);
-    Ok(())
-}
-
-#[test]
-fn below_the_same_sibling(rt: HostRuntime) -> Result<(), Fail> {
-    let alloc = rt.alloc();
-    let empty = proof_of(alloc, &[ONES], End::Empty)?;
-    let leaf = proof_of(alloc, &[ONES], here(alloc, b"a", b"k")?)?;
-    let x = joined(alloc, &[b"E", &NONCE.0, &ZERO.0, b"\0\x01"])?;
-    let y = joined(alloc, &[b"L", &NONCE.0, &ZERO.0, b"\0\x01", &ZERO.0])?;
-    assert!(rt; give(alloc, &empty, &leaf, x.as_slice(), y.as_slice())?);
+    let none: &[Digest] = &[];
+    let k: Option<&[u8]> = Some(b"k");
+    let cases: [(Shape<'_>, Shape<'_>, &[&[u8]], &[&[u8]]); 6] = [
+        (
+            (none, None),
+            (none, k),
+            &[b"E", &NONCE.0, &ZERO.0, b"\0\0"],
+            &[b"L", &NONCE.0, &ZERO.0, b"\0\0", &ZERO.0],
+        ),
+        (
+            (none, k),
+            (none, None),
+            &[b"L", &NONCE.0, &ZERO.0, b"\0\0", &ZERO.0],
+            &[b"E", &NONCE.0, &ZERO.0, b"\0\0"],
+        ),
+        (
+            (none, k),
+            (none, Some(b"l")),
+            &[b"C", &OPENING.0, b"\0\x01a\0\0\0\x01k"],
+            &[b"C", &OPENING.0, b"\0\x01a\0\0\0\x01l"],
+        ),
+        (
+            (none, None),
+            (&[ZERO], k),
+            &[b"E", &NONCE.0, &ZERO.0, b"\0\0"],
+            &[b"I", &ZERO.0, &ZERO.0],
+        ),
+        (
+            (&[ZERO], None),
+            (&[ONES], k),
+            &[b"I", &ZERO.0, &ZERO.0],
+            &[b"I", &ZERO.0, &ONES.0],
+        ),
+        (
+            (&[ONES], None),
+            (&[ONES], k),
+            &[b"E", &NONCE.0, &ZERO.0, b"\0\x01"],
+            &[b"L", &NONCE.0, &ZERO.0, b"\0\x01", &ZERO.0],
+        ),
+    ];
+    for (a, b, x, y) in cases {
+        let (a, b) = (shaped(alloc, a)?, shaped(alloc, b)?);
+        let (x, y) = (joined(alloc, x)?, joined(alloc, y)?);
+        assert!(rt; give(alloc, &a, &b, x.as_slice(), y.as_slice())?);
+        assert!(rt; give_nothing(alloc, &a, &a)?);
+    }
     Ok(())
 }
 
