@@ -1,12 +1,15 @@
 -- The heads of a chain, which rise.
-use Rattle.std.proofs.Common.{◌≡◌, ℕ, suc, ◌≤◌, List, [], ◌∷◌, ◌++◌, length, map, refl, sym, ap, subst, ◌∙◌, arith, Some, slice_get}
+use Rattle.std.proofs.Common.{◌≡◌, ℕ, suc, ◌≤◌, List, [], ◌∷◌, ◌++◌, length, map, refl, sym, ap, subst, ◌∙◌, arith, Option, Some, None, slice_get}
 use Rattle.std.proofs.lemmas.List.{map-append}
 use Rattle.coniks_chain.specs.declared.entry.Body.{Body}
 use Rattle.coniks_chain.specs.declared.entry.Entry.{Entry}
 use Rattle.coniks_proof.specs.declared.values.Head.{Head}
+use Rattle.coniks_proof.specs.Preimages.{zeros}
+use Rattle.coniks_chain.specs.Chain.{before_at, link_before}
 use Rattle.coniks_shared.specs.Lists.{Begins, last_of}
 use Rattle.coniks_directory.specs.Chain.{IsChainOf, heads_of}
 use Rattle.coniks_directory.specs.History.{AreRising, Shown, last_number, numbers_of}
+use Rattle.coniks_directory.specs.State.{State}
 
 epochs_of : List Head → List ℕ
 epochs_of heads = map (λ (h : Head). h.epoch) heads
@@ -77,3 +80,18 @@ no_older hash of policy history chain had has latest answer is up begins within 
     let answer-is : last_number (last_number 0 (epochs_of had)) (epochs_of begins.0) ≡ answer.epoch =
     sym (last-append 0 (epochs_of had) (epochs_of begins.0)) ∙ ap (last_number 0) (sym (epochs-append had begins.0)) ∙ ap (λ hs. last_number 0 (epochs_of hs)) (sym begins.1) ∙ last_head 0 has answer last_has in
     omega (arith, later, answer-is, last_head 0 had latest last_had)
+
+-- the link of a head, zeros where there is none
+abbrev pub link_in : Option Head → List ℕ
+link_in None = zeros
+link_in (Some h) = h.link.0
+
+-- the last head holds the link that the next entry names
+pub last_links : (hash : List ℕ → List ℕ) (chain : List Entry) → link_in (last_of (heads_of hash chain)) ≡ link_before (before_at hash None chain (length chain))
+last_links hash [] = refl
+last_links hash (e ∷ []) = refl
+last_links hash (e ∷ f ∷ chain) = last_links hash (f ∷ chain)
+
+pub heads_inside : {A B : Type 0} (digest_of : A → List ℕ → List ℕ) (h : A) (x : B) (s : State) (now : A × B × State) (heads : List Head) → (h, x, s) ≡ now
+    → heads ≡ heads_of (digest_of now.0) now.2.chain → heads ≡ heads_of (digest_of h) s.chain
+heads_inside {A} {B} digest_of h x s now heads view is = is ∙ sym (ap (λ (z : A × B × State). heads_of (digest_of z.0) z.2.chain) view)

@@ -187,7 +187,7 @@ impl<H: Hash32, X: IndexSource> Directory<H, X> {
             return Err((InstallFault::OutOfMemory, update));
         }
         let root = self.tree.part_hash(&self.h, &update.nonce, &update.part);
-        let previous = last_link(&self.h, &self.chain);
+        let previous = last_link(publisher);
         let body = make_body(
             update.version,
             update.nonce,

@@ -6,7 +6,7 @@ ghost use Rattle.coniks_chain.specs.Entries.{body_bytes};
 ghost use Rattle.coniks_shared.specs.Boards.{board_end};
 ghost use Rattle.coniks_tree.specs.Parts.{Fits, Placed, Stands, node_count};
 ghost use Rattle.coniks_tree.specs.Table.{Extends, Numbered, Shows};
-ghost use Rattle.coniks_directory.specs.Chain.{head_at};
+ghost use Rattle.coniks_directory.specs.Chain.{head_at, heads_of};
 ghost use Rattle.coniks_directory.specs.Updates.{nodes_added};
 
 use crate::epochs::Epoch;
@@ -16,12 +16,12 @@ use coniks_proof::{Digest, Hash32, Head, Nonce};
 use coniks_shared::{Board, Publisher};
 use coniks_tree::{OutOfMemory, Part, Root, Tree};
 
-/// The link of the last entry, 32 zero bytes where there is none.
-pub(crate) fn last_link<H: Hash32>(h: &H, chain: &[Entry]) -> Digest
-    ensures { result.0 ≡ link_before (before_at (H.digest_of h.now) None chain.now (length chain.now)) }
+/// The link of the last entry, which the last published head holds; 32 zero bytes where there is none.
+pub(crate) fn last_link(publisher: &Publisher) -> Digest
+    ensures { (hash : List ℕ → List ℕ) (chain : List Entry) → publisher.now.heads ≡ heads_of hash chain → result.0 ≡ link_before (before_at hash None chain (length chain)) }
 {
-    match chain.last() {
-        Some(entry) => link(h, entry),
+    match publisher.last() {
+        Some(head) => head.link,
         None => Digest([0; 32]),
     }
 }

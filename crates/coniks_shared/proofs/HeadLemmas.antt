@@ -1,5 +1,5 @@
 -- The heads of blocks.
-use Rattle.std.proofs.Common.{◌≡◌, ℕ, suc, List, [], ◌∷◌, ◌++◌, length, refl, ap, ◌∙◌, arith, Some, None}
+use Rattle.std.proofs.Common.{◌≡◌, ℕ, suc, List, [], ◌∷◌, ◌++◌, length, refl, sym, ap, ◌∙◌, arith, Some, None}
 use Rattle.coniks_proof.specs.declared.values.Head.{Head}
 use Rattle.coniks_shared.specs.HeadWords.{head_of, heads_of}
 use Rattle.coniks_shared.specs.Lists.{Begins, last_of}
@@ -32,3 +32,12 @@ last_head (c ∷ d ∷ cs) b e = last_head (d ∷ cs) b e
 pub no_head : (bs : List (List ℕ)) → length bs ≡ 0 → last_of (heads_of bs) ≡ None
 no_head [] e = refl
 no_head (b ∷ bs) e = absurd (omega arith)
+
+last_push : {A : Type 0} (xs : List A) (x : A) → last_of (xs ++ x ∷ []) ≡ Some x
+last_push [] x = refl
+last_push (y ∷ []) x = refl
+last_push (y ∷ z ∷ xs) x = last_push (z ∷ xs) x
+
+-- a head that is added is the last one
+pub last_grown : (bs cs : List (List ℕ)) (b : List ℕ) (h : Head) → cs ≡ bs ++ b ∷ [] → head_of b ≡ h → Some h ≡ last_of (heads_of cs)
+last_grown bs cs b h is same = sym (ap last_of (heads_grown bs cs b h is same) ∙ last_push (heads_of bs) h)

@@ -45,6 +45,7 @@ impl Model for Board {
 pub struct Publisher {
     seat: Seat<u8, BoardView>,
     count: usize,
+    last: Option<Head>,
 }
 
 impl Model for Publisher {
@@ -52,6 +53,7 @@ impl Model for Publisher {
     ghost use Rattle.coniks_shared.specs.HeadWords.{heads_of};
     ghost use Rattle.coniks_shared.specs.Boards.{BoardEnd, board_end_code, board_end};
     ghost use Rattle.coniks_shared.specs.BoardRule.{publisher_view};
+    ghost use Rattle.coniks_shared.specs.Lists.{last_of};
 
     ghost Value = { BoardEnd };
 
@@ -60,7 +62,7 @@ impl Model for Publisher {
     ghost view = { λ p. board_end p.seat.table_id (heads_of p.seat.me.0.blocks) };
 
     // Between calls no word of a next block is stored.
-    ghost invariant = { λ p. (p.seat.me.1 ≡ []) × (p.seat.me.0 ≡ publisher_view p.seat.me.0.blocks p.seat.me.0.told [] p.seat.me.0.room) × (length p.seat.me.0.blocks ≡ p.count) × (p.count ≤ p.seat.me.0.room) × (p.seat.table_id.words ≡ 5 * p.seat.me.0.room + 1) };
+    ghost invariant = { λ p. (p.seat.me.1 ≡ []) × (p.seat.me.0 ≡ publisher_view p.seat.me.0.blocks p.seat.me.0.told [] p.seat.me.0.room) × (length p.seat.me.0.blocks ≡ p.count) × (p.count ≤ p.seat.me.0.room) × (p.seat.table_id.words ≡ 5 * p.seat.me.0.room + 1) × (p.last ≡ last_of (heads_of p.seat.me.0.blocks)) };
 }
 
 /// An end of a board that looks. Contracts see it as its board's table, and the heads that it has seen.
@@ -97,7 +99,12 @@ impl Board {
         let Ok((table, seat)) = Table::of_words(alloc, words.as_slice(), &capacity) else {
             return Err(NoBoard);
         };
-        Ok((Board { table, capacity }, Publisher { seat, count: 0 }))
+        let publisher = Publisher {
+            seat,
+            count: 0,
+            last: None,
+        };
+        Ok((Board { table, capacity }, publisher))
     }
 
     /// How many heads it takes in all.
@@ -261,6 +268,13 @@ impl Publisher {
         self.count
     }
 
+    /// The last head that is published, or None where none is.
+    pub fn last(&self) -> Option<Head>
+        ensures { result ≡ last_of self.now.heads }
+    {
+        self.last
+    }
+
     /// Publishes a head: it stores the head's five words, and then the count. It is `BoardFull` exactly where as many
     /// heads as the capacity are published; then nothing is stored.
     #[tactic(auto, using(crate::proofs::HeadLemmas::heads_length))]
@@ -277,6 +291,7 @@ impl Publisher {
         let block = head_words(&head);
         put_block(&board.table.shared, &mut self.seat, self.count, &block);
         self.count += 1;
+        self.last = Some(head);
         Ok(())
     }
 

@@ -189,10 +189,13 @@ fn the_third_of_two_is_full(rt: HostRuntime) {
         panic!(rt; "no watcher")
     };
     assert_eq!(rt; publisher.published(), 0);
+    assert_eq!(rt; publisher.last(), None);
     assert_eq!(rt; publisher.publish(&board, head(1)), Ok(()));
+    assert_eq!(rt; publisher.last(), Some(head(1)));
     assert_eq!(rt; publisher.publish(&board, head(2)), Ok(()));
     assert_eq!(rt; publisher.publish(&board, head(3)), Err(BoardFull));
     assert_eq!(rt; publisher.published(), 2);
+    assert_eq!(rt; publisher.last(), Some(head(2)));
     let Ok(mut late) = publisher.watcher(&board) else {
         panic!(rt; "no watcher")
     };

@@ -7,6 +7,7 @@ use Rattle.coniks_directory.specs.Updates.{Grows, MayInstall, base_of, shown_aft
 use Rattle.coniks_directory.specs.declared.epochs.Epoch.{Epoch}
 use Rattle.coniks_directory.proofs.EpochLemmas.{numbers}
 use Rattle.coniks_directory.proofs.FreshLemmas.{Grows-refl, fresh_in_view}
+use Rattle.coniks_directory.proofs.HeadLemmas.{heads_inside}
 use Rattle.coniks_directory.proofs.InstallLemmas.{Entered, Roomy, good_inside, good_kept, left_by, signed_is, stays_same}
 use Rattle.coniks_directory.proofs.LookupLemmas.{numbers-history, third}
 use Rattle.coniks_directory.proofs.directory.Directory.install.Goals as goal
@@ -141,8 +142,8 @@ invariant_of-self-2 g c =
     let u = fresh_in_view g.H.Hash32.digest_of g.X.IndexSource.index_of d.h d.source s c.args.self.now p c.self.view_is c.requires.update c.self.invariant.last (c.if-update-len.false ∙ count) in
     let after = subst (λ n. n < c.args.t) latest c.if-t-latest.false in
     let room = c.make_room-made in
-    let body = signed_is hash of s p c.args.t c.latest-latest.result c.part_hash-root.result c.last_link-previous.result room.new.tree.nodes.items room.new.tree.records.items c.deref-2.result.now c.in-Some.entry.body u c.self.invariant
-    latest room.ensures.nodes room.ensures.records (c.deref-2.ensures.value ∙ room.ensures.chain) c.part_hash-root.ensures c.last_link-previous.ensures (c.in-Some.ensures.body ∙ c.make_body-body.ensures) in
+    let body = signed_is hash of s p c.args.t c.latest-latest.result c.part_hash-root.result c.last_link-previous.result room.new.tree.nodes.items room.new.tree.records.items s.chain c.in-Some.entry.body u c.self.invariant
+    latest room.ensures.nodes room.ensures.records refl c.part_hash-root.ensures (c.last_link-previous.ensures hash s.chain (heads_inside g.H.Hash32.digest_of d.h d.source s c.args.self.now c.args.publisher.now.heads c.self.view_is c.requires.published)) (c.in-Some.ensures.body ∙ c.make_body-body.ensures) in
     let roomy : Roomy s room.new.tree.nodes.items room.new.tree.records.items room.new.epochs.items room.new.chain.items =
     record { nodes_kept = room.ensures.nodes; records_kept = room.ensures.records; epochs_kept = room.ensures.epochs; chain_kept = room.ensures.chain } in
     let e = c.enter.ensures in
@@ -165,8 +166,8 @@ returns-clause-history g c =
     let u = fresh_in_view g.H.Hash32.digest_of g.X.IndexSource.index_of d.h d.source s c.args.self.now p c.self.view_is c.requires.update c.self.invariant.last (c.if-update-len.false ∙ count) in
     let after = subst (λ n. n < c.args.t) latest c.if-t-latest.false in
     let room = c.make_room-made in
-    let body = signed_is hash of s p c.args.t c.latest-latest.result c.part_hash-root.result c.last_link-previous.result room.new.tree.nodes.items room.new.tree.records.items c.deref-2.result.now c.in-Some.entry.body u c.self.invariant
-    latest room.ensures.nodes room.ensures.records (c.deref-2.ensures.value ∙ room.ensures.chain) c.part_hash-root.ensures c.last_link-previous.ensures (c.in-Some.ensures.body ∙ c.make_body-body.ensures) in
+    let body = signed_is hash of s p c.args.t c.latest-latest.result c.part_hash-root.result c.last_link-previous.result room.new.tree.nodes.items room.new.tree.records.items s.chain c.in-Some.entry.body u c.self.invariant
+    latest room.ensures.nodes room.ensures.records refl c.part_hash-root.ensures (c.last_link-previous.ensures hash s.chain (heads_inside g.H.Hash32.digest_of d.h d.source s c.args.self.now c.args.publisher.now.heads c.self.view_is c.requires.published)) (c.in-Some.ensures.body ∙ c.make_body-body.ensures) in
     let roomy : Roomy s room.new.tree.nodes.items room.new.tree.records.items room.new.epochs.items room.new.chain.items =
     record { nodes_kept = room.ensures.nodes; records_kept = room.ensures.records; epochs_kept = room.ensures.epochs; chain_kept = room.ensures.chain } in
     let e = c.enter.ensures in
@@ -204,8 +205,8 @@ returns-clause-good g c =
     let u = fresh_in_view g.H.Hash32.digest_of g.X.IndexSource.index_of d.h d.source s c.args.self.now p c.self.view_is c.requires.update c.self.invariant.last (c.if-update-len.false ∙ count) in
     let after = subst (λ n. n < c.args.t) latest c.if-t-latest.false in
     let room = c.make_room-made in
-    let body = signed_is hash of s p c.args.t c.latest-latest.result c.part_hash-root.result c.last_link-previous.result room.new.tree.nodes.items room.new.tree.records.items c.deref-2.result.now c.in-Some.entry.body u c.self.invariant
-    latest room.ensures.nodes room.ensures.records (c.deref-2.ensures.value ∙ room.ensures.chain) c.part_hash-root.ensures c.last_link-previous.ensures (c.in-Some.ensures.body ∙ c.make_body-body.ensures) in
+    let body = signed_is hash of s p c.args.t c.latest-latest.result c.part_hash-root.result c.last_link-previous.result room.new.tree.nodes.items room.new.tree.records.items s.chain c.in-Some.entry.body u c.self.invariant
+    latest room.ensures.nodes room.ensures.records refl c.part_hash-root.ensures (c.last_link-previous.ensures hash s.chain (heads_inside g.H.Hash32.digest_of d.h d.source s c.args.self.now c.args.publisher.now.heads c.self.view_is c.requires.published)) (c.in-Some.ensures.body ∙ c.make_body-body.ensures) in
     let roomy : Roomy s room.new.tree.nodes.items room.new.tree.records.items room.new.epochs.items room.new.chain.items =
     record { nodes_kept = room.ensures.nodes; records_kept = room.ensures.records; epochs_kept = room.ensures.epochs; chain_kept = room.ensures.chain } in
     let e = c.enter.ensures in
@@ -228,8 +229,8 @@ returns-clause-grows g c =
     let u = fresh_in_view g.H.Hash32.digest_of g.X.IndexSource.index_of d.h d.source s c.args.self.now p c.self.view_is c.requires.update c.self.invariant.last (c.if-update-len.false ∙ count) in
     let after = subst (λ n. n < c.args.t) latest c.if-t-latest.false in
     let room = c.make_room-made in
-    let body = signed_is hash of s p c.args.t c.latest-latest.result c.part_hash-root.result c.last_link-previous.result room.new.tree.nodes.items room.new.tree.records.items c.deref-2.result.now c.in-Some.entry.body u c.self.invariant
-    latest room.ensures.nodes room.ensures.records (c.deref-2.ensures.value ∙ room.ensures.chain) c.part_hash-root.ensures c.last_link-previous.ensures (c.in-Some.ensures.body ∙ c.make_body-body.ensures) in
+    let body = signed_is hash of s p c.args.t c.latest-latest.result c.part_hash-root.result c.last_link-previous.result room.new.tree.nodes.items room.new.tree.records.items s.chain c.in-Some.entry.body u c.self.invariant
+    latest room.ensures.nodes room.ensures.records refl c.part_hash-root.ensures (c.last_link-previous.ensures hash s.chain (heads_inside g.H.Hash32.digest_of d.h d.source s c.args.self.now c.args.publisher.now.heads c.self.view_is c.requires.published)) (c.in-Some.ensures.body ∙ c.make_body-body.ensures) in
     let roomy : Roomy s room.new.tree.nodes.items room.new.tree.records.items room.new.epochs.items room.new.chain.items =
     record { nodes_kept = room.ensures.nodes; records_kept = room.ensures.records; epochs_kept = room.ensures.epochs; chain_kept = room.ensures.chain } in
     let e = c.enter.ensures in

@@ -1,8 +1,8 @@
-use Rattle.std.proofs.Common.{◌≡◌, ◌∙◌, ◌++◌, ◌∷◌, [], ap}
+use Rattle.std.proofs.Common.{rules, ◌≡◌, ◌∙◌, ◌+◌, ◌++◌, ◌∷◌, [], length, length-append, ap, arith}
 use Rattle.coniks_shared.specs.declared.board_rule.BoardView.{BoardView}
 use Rattle.coniks_shared.specs.Boards.{BoardEnd, board_end}
 use Rattle.coniks_shared.specs.HeadWords.{heads_of}
-use Rattle.coniks_shared.proofs.HeadLemmas.{heads_grown}
+use Rattle.coniks_shared.proofs.HeadLemmas.{heads_grown, last_grown}
 use Rattle.coniks_shared.proofs.board.Publisher.publish.Goals as goal
 
 pub returns-clause-ok : goal.returns-clause-ok
@@ -12,3 +12,13 @@ returns-clause-ok c =
     heads_grown c.self.inside.seat.me.0.blocks _ c.head_words-block.result c.args.head (ap (λ (v : BoardView). v.blocks) c.put_block.ensures.view) c.head_words-block.ensures.back
     ∙ ap (λ (e : BoardEnd). e.heads ++ c.args.head ∷ []) c.self.view_is in
     λ i. board_end (table i) (heads i)
+
+pub invariant_of-self : goal.invariant_of-self
+invariant_of-self c =
+    let grown = last_grown c.self.inside.seat.me.0.blocks _ c.head_words-block.result c.args.head (ap (λ (v : BoardView). v.blocks) c.put_block.ensures.view) c.head_words-block.ensures.back in
+    let longer : length c.put_block.new.seat.me.0.blocks ≡ c.self.inside.count + 1 =
+    (let blocks = ap (λ (v : BoardView). length v.blocks) c.put_block.ensures.view in
+    let more = length-append c.self.inside.seat.me.0.blocks (c.head_words-block.result ∷ []) in
+    let count = c.self.invariant.2 in
+    omega arith) in
+    (search rules, search rules, longer, search rules, search rules, grown)
