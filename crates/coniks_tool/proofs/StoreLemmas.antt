@@ -19,6 +19,7 @@ use Rattle.coniks_directory.specs.declared.batch.BatchFault.TheVariants as batch
 use Rattle.coniks_directory.specs.declared.update.CommitFault.{CommitFault}
 use Rattle.coniks_directory.specs.declared.update.CommitFault.TheVariants.{Batch, Install}
 use Rattle.coniks_directory.specs.declared.update.InstallFault.TheVariants as install
+use Rattle.coniks_shared.specs.Lists.{last_of}
 use Rattle.coniks_work.specs.declared.jobs.TheConstants.{MAX_DEPTH}
 use Rattle.coniks_tool.specs.Demo.{demo_index}
 use Rattle.coniks_tool.specs.Refusals.{IsRefusedBy, Refusal, not_later, refusal}
@@ -193,3 +194,14 @@ shown_open opened service v same view = sym view ∙ ap state_of (sym same)
 pub none_opened : (opened : Option Service) → is_some opened ≡ false → opened ≡ None
 none_opened None off = refl
 none_opened (Some s) off = absurd (false≢true (sym off))
+
+last_entry : (es : List Entry) (e : Entry) → last_of (heads_of sha256 (es ++ e ∷ [])) ≡ Some (head_at sha256 e)
+last_entry [] e = refl
+last_entry (x ∷ []) e = refl
+last_entry (x ∷ y ∷ es) e = last_entry (y ∷ es) e
+
+-- the head of the entry that a commit adds is the last that is published
+pub last_published : (result : Result Entry CommitFault) (old new : List Entry) (heads : List Head) → IfOk result (λ entry. new ≡ old ++ entry ∷ []) → heads ≡ heads_of sha256 new
+    → IfOk result (λ entry. last_of heads ≡ Some (head_at sha256 entry))
+last_published (Ok entry) old new heads is are = ap (λ (hs : List Head). last_of hs) (are ∙ ap (heads_of sha256) is) ∙ last_entry old entry
+last_published (Err fault) old new heads is are = tt

@@ -5,7 +5,9 @@ ghost use Rattle.coniks_chain.specs.Entries.{link_preimage};
 ghost use Rattle.coniks_directory.specs.Batches.{fault_is, operations};
 ghost use Rattle.coniks_directory.specs.History.{AreRising};
 ghost use Rattle.coniks_proof.specs.Sha256.{sha256};
+ghost use Rattle.coniks_directory.specs.Chain.{head_at};
 ghost use Rattle.coniks_shared.specs.Boards.{BoardEnd};
+ghost use Rattle.coniks_shared.specs.Lists.{last_of};
 ghost use Rattle.coniks_lines.specs.declared.fault.RunFault.TheVariants.{NoBoard};
 ghost use Rattle.coniks_tool.specs.Chains.{entry_at};
 ghost use Rattle.coniks_tool.specs.Demo.{demo_index};
@@ -18,7 +20,7 @@ use crate::crew::Crew;
 use crate::demo::DemoIndex;
 use crate::reply::Reply;
 use crate::seal::DemoSeal;
-use coniks_chain::{Entry, link};
+use coniks_chain::Entry;
 use coniks_directory::{
     BatchFault, CommitFault, Directory, IndexSource, InstallFault, LookupFault, Op,
 };
@@ -90,6 +92,7 @@ impl Service {
         ensures table { publisher.new.table ≡ publisher.old.table }
         ensures served { IsServed publisher.new self.new }
         ensures ok { IfOk result (λ entry. Installs (opened_of self.old) epoch (operations ops.now) entry (opened_of self.new)) }
+        ensures last { IfOk result (λ entry. last_of publisher.new.heads ≡ Some (head_at sha256 entry)) }
         ensures refused { IfErr result (IsRefusedBy (refusal (demo_index (opened_of self.old).key) (opened_of self.old).history epoch (operations ops.now))) }
         ensures unchanged { OnErr result (opened_of self.new ≡ opened_of self.old) }
     {
@@ -134,12 +137,18 @@ impl Service {
     }
 }
 
-/// The reply to an installed batch.
-fn installed_by(entry: Entry) -> Reply
+/// The reply to an installed batch, whose head is the last that is published.
+fn installed_by(entry: Entry, publisher: &Publisher) -> Reply
+    requires { last_of publisher.now.heads ≡ Some (head_at sha256 entry) }
     ensures { outcome_of result ≡ installed entry (sha256 (link_preimage entry)) }
 {
-    let link = link(&Sha256Hash, &entry);
-    Reply::Installed { entry, link }
+    let Some(head) = publisher.last() else {
+        unreachable!()
+    };
+    Reply::Installed {
+        entry,
+        link: head.link,
+    }
 }
 
 /// The reply to a batch that isn't accepted.
@@ -252,7 +261,7 @@ impl Store {
             Ok(entry) => entry,
             Err(fault) => return refusal_of(fault),
         };
-        Ok(installed_by(entry))
+        Ok(installed_by(entry, &self.publisher))
     }
 
     /// Looks a name up at an epoch.

@@ -2,7 +2,7 @@ use Rattle.std.proofs.Common.{ℕ, List, length, sym, ap, ◌∙◌}
 use Rattle.coniks_directory.specs.Batches.{operations}
 use Rattle.coniks_tool.specs.Demo.{demo_index}
 use Rattle.coniks_tool.specs.Seal.{is_seal}
-use Rattle.coniks_tool.proofs.StoreLemmas.{as_many, made_and_room, refused_by, installed_by}
+use Rattle.coniks_tool.proofs.StoreLemmas.{as_many, made_and_room, refused_by, installed_by, last_published}
 use Rattle.coniks_tool.proofs.store.Service.commit.Goals as goal
 
 pub returns-clause-served : goal.returns-clause-served
@@ -36,3 +36,8 @@ returns-clause-refused g c =
     refused_by (demo_index c.args.self.now.directory.1) (demo_index c.commit-committed.new.self.1) c.args.self.now.directory c.commit-committed.new.self c.args.publisher.now c.commit-committed.new.publisher (operations c.args.ops.now)
     c.args.crew.now.depth c.args.crew.now.workers c.args.epoch (length c.args.publisher.now.heads) c.args.board.now.capacity c.args.self.now.signer.made c.commit-committed.new.signer.made c.args.self.now.signer.last c.commit-committed.new.signer.last
     c.commit-committed.result c.args.crew.now.within.0 c.args.crew.now.within.1 (as_many c.args.publisher.now.heads c.args.self.now.directory.2.chain s.heads) c.requires.capacity e.unsigned e.refused e.unchanged c.chain-chain.ensures.of_history
+
+pub returns-clause-last : goal.returns-clause-last
+returns-clause-last g c =
+    let e = c.commit-committed.ensures in
+    last_published c.commit-committed.result c.args.self.now.directory.2.chain c.commit-committed.new.self.2.chain c.commit-committed.new.publisher.heads e.chain e.heads
