@@ -75,6 +75,5 @@ pub fn audit_fault_text(fault: AuditFault) -> &'static str
 fn audited(alloc: Global, epoch: u64, link: &Digest) -> Result<Value, AllocError>
     ensures { IfOk result (λ value. view value ≡ audited_data epoch link.now.0) }
 {
-    let link = hex::encode(alloc, &link.0)?;
-    json!(in alloc; {"epoch": epoch, "link": link, "ok": "audit"})
+    json!(in alloc; {"epoch": epoch, "link": hex::encode(alloc, &link.0)?, "ok": "audit"})
 }

@@ -66,10 +66,11 @@ fn answer_value(alloc: Global, answer: &Answer<'_>) -> Result<Value, AllocError>
     ensures { IfOk result (λ value. view value ≡ answer_data (said answer.now)) }
 {
     match answer {
-        Answer::Key(key) => {
-            let key = STANDARD.encode(alloc, *key)?;
-            json!(in alloc; {"answer": "key", "key": key, "ok": "check"})
-        }
+        Answer::Key(key) => json!(in alloc; {
+            "answer": "key",
+            "key": STANDARD.encode(alloc, *key)?,
+            "ok": "check",
+        }),
         Answer::Absent => json!(in alloc; {"answer": "absent", "ok": "check"}),
     }
 }

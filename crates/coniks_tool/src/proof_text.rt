@@ -15,9 +15,10 @@ use std::alloc::{AllocError, Global};
 pub fn proof_value(alloc: Global, proof: &Proof) -> Result<Value, AllocError>
     ensures { IfOk result (λ value. view value ≡ proof_data (path_of proof.now)) }
 {
-    let end = end_value(alloc, &proof.end)?;
-    let siblings = Value::Array(digits_of(alloc, proof.siblings.as_slice())?);
-    json!(in alloc; {"end": end, "siblings": siblings})
+    json!(in alloc; {
+        "end": end_value(alloc, &proof.end)?,
+        "siblings": Value::Array(digits_of(alloc, proof.siblings.as_slice())?),
+    })
 }
 
 /// The object of an end, by its kind.
@@ -26,17 +27,17 @@ fn end_value(alloc: Global, end: &End) -> Result<Value, AllocError>
 {
     match end {
         End::Empty => json!(in alloc; {"kind": "empty"}),
-        End::Other { index, commitment } => {
-            let index = hex::encode(alloc, &index.0)?;
-            let commitment = hex::encode(alloc, &commitment.0)?;
-            json!(in alloc; {"commitment": commitment, "index": index, "kind": "other"})
-        }
-        End::Here { name, key, opening } => {
-            let key = STANDARD.encode(alloc, key.as_slice())?;
-            let name = String::from_utf8_lossy(alloc, name.as_slice())?;
-            let opening = hex::encode(alloc, &opening.0)?;
-            json!(in alloc; {"key": key, "kind": "here", "name": name, "opening": opening})
-        }
+        End::Other { index, commitment } => json!(in alloc; {
+            "commitment": hex::encode(alloc, &commitment.0)?,
+            "index": hex::encode(alloc, &index.0)?,
+            "kind": "other",
+        }),
+        End::Here { name, key, opening } => json!(in alloc; {
+            "key": STANDARD.encode(alloc, key.as_slice())?,
+            "kind": "here",
+            "name": String::from_utf8_lossy(alloc, name.as_slice())?,
+            "opening": hex::encode(alloc, &opening.0)?,
+        }),
     }
 }
 

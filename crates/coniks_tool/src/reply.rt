@@ -185,16 +185,12 @@ fn opened(alloc: Global) -> Result<Value, AllocError>
 fn installed(alloc: Global, entry: &Entry, link: &Digest) -> Result<Value, AllocError>
     ensures { IfOk result (λ value. view value ≡ installed_data entry.now link.now.0) }
 {
-    let epoch = entry.body.t;
-    let digits = hex::encode(alloc, &bytes_of(entry))?;
-    let link = hex::encode(alloc, &link.0)?;
-    let root = hex::encode(alloc, &entry.body.root.0)?;
     json!(in alloc; {
-        "entry": digits,
-        "epoch": epoch,
-        "link": link,
+        "entry": hex::encode(alloc, &bytes_of(entry))?,
+        "epoch": entry.body.t,
+        "link": hex::encode(alloc, &link.0)?,
         "ok": "batch",
-        "root": root,
+        "root": hex::encode(alloc, &entry.body.root.0)?,
     })
 }
 
@@ -207,21 +203,15 @@ fn looked_up(
 ) -> Result<Value, AllocError>
     ensures { IfOk result (λ value. view value ≡ looked_up_data entry.now index.now.0 name.now (path_of proof.now)) }
 {
-    let epoch = entry.body.t;
-    let digits = hex::encode(alloc, &bytes_of(entry))?;
-    let index = hex::encode(alloc, &index.0)?;
-    let nonce = hex::encode(alloc, &entry.body.nonce.0)?;
-    let proof = proof_value(alloc, proof)?;
-    let root = hex::encode(alloc, &entry.body.root.0)?;
     json!(in alloc; {
-        "entry": digits,
-        "epoch": epoch,
-        "index": index,
+        "entry": hex::encode(alloc, &bytes_of(entry))?,
+        "epoch": entry.body.t,
+        "index": hex::encode(alloc, &index.0)?,
         "name": name,
-        "nonce": nonce,
+        "nonce": hex::encode(alloc, &entry.body.nonce.0)?,
         "ok": "lookup",
-        "proof": proof,
-        "root": root,
+        "proof": proof_value(alloc, proof)?,
+        "root": hex::encode(alloc, &entry.body.root.0)?,
     })
 }
 
