@@ -2,6 +2,7 @@ pub mod AuditChainLemmas
 pub mod AuditFaultLemmas
 pub mod CheckFaultLemmas
 pub mod CheckLemmas
+pub mod CommandLemmas
 pub mod EntryLemmas
 pub mod FoundLemmas
 pub mod MonitorLemmas
