@@ -8,31 +8,37 @@ use std::rt::Clock;
 use std::thread::Threads;
 use std::time::{Duration, Instant};
 
-/// How often a batch is built. The least time counts.
+/// How often each of the two builds a batch, in turn.
 const REPEATS: usize = 51;
 
-/// The least time in which a crew builds the part of these changes.
-fn least_time<R: Threads + Sync + Clock>(
+/// How long a crew takes to build the part of these changes.
+fn build_time<R: Threads + Sync + Clock>(
     rt: &R,
     registry: &Registry,
     changes: &[Change],
     crew: &Crew,
 ) -> Result<Duration> {
-    let mut least = Duration::MAX;
-    for _ in 0..REPEATS {
-        let start = Instant::now(rt)?;
-        let part = registry.part(rt, changes, crew)?;
-        let time = start.elapsed(rt)?;
-        drop(part);
-        if time < least {
-            least = time;
-        }
-    }
-    Ok(least)
+    let start = Instant::now(rt)?;
+    let part = registry.part(rt, changes, crew)?;
+    let time = start.elapsed(rt)?;
+    drop(part);
+    Ok(time)
 }
 
-/// Prints how long the batch after a plan's takes, by one worker without a cut and by a crew.
-pub fn print_builds<R: Threads + Sync + Clock + Print>(
+/// Prints the least of a crew's times, and the one in the middle.
+fn print_times<R: Print>(rt: &R, crew: &Crew, mut times: Vec<Duration>) -> Result<()> {
+    times.sort_unstable();
+    let (Some(least), Some(median)) = (times.first(), times.get(times.len() / 2)) else {
+        return Ok(());
+    };
+    let Crew { workers, depth } = crew;
+    let (least, median) = (least.as_micros(), median.as_micros());
+    println!(rt; "workers {workers}, depth {depth}: {least} us least, {median} us median")?;
+    Ok(())
+}
+
+/// Prints how long the batch after a plan's takes, by one worker without a cut and by a crew, which build it in turn.
+pub fn print_builds<R: Threads + Sync + Clock + Print + AllocGlobal>(
     rt: &R,
     registry: &Registry,
     plan: &Plan,
@@ -44,13 +50,13 @@ pub fn print_builds<R: Threads + Sync + Clock + Print>(
         workers: 1,
         depth: 0,
     };
-    let alone = least_time(rt, registry, &changes, &one)?;
-    let together = least_time(rt, registry, &changes, crew)?;
-    let Crew { workers, depth } = crew;
-    println!(rt; "built by 1 worker, depth 0: {} us", alone.as_micros())?;
-    println!(rt;
-        "built by {workers} workers, depth {depth}: {} us",
-        together.as_micros()
-    )?;
+    let mut alone = Vec::with_capacity(rt.alloc(), REPEATS)?;
+    let mut together = Vec::with_capacity(rt.alloc(), REPEATS)?;
+    for _ in 0..REPEATS {
+        alone.push(build_time(rt, registry, &changes, &one)?)?;
+        together.push(build_time(rt, registry, &changes, crew)?)?;
+    }
+    print_times(rt, &one, alone)?;
+    print_times(rt, crew, together)?;
     Ok(())
 }
