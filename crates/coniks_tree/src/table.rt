@@ -18,10 +18,10 @@ pub struct Root(pub usize);
 #[derive(Drop)]
 pub struct Record {
     pub index: Index,
-    pub binding: Binding,
-    pub opening: Opening,
     /// What the leaf holds in the binding's place.
     pub commitment: Digest,
+    pub opening: Opening,
+    pub binding: Binding,
 }
 
 /// A node with its hash (CONIKS, section 3.1), in at most 56 bytes. A leaf has its record's number; an interior node has its
