@@ -91,6 +91,16 @@ fn before_of<H: Hash32>(h: &H, entry: &Entry) -> Before
     }
 }
 
+/// The epoch and the link of what stands before the next entry.
+fn head_of(before: Option<Before>) -> Option<Head>
+    ensures { result ≡ head_of before }
+{
+    before.map(|before| Head {
+        epoch: before.t,
+        link: before.link,
+    })
+}
+
 /// Follows a chain entry by entry, and keeps what the next entry is compared with. It takes no memory.
 #[derive(Drop)]
 pub struct Auditor<H> {
@@ -113,6 +123,13 @@ impl<H: Hash32 + Drop> Auditor<H> {
         ensures { result ≡ (h, None) }
     {
         Auditor { h, before: None }
+    }
+
+    /// The head of the last entry accepted: its epoch and its link. None before the first. Nothing is hashed.
+    pub fn head(&self) -> Option<Head>
+        ensures { result ≡ head_of self.now.1 }
+    {
+        head_of(self.before)
     }
 
     /// The hash that links entries.
@@ -169,8 +186,5 @@ pub fn audit<H: Hash32, V: Verify>(
         }
         before = Some(before_of(h, entry));
     }
-    Ok(before.map(|before| Head {
-        epoch: before.t,
-        link: before.link,
-    }))
+    Ok(head_of(before))
 }

@@ -23,10 +23,11 @@ const ENTRIES: [(&str, &str); 2] = [
     ),
 ];
 
-/// Their links under SHA-256.
-const LINKS: [&str; 2] = [
+/// Their links under SHA-256, and that of `third_entry`.
+const LINKS: [&str; 3] = [
     "10b77bd8c5b9c4085b97e77e31ad14418c96227fa397e9e41ce717b49122ccdf",
     "1145bc5b9cba19a0d06065c98e8599bf9517b1c70da22189706c67979ad6dac1",
+    "6e077461995342fc12e1aab26d2989453c37374c56ff332500fa143aec6e1e72",
 ];
 
 /// The root of a tree with no names.
@@ -136,7 +137,7 @@ fn entry_at(place: usize) -> Result<Entry, Fail> {
     })
 }
 
-/// The link of one of the two.
+/// The link of one of the three.
 fn link_at(place: usize) -> Result<Digest, Fail> {
     Ok(Digest(bytes_of(LINKS.get(place).ok_or("no such link")?)?))
 }
@@ -233,7 +234,7 @@ fn audited_chains(rt: HostRuntime) -> Result<(), Fail> {
     let good = [entry_at(0)?, entry_at(1)?, third_entry()?];
     let last = Head {
         epoch: 5,
-        link: link(&Sha256Hash, &good[2]),
+        link: link_at(2)?,
     };
     let second = Head {
         epoch: 4,
@@ -286,6 +287,32 @@ fn orders_of_feeding(rt: HostRuntime) -> Result<(), Fail> {
     assert_eq!(rt; auditor.feed(&good[0], &no), Err(AuditFault::Verdict));
     assert_eq!(rt; auditor.feed(&good[1], &no), early);
     assert_eq!(rt; auditor.feed(&good[2], &no), early);
+    Ok(())
+}
+
+/// The head after each entry, and after one that is refused.
+#[test]
+fn heads_of_an_auditor(rt: HostRuntime) -> Result<(), Fail> {
+    let first = Head {
+        epoch: 1,
+        link: link_at(0)?,
+    };
+    let third = Head {
+        epoch: 5,
+        link: link_at(2)?,
+    };
+    let mut auditor = Auditor::new(Sha256Hash);
+    assert_eq!(rt; auditor.head(), None);
+    assert_eq!(rt; auditor.feed(&entry_at(0)?, &Yes), Ok(()));
+    assert_eq!(rt; auditor.head(), Some(first));
+    assert_eq!(rt;
+        auditor.feed(&third_entry()?, &Yes),
+        Err(AuditFault::PreviousEpoch)
+    );
+    assert_eq!(rt; auditor.head(), Some(first));
+    assert_eq!(rt; auditor.feed(&entry_at(1)?, &Yes), Ok(()));
+    assert_eq!(rt; auditor.feed(&third_entry()?, &Yes), Ok(()));
+    assert_eq!(rt; auditor.head(), Some(third));
     Ok(())
 }
 

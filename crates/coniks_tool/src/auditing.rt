@@ -11,9 +11,9 @@ use crate::audit_reply::{AuditReply, print_audit};
 use crate::entries::read_entry;
 use crate::members::read_object;
 use crate::seal::DemoSeal;
-use coniks_chain::{Auditor, Entry, link};
+use coniks_chain::{Auditor, Entry};
 use coniks_lines::{ByteIn, ByteOut, LineMachine, RunFault, run_lines};
-use coniks_proof::Sha256Hash;
+use coniks_proof::{Head, Sha256Hash};
 use std::alloc::{AllocError, Global};
 
 /// Audits the entries of lines, each after the one that was accepted last.
@@ -30,13 +30,13 @@ impl Auditing {
         ensures reply { audit_outcome result ≡ (entry_turn (record { key = self.old.seal.key; before = self.old.auditor.1 }) (Some entry.now)).outcome }
         ensures state { record { key = self.new.seal.key; before = self.new.auditor.1 } ≡ (entry_turn (record { key = self.old.seal.key; before = self.old.auditor.1 }) (Some entry.now)).state }
     {
-        match self.auditor.feed(entry, &self.seal) {
-            Ok(()) => AuditReply::Audited {
-                epoch: entry.body.t,
-                link: link(&Sha256Hash, entry),
-            },
-            Err(fault) => AuditReply::AtFault(fault),
+        if let Err(fault) = self.auditor.feed(entry, &self.seal) {
+            return AuditReply::AtFault(fault);
         }
+        let Some(Head { epoch, link }) = self.auditor.head() else {
+            unreachable!()
+        };
+        AuditReply::Audited { epoch, link }
     }
 
     fn reply(&mut self, line: &[u8]) -> Result<AuditReply, AllocError>
