@@ -8,6 +8,7 @@ ghost use Rattle.coniks_directory.specs.Holders.{ShowsLatest};
 ghost use Rattle.coniks_directory.specs.Judged.{AreSeen, IsJudgedFault};
 
 use crate::batch::{BatchFault, Op, OpFault};
+use crate::lengths::length_fault;
 use crate::seen::{Seen, record_of};
 use crate::source::IndexSource;
 use crate::stand::{holder_at, op_fault};
@@ -33,6 +34,9 @@ fn judge_one<H: Hash32, X: IndexSource>(
     ensures seen { result ≡ Ok None → (bound : List Registered) → AreSeen (H.digest_of h.now) (X.index_of source.now) bound seen.old.records.items seen.old.numbers
         → AreSeen (H.digest_of h.now) (X.index_of source.now) (bound ++ bound_by (operation_of op.now) ∷ []) seen.new.records.items seen.new.numbers }
 {
+    if let Some(fault) = length_fault(op) {
+        return Ok(Some(fault));
+    }
     let index = source.index(op.name.as_slice());
     let present = holder_at(tree, root, &index);
     let earlier = seen.holder(&index);

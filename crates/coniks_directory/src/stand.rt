@@ -1,13 +1,12 @@
 //! Who has an index, and the fault of an operation there.
 
-ghost use Rattle.std.specs.Prelude.{◌≡◌, ◌<◌, List, ℕ, Bool, IfSome, None, length, option_map};
-ghost use Rattle.coniks_proof.specs.Batches.{clashes, fault_of, kind_fault};
-ghost use Rattle.coniks_proof.specs.Registry.{IsLength, Registered, Registry, has_name};
+ghost use Rattle.std.specs.Prelude.{◌≡◌, ◌<◌, List, ℕ, Bool, IfSome, None, length, option_map, true};
+ghost use Rattle.coniks_proof.specs.Batches.{clashes, fault_of, fits, kind_fault};
+ghost use Rattle.coniks_proof.specs.Registry.{Registered, Registry, has_name};
 ghost use Rattle.coniks_directory.specs.Batches.{fault_is, kind_of, operation_of};
 ghost use Rattle.coniks_directory.specs.Holders.{HolderIs, ShowsLatest};
 
 use crate::batch::{Op, OpFault, OpKind};
-use crate::lengths::is_length;
 use coniks_proof::{Index, MAX_KEY, MAX_NAME};
 use coniks_tree::{Record, Root, Tree};
 
@@ -52,26 +51,21 @@ fn fault_of_kind(kind: OpKind, is_present: bool) -> Option<OpFault>
     }
 }
 
-/// The first fault that applies to an operation, by the records at its name's index in the registry and among the earlier
-/// operations.
+/// The first fault that applies to an operation, whose lengths have none, by the records at its name's index in the
+/// registry and among the earlier operations.
 pub(crate) fn op_fault(
     op: &Op,
     present: Option<&Record>,
     earlier: Option<&Record>,
 ) -> Option<OpFault>
+    requires named { fits MAX_NAME op.now.name ≡ true }
+    requires keyed { fits MAX_KEY op.now.key ≡ true }
     ensures fault { (of : List ℕ → List ℕ) (registry : Registry) (before : List Registered)
         → HolderIs of registry (of op.now.name) present.entry → HolderIs of before (of op.now.name) earlier.entry
         → option_map fault_is result ≡ fault_of of registry before (operation_of op.now) }
-    ensures lengths { result ≡ None → IsLength MAX_NAME op.now.name × IsLength MAX_KEY op.now.key }
     ensures free { result ≡ None → earlier.entry ≡ None }
 {
     let name = op.name.as_slice();
-    if !is_length(name, MAX_NAME) {
-        return Some(OpFault::NameLength);
-    }
-    if !is_length(op.key.as_slice(), MAX_KEY) {
-        return Some(OpFault::KeyLength);
-    }
     if is_named(earlier, name) {
         return Some(OpFault::NameTwice);
     }
