@@ -1,6 +1,7 @@
 //! Tests. Digests and entries were computed by another program.
 
 mod answers;
+mod asking;
 mod batches;
 mod boards;
 mod clerk;

@@ -3,14 +3,12 @@
 use crate::batch::OpKind::{Change, Register};
 use crate::batch::{BatchFault, Op, OpFault, OpKind};
 use crate::directory::Directory;
-use crate::source::IndexSource;
 use crate::tests::answers::{Told, asked, root_digits};
 use crate::tests::clerk::{Clerk, Letters, NONCE, POLICY, Written, ops_of};
-use coniks_proof::{Bytes, Index, Opening, Sha256Hash};
+use coniks_proof::{Bytes, Opening, Sha256Hash};
 use coniks_shared::Board;
 use coniks_work::Open;
 use std::alloc::{AllocError, Global};
-use std::cell::Cell;
 use std::test::Fail;
 use std::thread::Threads;
 
@@ -35,7 +33,7 @@ fn place_of(fault: Option<BatchFault>) -> Option<(usize, OpFault)> {
 }
 
 /// An operation with a name and a key of so many bytes `b`, at most 4,097.
-fn sized(alloc: Global, name: usize, key: usize) -> Result<Op, AllocError> {
+pub fn sized(alloc: Global, name: usize, key: usize) -> Result<Op, AllocError> {
     let letters = [b'b'; 4097];
     Ok(Op {
         kind: OpKind::Register,
@@ -106,44 +104,6 @@ fn lengths(rt: HostRuntime) -> Result<(), Fail> {
         (1, 4096, Some((1, OpFault::NameTwice))),
     ] {
         assert_eq!(rt; second_of_size(&rt, rt.alloc(), name, key)?, fault);
-    }
-    Ok(())
-}
-
-/// Gives every name one index, and counts how often it is asked.
-#[derive(Drop)]
-struct Asked<'a> {
-    calls: &'a Cell<u64>,
-}
-
-impl<'a> IndexSource for Asked<'a> {
-    ghost use Rattle.coniks_proof.specs.Preimages.{zeros};
-
-    ghost index_of = { λ source name. zeros };
-
-    fn index(&self, _name: &[u8]) -> Index {
-        self.calls.set(self.calls.get().wrapping_add(1));
-        Index([0; 32])
-    }
-}
-
-/// The source of indices isn't asked about an operation whose name or key is of a wrong length.
-#[test]
-fn lengths_before_indices(rt: HostRuntime) -> Result<(), Fail> {
-    let calls = Cell::new(0);
-    let source = Asked { calls: &calls };
-    let directory = Directory::open(rt.alloc(), Sha256Hash, source, NONCE, POLICY);
-    for (name, key, is_sound, asked) in [
-        (256, 1, false, 0),
-        (0, 1, false, 0),
-        (1, 4097, false, 0),
-        (1, 0, false, 0),
-        (255, 4096, true, 1),
-    ] {
-        let ops = [sized(rt.alloc(), name, key)?];
-        let prepared = directory.prepare(&rt, &ops, 0, 1, &Open);
-        assert_eq!(rt; prepared.is_ok(), is_sound);
-        assert_eq!(rt; calls.get(), asked);
     }
     Ok(())
 }
