@@ -5,6 +5,7 @@ use crate::tests::streams::{SlowIn, SlowOut, Stop};
 use crate::{ByteIn, ByteOut, MemoryIn, MemoryOut, RunFault, SystemIn, SystemOut, run_lines};
 use std::alloc::Global;
 use std::io;
+use std::process::Abort;
 
 /// More calls than a test makes.
 const MANY: u64 = 1 << 40;
@@ -27,15 +28,49 @@ const RUNS: [(&[u8], &[u8], bool); 14] = [
     (b"a\nb\n!c", b"0a\n1b\n?\n", false),
 ];
 
+/// Bytes that a reader gives, whose memory a test has.
+fn input_of(rt: &impl Abort, alloc: Global, bytes: &[u8]) -> Vec<u8> {
+    Vec::from_slice(alloc, bytes).expect(rt, "memory")
+}
+
+/// How a run ended: its answer, whether just the wanted bytes are written, and how often a read or a write failed.
+#[derive(Clone, Copy)]
+struct Ended {
+    all: Result<bool, RunFault>,
+    wrote: bool,
+    failures: u64,
+}
+
+/// A run over memory.
+fn memory_run(rt: &impl Abort, alloc: Global, input: &[u8], wanted: &[u8]) -> Ended {
+    let (writer, all) = echoed(alloc, input_of(rt, alloc, input)).expect(rt, "a run");
+    Ended {
+        all: Ok(all),
+        wrote: writer.bytes() == wanted,
+        failures: writer.failures(),
+    }
+}
+
 #[test]
 fn over_memory(rt: HostRuntime) {
     let alloc = rt.alloc();
     for (input, wanted, accepted) in RUNS {
-        let input = Vec::from_slice(alloc, input).expect(&rt, "memory");
-        let (writer, all) = echoed(alloc, input).expect(&rt, "a run");
-        assert!(rt; writer.bytes() == wanted);
-        assert_eq!(rt; all, accepted);
-        assert_eq!(rt; writer.failures(), 0);
+        let ended = memory_run(&rt, alloc, input, wanted);
+        assert!(rt; ended.wrote);
+        assert!(rt; ended.all == Ok(accepted));
+        assert_eq!(rt; ended.failures, 0);
+    }
+}
+
+/// A run over a reader and a writer that stop nowhere.
+fn slow_run(alloc: Global, input: Vec<u8>, gives: usize, takes: usize, wanted: &[u8]) -> Ended {
+    let mut reader = SlowIn::new(input, gives, MANY);
+    let mut writer = SlowOut::new(alloc, takes, MANY, Stop::Fails);
+    let all = run_lines(alloc, &mut Echo { odd: false }, &mut reader, &mut writer);
+    Ended {
+        all,
+        wrote: writer.bytes.as_slice() == wanted,
+        failures: writer.failures(),
     }
 }
 
@@ -45,12 +80,10 @@ fn little_at_a_time(rt: HostRuntime) {
     for (input, wanted, accepted) in RUNS {
         for gives in 1..6 {
             for takes in 1..4 {
-                let input = Vec::from_slice(alloc, input).expect(&rt, "memory");
-                let mut reader = SlowIn::new(input, gives, MANY);
-                let mut writer = SlowOut::new(alloc, takes, MANY, Stop::Fails);
-                let all = run_lines(alloc, &mut Echo { odd: false }, &mut reader, &mut writer);
-                assert_eq!(rt; all, Ok(accepted));
-                assert!(rt; writer.bytes.as_slice() == wanted);
+                let input = input_of(&rt, alloc, input);
+                let ended = slow_run(alloc, input, gives, takes, wanted);
+                assert!(rt; ended.all == Ok(accepted));
+                assert!(rt; ended.wrote);
             }
         }
     }
@@ -59,11 +92,10 @@ fn little_at_a_time(rt: HostRuntime) {
 #[test]
 fn one_flush_a_line(rt: HostRuntime) {
     let alloc = rt.alloc();
-    let input = Vec::from_slice(alloc, b"ab\n!\n\nc").expect(&rt, "memory");
-    let mut reader = SlowIn::new(input, 100, MANY);
+    let mut reader = SlowIn::new(input_of(&rt, alloc, b"ab\n!\n\nc"), 100, MANY);
     let mut writer = SlowOut::new(alloc, 100, MANY, Stop::Fails);
     let all = run_lines(alloc, &mut Echo { odd: true }, &mut reader, &mut writer);
-    assert_eq!(rt; all, Ok(false));
+    assert!(rt; all == Ok(false));
     assert!(rt; writer.bytes.as_slice() == b"1ab\n?\n0\n1c\n".as_slice());
     assert!(rt; writer.flushed.as_slice() == [4, 6, 8, 11].as_slice());
 }
@@ -82,11 +114,23 @@ fn long_lines(rt: HostRuntime) {
         let input = long_input(alloc, size).expect(&rt, "memory");
         let (writer, all) = echoed(alloc, input).expect(&rt, "a run");
         let bytes = writer.bytes();
-        assert_eq!(rt; all, true);
+        assert!(rt; all);
         assert_eq!(rt; bytes.len(), size + 7);
         assert!(rt; bytes.starts_with(b"0x"));
         assert!(rt; bytes.ends_with(b"x\n1end\n"));
         assert_eq!(rt; bytes.iter().filter(|b| **b == b'x').count(), size);
+    }
+}
+
+/// A run whose writer takes a byte a write, and stops at a call.
+fn stopped_run(alloc: Global, input: Vec<u8>, calls: u64, stop: Stop, wanted: &[u8]) -> Ended {
+    let mut reader = MemoryIn::new(input);
+    let mut writer = SlowOut::new(alloc, 1, calls, stop);
+    let all = run_lines(alloc, &mut Echo { odd: false }, &mut reader, &mut writer);
+    Ended {
+        all,
+        wrote: writer.bytes.as_slice() == wanted,
+        failures: writer.failures(),
     }
 }
 
@@ -95,35 +139,33 @@ fn a_write_stops(rt: HostRuntime) {
     // the writer takes a byte a write: each line is as many writes as its answer has bytes, and a flush
     let wanted: &[u8] = b"0ab\n?\n1d\n";
     let written = [0, 1, 2, 3, 4, 4, 5, 6, 6, 7, 8, 9];
-    let is_flush = [
-        false, false, false, false, true, false, false, true, false, false, false, true,
-    ];
+    let flushes = [4, 7, 11];
     let alloc = rt.alloc();
     for stop in [Stop::Fails, Stop::TakesNone] {
         for k in 0..written.len() {
-            let input = Vec::from_slice(alloc, b"ab\n!c\nd").expect(&rt, "memory");
-            let mut reader = MemoryIn::new(input);
-            let mut writer = SlowOut::new(alloc, 1, k as u64, stop);
-            let all = run_lines(alloc, &mut Echo { odd: false }, &mut reader, &mut writer);
-            assert_eq!(rt; all, Err(RunFault::Write), "at call {k}");
-            assert!(rt; writer.bytes.as_slice() == &wanted[..written[k]]);
-            let failures = if stop == Stop::Fails || is_flush[k] {
-                1
-            } else {
-                0
-            };
-            assert_eq!(rt; writer.failures(), failures, "at call {k}");
+            let input = input_of(&rt, alloc, b"ab\n!c\nd");
+            let ended = stopped_run(alloc, input, k as u64, stop, &wanted[..written[k]]);
+            assert!(rt; ended.all == Err(RunFault::Write), "at call {k}");
+            assert!(rt; ended.wrote, "at call {k}");
+            let fails = stop == Stop::Fails || flushes.contains(&k);
+            assert_eq!(rt; ended.failures, fails as u64, "at call {k}");
         }
-        let input = Vec::from_slice(alloc, b"ab\n!c\nd").expect(&rt, "memory");
-        let mut writer = SlowOut::new(alloc, 1, 12, stop);
-        let all = run_lines(
-            alloc,
-            &mut Echo { odd: false },
-            &mut MemoryIn::new(input),
-            &mut writer,
-        );
-        assert_eq!(rt; all, Ok(false));
-        assert!(rt; writer.bytes.as_slice() == wanted);
+        let input = input_of(&rt, alloc, b"ab\n!c\nd");
+        let ended = stopped_run(alloc, input, 12, stop, wanted);
+        assert!(rt; ended.all == Ok(false));
+        assert!(rt; ended.wrote);
+    }
+}
+
+/// A run whose reader gives two bytes a read, and fails at one; with how often it failed.
+fn unread_run(alloc: Global, input: Vec<u8>, reads: u64, wanted: &[u8]) -> Ended {
+    let mut reader = SlowIn::new(input, 2, reads);
+    let mut writer = SlowOut::new(alloc, 100, MANY, Stop::Fails);
+    let all = run_lines(alloc, &mut Echo { odd: false }, &mut reader, &mut writer);
+    Ended {
+        all,
+        wrote: writer.bytes.as_slice() == wanted,
+        failures: reader.failures(),
     }
 }
 
@@ -133,21 +175,17 @@ fn a_read_fails(rt: HostRuntime) {
     let wanted: [&[u8]; 5] = [b"", b"", b"0ab\n", b"0ab\n1cd\n", b"0ab\n1cd\n"];
     let alloc = rt.alloc();
     for k in 0..wanted.len() {
-        let input = Vec::from_slice(alloc, b"ab\ncd\nef").expect(&rt, "memory");
-        let mut reader = SlowIn::new(input, 2, k as u64);
-        let mut writer = SlowOut::new(alloc, 100, MANY, Stop::Fails);
-        let all = run_lines(alloc, &mut Echo { odd: false }, &mut reader, &mut writer);
-        assert_eq!(rt; all, Err(RunFault::Read), "at read {k}");
-        assert!(rt; writer.bytes.as_slice() == wanted[k]);
-        assert_eq!(rt; reader.failures(), 1, "at read {k}");
+        let input = input_of(&rt, alloc, b"ab\ncd\nef");
+        let ended = unread_run(alloc, input, k as u64, wanted[k]);
+        assert!(rt; ended.all == Err(RunFault::Read), "at read {k}");
+        assert!(rt; ended.wrote, "at read {k}");
+        assert_eq!(rt; ended.failures, 1, "at read {k}");
     }
-    let input = Vec::from_slice(alloc, b"ab\ncd\nef").expect(&rt, "memory");
-    let mut reader = SlowIn::new(input, 2, 5);
-    let mut writer = SlowOut::new(alloc, 100, MANY, Stop::Fails);
-    let all = run_lines(alloc, &mut Echo { odd: false }, &mut reader, &mut writer);
-    assert_eq!(rt; all, Ok(true));
-    assert!(rt; writer.bytes.as_slice() == b"0ab\n1cd\n0ef\n".as_slice());
-    assert_eq!(rt; reader.failures(), 0);
+    let input = input_of(&rt, alloc, b"ab\ncd\nef");
+    let ended = unread_run(alloc, input, 5, b"0ab\n1cd\n0ef\n");
+    assert!(rt; ended.all == Ok(true));
+    assert!(rt; ended.wrote);
+    assert_eq!(rt; ended.failures, 0);
 }
 
 /// Refuses each read, write and flush.
@@ -178,25 +216,26 @@ fn streams_of_the_system(rt: HostRuntime) {
     let mut reader = SystemIn::new(input);
     let mut writer = SystemOut::new(&mut written);
     let all = run_lines(alloc, &mut Echo { odd: false }, &mut reader, &mut writer);
-    assert_eq!(rt; all, Ok(true));
-    assert_eq!(rt; (reader.failures(), writer.failures()), (0, 0));
+    assert!(rt; all == Ok(true));
+    assert_eq!(rt; reader.failures(), 0);
+    assert_eq!(rt; writer.failures(), 0);
     assert!(rt; written.as_slice() == b"0a\n1b\n".as_slice());
+}
 
+#[test]
+fn streams_of_the_system_that_fail(rt: HostRuntime) {
+    let alloc = rt.alloc();
     let mut writer = MemoryOut::new(alloc);
     let mut broken = SystemIn::new(Broken);
     let all = run_lines(alloc, &mut Echo { odd: false }, &mut broken, &mut writer);
-    assert_eq!(rt; all, Err(RunFault::Read));
+    assert!(rt; all == Err(RunFault::Read));
     assert_eq!(rt; broken.failures(), 1);
 
     let input: &[u8] = b"a\nb";
+    let mut reader = SystemIn::new(input);
     let mut broken = SystemOut::new(Broken);
-    let all = run_lines(
-        alloc,
-        &mut Echo { odd: false },
-        &mut SystemIn::new(input),
-        &mut broken,
-    );
-    assert_eq!(rt; all, Err(RunFault::Write));
+    let all = run_lines(alloc, &mut Echo { odd: false }, &mut reader, &mut broken);
+    assert!(rt; all == Err(RunFault::Write));
     assert_eq!(rt; broken.failures(), 1);
     assert!(rt; broken.flush().is_err());
     assert_eq!(rt; broken.failures(), 2);
@@ -215,14 +254,14 @@ fn standard_streams(rt: HostRuntime) {
 #[test]
 fn memory_reads(rt: HostRuntime) {
     let alloc = rt.alloc();
-    let mut reader = MemoryIn::new(Vec::from_slice(alloc, b"abc").expect(&rt, "memory"));
+    let mut reader = MemoryIn::new(input_of(&rt, alloc, b"abc"));
     let mut buffer = [b'.'; 2];
-    assert_eq!(rt; reader.read(&mut buffer), Ok(2));
+    assert!(rt; reader.read(&mut buffer) == Ok(2));
     assert!(rt; buffer == *b"ab");
-    assert_eq!(rt; reader.read(&mut buffer), Ok(1));
-    assert_eq!(rt; buffer[0], b'c');
-    assert_eq!(rt; reader.read(&mut buffer), Ok(0));
-    assert_eq!(rt; reader.read(&mut buffer), Ok(0));
+    assert!(rt; reader.read(&mut buffer) == Ok(1));
+    assert!(rt; buffer[0] == b'c');
+    assert!(rt; reader.read(&mut buffer) == Ok(0));
+    assert!(rt; reader.read(&mut buffer) == Ok(0));
     assert_eq!(rt; reader.failures(), 0);
 }
 
@@ -237,9 +276,9 @@ fn memory_writes(rt: HostRuntime) {
         assert!(rt; writer.bytes() == b"".as_slice());
         return;
     }
-    assert_eq!(rt; first, Ok(2));
-    assert_eq!(rt; writer.write(b"c"), Ok(1));
-    assert_eq!(rt; writer.flush(), Ok(()));
+    assert!(rt; first == Ok(2));
+    assert!(rt; writer.write(b"c") == Ok(1));
+    assert!(rt; writer.flush() == Ok(()));
     assert!(rt; writer.bytes() == b"abc".as_slice());
     assert_eq!(rt; writer.failures(), 0);
 }
