@@ -2,6 +2,9 @@ ghost use Rattle.std.specs.Prelude.{◌≡◌, ◌<◌, length, All};
 
 use crate::{Board, BoardFull, Claims, Drawer, NoBoard, NoClaims, NoSeat, Publisher, Watcher};
 use coniks_proof::{Digest, Head};
+use std::alloc::Global;
+use std::fmt::Display;
+use std::process::Abort;
 use std::test::Fail;
 use std::thread;
 use std::thread::Threads;
@@ -23,6 +26,18 @@ fn draw_all(hand: &mut Hand, claims: &Claims)
             hand.refused = true;
         }
     }
+}
+
+// What the hands drew, in order. No hand may have been refused memory.
+fn all_drawn(rt: &impl Abort, alloc: Global, hands: &[Hand]) -> Vec<usize> {
+    let mut all = Vec::new(alloc);
+    for hand in hands {
+        assert!(rt; !hand.refused);
+        all.extend_from_slice(hand.drawn.as_slice())
+            .expect(rt, "memory");
+    }
+    all.as_mut_slice().sort(alloc).expect(rt, "memory");
+    all
 }
 
 #[test]
@@ -57,14 +72,7 @@ fn drawn_once(rt: HostRuntime) -> Result<(), Fail> {
             draw_all(hand, shared);
         },
     );
-    let mut all = Vec::new(rt.alloc());
-    for hand in &hands {
-        assert!(rt; !hand.refused);
-        for number in &hand.drawn {
-            all.push(*number)?;
-        }
-    }
-    all.as_mut_slice().sort(rt.alloc())?;
+    let all = all_drawn(&rt, rt.alloc(), hands.as_slice());
     assert_eq!(rt; all.len(), 4096);
     for (place, number) in all.iter().enumerate() {
         assert_eq!(rt; *number, place);
@@ -73,60 +81,44 @@ fn drawn_once(rt: HostRuntime) -> Result<(), Fail> {
 }
 
 #[test]
-fn sixty_five_drawers(rt: HostRuntime) -> Result<(), Fail> {
-    let Ok((claims, mut first)) = Claims::new(rt.alloc(), 3) else {
-        panic!(rt; "no claims")
-    };
+fn sixty_five_drawers(rt: HostRuntime) {
+    let (claims, mut first) = Claims::new(rt.alloc(), 3).expect(&rt, "claims");
     let shared = &claims;
     let mut further = Vec::new(rt.alloc());
     for _ in 0..63usize {
-        let Ok(drawer) = first.split(shared) else {
-            panic!(rt; "no drawer")
-        };
-        further.push(drawer)?;
+        let drawer = first.split(shared).expect(&rt, "a drawer");
+        further.push(drawer).expect(&rt, "memory");
     }
     assert!(rt; matches!(first.split(shared), Err(NoSeat)));
-    Ok(())
 }
 
 #[test]
 fn only_the_first_drawer_is_split(rt: HostRuntime) {
-    let Ok((claims, mut first)) = Claims::new(rt.alloc(), 3) else {
-        panic!(rt; "no claims")
-    };
-    let Ok(mut second) = first.split(&claims) else {
-        panic!(rt; "no drawer")
-    };
+    let (claims, mut first) = Claims::new(rt.alloc(), 3).expect(&rt, "claims");
+    let mut second = first.split(&claims).expect(&rt, "a drawer");
     assert!(rt; matches!(second.split(&claims), Err(NoSeat)));
     assert!(rt; matches!(first.split(&claims), Ok(_)));
 }
 
 #[test]
-fn two_drawers_draw_three_numbers(rt: HostRuntime) -> Result<(), Fail> {
-    let Ok((claims, mut first)) = Claims::new(rt.alloc(), 3) else {
-        panic!(rt; "no claims")
-    };
-    let Ok(mut second) = first.split(&claims) else {
-        panic!(rt; "no drawer")
-    };
-    assert_eq!(rt; first.draw(&claims), Some(0));
-    assert_eq!(rt; second.draw(&claims), Some(1));
-    assert_eq!(rt; first.draw(&claims), Some(2));
-    assert_eq!(rt; second.draw(&claims), None);
-    assert_eq!(rt; second.draw(&claims), None);
+fn two_drawers_draw_three_numbers(rt: HostRuntime) {
+    let (claims, mut first) = Claims::new(rt.alloc(), 3).expect(&rt, "claims");
+    let mut second = first.split(&claims).expect(&rt, "a drawer");
+    assert!(rt; first.draw(&claims) == Some(0));
+    assert!(rt; second.draw(&claims) == Some(1));
+    assert!(rt; first.draw(&claims) == Some(2));
+    assert!(rt; second.draw(&claims) == None);
+    assert!(rt; second.draw(&claims) == None);
     let mut drawers = Vec::new(rt.alloc());
-    drawers.push(second)?;
-    drawers.push(first)?;
+    drawers.push(second).expect(&rt, "memory");
+    drawers.push(first).expect(&rt, "memory");
     claims.close(drawers);
-    Ok(())
 }
 
 #[test]
 fn no_numbers_to_draw(rt: HostRuntime) {
-    let Ok((claims, mut first)) = Claims::new(rt.alloc(), 0) else {
-        panic!(rt; "no claims")
-    };
-    assert_eq!(rt; first.draw(&claims), None);
+    let (claims, mut first) = Claims::new(rt.alloc(), 0).expect(&rt, "claims");
+    assert!(rt; first.draw(&claims) == None);
 }
 
 // The head of an epoch, whose link has its number in each byte.
@@ -153,10 +145,8 @@ fn counting_head() -> Head {
 
 #[test]
 fn a_head_is_five_words(rt: HostRuntime) {
-    let Ok((board, mut publisher)) = Board::new(rt.alloc(), 2) else {
-        panic!(rt; "no board")
-    };
-    assert_eq!(rt; publisher.publish(&board, counting_head()), Ok(()));
+    let (board, mut publisher) = Board::new(rt.alloc(), 2).expect(&rt, "a board");
+    assert!(rt; publisher.publish(&board, counting_head()) == Ok(()));
     let words = [
         1,
         7,
@@ -173,51 +163,39 @@ fn a_head_is_five_words(rt: HostRuntime) {
     for at in 0..11usize {
         assert_eq!(rt; board.word(at), words[at]);
     }
-    let Ok(mut watcher) = publisher.watcher(&board) else {
-        panic!(rt; "no watcher")
-    };
-    assert_eq!(rt; watcher.latest(&board), Some(counting_head()));
+    let mut watcher = publisher.watcher(&board).expect(&rt, "a watcher");
+    assert!(rt; watcher.latest(&board) == Some(counting_head()));
 }
 
 #[test]
 fn the_third_of_two_is_full(rt: HostRuntime) {
-    let Ok((board, mut publisher)) = Board::new(rt.alloc(), 2) else {
-        panic!(rt; "no board")
-    };
+    let (board, mut publisher) = Board::new(rt.alloc(), 2).expect(&rt, "a board");
     assert_eq!(rt; board.capacity(), 2);
-    let Ok(mut early) = publisher.watcher(&board) else {
-        panic!(rt; "no watcher")
-    };
+    let mut early = publisher.watcher(&board).expect(&rt, "a watcher");
     assert_eq!(rt; publisher.published(), 0);
-    assert_eq!(rt; publisher.last(), None);
-    assert_eq!(rt; publisher.publish(&board, head(1)), Ok(()));
-    assert_eq!(rt; publisher.last(), Some(head(1)));
-    assert_eq!(rt; publisher.publish(&board, head(2)), Ok(()));
-    assert_eq!(rt; publisher.publish(&board, head(3)), Err(BoardFull));
+    assert!(rt; publisher.last() == None);
+    assert!(rt; publisher.publish(&board, head(1)) == Ok(()));
+    assert!(rt; publisher.last() == Some(head(1)));
+    assert!(rt; publisher.publish(&board, head(2)) == Ok(()));
+    assert!(rt; publisher.publish(&board, head(3)) == Err(BoardFull));
     assert_eq!(rt; publisher.published(), 2);
-    assert_eq!(rt; publisher.last(), Some(head(2)));
-    let Ok(mut late) = publisher.watcher(&board) else {
-        panic!(rt; "no watcher")
-    };
-    assert_eq!(rt; late.latest(&board), Some(head(2)));
-    assert_eq!(rt; early.latest(&board), Some(head(2)));
+    assert!(rt; publisher.last() == Some(head(2)));
+    let mut late = publisher.watcher(&board).expect(&rt, "a watcher");
+    assert!(rt; late.latest(&board) == Some(head(2)));
+    assert!(rt; early.latest(&board) == Some(head(2)));
 }
 
 #[test]
 fn watcher_follows(rt: HostRuntime) {
-    let Ok((board, mut publisher)) = Board::new(rt.alloc(), 64) else {
-        panic!(rt; "no board")
-    };
-    let Ok(mut watcher) = publisher.watcher(&board) else {
-        panic!(rt; "no watcher")
-    };
-    assert_eq!(rt; watcher.latest(&board), None);
-    assert_eq!(rt; publisher.publish(&board, head(1)), Ok(()));
-    assert_eq!(rt; publisher.publish(&board, head(2)), Ok(()));
-    assert_eq!(rt; watcher.latest(&board), Some(head(2)));
+    let (board, mut publisher) = Board::new(rt.alloc(), 64).expect(&rt, "a board");
+    let mut watcher = publisher.watcher(&board).expect(&rt, "a watcher");
+    assert!(rt; watcher.latest(&board) == None);
+    assert!(rt; publisher.publish(&board, head(1)) == Ok(()));
+    assert!(rt; publisher.publish(&board, head(2)) == Ok(()));
+    assert!(rt; watcher.latest(&board) == Some(head(2)));
     publisher.meet(&board, &mut watcher);
-    assert_eq!(rt; publisher.publish(&board, head(3)), Ok(()));
-    assert_eq!(rt; watcher.latest(&board), Some(head(3)));
+    assert!(rt; publisher.publish(&board, head(3)) == Ok(()));
+    assert!(rt; watcher.latest(&board) == Some(head(3)));
 }
 
 // A watcher on its way through a thread, the last epoch that it saw, and whether an answer was no published head or
@@ -338,22 +316,17 @@ fn growths_may_be_refused(rt: HostRuntime) {
     assert!(rt; made.is_ok());
 }
 
+// Whether this is how an error is shown.
+fn is_shown(rt: &impl Abort, alloc: Global, error: &impl Display, wanted: &str) -> bool {
+    let text = format!(in alloc; "{error}").expect(rt, "memory");
+    text.as_str() == wanted
+}
+
 #[test]
-fn errors_say_what_is_missing(rt: HostRuntime) -> Result<(), Fail> {
-    let texts = [
-        format!(in rt.alloc(); "{}", NoClaims)?,
-        format!(in rt.alloc(); "{}", NoSeat)?,
-        format!(in rt.alloc(); "{}", NoBoard)?,
-        format!(in rt.alloc(); "{}", BoardFull)?,
-    ];
-    let wanted = [
-        "the claims could not be had",
-        "no further seat can be had",
-        "the board could not be had",
-        "the board is full",
-    ];
-    for (text, wanted) in texts.iter().zip(wanted.iter()) {
-        assert_eq!(rt; text.as_str(), *wanted);
-    }
-    Ok(())
+fn errors_say_what_is_missing(rt: HostRuntime) {
+    let alloc = rt.alloc();
+    assert!(rt; is_shown(&rt, alloc, &NoClaims, "the claims could not be had"));
+    assert!(rt; is_shown(&rt, alloc, &NoSeat, "no further seat can be had"));
+    assert!(rt; is_shown(&rt, alloc, &NoBoard, "the board could not be had"));
+    assert!(rt; is_shown(&rt, alloc, &BoardFull, "the board is full"));
 }
