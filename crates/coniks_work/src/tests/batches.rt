@@ -7,6 +7,7 @@ use crate::gate::Gate;
 use coniks_proof::{Digest, Index, Nonce, Opening, Sha256Hash, commit_hash};
 use coniks_tree::{Change, OutOfMemory, RecordNo, Tree};
 use std::alloc::{AllocError, Global};
+use std::process::Abort;
 use std::thread::Threads;
 
 pub const NONCE: Nonce = Nonce([0x11; 32]);
@@ -34,9 +35,11 @@ pub fn four() -> [Bound; 4] {
     ]
 }
 
-/// A digest in lower case hexadecimal.
-pub fn digits(alloc: Global, digest: &Digest) -> Result<String, AllocError> {
-    hex::encode(alloc, &digest.0)
+/// The digest with these hexadecimal digits.
+pub fn digest(rt: &impl Abort, digits: &str) -> Digest {
+    let mut bytes = [0; 32];
+    hex::decode_to_slice(digits, &mut bytes).expect(rt, "64 digits");
+    Digest(bytes)
 }
 
 /// The changes that bind these, whose records are to stand from the first place on.
@@ -62,7 +65,7 @@ pub fn first_epoch<G: Gate + Sync, R: Threads + Sync>(
     depth: usize,
     workers: usize,
     gate: &G,
-) -> Result<(usize, String), OutOfMemory>
+) -> Result<(usize, Digest), OutOfMemory>
     requires { (depth ≤ 8) × (1 ≤ workers) × (workers ≤ 64) }
 {
     let changes = changes_to(alloc, bindings)?;
@@ -79,6 +82,6 @@ pub fn first_epoch<G: Gate + Sync, R: Threads + Sync>(
         workers,
         gate,
     )?;
-    let root = digits(alloc, &tree.part_hash(&Sha256Hash, &NONCE, &part))?;
+    let root = tree.part_hash(&Sha256Hash, &NONCE, &part);
     Ok((tree.new_nodes(&part), root))
 }

@@ -2,50 +2,44 @@
 
 use crate::gate::Open;
 use crate::jobs::split;
-use crate::tests::batches::{Bound, changes_to, first_epoch, four, index_of};
+use crate::tests::batches::{Bound, changes_to, digest, first_epoch, four, index_of};
 use crate::tests::gates::{Counts, Meeting};
 use std::alloc::{AllocError, Global};
-use std::test::Fail;
 
 const OF_FOUR: &str = "0d10d652bba80545e24f4d5e24bf33580588fb0d17ee964d3213748e6d7e6145";
 
 /// Of two jobs the first is held until the second has come, so they are on two threads.
 #[test]
-fn two_jobs_at_once(rt: HostRuntime) -> Result<(), Fail> {
+fn two_jobs_at_once(rt: HostRuntime) {
     let both = [
         (index_of(0, 0), b'a', b'k'),
         (index_of(0x80, 0), b'b', b'k'),
     ];
     let gate = Meeting::of(2);
-    let (nodes, root) = first_epoch(&rt, rt.alloc(), &both, 1, 2, &gate)?;
+    let (nodes, root) = first_epoch(&rt, rt.alloc(), &both, 1, 2, &gate).expect(&rt, "memory");
     assert!(rt; gate.met());
     assert_eq!(rt; nodes, 3);
-    assert_eq!(rt;
-        root.as_str(),
-        "46de554c28df523fe8bbcbf7cf90c45cc1f44d29be6fc4bf4fa5fd416437b6ba"
-    );
-    Ok(())
+    let want = "46de554c28df523fe8bbcbf7cf90c45cc1f44d29be6fc4bf4fa5fd416437b6ba";
+    assert_eq!(rt; root, digest(&rt, want));
 }
 
 #[test]
-fn entered_once(rt: HostRuntime) -> Result<(), Fail> {
+fn entered_once(rt: HostRuntime) {
     let gate = Counts::new();
-    let (nodes, root) = first_epoch(&rt, rt.alloc(), &four(), 8, 3, &gate)?;
+    let (nodes, root) = first_epoch(&rt, rt.alloc(), &four(), 8, 3, &gate).expect(&rt, "memory");
     assert!(rt; gate.once_each());
     assert_eq!(rt; nodes, 7);
-    assert_eq!(rt; root.as_str(), OF_FOUR);
-    Ok(())
+    assert_eq!(rt; root, digest(&rt, OF_FOUR));
 }
 
 /// Of two workers one is held at its job until the other has come with the three that are left.
 #[test]
-fn draws_move(rt: HostRuntime) -> Result<(), Fail> {
+fn draws_move(rt: HostRuntime) {
     let gate = Meeting::of(4);
-    let (nodes, root) = first_epoch(&rt, rt.alloc(), &four(), 8, 2, &gate)?;
+    let (nodes, root) = first_epoch(&rt, rt.alloc(), &four(), 8, 2, &gate).expect(&rt, "memory");
     assert!(rt; gate.met());
     assert_eq!(rt; nodes, 7);
-    assert_eq!(rt; root.as_str(), OF_FOUR);
-    Ok(())
+    assert_eq!(rt; root, digest(&rt, OF_FOUR));
 }
 
 /// Forty names, whose indices have forty first bytes, in the order of their indices.
@@ -58,29 +52,29 @@ fn forty(alloc: Global) -> Result<Vec<Bound>, AllocError> {
 }
 
 #[test]
-fn same_for_every_crew(rt: HostRuntime) -> Result<(), Fail> {
-    let names = forty(rt.alloc())?;
+fn same_for_every_crew(rt: HostRuntime) {
+    let names = forty(rt.alloc()).expect(&rt, "memory");
+    let want = digest(
+        &rt,
+        "2288c8bbb44a79286bb3a55394a2760c9e76740fc19461f8fc57104a8ed5e409",
+    );
     for workers in [1, 2, 7, 64] {
         for depth in [0, 1, 8] {
-            let (nodes, root) = first_epoch(&rt, rt.alloc(), &names, depth, workers, &Open)?;
+            let built = first_epoch(&rt, rt.alloc(), &names, depth, workers, &Open);
+            let (nodes, root) = built.expect(&rt, "memory");
             assert_eq!(rt; nodes, 79);
-            assert_eq!(rt;
-                root.as_str(),
-                "2288c8bbb44a79286bb3a55394a2760c9e76740fc19461f8fc57104a8ed5e409"
-            );
+            assert_eq!(rt; root, want);
         }
     }
-    Ok(())
 }
 
 #[test]
-fn jobs_of_four(rt: HostRuntime) -> Result<(), Fail> {
-    let changes = changes_to(rt.alloc(), &four())?;
+fn jobs_of_four(rt: HostRuntime) {
+    let changes = changes_to(rt.alloc(), &four()).expect(&rt, "memory");
     for (depth, count) in [(0, 1), (1, 2), (2, 3), (3, 4), (8, 4)] {
-        let jobs = split(rt.alloc(), &changes, depth)?;
+        let jobs = split(rt.alloc(), &changes, depth).expect(&rt, "memory");
         assert_eq!(rt; jobs.len(), count);
     }
-    let none = split(rt.alloc(), &[], 8)?;
+    let none = split(rt.alloc(), &[], 8).expect(&rt, "memory");
     assert_eq!(rt; none.len(), 0);
-    Ok(())
 }

@@ -7,8 +7,8 @@ ghost use Rattle.coniks_tree.specs.declared.table.Record.{Record};
 
 use crate::building::build;
 use crate::gate::Open;
-use crate::tests::batches::{Bound, NONCE, OPENING, digits};
-use coniks_proof::{Binding, Bytes, Sha256Hash, commit_hash};
+use crate::tests::batches::{Bound, NONCE, OPENING};
+use coniks_proof::{Binding, Bytes, Digest, Sha256Hash, commit_hash};
 use coniks_tree::{Change, OutOfMemory, Record, RecordNo, Root, Tree};
 use std::alloc::{AllocError, Global};
 use std::thread::Threads;
@@ -128,12 +128,12 @@ impl Epochs {
         (self.tree.nodes(), self.tree.records())
     }
 
-    /// The hash of a root in lower case hexadecimal; nothing where the tree has no such node.
-    pub fn root_digits(&self, root: Root) -> Result<String, AllocError> {
+    /// The hash of a root, if the tree has such a node.
+    pub fn hash_of(&self, root: Root) -> Option<Digest> {
         if root.0 < self.tree.nodes() {
-            digits(self.alloc, &self.tree.node_hash(root))
+            Some(self.tree.node_hash(root))
         } else {
-            Ok(String::new(self.alloc))
+            None
         }
     }
 }

@@ -6,7 +6,6 @@ use crate::crew::{all_parts, alone};
 use crate::gate::Open;
 use crate::work::Work;
 use coniks_tree::{OutOfMemory, Part};
-use std::test::Fail;
 
 /// Five jobs, of which the fourth is refused memory, if any is.
 #[derive(Drop)]
@@ -42,11 +41,10 @@ fn one_job_refused(rt: HostRuntime) {
 
 /// Without claims the caller's thread does all jobs.
 #[test]
-fn without_claims(rt: HostRuntime) -> Result<(), Fail> {
+fn without_claims(rt: HostRuntime) {
     let work = Five { refuses: false };
-    let parts = alone(rt.alloc(), 5, &work, &Open)?;
+    let parts = alone(rt.alloc(), 5, &work, &Open).expect(&rt, "memory");
     assert_eq!(rt; parts.len(), 5);
-    let parts = all_parts(&rt, rt.alloc(), 5, 3, &work, &Open)?;
+    let parts = all_parts(&rt, rt.alloc(), 5, 3, &work, &Open).expect(&rt, "memory");
     assert_eq!(rt; parts.len(), 5);
-    Ok(())
 }
