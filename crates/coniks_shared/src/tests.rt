@@ -17,6 +17,17 @@ struct Hand {
     refused: bool,
 }
 
+// The hand of a drawer that has drawn nothing yet.
+fn empty_hand(alloc: Global, drawer: Drawer) -> Hand
+    ensures { result.drawer ≡ drawer }
+{
+    Hand {
+        drawer,
+        drawn: Vec::new(alloc),
+        refused: false,
+    }
+}
+
 // A loop over `draw` is bounded by the numbers that are left.
 fn draw_all(hand: &mut Hand, claims: &Claims)
     requires { hand.old.drawer.table ≡ claims.now.table }
@@ -40,44 +51,53 @@ fn all_drawn(rt: &impl Abort, alloc: Global, hands: &[Hand]) -> Vec<usize> {
     all
 }
 
-#[test]
-fn drawn_once(rt: HostRuntime) -> Result<(), Fail> {
-    let Ok((claims, mut first)) = Claims::new(rt.alloc(), 4096) else {
-        panic!(rt; "no claims")
-    };
-    let shared = &claims;
-    let mut hands = Vec::new(rt.alloc());
+// Eight hands that draw from the same claims.
+fn eight_hands(rt: &impl Abort, alloc: Global, claims: &Claims, drawer: Drawer) -> Vec<Hand>
+    requires { drawer.table ≡ claims.now.table }
+    ensures { All (λ h. h.drawer.table ≡ claims.now.table) result.items }
+{
+    let mut first = drawer;
+    let mut hands = Vec::new(alloc);
     for _ in 0..7usize {
-        let Ok(drawer) = first.split(shared) else {
+        let Ok(drawer) = first.split(claims) else {
             panic!(rt; "no drawer")
         };
-        hands.push(Hand {
-            drawer,
-            drawn: Vec::new(rt.alloc()),
-            refused: false,
-        })?;
+        let Ok(()) = hands.push(empty_hand(alloc, drawer)) else {
+            panic!(rt; "no memory")
+        };
     }
-    hands.push(Hand {
-        drawer: first,
-        drawn: Vec::new(rt.alloc()),
-        refused: false,
-    })?;
+    let Ok(()) = hands.push(empty_hand(alloc, first)) else {
+        panic!(rt; "no memory")
+    };
+    hands
+}
+
+// Draws all numbers, each hand in a thread of its own.
+fn draw_beside<R: Threads + Sync>(rt: &R, claims: &Claims, hands: &mut [Hand])
+    requires own { All (λ h. h.drawer.table ≡ claims.now.table) hands.old }
+{
     thread::for_each_mut(
-        &rt,
-        hands.as_mut_slice(),
+        rt,
+        hands,
         8,
         &|_place, hand: &mut Hand|
-            requires { hand.now.drawer.table ≡ shared.now.table }
+            requires { hand.now.drawer.table ≡ claims.now.table }
         {
-            draw_all(hand, shared);
+            draw_all(hand, claims);
         },
     );
+}
+
+#[test]
+fn drawn_once(rt: HostRuntime) {
+    let (claims, first) = Claims::new(rt.alloc(), 4096).expect(&rt, "claims");
+    let mut hands = eight_hands(&rt, rt.alloc(), &claims, first);
+    draw_beside(&rt, &claims, hands.as_mut_slice());
     let all = all_drawn(&rt, rt.alloc(), hands.as_slice());
     assert_eq!(rt; all.len(), 4096);
     for (place, number) in all.iter().enumerate() {
         assert_eq!(rt; *number, place);
     }
-    Ok(())
 }
 
 #[test]

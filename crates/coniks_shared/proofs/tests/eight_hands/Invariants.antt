@@ -1,10 +1,10 @@
 use Rattle.std.proofs.Common.{◌≡◌}
 use Rattle.std.specs.Prelude.{All}
 use Rattle.coniks_shared.specs.declared.tests.Hand.{Hand}
-use Rattle.coniks_shared.proofs.tests.drawn_once.Given as goal
+use Rattle.coniks_shared.proofs.tests.eight_hands.Given as goal
 
 abbrev pub invariant-loop : goal.invariant-loop
 invariant-loop g l = record {
-  first : l.first.table ≡ l.shared.table;
-  hands : All (λ (h : Hand). h.drawer.table ≡ l.shared.table) l.hands.items;
+  first : l.first.table ≡ l.claims.table;
+  hands : All (λ (h : Hand). h.drawer.table ≡ l.claims.table) l.hands.items;
 }
