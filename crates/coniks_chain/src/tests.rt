@@ -5,10 +5,11 @@ use crate::{
     audit, extract_history, link,
 };
 use coniks_proof::{
-    Bytes, CheckFault, Digest, Digests, End, Flat, Head, Index, Nonce, Opening, Proof, Sha256Hash,
+    Bytes, CheckFault, Digest, Digests, End, Flat, Hash32, Head, Index, Nonce, Opening, Proof,
+    Sha256Hash,
 };
-use std::alloc::{AllocError, Global};
-use std::test::Fail;
+use std::alloc::Global;
+use std::process::Abort;
 
 /// The entries of a directory in which `a` is registered with the key `k` at epoch 1 and changed to `l` at epoch 4: body
 /// and signature, in hexadecimal.
@@ -29,6 +30,9 @@ const LINKS: [&str; 3] = [
     "1145bc5b9cba19a0d06065c98e8599bf9517b1c70da22189706c67979ad6dac1",
     "6e077461995342fc12e1aab26d2989453c37374c56ff332500fa143aec6e1e72",
 ];
+
+/// The root of the tree at epoch 1.
+const ROOT_OF_A: &str = "042fd8b84dddf51f9702df23af5d7b8085d9e48571804622630a4fdab7481c17";
 
 /// The root of a tree with no names.
 const EMPTY_ROOT: &str = "1aa9b40c9d34d625d7329003c097925b7d4c7809b864b047b71defb140aca216";
@@ -122,33 +126,42 @@ impl Sign for Stamp {
 }
 
 /// The bytes that hexadecimal digits write.
-fn bytes_of<const N: usize>(digits: &str) -> Result<[u8; N], Fail> {
+fn bytes_of<const N: usize>(rt: &impl Abort, digits: &str) -> [u8; N] {
     let mut bytes = [0; N];
-    hex::decode_to_slice(digits, &mut bytes)?;
-    Ok(bytes)
+    hex::decode_to_slice(digits, &mut bytes).expect(rt, "two digits for each byte");
+    bytes
 }
 
 /// The entry of one of the two epochs.
-fn entry_at(place: usize) -> Result<Entry, Fail> {
-    let (body, signature) = ENTRIES.get(place).ok_or("no such entry")?;
-    Ok(Entry {
-        body: Body::read(&bytes_of(body)?),
-        signature: Signature(bytes_of(signature)?),
-    })
+fn entry_at(rt: &impl Abort, place: usize) -> Entry {
+    let (body, signature) = ENTRIES.get(place).expect(rt, "an entry");
+    Entry {
+        body: Body::read(&bytes_of(rt, body)),
+        signature: Signature(bytes_of(rt, signature)),
+    }
 }
 
 /// The link of one of the three.
-fn link_at(place: usize) -> Result<Digest, Fail> {
-    Ok(Digest(bytes_of(LINKS.get(place).ok_or("no such link")?)?))
+fn link_at(rt: &impl Abort, place: usize) -> Digest {
+    Digest(bytes_of(rt, LINKS.get(place).expect(rt, "a link")))
 }
 
-/// An entry at epoch 5 that follows the two.
-fn third_entry() -> Result<Entry, Fail> {
-    let mut third = entry_at(1)?;
+/// The two entries, and one at epoch 5 that follows them.
+fn good_chain(rt: &impl Abort) -> [Entry; 3] {
+    let second = entry_at(rt, 1);
+    let mut third = second;
     third.body.t = 5;
     third.body.t_prev = 4;
-    third.body.previous = link_at(1)?;
-    Ok(third)
+    third.body.previous = link_at(rt, 1);
+    [entry_at(rt, 0), second, third]
+}
+
+/// The head at one of the three.
+fn head_at(rt: &impl Abort, epoch: u64, place: usize) -> Head {
+    Head {
+        epoch,
+        link: link_at(rt, place),
+    }
 }
 
 /// An entry for the flat hash, by its epochs and the first byte of its root.
@@ -169,16 +182,21 @@ fn flat_entry(t: u64, t_prev: u64, root: u8) -> Entry {
     }
 }
 
+/// A copy of a name or a key.
+fn copied(rt: &impl Abort, alloc: Global, bytes: &[u8]) -> Bytes {
+    Bytes::copy_of(alloc, bytes).expect(rt, "memory")
+}
+
 /// The proof of a tree with one name, `a`, which has this key.
-fn proof_of(alloc: Global, key: &[u8]) -> Result<Proof, AllocError> {
-    Ok(Proof {
+fn proof_of(rt: &impl Abort, alloc: Global, key: &[u8]) -> Proof {
+    Proof {
         siblings: Digests::new(Vec::new(alloc)),
         end: End::Here {
-            name: Bytes::copy_of(alloc, b"a")?,
-            key: Bytes::copy_of(alloc, key)?,
+            name: copied(rt, alloc, b"a"),
+            key: copied(rt, alloc, key),
             opening: Opening([0x22; 32]),
         },
-    })
+    }
 }
 
 /// The proof of a tree with no names.
@@ -189,186 +207,211 @@ fn proof_of_none(alloc: Global) -> Proof {
     }
 }
 
-/// A monitor of `a`, whose index is 32 zero bytes.
-fn watch(alloc: Global, expected: Option<&[u8]>) -> Result<Monitor<Sha256Hash>, AllocError> {
-    let expected = match expected {
-        Some(key) => Some(Bytes::copy_of(alloc, key)?),
-        None => None,
-    };
-    Ok(Monitor::new(
+/// A monitor of a name, whose index is 32 zero bytes.
+fn watch(
+    rt: &impl Abort,
+    alloc: Global,
+    name: &[u8],
+    expected: Option<&[u8]>,
+) -> Monitor<Sha256Hash> {
+    let expected = expected.map(|key| copied(rt, alloc, key));
+    Monitor::new(
         Sha256Hash,
-        Bytes::copy_of(alloc, b"a")?,
+        copied(rt, alloc, name),
         Index([0; 32]),
         expected,
-    ))
+    )
 }
 
 #[test]
-fn bytes_and_links(rt: HostRuntime) -> Result<(), Fail> {
-    let first = entry_at(0)?;
-    assert_eq!(rt;
-        (first.body.version, first.body.t, first.body.t_prev),
-        (1, 1, 0)
-    );
-    assert_eq!(rt; first.body.nonce, Nonce([0x11; 32]));
-    assert_eq!(rt; first.body.policy, [0x33; 32]);
-    assert_eq!(rt; first.body.previous, Digest([0; 32]));
-    let second = entry_at(1)?;
-    assert_eq!(rt; (second.body.t, second.body.t_prev), (4, 1));
-    assert_eq!(rt; second.body.previous, link_at(0)?);
+fn bytes_and_links(rt: HostRuntime) {
+    for place in [0, 1] {
+        let entry = entry_at(&rt, place);
+        assert_eq!(rt; link(&Sha256Hash, &entry), link_at(&rt, place));
+        assert_eq!(rt; link(&Flat, &entry), Digest([0; 32]));
+        entry.known();
+    }
+}
+
+#[test]
+fn bytes_of_a_body(rt: HostRuntime) {
     let (body, _) = ENTRIES[1];
-    assert_eq!(rt; second.body.bytes(), bytes_of::<145>(body)?);
-    assert_eq!(rt; link(&Sha256Hash, &first), link_at(0)?);
-    assert_eq!(rt; link(&Sha256Hash, &second), link_at(1)?);
-    assert_eq!(rt; link(&Flat, &second), Digest([0; 32]));
-    let mut other = second.body.bytes();
-    other[0] = 2;
-    assert_eq!(rt; Body::read(&other).version, 2);
-    assert_eq!(rt; Body::read(&other).bytes(), other);
-    second.known();
-    Ok(())
+    let mut bytes = bytes_of(&rt, body);
+    assert!(rt; Body::read(&bytes).bytes() == bytes);
+    bytes[0] = 2;
+    let other = Body::read(&bytes);
+    assert_eq!(rt; other.version, 2);
+    assert!(rt; other.bytes() == bytes);
 }
 
 #[test]
-fn audited_chains(rt: HostRuntime) -> Result<(), Fail> {
-    let good = [entry_at(0)?, entry_at(1)?, third_entry()?];
-    let last = Head {
-        epoch: 5,
-        link: link_at(2)?,
+fn fields_of_a_body(rt: HostRuntime) {
+    let first = entry_at(&rt, 0).body;
+    let want = Body {
+        version: 1,
+        t: 1,
+        t_prev: 0,
+        root: Digest(bytes_of(&rt, ROOT_OF_A)),
+        previous: Digest([0; 32]),
+        nonce: Nonce([0x11; 32]),
+        policy: [0x33; 32],
     };
-    let second = Head {
-        epoch: 4,
-        link: link_at(1)?,
-    };
+    assert!(rt; first == want);
+    let second = entry_at(&rt, 1).body;
+    assert_eq!(rt; (second.t, second.t_prev), (4, 1));
+    assert_eq!(rt; second.previous, link_at(&rt, 0));
+}
+
+#[test]
+fn audited_chains(rt: HostRuntime) {
+    let good = good_chain(&rt);
+    let last = head_at(&rt, 5, 2);
     assert_eq!(rt; audit(&Sha256Hash, &good, &Yes), Ok(Some(last)));
-    assert_eq!(rt;
-        audit(&Sha256Hash, &[good[0], good[1]], &Yes),
-        Ok(Some(second))
-    );
+    let second = head_at(&rt, 4, 1);
+    assert_eq!(rt; audit(&Sha256Hash, &good[..2], &Yes), Ok(Some(second)));
     assert_eq!(rt; audit(&Sha256Hash, &[], &Yes), Ok(None));
+}
+
+#[test]
+fn refused_chains(rt: HostRuntime) {
+    let good = good_chain(&rt);
     let mut bent = good;
     bent[1].body.previous.0[31] ^= 1;
-    assert_eq!(rt;
-        audit(&Sha256Hash, &bent, &Yes),
-        Err((1, AuditFault::PreviousLink))
-    );
+    let refused = audit(&Sha256Hash, &bent, &Yes);
+    assert_eq!(rt; refused, Err((1, AuditFault::PreviousLink)));
     let mut late = good;
     late[2].body.t = 4;
-    assert_eq!(rt;
-        audit(&Sha256Hash, &late, &Yes),
-        Err((2, AuditFault::NotLater))
-    );
-    assert_eq!(rt;
-        audit(&Sha256Hash, &good, &Only(good[0].signature)),
-        Err((1, AuditFault::Verdict))
-    );
-    Ok(())
+    let refused = audit(&Sha256Hash, &late, &Yes);
+    assert_eq!(rt; refused, Err((2, AuditFault::NotLater)));
+    let refused = audit(&Sha256Hash, &good, &Only(good[0].signature));
+    assert_eq!(rt; refused, Err((1, AuditFault::Verdict)));
 }
 
-/// The orders in which three entries are fed, and what is answered.
-#[test]
-fn orders_of_feeding(rt: HostRuntime) -> Result<(), Fail> {
-    let good = [entry_at(0)?, entry_at(1)?, third_entry()?];
-    let early = Err(AuditFault::PreviousEpoch);
-    let table: [[(usize, Result<(), AuditFault>); 3]; 3] = [
-        [(0, Ok(())), (1, Ok(())), (2, Ok(()))],
-        [(1, early), (0, Ok(())), (2, early)],
-        [(0, Ok(())), (0, Err(AuditFault::NotLater)), (1, Ok(()))],
-    ];
-    for order in table {
-        let mut auditor = Auditor::new(Sha256Hash);
-        for (place, want) in order {
-            let entry = good.get(place).ok_or("no such entry")?;
-            assert_eq!(rt; auditor.feed(entry, &Yes), want);
-        }
+/// What an auditor says of an entry whose signature is taken, or isn't.
+fn fed(
+    auditor: &mut Auditor<Sha256Hash>,
+    entry: &Entry,
+    is_signed: bool,
+) -> Result<(), AuditFault> {
+    if is_signed {
+        auditor.feed(entry, &Yes)
+    } else {
+        auditor.feed(entry, &Only(Signature([0; 64])))
     }
+}
+
+/// What is said of three entries that are fed in an order.
+fn answers(rt: &impl Abort, order: [usize; 3], is_signed: bool) -> [Result<(), AuditFault>; 3] {
+    let good = good_chain(rt);
     let mut auditor = Auditor::new(Sha256Hash);
-    let no = Only(Signature([0; 64]));
-    assert_eq!(rt; auditor.feed(&good[0], &no), Err(AuditFault::Verdict));
-    assert_eq!(rt; auditor.feed(&good[1], &no), early);
-    assert_eq!(rt; auditor.feed(&good[2], &no), early);
-    Ok(())
+    let mut answers = [Ok(()); 3];
+    for (answer, place) in answers.iter_mut().zip(order) {
+        *answer = fed(
+            &mut auditor,
+            good.get(place).expect(rt, "an entry"),
+            is_signed,
+        );
+    }
+    answers
+}
+
+#[test]
+fn orders_of_feeding(rt: HostRuntime) {
+    let early = Err(AuditFault::PreviousEpoch);
+    assert_eq!(rt; answers(&rt, [0, 1, 2], true), [Ok(()); 3]);
+    assert_eq!(rt; answers(&rt, [1, 0, 2], true), [early, Ok(()), early]);
+    let again = Err(AuditFault::NotLater);
+    assert_eq!(rt; answers(&rt, [0, 0, 1], true), [Ok(()), again, Ok(())]);
+    let unsigned = Err(AuditFault::Verdict);
+    assert_eq!(rt; answers(&rt, [0, 1, 2], false), [unsigned, early, early]);
 }
 
 /// The head after each entry, and after one that is refused.
 #[test]
-fn heads_of_an_auditor(rt: HostRuntime) -> Result<(), Fail> {
-    let first = Head {
-        epoch: 1,
-        link: link_at(0)?,
-    };
-    let third = Head {
-        epoch: 5,
-        link: link_at(2)?,
-    };
+fn heads_of_an_auditor(rt: HostRuntime) {
+    let good = good_chain(&rt);
     let mut auditor = Auditor::new(Sha256Hash);
-    assert_eq!(rt; auditor.head(), None);
-    assert_eq!(rt; auditor.feed(&entry_at(0)?, &Yes), Ok(()));
-    assert_eq!(rt; auditor.head(), Some(first));
-    assert_eq!(rt;
-        auditor.feed(&third_entry()?, &Yes),
-        Err(AuditFault::PreviousEpoch)
-    );
-    assert_eq!(rt; auditor.head(), Some(first));
-    assert_eq!(rt; auditor.feed(&entry_at(1)?, &Yes), Ok(()));
-    assert_eq!(rt; auditor.feed(&third_entry()?, &Yes), Ok(()));
-    assert_eq!(rt; auditor.head(), Some(third));
-    Ok(())
+    assert!(rt; auditor.head().is_none());
+    let early = Err(AuditFault::PreviousEpoch);
+    for (place, want, epoch, last) in [
+        (0, Ok(()), 1, 0),
+        (2, early, 1, 0),
+        (1, Ok(()), 4, 1),
+        (2, Ok(()), 5, 2),
+    ] {
+        let entry = good.get(place).expect(&rt, "an entry");
+        assert_eq!(rt; auditor.feed(entry, &Yes), want);
+        assert_eq!(rt; auditor.head(), Some(head_at(&rt, epoch, last)));
+    }
 }
 
-/// Each fault, together with the next one that can stand beside it.
+/// Each fault of a first entry, together with the next one that can stand beside it.
 #[test]
-fn first_faults(rt: HostRuntime) -> Result<(), Fail> {
-    let good = [entry_at(0)?, entry_at(1)?, third_entry()?];
-    let no = Only(Signature([0; 64]));
-    let mut first = Auditor::new(Sha256Hash);
-    let mut entry = good[0];
-    entry.body.t = 0;
-    entry.body.t_prev = 7;
-    entry.body.version = 2;
-    assert_eq!(rt; first.feed(&entry, &Yes), Err(AuditFault::Version));
-    entry.body.version = 1;
-    assert_eq!(rt; first.feed(&entry, &Yes), Err(AuditFault::FirstEpoch));
-    entry.body.t = 1;
-    entry.body.previous.0[0] = 1;
-    assert_eq!(rt; first.feed(&entry, &Yes), Err(AuditFault::PreviousEpoch));
-    entry.body.t_prev = 0;
-    assert_eq!(rt; first.feed(&entry, &no), Err(AuditFault::PreviousLink));
-    assert_eq!(rt; first.feed(&good[0], &Yes), Ok(()));
-    let mut entry = good[1];
-    entry.body.version = 0;
-    entry.body.t = 1;
-    entry.body.t_prev = 0;
-    entry.body.previous.0[0] ^= 1;
-    entry.body.nonce.0[0] ^= 1;
-    assert_eq!(rt; first.feed(&entry, &no), Err(AuditFault::Version));
-    entry.body.version = 1;
-    assert_eq!(rt; first.feed(&entry, &no), Err(AuditFault::NotLater));
-    entry.body.t = 2;
-    assert_eq!(rt; first.feed(&entry, &no), Err(AuditFault::PreviousEpoch));
-    entry.body.t_prev = 1;
-    assert_eq!(rt; first.feed(&entry, &no), Err(AuditFault::PreviousLink));
-    entry.body.previous.0[0] ^= 1;
-    assert_eq!(rt; first.feed(&entry, &no), Err(AuditFault::NonceChanged));
-    entry.body.nonce.0[0] ^= 1;
-    assert_eq!(rt; first.feed(&entry, &no), Err(AuditFault::Verdict));
-    assert_eq!(rt; first.feed(&entry, &Yes), Ok(()));
-    Ok(())
+fn first_faults(rt: HostRuntime) {
+    let mut entry = entry_at(&rt, 0);
+    let mut auditor = Auditor::new(Sha256Hash);
+    for (version, t, t_prev, link, is_signed, want) in [
+        (2, 0, 7, 0, true, Err(AuditFault::Version)),
+        (1, 0, 7, 0, true, Err(AuditFault::FirstEpoch)),
+        (1, 1, 7, 1, true, Err(AuditFault::PreviousEpoch)),
+        (1, 1, 0, 1, false, Err(AuditFault::PreviousLink)),
+        (1, 1, 0, 0, true, Ok(())),
+    ] {
+        entry.body.version = version;
+        entry.body.t = t;
+        entry.body.t_prev = t_prev;
+        entry.body.previous.0[0] = link;
+        assert_eq!(rt; fed(&mut auditor, &entry, is_signed), want);
+    }
+}
+
+/// An auditor that has seen the first entry.
+fn auditor_of_one(rt: &impl Abort) -> Auditor<Sha256Hash> {
+    let mut auditor = Auditor::new(Sha256Hash);
+    assert_eq!(rt; auditor.feed(&entry_at(rt, 0), &Yes), Ok(()));
+    auditor
+}
+
+/// Each fault of a later entry, together with the next one that can stand beside it. A bent link or nonce has another
+/// first byte.
+#[test]
+fn later_faults(rt: HostRuntime) {
+    let mut auditor = auditor_of_one(&rt);
+    let good = entry_at(&rt, 1);
+    for (version, t, t_prev, link, nonce, is_signed, want) in [
+        (0, 1, 0, 1, 1, false, Err(AuditFault::Version)),
+        (1, 1, 0, 1, 1, false, Err(AuditFault::NotLater)),
+        (1, 2, 0, 1, 1, false, Err(AuditFault::PreviousEpoch)),
+        (1, 2, 1, 1, 1, false, Err(AuditFault::PreviousLink)),
+        (1, 2, 1, 0, 1, false, Err(AuditFault::NonceChanged)),
+        (1, 2, 1, 0, 0, false, Err(AuditFault::Verdict)),
+        (1, 2, 1, 0, 0, true, Ok(())),
+    ] {
+        let mut entry = good;
+        entry.body.version = version;
+        entry.body.t = t;
+        entry.body.t_prev = t_prev;
+        entry.body.previous.0[0] ^= link;
+        entry.body.nonce.0[0] ^= nonce;
+        assert_eq!(rt; fed(&mut auditor, &entry, is_signed), want);
+    }
 }
 
 #[test]
-fn texts_of_faults(rt: HostRuntime) -> Result<(), Fail> {
-    let audit = MonitorFault::Audit(AuditFault::NotLater);
-    assert_eq!(rt;
-        format!(in rt.alloc(); "{audit}")?.as_str(),
-        "the entry is refused: the epoch isn't later than the one before"
-    );
-    let check = MonitorFault::Check(CheckFault::RootMismatch);
-    assert_eq!(rt;
-        format!(in rt.alloc(); "{check}")?.as_str(),
-        "the proof is refused: the proof's path doesn't lead to the root"
-    );
-    Ok(())
+fn texts_of_faults(rt: HostRuntime) {
+    for (fault, want) in [
+        (
+            MonitorFault::Audit(AuditFault::NotLater),
+            "the entry is refused: the epoch isn't later than the one before",
+        ),
+        (
+            MonitorFault::Check(CheckFault::RootMismatch),
+            "the proof is refused: the proof's path doesn't lead to the root",
+        ),
+    ] {
+        let text = format!(in rt.alloc(); "{fault}").expect(&rt, "memory");
+        assert_eq!(rt; text.as_str(), want);
+    }
 }
 
 #[test]
@@ -380,129 +423,174 @@ fn signed_or_refused(rt: HostRuntime) {
         last: None,
     };
     let body = flat_entry(1, 0, 0).body;
-    assert_eq!(rt; stamp.sign(&body.bytes()), None);
-    assert_eq!(rt; (stamp.made(), stamp.refused(), stamp.last()), (0, 1, None));
+    assert!(rt; stamp.sign(&body.bytes()).is_none());
+    assert_eq!(rt; (stamp.made(), stamp.refused()), (0, 1));
+    assert!(rt; stamp.last().is_none());
     stamp.closed = false;
     let signature = Signature([7; 64]);
-    assert_eq!(rt; stamp.sign(&body.bytes()), Some(signature));
-    let last = Some(Entry { body, signature });
-    assert_eq!(rt; (stamp.made(), stamp.refused(), stamp.last()), (1, 1, last));
-    assert_eq!(rt; stamp.verdict(&body.bytes(), &signature), true);
+    assert!(rt; stamp.sign(&body.bytes()) == Some(signature));
+    assert_eq!(rt; (stamp.made(), stamp.refused()), (1, 1));
+    assert!(rt; stamp.last() == Some(Entry { body, signature }));
+    assert!(rt; stamp.verdict(&body.bytes(), &signature));
+}
+
+/// Steps to the entry of one of the two epochs, with the proof of this key.
+fn step_to(
+    rt: &impl Abort,
+    alloc: Global,
+    monitor: &mut Monitor<Sha256Hash>,
+    place: usize,
+    key: u8,
+) -> Result<Seen, MonitorFault> {
+    monitor.step(&entry_at(rt, place), &proof_of(rt, alloc, &[key]), &Yes)
 }
 
 #[test]
-fn watched_epochs(rt: HostRuntime) -> Result<(), Fail> {
-    let first = entry_at(0)?;
-    let second = entry_at(1)?;
-    let with_k = proof_of(rt.alloc(), b"k")?;
-    let with_l = proof_of(rt.alloc(), b"l")?;
-    let mut monitor = watch(rt.alloc(), Some(b"k"))?;
-    assert_eq!(rt;
-        monitor.step(&second, &with_l, &Yes),
-        Err(MonitorFault::Audit(AuditFault::PreviousEpoch))
-    );
-    assert_eq!(rt;
-        monitor.step(&first, &with_l, &Yes),
-        Err(MonitorFault::Check(CheckFault::RootMismatch))
-    );
-    assert_eq!(rt; monitor.step(&first, &with_k, &Yes), Ok(Seen::Same));
-    assert_eq!(rt;
-        monitor.step(&first, &with_k, &Yes),
-        Err(MonitorFault::Audit(AuditFault::NotLater))
-    );
-    assert_eq!(rt; monitor.step(&second, &with_l, &Yes), Ok(Seen::Changed));
-    let mut told = watch(rt.alloc(), Some(b"k"))?;
-    assert_eq!(rt; told.step(&first, &with_k, &Yes), Ok(Seen::Same));
-    told.expect(Some(Bytes::copy_of(rt.alloc(), b"l")?));
-    assert_eq!(rt; told.step(&second, &with_l, &Yes), Ok(Seen::Same));
-    Ok(())
-}
-
-#[test]
-fn watched_absence(rt: HostRuntime) -> Result<(), Fail> {
-    let mut entry = entry_at(0)?;
-    entry.body.root = Digest(bytes_of(EMPTY_ROOT)?);
-    let proof = proof_of_none(rt.alloc());
-    let table: [(Option<&[u8]>, Seen); 3] = [
-        (None, Seen::Same),
-        (Some(b"k"), Seen::Absent),
-        (Some(b""), Seen::Absent),
-    ];
-    for (expected, want) in table {
-        let mut monitor = watch(rt.alloc(), expected)?;
-        assert_eq!(rt; monitor.step(&entry, &proof, &Yes), Ok(want));
+fn watched_epochs(rt: HostRuntime) {
+    let alloc = rt.alloc();
+    let mut monitor = watch(&rt, alloc, b"a", Some(b"k"));
+    for (place, key, want) in [
+        (1, b'l', Err(MonitorFault::Audit(AuditFault::PreviousEpoch))),
+        (0, b'l', Err(MonitorFault::Check(CheckFault::RootMismatch))),
+        (0, b'k', Ok(Seen::Same)),
+        (0, b'k', Err(MonitorFault::Audit(AuditFault::NotLater))),
+        (1, b'l', Ok(Seen::Changed)),
+    ] {
+        assert_eq!(rt; step_to(&rt, alloc, &mut monitor, place, key), want);
     }
-    let mut unasked = watch(rt.alloc(), None)?;
-    let here = proof_of(rt.alloc(), b"k")?;
-    assert_eq!(rt; unasked.step(&entry_at(0)?, &here, &Yes), Ok(Seen::Changed));
-    let mut nameless = Monitor::new(
-        Sha256Hash,
-        Bytes::copy_of(rt.alloc(), b"")?,
-        Index([0; 32]),
-        None,
-    );
-    assert_eq!(rt;
-        nameless.step(&entry, &proof, &Yes),
-        Err(MonitorFault::Check(CheckFault::NameLength))
-    );
-    Ok(())
 }
 
 #[test]
-fn watched_runs(rt: HostRuntime) -> Result<(), Fail> {
-    let first = entry_at(0)?;
-    let second = entry_at(1)?;
+fn told_of_a_change(rt: HostRuntime) {
+    let alloc = rt.alloc();
+    let mut told = watch(&rt, alloc, b"a", Some(b"k"));
+    assert_eq!(rt; step_to(&rt, alloc, &mut told, 0, b'k'), Ok(Seen::Same));
+    told.expect(Some(copied(&rt, alloc, b"l")));
+    assert_eq!(rt; step_to(&rt, alloc, &mut told, 1, b'l'), Ok(Seen::Same));
+}
+
+/// What is seen of a name in an epoch with no names.
+fn seen_of_none(
+    rt: &impl Abort,
+    alloc: Global,
+    name: &[u8],
+    expected: Option<&[u8]>,
+) -> Result<Seen, MonitorFault> {
+    let mut entry = entry_at(rt, 0);
+    entry.body.root = Digest(bytes_of(rt, EMPTY_ROOT));
+    watch(rt, alloc, name, expected).step(&entry, &proof_of_none(alloc), &Yes)
+}
+
+#[test]
+fn watched_absence(rt: HostRuntime) {
+    for (name, expected, want) in [
+        (b"a".as_slice(), None, Ok(Seen::Same)),
+        (b"a", Some(b"k".as_slice()), Ok(Seen::Absent)),
+        (b"a", Some(b""), Ok(Seen::Absent)),
+        (b"", None, Err(MonitorFault::Check(CheckFault::NameLength))),
+    ] {
+        assert_eq!(rt; seen_of_none(&rt, rt.alloc(), name, expected), want);
+    }
+}
+
+#[test]
+fn unexpected_key(rt: HostRuntime) {
+    let mut monitor = watch(&rt, rt.alloc(), b"a", None);
+    let seen = step_to(&rt, rt.alloc(), &mut monitor, 0, b'k');
+    assert_eq!(rt; seen, Ok(Seen::Changed));
+}
+
+/// What a run over the two entries, each with its proof, gives.
+fn run_over_two<V: Verify>(
+    rt: &impl Abort,
+    alloc: Global,
+    monitor: &mut Monitor<Sha256Hash>,
+    verify: &V,
+) -> Result<Tally, (usize, MonitorFault)> {
     let items = [
-        (first, proof_of(rt.alloc(), b"k")?),
-        (second, proof_of(rt.alloc(), b"l")?),
+        (entry_at(rt, 0), proof_of(rt, alloc, b"k")),
+        (entry_at(rt, 1), proof_of(rt, alloc, b"l")),
     ];
-    let mut monitor = watch(rt.alloc(), Some(b"k"))?;
+    monitor.run(&items, verify)
+}
+
+#[test]
+fn watched_runs(rt: HostRuntime) {
+    let mut monitor = watch(&rt, rt.alloc(), b"a", Some(b"k"));
     let tally = Tally {
         same: 1,
         changed: 1,
         absent: 0,
     };
-    assert_eq!(rt; monitor.run(&items, &Yes), Ok(tally));
-    let mut refused = watch(rt.alloc(), Some(b"k"))?;
-    assert_eq!(rt;
-        refused.run(&items, &Only(first.signature)),
-        Err((1, MonitorFault::Audit(AuditFault::Verdict)))
-    );
-    assert_eq!(rt;
-        refused.step(&items[1].0, &items[1].1, &Yes),
-        Ok(Seen::Changed)
-    );
+    let run = run_over_two(&rt, rt.alloc(), &mut monitor, &Yes);
+    assert_eq!(rt; run, Ok(tally));
     let none = Tally {
         same: 0,
         changed: 0,
         absent: 0,
     };
     assert_eq!(rt; monitor.run(&[], &Yes), Ok(none));
-    Ok(())
+}
+
+#[test]
+fn refused_runs(rt: HostRuntime) {
+    let alloc = rt.alloc();
+    let mut refused = watch(&rt, alloc, b"a", Some(b"k"));
+    let first_only = Only(entry_at(&rt, 0).signature);
+    let run = run_over_two(&rt, alloc, &mut refused, &first_only);
+    let unsigned = MonitorFault::Audit(AuditFault::Verdict);
+    assert_eq!(rt; run, Err((1, unsigned)));
+    let seen = step_to(&rt, alloc, &mut refused, 1, b'l');
+    assert_eq!(rt; seen, Ok(Seen::Changed));
+}
+
+/// Whether these are the bytes that hexadecimal digits write.
+fn are(rt: &impl Abort, bytes: &[u8], digits: &str) -> bool {
+    let want: [u8; 210] = bytes_of(rt, digits);
+    bytes == want.as_slice()
+}
+
+/// Whether two histories under the flat hash give what is hashed to two links.
+fn give(rt: &impl Abort, alloc: Global, a: &[Entry], b: &[Entry], x: &str, y: &str) -> bool {
+    let found = extract_history(alloc, &Flat, a, b).expect(rt, "memory");
+    let found = found.expect(rt, "two texts");
+    are(rt, found.x.as_slice(), x) && are(rt, found.y.as_slice(), y)
+}
+
+/// Whether two histories give nothing.
+fn give_nothing<H: Hash32>(
+    rt: &impl Abort,
+    alloc: Global,
+    h: &H,
+    a: &[Entry],
+    b: &[Entry],
+) -> bool {
+    extract_history(alloc, h, a, b)
+        .expect(rt, "memory")
+        .is_none()
 }
 
 /// Histories under the flat hash, and what their ends tell.
 #[test]
-fn histories(rt: HostRuntime) -> Result<(), Fail> {
+fn histories(rt: HostRuntime) {
+    let alloc = rt.alloc();
     let one = flat_entry(1, 0, 0);
     let other = flat_entry(1, 0, 1);
     let two = flat_entry(2, 1, 0);
-    assert!(rt; extract_history(rt.alloc(), &Flat, &[one], &[one])?.is_none());
-    assert!(rt; extract_history(rt.alloc(), &Flat, &[], &[one])?.is_none());
-    let table: [(&[Entry], &[Entry], usize, usize); 3] = [
-        (&[one], &[other], 0, 1),
-        (&[one, two], &[other, two], 0, 1),
-        (&[one], &[one, two], 0, 2),
-    ];
-    for (a, b, x, y) in table {
-        let found = extract_history(rt.alloc(), &Flat, a, b)?.ok_or("none")?;
-        let x = bytes_of::<210>(PREIMAGES.get(x).ok_or("no such preimage")?)?;
-        let y = bytes_of::<210>(PREIMAGES.get(y).ok_or("no such preimage")?)?;
-        assert_eq!(rt; found.x.as_slice(), x.as_slice());
-        assert_eq!(rt; found.y.as_slice(), y.as_slice());
-    }
-    let good = [entry_at(0)?, entry_at(1)?, third_entry()?];
-    assert!(rt; extract_history(rt.alloc(), &Sha256Hash, &good, &good)?.is_none());
-    assert!(rt; extract_history(rt.alloc(), &Sha256Hash, &good, &[good[0], good[1]])?.is_none());
-    Ok(())
+    let [of_one, of_other, of_two] = PREIMAGES;
+    assert!(rt; give(&rt, alloc, &[one], &[other], of_one, of_other));
+    assert!(rt; give(&rt, alloc, &[one, two], &[other, two], of_one, of_other));
+    assert!(rt; give(&rt, alloc, &[one], &[one, two], of_one, of_two));
+}
+
+/// Histories that are the same, or of which one has no entry, or under SHA-256, of which no collision is known.
+#[test]
+fn histories_without_a_collision(rt: HostRuntime) {
+    let alloc = rt.alloc();
+    let one = [flat_entry(1, 0, 0)];
+    assert!(rt; give_nothing(&rt, alloc, &Flat, &one, &one));
+    assert!(rt; give_nothing(&rt, alloc, &Flat, &[], &one));
+    let good = good_chain(&rt);
+    assert!(rt; give_nothing(&rt, alloc, &Sha256Hash, &good, &good));
+    assert!(rt; give_nothing(&rt, alloc, &Sha256Hash, &good, &good[..2]));
 }
