@@ -12,9 +12,11 @@ use crate::part::{Change, Part};
 use crate::table::{Record, RecordNo, Root};
 use crate::tree::Tree;
 use coniks_proof::{
-    Binding, Bytes, Digest, Hash32, Index, MAX_LEVEL, Nonce, Opening, Prefix, Proof, commit_hash,
+    Answer, Binding, Bytes, Digest, Hash32, Index, MAX_LEVEL, Nonce, Opening, Prefix, Proof,
+    Sha256Hash, check, commit_hash,
 };
 use std::alloc::{AllocError, Global};
+use std::process::Abort;
 
 pub const NONCE: Nonce = Nonce([0x11; 32]);
 
@@ -31,9 +33,11 @@ pub fn index_of(first: u8, last: u8) -> Index {
     Index(bytes)
 }
 
-/// A digest in lower case hexadecimal.
-pub fn digits(alloc: Global, digest: &Digest) -> Result<String, AllocError> {
-    hex::encode(alloc, &digest.0)
+/// The digest with these hexadecimal digits.
+pub fn digest(rt: &impl Abort, digits: &str) -> Digest {
+    let mut bytes = [0; 32];
+    hex::decode_to_slice(digits, &mut bytes).expect(rt, "64 digits");
+    Digest(bytes)
 }
 
 fn record_of<H: Hash32>(alloc: Global, h: &H, bound: Bound) -> Result<Record, AllocError> {
@@ -121,6 +125,19 @@ fn part_before(tree: &Tree, older: Option<Root>, prefix: &Prefix) -> Part
     }
 }
 
+/// Whether the path to a name of this index is accepted, with this answer.
+pub fn answers(
+    rt: &impl Abort,
+    epochs: &Epochs<Sha256Hash>,
+    root: Root,
+    index: &Index,
+    name: &[u8],
+    answer: Answer<'_>,
+) -> bool {
+    let path = epochs.path(root, index).expect(rt, "memory");
+    check(&Sha256Hash, &NONCE, &epochs.hash(root), index, name, &path) == Ok(answer)
+}
+
 /// An epoch's root, and how many nodes it took.
 #[derive(Clone, Copy, Debug)]
 pub struct Added {
@@ -174,11 +191,6 @@ impl<H: Hash32> Epochs<H> {
         } else {
             Digest([0; 32])
         }
-    }
-
-    /// The hash of a root in lower case hexadecimal.
-    pub fn root_digits(&self, root: Root) -> Result<String, AllocError> {
-        digits(self.alloc, &self.hash(root))
     }
 
     /// The number of the record at an index, if the tree has such a root and it such a record.
