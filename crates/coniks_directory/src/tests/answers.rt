@@ -4,8 +4,8 @@ use crate::directory::Directory;
 use crate::lookup::LookupFault;
 use crate::source::IndexSource;
 use crate::tests::clerk::{Letters, NONCE};
-use coniks_proof::{Answer, Hash32, check};
-use std::alloc::{AllocError, Global};
+use coniks_proof::{Answer, Digest, Proof, Sha256Hash, check};
+use std::process::Abort;
 
 /// What a lookup tells, once its proof is checked against the epoch's root.
 #[derive(Clone, Copy, Debug, PartialEq, Eq)]
@@ -20,33 +20,52 @@ pub enum Told {
     Key(usize, u8),
 }
 
-/// Looks a name up at an epoch, and checks the proof.
-pub fn asked<H: Hash32>(directory: &Directory<H, Letters>, h: &H, t: u64, name: &str) -> Told {
-    let name = name.as_bytes();
-    let proof = match directory.lookup(t, name) {
-        Ok(proof) => proof,
-        Err(fault) => return Told::Missed(fault),
-    };
-    let Some(root) = directory.root_at(t) else {
-        return Told::Refused;
-    };
+/// What a proof tells of a name under a root.
+fn told_by(root: &Digest, name: &[u8], proof: &Proof) -> Told {
     let siblings = proof.siblings.as_slice().len();
-    let index = Letters.index(name);
-    match check(h, &NONCE, &root, &index, name, &proof) {
+    match check(&Sha256Hash, &NONCE, root, &Letters.index(name), name, proof) {
         Err(_) => Told::Refused,
         Ok(Answer::Absent) => Told::Absent(siblings),
         Ok(Answer::Key(key)) => Told::Key(siblings, key.first().copied().unwrap_or(0)),
     }
 }
 
-/// The root of an epoch in lower case hexadecimal; nothing where there is no such epoch.
-pub fn root_digits<H: Hash32>(
-    alloc: Global,
-    directory: &Directory<H, Letters>,
-    t: u64,
-) -> Result<String, AllocError> {
-    match directory.root_at(t) {
-        Some(root) => Ok(hex::encode(alloc, &root.0)?),
-        None => Ok(String::new(alloc)),
+/// Looks a name up at an epoch, and checks the proof.
+pub fn asked(directory: &Directory<Sha256Hash, Letters>, t: u64, name: &str) -> Told {
+    let name = name.as_bytes();
+    let root = directory.root_at(t);
+    match directory.lookup(t, name) {
+        Ok(proof) => match root {
+            Some(root) => told_by(&root, name, &proof),
+            None => Told::Refused,
+        },
+        Err(fault) => Told::Missed(fault),
     }
+}
+
+/// A lookup at an epoch, of a name, and what it tells.
+pub type Lookup<'a> = (u64, &'a str, Told);
+
+/// Asserts what each lookup tells.
+pub fn are_told(
+    rt: &impl Abort,
+    directory: &Directory<Sha256Hash, Letters>,
+    lookups: &[Lookup<'_>],
+) {
+    for &(t, name, want) in lookups {
+        let told = asked(directory, t, name);
+        assert!(rt; told == want, "of `{name}` at {t}: {told:?}");
+    }
+}
+
+/// The bytes with these hexadecimal digits.
+pub fn decoded<const N: usize>(rt: &impl Abort, digits: &str) -> [u8; N] {
+    let mut bytes = [0; N];
+    hex::decode_to_slice(digits, &mut bytes).expect(rt, "two digits for each byte");
+    bytes
+}
+
+/// The digest with these hexadecimal digits.
+pub fn digest(rt: &impl Abort, digits: &str) -> Digest {
+    Digest(decoded(rt, digits))
 }

@@ -3,13 +3,12 @@
 use crate::batch::OpKind::{Change, Register};
 use crate::batch::{BatchFault, Op, OpFault, OpKind};
 use crate::directory::Directory;
-use crate::tests::answers::{Told, asked, root_digits};
-use crate::tests::clerk::{Clerk, Letters, NONCE, POLICY, Written, ops_of};
+use crate::tests::answers::{Told, asked, digest};
+use crate::tests::clerk::{Clerk, Letters, NONCE, POLICY, Written, ops_of, with_clerk};
 use coniks_proof::{Bytes, Opening, Sha256Hash};
-use coniks_shared::Board;
 use coniks_work::Open;
-use std::alloc::{AllocError, Global};
-use std::test::Fail;
+use std::alloc::Global;
+use std::process::Abort;
 use std::thread::Threads;
 
 /// The fault of a batch on a new directory.
@@ -33,68 +32,71 @@ fn place_of(fault: Option<BatchFault>) -> Option<(usize, OpFault)> {
 }
 
 /// An operation with a name and a key of so many bytes `b`, at most 4,097.
-pub fn sized(alloc: Global, name: usize, key: usize) -> Result<Op, AllocError> {
+pub fn sized(rt: &impl Abort, alloc: Global, name: usize, key: usize) -> Op {
     let letters = [b'b'; 4097];
-    Ok(Op {
+    let (name, key) = (letters.get(..name), letters.get(..key));
+    Op {
         kind: OpKind::Register,
-        name: Bytes::copy_of(alloc, letters.get(..name).unwrap_or(&[]))?,
-        key: Bytes::copy_of(alloc, letters.get(..key).unwrap_or(&[]))?,
+        name: Bytes::copy_of(alloc, name.unwrap_or(&[])).expect(rt, "memory"),
+        key: Bytes::copy_of(alloc, key.unwrap_or(&[])).expect(rt, "memory"),
         opening: Opening([0x22; 32]),
-    })
+    }
+}
+
+/// So many operations with no name.
+fn nameless(rt: &impl Abort, alloc: Global, count: usize) -> Vec<Op> {
+    let mut ops = Vec::new(alloc);
+    for _ in 0..count {
+        ops.push(sized(rt, alloc, 0, 0)).expect(rt, "memory");
+    }
+    ops
 }
 
 /// The fault of so many operations with no name.
-fn fault_of_many<R: Threads + Sync>(
+fn fault_of_many<R: Threads + Sync + Abort>(
     rt: &R,
     alloc: Global,
     count: usize,
     depth: usize,
     workers: usize,
-) -> Result<Option<BatchFault>, AllocError> {
-    let mut ops = Vec::new(alloc);
-    for _ in 0..count {
-        ops.push(sized(alloc, 0, 0)?)?;
-    }
-    Ok(fault_of(rt, alloc, &ops, depth, workers))
+) -> Option<BatchFault> {
+    fault_of(rt, alloc, &nameless(rt, alloc, count), depth, workers)
 }
 
 /// Workers, depth and the number of operations, in this order and before any operation.
 #[test]
-fn limits(rt: HostRuntime) -> Result<(), Fail> {
+fn limits(rt: HostRuntime) {
     let no_name = BatchFault::At {
         position: 0,
         fault: OpFault::NameLength,
     };
-    for (count, depth, workers, fault) in [
+    for &(count, depth, workers, fault) in &[
         (4097, 9, 0, BatchFault::Workers),
         (4097, 9, 65, BatchFault::Workers),
         (4097, 9, 64, BatchFault::Depth),
         (4097, 8, 1, BatchFault::BatchTooLong),
         (4096, 8, 64, no_name),
     ] {
-        assert_eq!(rt;
-            fault_of_many(&rt, rt.alloc(), count, depth, workers)?,
-            Some(fault)
-        );
+        let got = fault_of_many(&rt, rt.alloc(), count, depth, workers);
+        assert_eq!(rt; got, Some(fault));
     }
-    Ok(())
 }
 
 /// The fault of a batch that registers `b` and then a name and a key of so many bytes `b`.
-fn second_of_size<R: Threads + Sync>(
+fn second_of_size<R: Threads + Sync + Abort>(
     rt: &R,
     alloc: Global,
     name: usize,
     key: usize,
-) -> Result<Option<(usize, OpFault)>, AllocError> {
-    let mut ops = ops_of(alloc, &[(Register, "b", "k")])?;
-    ops.push(sized(alloc, name, key)?)?;
-    Ok(place_of(fault_of(rt, alloc, &ops, 0, 1)))
+) -> Option<(usize, OpFault)> {
+    let mut ops = ops_of(alloc, &[B]).expect(rt, "memory");
+    ops.push(sized(rt, alloc, name, key)).expect(rt, "memory");
+    place_of(fault_of(rt, alloc, &ops, 0, 1))
 }
 
 /// The longest name and key, and one byte more; the name comes before the key, and both before the name's first use.
 #[test]
-fn lengths(rt: HostRuntime) -> Result<(), Fail> {
+fn lengths(rt: HostRuntime) {
     for (name, key, fault) in [
         (255, 4096, None),
         (256, 4097, Some((1, OpFault::NameLength))),
@@ -103,125 +105,144 @@ fn lengths(rt: HostRuntime) -> Result<(), Fail> {
         (1, 0, Some((1, OpFault::KeyLength))),
         (1, 4096, Some((1, OpFault::NameTwice))),
     ] {
-        assert_eq!(rt; second_of_size(&rt, rt.alloc(), name, key)?, fault);
+        assert_eq!(rt; second_of_size(&rt, rt.alloc(), name, key), fault);
     }
-    Ok(())
 }
 
-/// The first operation at fault of a batch, on the registry that another batch leaves, and its first fault.
-fn fault_after<R: Threads + Sync>(
+const A: Written = (Register, b'a', b'k');
+
+const B: Written = (Register, b'b', b'k');
+
+const P: Written = (Register, b'p', b'k');
+
+const Q: Written = (Register, b'q', b'k');
+
+/// The fault of a batch on the registry that another batch leaves.
+fn fault_on<R: Threads + Sync + Abort>(
+    rt: &R,
+    clerk: &mut Clerk<Sha256Hash>,
+    before: &[Written],
+    written: &[Written],
+) -> Option<BatchFault> {
+    assert!(rt; clerk.commit(rt, 1, before).is_ok());
+    let ops = ops_of(clerk.alloc, written).expect(rt, "memory");
+    clerk.directory.prepare(rt, &ops, 0, 1, &Open).err()
+}
+
+/// The first operation at fault of a batch, on the registry that another batch leaves in a new directory, and its fault.
+fn fault_after<R: Threads + Sync + Abort>(
     rt: &R,
     alloc: Global,
     before: &[Written],
     written: &[Written],
-) -> Result<Option<(usize, OpFault)>, AllocError> {
-    let Ok((board, publisher)) = Board::new(alloc, 1) else {
-        return Err(AllocError);
-    };
-    let mut clerk = Clerk::new(alloc, Sha256Hash, &board, publisher, u64::MAX);
-    let _ = clerk.commit(rt, 1, before);
-    let ops = ops_of(alloc, written)?;
-    Ok(place_of(clerk.directory.prepare(rt, &ops, 0, 1, &Open).err()))
+) -> Option<(usize, OpFault)> {
+    with_clerk(rt, alloc, 1, u64::MAX, |clerk| {
+        place_of(fault_on(rt, clerk, before, written))
+    })
+}
+
+/// A batch that is refused: the one before it, its operations, the place of the first one at fault, and its first fault.
+type Refused<'a> = (&'a [Written], &'a [Written], usize, OpFault);
+
+/// Asserts the first fault of each batch.
+fn are_refused<R: Threads + Sync + Abort>(rt: &R, alloc: Global, batches: &[Refused<'_>]) {
+    for &(before, written, position, fault) in batches {
+        let want = Some((position, fault));
+        assert_eq!(rt;
+            fault_after(rt, alloc, before, written),
+            want,
+            "of {written:?}"
+        );
+    }
 }
 
 /// Names that come twice or are taken.
 #[test]
-fn twice_or_taken(rt: HostRuntime) -> Result<(), Fail> {
-    let a = [(Register, "a", "k")];
-    let twice = [(Register, "b", "k"), (Register, "b", "k")];
-    assert_eq!(rt;
-        fault_after(&rt, rt.alloc(), &a, &twice)?,
-        Some((1, OpFault::NameTwice))
+fn twice_or_taken(rt: HostRuntime) {
+    are_refused(
+        &rt,
+        rt.alloc(),
+        &[
+            (&[A], &[B, B], 1, OpFault::NameTwice),
+            (&[A], &[A], 0, OpFault::NameTaken),
+            (&[A], &[(Change, b'a', b'l'), A], 1, OpFault::NameTwice),
+        ],
     );
-    assert_eq!(rt;
-        fault_after(&rt, rt.alloc(), &a, &a)?,
-        Some((0, OpFault::NameTaken))
-    );
-    let both = [(Change, "a", "l"), (Register, "a", "k")];
-    assert_eq!(rt;
-        fault_after(&rt, rt.alloc(), &a, &both)?,
-        Some((1, OpFault::NameTwice))
-    );
-    Ok(())
 }
 
 /// A name that is unknown, and the first of two operations at fault.
 #[test]
-fn unknown_or_first(rt: HostRuntime) -> Result<(), Fail> {
-    let a = [(Register, "a", "k")];
-    let unknown = [(Change, "a", "l"), (Change, "b", "l")];
-    assert_eq!(rt;
-        fault_after(&rt, rt.alloc(), &a, &unknown)?,
-        Some((1, OpFault::NameUnknown))
+fn unknown_or_first(rt: HostRuntime) {
+    let changes = [(Change, b'a', b'l'), (Change, b'b', b'l')];
+    are_refused(
+        &rt,
+        rt.alloc(),
+        &[
+            (&[A], &changes, 1, OpFault::NameUnknown),
+            (&[A], &[A, B, B], 0, OpFault::NameTaken),
+        ],
     );
-    let taken = [
-        (Register, "a", "k"),
-        (Register, "b", "k"),
-        (Register, "b", "k"),
-    ];
-    assert_eq!(rt;
-        fault_after(&rt, rt.alloc(), &a, &taken)?,
-        Some((0, OpFault::NameTaken))
-    );
-    Ok(())
 }
 
 /// Two names with one index, in one batch and in two.
 #[test]
-fn one_index(rt: HostRuntime) -> Result<(), Fail> {
-    let p = [(Register, "p", "k")];
-    let both = [(Register, "p", "k"), (Register, "q", "k")];
-    assert_eq!(rt;
-        fault_after(&rt, rt.alloc(), &[], &both)?,
-        Some((1, OpFault::IndexClash))
+fn one_index(rt: HostRuntime) {
+    are_refused(
+        &rt,
+        rt.alloc(),
+        &[
+            (&[], &[P, Q], 1, OpFault::IndexClash),
+            (&[P], &[Q], 0, OpFault::IndexClash),
+            (&[P], &[(Change, b'q', b'k')], 0, OpFault::NameUnknown),
+        ],
     );
-    let registered = [(Register, "q", "k")];
-    assert_eq!(rt;
-        fault_after(&rt, rt.alloc(), &p, &registered)?,
-        Some((0, OpFault::IndexClash))
-    );
-    let changed = [(Change, "q", "k")];
-    assert_eq!(rt;
-        fault_after(&rt, rt.alloc(), &p, &changed)?,
-        Some((0, OpFault::NameUnknown))
-    );
-    Ok(())
 }
 
 /// Whether three names and then a change of one, committed at a depth with so many workers, have the nodes, the root and
 /// the answers that they have.
-fn is_same<R: Threads + Sync>(
+fn is_same<R: Threads + Sync + Abort>(
+    rt: &R,
+    clerk: &mut Clerk<Sha256Hash>,
+    depth: usize,
+    workers: usize,
+) -> bool {
+    let three = [A, B, (Register, b'c', b'k')];
+    let change = [(Change, b'b', b'l')];
+    let root = "3561a57a963e7a5b825887fc338f85e89b699fc6361bcb0f383fa49ae4b04042";
+    clerk
+        .commit_by(rt, 1, &three, depth, workers, &Open)
+        .is_ok()
+        && clerk
+            .commit_by(rt, 2, &change, depth, workers, &Open)
+            .is_ok()
+        && clerk.directory.nodes() == 7
+        && clerk.directory.root_at(2) == Some(digest(rt, root))
+        && asked(&clerk.directory, 1, "b") == Told::Key(1, b'k')
+        && asked(&clerk.directory, 2, "b") == Told::Key(1, b'l')
+}
+
+/// Whether a crew makes of these batches what each crew does.
+fn makes_same<R: Threads + Sync + Abort>(
     rt: &R,
     alloc: Global,
     depth: usize,
     workers: usize,
-) -> Result<bool, AllocError> {
-    let Ok((board, publisher)) = Board::new(alloc, 2) else {
-        return Err(AllocError);
-    };
-    let mut clerk = Clerk::new(alloc, Sha256Hash, &board, publisher, u64::MAX);
-    let three = [
-        (Register, "a", "k"),
-        (Register, "b", "k"),
-        (Register, "c", "k"),
-    ];
-    let _ = clerk.commit_by(rt, 1, &three, depth, workers, &Open);
-    let _ = clerk.commit_by(rt, 2, &[(Change, "b", "l")], depth, workers, &Open);
-    let root = root_digits(alloc, &clerk.directory, 2)?;
-    Ok(
-        clerk.directory.nodes() == 7
-            && root.as_str() == "3561a57a963e7a5b825887fc338f85e89b699fc6361bcb0f383fa49ae4b04042"
-            && asked(&clerk.directory, &Sha256Hash, 1, "b") == Told::Key(1, b'k')
-            && asked(&clerk.directory, &Sha256Hash, 2, "b") == Told::Key(1, b'l'),
+) -> bool {
+    with_clerk(
+        rt,
+        alloc,
+        2,
+        u64::MAX,
+        |clerk| is_same(rt, clerk, depth, workers),
     )
 }
 
 #[test]
-fn same_for_every_crew(rt: HostRuntime) -> Result<(), Fail> {
-    for workers in [1, 2, 7, 64] {
-        for depth in [0, 1, 8] {
-            assert!(rt; is_same(&rt, rt.alloc(), depth, workers)?);
+fn same_for_every_crew(rt: HostRuntime) {
+    for &workers in &[1, 2, 7, 64] {
+        for &depth in &[0, 1, 8] {
+            let same = makes_same(&rt, rt.alloc(), depth, workers);
+            assert!(rt; same, "{workers} workers at depth {depth}");
         }
     }
-    Ok(())
 }

@@ -10,10 +10,11 @@ use crate::directory::Directory;
 use crate::source::IndexSource;
 use crate::update::{CommitFault, InstallFault, Prepared};
 use coniks_chain::{Body, Entry, Sign, Signature, Verify};
-use coniks_proof::{Bytes, Hash32, Index, Nonce, Opening};
-use coniks_shared::{Board, Publisher};
+use coniks_proof::{Bytes, Hash32, Index, Nonce, Opening, Sha256Hash};
+use coniks_shared::{Board, MAX_HEADS, Publisher, Watcher};
 use coniks_work::{Gate, Open};
 use std::alloc::{AllocError, Global};
+use std::process::Abort;
 use std::thread::Threads;
 
 pub const NONCE: Nonce = Nonce([0x11; 32]);
@@ -139,21 +140,24 @@ impl Sign for Stamp {
     }
 }
 
-/// An operation as the tests write it: its kind, its name and its key.
-pub type Written<'a> = (OpKind, &'a str, &'a str);
+/// An operation as the tests write it: its kind, its name and its key, each of one letter.
+pub type Written = (OpKind, u8, u8);
+
+fn op_of(alloc: Global, written: Written) -> Result<Op, AllocError> {
+    let (kind, name, key) = written;
+    Ok(Op {
+        kind,
+        name: Bytes::copy_of(alloc, &[name])?,
+        key: Bytes::copy_of(alloc, &[key])?,
+        opening: OPENING,
+    })
+}
 
 /// The operations, each with the opening of 32 bytes 22.
 pub fn ops_of(alloc: Global, written: &[Written]) -> Result<Vec<Op>, AllocError> {
     let mut ops = Vec::new(alloc);
-    for (kind, name, key) in written {
-        let name = Bytes::copy_of(alloc, name.as_bytes())?;
-        let key = Bytes::copy_of(alloc, key.as_bytes())?;
-        ops.push(Op {
-            kind: *kind,
-            name,
-            key,
-            opening: OPENING,
-        })?;
+    for &one in written {
+        ops.push(op_of(alloc, one)?)?;
     }
     Ok(ops)
 }
@@ -192,6 +196,14 @@ impl<'a, H: Hash32 + Sync> Clerk<'a, H> {
         }
     }
 
+    /// A watcher of the board.
+    pub fn watcher(&mut self, rt: &impl Abort) -> Watcher
+        ensures board { self.new.board.now.table ≡ self.old.board.now.table }
+        ensures watcher { result.table ≡ self.new.board.now.table }
+    {
+        self.publisher.watcher(self.board).expect(rt, "a watcher")
+    }
+
     /// Whether the signer may be asked once more.
     fn may_sign(&self) -> bool
         ensures { result ≡ true → (self.now.signer.made < 2 ^ 64 - 1) × (self.now.signer.refused < 2 ^ 64 - 1) }
@@ -199,7 +211,7 @@ impl<'a, H: Hash32 + Sync> Clerk<'a, H> {
         self.signer.made() < u64::MAX && self.signer.refused() < u64::MAX
     }
 
-    /// Commits a batch at depth 1 with two workers. It is `BatchTooLong` where there is no memory for the operations.
+    /// Commits a batch at depth 1 with two workers, as `commit_by` does.
     pub fn commit<R: Threads + Sync>(
         &mut self,
         rt: &R,
@@ -208,23 +220,14 @@ impl<'a, H: Hash32 + Sync> Clerk<'a, H> {
     ) -> Result<Entry, CommitFault>
         ensures { self.new.board.now.table ≡ self.old.board.now.table }
     {
-        let Ok(ops) = ops_of(self.alloc, written) else {
-            return Err(CommitFault::Batch(BatchFault::BatchTooLong));
-        };
-        if !self.may_sign() {
-            return Err(CommitFault::Batch(BatchFault::BatchTooLong));
-        }
-        self.directory.commit(
-            rt,
-            &ops,
-            1,
-            2,
-            &Open,
-            t,
-            &mut self.signer,
-            &mut self.publisher,
-            self.board,
-        )
+        self.commit_by(rt, t, written, 1, 2, &Open)
+    }
+
+    /// Registers the name `a` with the key `k`.
+    pub fn register_a<R: Threads + Sync>(&mut self, rt: &R, t: u64) -> Result<Entry, CommitFault>
+        ensures { self.new.board.now.table ≡ self.old.board.now.table }
+    {
+        self.commit(rt, t, &[(OpKind::Register, b'a', b'k')])
     }
 
     /// Prepares a batch at depth 1 with two workers. None where it is refused.
@@ -258,7 +261,9 @@ impl<'a, H: Hash32 + Sync> Clerk<'a, H> {
         depth: usize,
         workers: usize,
         gate: &G,
-    ) -> Result<Entry, CommitFault> {
+    ) -> Result<Entry, CommitFault>
+        ensures { self.new.board.now.table ≡ self.old.board.now.table }
+    {
         let Ok(ops) = ops_of(self.alloc, written) else {
             return Err(CommitFault::Batch(BatchFault::BatchTooLong));
         };
@@ -318,4 +323,21 @@ pub fn prepared<H: Hash32 + Sync, R: Threads + Sync>(
         Ok(update) => Some(update),
         Err(_) => None,
     }
+}
+
+/// Takes steps with the clerk of a new directory, whose board takes so many heads, at least 1, and whose signer refuses the
+/// call of this number.
+pub fn with_clerk<T, F: FnOnce(&mut Clerk<Sha256Hash>) -> T>(
+    rt: &impl Abort,
+    alloc: Global,
+    heads: usize,
+    refused_call: u64,
+    steps: F,
+) -> T
+    requires { F.IsAlwaysCallable steps }
+{
+    assert!(rt; 1 <= heads && heads <= MAX_HEADS);
+    let (board, publisher) = Board::new(alloc, heads).expect(rt, "a board");
+    let mut clerk = Clerk::new(alloc, Sha256Hash, &board, publisher, refused_call);
+    steps(&mut clerk)
 }

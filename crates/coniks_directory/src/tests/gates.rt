@@ -1,14 +1,13 @@
 //! Gates that hold a job until others have come, or count, and the workers of one batch that pass them.
 
 use crate::batch::OpKind::Register;
-use crate::tests::answers::root_digits;
-use crate::tests::clerk::{Clerk, Written};
-use coniks_proof::Sha256Hash;
-use coniks_shared::Board;
+use crate::tests::answers::digest;
+use crate::tests::clerk::{Written, with_clerk};
+use coniks_proof::Digest;
 use coniks_work::Gate;
-use std::alloc::{AllocError, Global};
+use std::alloc::Global;
+use std::process::Abort;
 use std::sync::atomic::{AtomicU64, Ordering};
-use std::test::Fail;
 use std::thread::Threads;
 
 /// Holds the first job until so many have come in all, and notes whether they did.
@@ -89,62 +88,55 @@ impl Gate for Counts {
     }
 }
 
-/// The root of a first epoch that is built at a depth by workers that pass a gate; nothing where it is refused.
-fn first_root<G: Gate + Sync, R: Threads + Sync>(
+/// The root of a first epoch that is built at a depth by workers that pass a gate. None where it is refused.
+fn first_root<G: Gate + Sync, R: Threads + Sync + Abort>(
     rt: &R,
     alloc: Global,
     written: &[Written],
     depth: usize,
     workers: usize,
     gate: &G,
-) -> Result<String, AllocError> {
-    let Ok((board, publisher)) = Board::new(alloc, 1) else {
-        return Err(AllocError);
-    };
-    let mut clerk = Clerk::new(alloc, Sha256Hash, &board, publisher, u64::MAX);
-    let _ = clerk.commit_by(rt, 1, written, depth, workers, gate);
-    Ok(root_digits(alloc, &clerk.directory, 1)?)
+) -> Option<Digest> {
+    with_clerk(rt, alloc, 1, u64::MAX, |clerk| {
+        let _ = clerk.commit_by(rt, 1, written, depth, workers, gate);
+        clerk.directory.root_at(1)
+    })
 }
 
-const FOUR: [Written<'static>; 4] = [
-    (Register, "a", "k"),
-    (Register, "b", "k"),
-    (Register, "c", "k"),
-    (Register, "d", "k"),
+const FOUR: [Written; 4] = [
+    (Register, b'a', b'k'),
+    (Register, b'b', b'k'),
+    (Register, b'c', b'k'),
+    (Register, b'd', b'k'),
 ];
 
 const OF_FOUR: &str = "0d10d652bba80545e24f4d5e24bf33580588fb0d17ee964d3213748e6d7e6145";
 
 /// Of two jobs the first is held until the second has come, so they are on two threads.
 #[test]
-fn two_jobs_at_once(rt: HostRuntime) -> Result<(), Fail> {
+fn two_jobs_at_once(rt: HostRuntime) {
     let gate = Meeting::of(2);
-    let both = [(Register, "a", "k"), (Register, "b", "k")];
-    let root = first_root(&rt, rt.alloc(), &both, 1, 2, &gate)?;
+    let both = [(Register, b'a', b'k'), (Register, b'b', b'k')];
+    let root = first_root(&rt, rt.alloc(), &both, 1, 2, &gate);
     assert!(rt; gate.met());
-    assert_eq!(rt;
-        root.as_str(),
-        "46de554c28df523fe8bbcbf7cf90c45cc1f44d29be6fc4bf4fa5fd416437b6ba"
-    );
-    Ok(())
+    let want = "46de554c28df523fe8bbcbf7cf90c45cc1f44d29be6fc4bf4fa5fd416437b6ba";
+    assert!(rt; root == Some(digest(&rt, want)));
 }
 
 /// Three workers do each of four jobs once.
 #[test]
-fn entered_once(rt: HostRuntime) -> Result<(), Fail> {
+fn entered_once(rt: HostRuntime) {
     let gate = Counts::new();
-    let root = first_root(&rt, rt.alloc(), &FOUR, 8, 3, &gate)?;
+    let root = first_root(&rt, rt.alloc(), &FOUR, 8, 3, &gate);
     assert!(rt; gate.once_each());
-    assert_eq!(rt; root.as_str(), OF_FOUR);
-    Ok(())
+    assert!(rt; root == Some(digest(&rt, OF_FOUR)));
 }
 
 /// Of two workers one is held at its job until the other has come with the three that are left.
 #[test]
-fn draws_move(rt: HostRuntime) -> Result<(), Fail> {
+fn draws_move(rt: HostRuntime) {
     let gate = Meeting::of(4);
-    let root = first_root(&rt, rt.alloc(), &FOUR, 8, 2, &gate)?;
+    let root = first_root(&rt, rt.alloc(), &FOUR, 8, 2, &gate);
     assert!(rt; gate.met());
-    assert_eq!(rt; root.as_str(), OF_FOUR);
-    Ok(())
+    assert!(rt; root == Some(digest(&rt, OF_FOUR)));
 }

@@ -2,11 +2,11 @@
 
 use crate::batch::OpKind::{Change, Register};
 use crate::batch::{BatchFault, OpFault};
-use crate::tests::clerk::{Clerk, Written};
+use crate::tests::clerk::{Clerk, Written, with_clerk};
 use crate::update::{CommitFault, InstallFault};
+use coniks_chain::Entry;
 use coniks_proof::Sha256Hash;
-use coniks_shared::Board;
-use std::test::Fail;
+use std::process::Abort;
 use std::thread::Threads;
 
 /// How often the signer signed and refused, how many entries there are, and how many heads are published.
@@ -30,53 +30,62 @@ fn refusal<R: Threads + Sync>(
     clerk.commit(rt, t, written).err()
 }
 
-/// An epoch that isn't later, as the first one and as the second.
-#[test]
-fn not_later(rt: HostRuntime) -> Result<(), Fail> {
-    let Ok((board, publisher)) = Board::new(rt.alloc(), 4) else {
-        panic!(rt; "no board")
-    };
-    let mut clerk = Clerk::new(rt.alloc(), Sha256Hash, &board, publisher, u64::MAX);
-    let not_later = |latest: u64| Some(CommitFault::Install(InstallFault::EpochNotLater {
-        latest,
-    }));
-    assert_eq!(rt; refusal(&rt, &mut clerk, 0, &[]), not_later(0));
-    assert!(rt; clerk.commit(&rt, 4, &[(Register, "a", "k")]).is_ok());
-    assert_eq!(rt; refusal(&rt, &mut clerk, 4, &[]), not_later(4));
+/// The fault of an epoch that isn't later than the latest one.
+fn not_later_than(latest: u64) -> Option<CommitFault> {
+    Some(CommitFault::Install(InstallFault::EpochNotLater { latest }))
+}
+
+/// Commits that are refused, and what they leave.
+fn commit_not_later<R: Threads + Sync + Abort>(rt: &R, clerk: &mut Clerk<Sha256Hash>) {
+    assert!(rt; refusal(rt, clerk, 0, &[]) == not_later_than(0));
+    assert!(rt; clerk.register_a(rt, 4).is_ok());
+    assert!(rt; refusal(rt, clerk, 4, &[]) == not_later_than(4));
     let at_fault = CommitFault::Batch(BatchFault::At {
         position: 0,
         fault: OpFault::NameTaken,
     });
-    assert_eq!(rt;
-        refusal(&rt, &mut clerk, 4, &[(Register, "a", "k")]),
-        Some(at_fault)
-    );
-    assert_eq!(rt; counts(&clerk), (1, 0, 1, 1));
-    Ok(())
+    assert!(rt; clerk.register_a(rt, 4) == Err(at_fault));
+    assert!(rt; counts(clerk) == (1, 0, 1, 1));
+}
+
+/// An epoch that isn't later, as the first one and as the second.
+#[test]
+fn not_later(rt: HostRuntime) {
+    with_clerk(&rt, rt.alloc(), 4, u64::MAX, |clerk| {
+        commit_not_later(&rt, clerk);
+    });
+}
+
+const SECOND: [Written; 2] = [(Change, b'a', b'l'), (Register, b'c', b'k')];
+
+/// The entry of a second epoch where the signer refuses nothing.
+fn unrefused_entry<R: Threads + Sync + Abort>(rt: &R, clerk: &mut Clerk<Sha256Hash>) -> Entry {
+    assert!(rt; clerk.register_a(rt, 1).is_ok());
+    clerk.commit(rt, 4, &SECOND).expect(rt, "a second entry")
+}
+
+/// Commits a first epoch, and a second one, which the signer refuses.
+fn commit_refused<R: Threads + Sync + Abort>(rt: &R, clerk: &mut Clerk<Sha256Hash>) {
+    assert!(rt; clerk.register_a(rt, 1).is_ok());
+    let refused = Some(CommitFault::Install(InstallFault::SignerRefused));
+    assert!(rt; refusal(rt, clerk, 4, &SECOND) == refused);
+    assert!(rt; counts(clerk) == (1, 1, 1, 1));
+    assert!(rt; clerk.directory.nodes() == 1);
+}
+
+/// The entry of a second epoch where the signer refuses its second call.
+fn entry_after_refusal<R: Threads + Sync + Abort>(rt: &R, clerk: &mut Clerk<Sha256Hash>) -> Entry {
+    commit_refused(rt, clerk);
+    let entry = clerk.commit(rt, 4, &SECOND).expect(rt, "a second entry");
+    assert!(rt; counts(clerk) == (2, 1, 2, 2));
+    entry
 }
 
 /// A signer that refuses its second call: the next install gives the entry that the second would have been.
 #[test]
-fn signer_refuses(rt: HostRuntime) -> Result<(), Fail> {
-    let Ok((board, publisher)) = Board::new(rt.alloc(), 4) else {
-        panic!(rt; "no board")
-    };
-    let mut clerk = Clerk::new(rt.alloc(), Sha256Hash, &board, publisher, 1);
-    let Ok((other_board, publisher)) = Board::new(rt.alloc(), 4) else {
-        panic!(rt; "no board")
-    };
-    let mut other = Clerk::new(rt.alloc(), Sha256Hash, &other_board, publisher, u64::MAX);
-    let second = [(Change, "a", "l"), (Register, "c", "k")];
-    assert!(rt; clerk.commit(&rt, 1, &[(Register, "a", "k")]).is_ok());
-    assert!(rt; other.commit(&rt, 1, &[(Register, "a", "k")]).is_ok());
-    let refused = Some(CommitFault::Install(InstallFault::SignerRefused));
-    assert_eq!(rt; refusal(&rt, &mut clerk, 4, &second), refused);
-    assert_eq!(rt; counts(&clerk), (1, 1, 1, 1));
-    assert_eq!(rt; clerk.directory.nodes(), 1);
-    assert_eq!(rt;
-        clerk.commit(&rt, 4, &second).ok(),
-        other.commit(&rt, 4, &second).ok()
-    );
-    assert_eq!(rt; counts(&clerk), (2, 1, 2, 2));
-    Ok(())
+fn signer_refuses(rt: HostRuntime) {
+    let alloc = rt.alloc();
+    let unrefused = with_clerk(&rt, alloc, 4, u64::MAX, |clerk| unrefused_entry(&rt, clerk));
+    let entry = with_clerk(&rt, alloc, 4, 1, |clerk| entry_after_refusal(&rt, clerk));
+    assert!(rt; entry == unrefused);
 }

@@ -8,7 +8,7 @@ use crate::tests::clerk::{Clerk, Written};
 use crate::update::{CommitFault, InstallFault};
 use coniks_proof::Sha256Hash;
 use coniks_shared::Board;
-use std::test::Fail;
+use std::process::Abort;
 use std::thread::Threads;
 
 /// Whether memory was refused: in a commit, or to the clerk for the operations.
@@ -50,42 +50,37 @@ fn commits<R: Threads + Sync>(
 
 /// Looks a name up, once more where memory is refused.
 fn asked_again(clerk: &Clerk<Sha256Hash>, t: u64, name: &str) -> Told {
-    match asked(&clerk.directory, &Sha256Hash, t, name) {
-        Told::Missed(LookupFault::OutOfMemory) => asked(&clerk.directory, &Sha256Hash, t, name),
+    match asked(&clerk.directory, t, name) {
+        Told::Missed(LookupFault::OutOfMemory) => asked(&clerk.directory, t, name),
         told => told,
     }
 }
 
+/// Commits two batches, and looks at what they leave.
+fn commit_both<R: Threads + Sync + Abort>(rt: &R, clerk: &mut Clerk<Sha256Hash>) {
+    let first = [(Register, b'a', b'k'), (Register, b'b', b'k')];
+    assert!(rt; commits(rt, clerk, 1, &first));
+    let second = [(Change, b'b', b'l'), (Register, b'c', b'k')];
+    assert!(rt; commits(rt, clerk, 2, &second));
+    assert!(rt; sizes(clerk) == (8, 2, 2));
+}
+
+/// Looks names up in both epochs.
+fn ask_both(rt: &impl Abort, clerk: &Clerk<Sha256Hash>) {
+    assert!(rt; asked_again(clerk, 1, "b") == Told::Key(1, b'k'));
+    assert!(rt; asked_again(clerk, 2, "b") == Told::Key(1, b'l'));
+    assert!(rt; asked_again(clerk, 2, "d") == Told::Absent(2));
+}
+
 /// Each growth can be made to fail by `rt try --test --fail-alloc`: the same call then does what it did without.
 #[test]
-fn refused_in_turn(rt: HostRuntime) -> Result<(), Fail> {
+fn refused_in_turn(rt: HostRuntime) {
     let made = match Board::new(rt.alloc(), 4) {
         Err(_) => Board::new(rt.alloc(), 4),
         made => made,
     };
-    let Ok((board, publisher)) = made else {
-        panic!(rt; "no board")
-    };
+    let (board, publisher) = made.expect(&rt, "a board");
     let mut clerk = Clerk::new(rt.alloc(), Sha256Hash, &board, publisher, u64::MAX);
-    assert!(rt;
-        commits(
-            &rt,
-            &mut clerk,
-            1,
-            &[(Register, "a", "k"), (Register, "b", "k")]
-        )
-    );
-    assert!(rt;
-        commits(
-            &rt,
-            &mut clerk,
-            2,
-            &[(Change, "b", "l"), (Register, "c", "k")]
-        )
-    );
-    assert_eq!(rt; sizes(&clerk), (8, 2, 2));
-    assert_eq!(rt; asked_again(&clerk, 1, "b"), Told::Key(1, b'k'));
-    assert_eq!(rt; asked_again(&clerk, 2, "b"), Told::Key(1, b'l'));
-    assert_eq!(rt; asked_again(&clerk, 2, "d"), Told::Absent(2));
-    Ok(())
+    commit_both(&rt, &mut clerk);
+    ask_both(&rt, &clerk);
 }

@@ -5,14 +5,14 @@ ghost use Rattle.std.specs.Prelude.{◌≡◌};
 use crate::batch::OpKind::Register;
 use crate::directory::Directory;
 use crate::tests::answers::{Told, asked};
-use crate::tests::clerk::{Clerk, Letters, ops_of};
+use crate::tests::clerk::{Clerk, Letters, ops_of, with_clerk};
 use coniks_chain::link;
 use coniks_proof::{Head, Sha256Hash};
 use coniks_shared::{Board, Watcher};
 use coniks_work::Gate;
 use std::alloc::Global;
+use std::process::Abort;
 use std::sync::atomic::{AtomicU64, Ordering};
-use std::test::Fail;
 use std::thread;
 use std::thread::Threads;
 
@@ -67,7 +67,7 @@ fn prepares<R: Threads + Sync>(
     directory: &Directory<Sha256Hash, Letters>,
     gate: &Until,
 ) -> bool {
-    match ops_of(alloc, &[(Register, "b", "k")]) {
+    match ops_of(alloc, &[(Register, b'b', b'k')]) {
         Ok(ops) => directory.prepare(rt, &ops, 1, 2, gate).is_ok(),
         Err(_) => false,
     }
@@ -75,7 +75,7 @@ fn prepares<R: Threads + Sync>(
 
 /// Looks the name up once, and tells the gate.
 fn looks_up(directory: &Directory<Sha256Hash, Letters>, gate: &Until) -> bool {
-    let told = asked(directory, &Sha256Hash, 1, "a");
+    let told = asked(directory, 1, "a");
     gate.one_did();
     told == Told::Key(0, b'k')
 }
@@ -94,23 +94,35 @@ fn both_look_up<R: Threads + Sync>(
     one && other
 }
 
+/// Whether a batch is prepared while two threads look up.
+fn prepares_beside<R: Threads + Sync>(
+    rt: &R,
+    alloc: Global,
+    directory: &Directory<Sha256Hash, Letters>,
+    gate: &Until,
+) -> bool {
+    let (prepared, both) = thread::join(
+        rt,
+        || prepares(rt, alloc, directory, gate),
+        || both_look_up(rt, directory, gate),
+    );
+    prepared && both
+}
+
+/// Commits an epoch, and prepares the next batch beside two lookups.
+fn prepare_held<R: Threads + Sync + Abort>(rt: &R, clerk: &mut Clerk<Sha256Hash>) {
+    assert!(rt; clerk.register_a(rt, 1).is_ok());
+    let gate = Until::of(2);
+    assert!(rt; prepares_beside(rt, clerk.alloc, &clerk.directory, &gate));
+    assert!(rt; gate.met());
+}
+
 /// Two threads look up while the first job of a batch is held.
 #[test]
-fn look_up_while_preparing(rt: HostRuntime) -> Result<(), Fail> {
-    let Ok((board, publisher)) = Board::new(rt.alloc(), 4) else {
-        panic!(rt; "no board")
-    };
-    let mut clerk = Clerk::new(rt.alloc(), Sha256Hash, &board, publisher, u64::MAX);
-    assert!(rt; clerk.commit(&rt, 1, &[(Register, "a", "k")]).is_ok());
-    let gate = Until::of(2);
-    let (prepared, both) = thread::join(
-        &rt,
-        || prepares(&rt, clerk.alloc, &clerk.directory, &gate),
-        || both_look_up(&rt, &clerk.directory, &gate),
-    );
-    assert!(rt; prepared && both);
-    assert!(rt; gate.met());
-    Ok(())
+fn look_up_while_preparing(rt: HostRuntime) {
+    with_clerk(&rt, rt.alloc(), 4, u64::MAX, |clerk| {
+        prepare_held(&rt, clerk);
+    });
 }
 
 /// Looks at the board once, and tells the gate.
@@ -122,33 +134,41 @@ fn looks_once(watcher: &mut Watcher, board: &Board, gate: &Until) -> Option<Head
     seen
 }
 
-/// A watcher looks while the first job of a batch is held, and answers the head installed before.
-#[test]
-fn watch_while_preparing(rt: HostRuntime) -> Result<(), Fail> {
-    let Ok((board, mut publisher)) = Board::new(rt.alloc(), 4) else {
-        panic!(rt; "no board")
-    };
-    let Ok(mut watcher) = publisher.watcher(&board) else {
-        panic!(rt; "no watcher")
-    };
-    let mut clerk = Clerk::new(rt.alloc(), Sha256Hash, &board, publisher, u64::MAX);
-    let Ok(entry) = clerk.commit(&rt, 1, &[(Register, "a", "k")]) else {
-        panic!(rt; "no epoch")
-    };
-    let gate = Until::of(1);
-    let shared = &board;
+/// What a watcher answers while the first job of a batch is held. None also where the batch isn't prepared.
+fn seen_beside<R: Threads + Sync>(
+    rt: &R,
+    clerk: &Clerk<Sha256Hash>,
+    watcher: &mut Watcher,
+    gate: &Until,
+) -> Option<Head>
+    requires { watcher.old.table ≡ clerk.now.board.now.table }
+{
+    let (alloc, directory, board) = (clerk.alloc, &clerk.directory, clerk.board);
     let (prepared, seen) = thread::join(
-        &rt,
-        || prepares(&rt, clerk.alloc, &clerk.directory, &gate),
+        rt,
+        || prepares(rt, alloc, directory, gate),
         ||
-            requires { watcher.table ≡ shared.now.table }
-        { looks_once(&mut watcher, shared, &gate) },
+            requires { watcher.now.table ≡ board.now.table }
+        { looks_once(watcher, board, gate) },
     );
-    assert!(rt; prepared && gate.met());
+    if prepared { seen } else { None }
+}
+
+/// Commits an epoch, and prepares the next batch beside a watcher, which answers the epoch's head.
+fn watch_held<R: Threads + Sync + Abort>(rt: &R, clerk: &mut Clerk<Sha256Hash>) {
+    let mut watcher = clerk.watcher(rt);
+    let entry = clerk.register_a(rt, 1).expect(rt, "an epoch");
     let head = Head {
         epoch: 1,
         link: link(&Sha256Hash, &entry),
     };
-    assert_eq!(rt; seen, Some(head));
-    Ok(())
+    let gate = Until::of(1);
+    assert!(rt; seen_beside(rt, clerk, &mut watcher, &gate) == Some(head));
+    assert!(rt; gate.met());
+}
+
+/// A watcher looks while the first job of a batch is held, and answers the head installed before.
+#[test]
+fn watch_while_preparing(rt: HostRuntime) {
+    with_clerk(&rt, rt.alloc(), 4, u64::MAX, |clerk| watch_held(&rt, clerk));
 }

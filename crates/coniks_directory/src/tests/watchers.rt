@@ -5,11 +5,12 @@ ghost use Rattle.std.specs.Prelude.{◌≡◌, ◌<◌, length, All};
 use crate::batch::OpKind::{Change, Register};
 use crate::directory::Directory;
 use crate::tests::answers::{Told, asked};
-use crate::tests::clerk::{Clerk, Letters, Written, prepared};
+use crate::tests::clerk::{Clerk, Letters, Written, prepared, with_clerk};
 use coniks_chain::{Entry, link};
-use coniks_proof::{Hash32, Head, Sha256Hash};
-use coniks_shared::{Board, Watcher};
-use std::test::Fail;
+use coniks_proof::{Head, Sha256Hash};
+use coniks_shared::{Board, Publisher, Watcher};
+use std::alloc::Global;
+use std::process::Abort;
 use std::thread;
 use std::thread::Threads;
 
@@ -62,23 +63,22 @@ fn watch_each<R: Threads + Sync>(rt: &R, board: &Board, watches: &mut [Watch])
 }
 
 /// The key of `a` at an epoch.
-fn key_at(t: u64) -> &'static str {
-    if t % 2 == 0 { "l" } else { "k" }
+fn key_at(t: u64) -> u8 {
+    if t % 2 == 0 { b'l' } else { b'k' }
 }
 
 /// Whether two lookups at an epoch tell what is bound there: `a` has its key, and `b` is absent.
-fn is_told<H: Hash32>(directory: &Directory<H, Letters>, h: &H, t: u64) -> bool {
-    let byte = if t % 2 == 0 { b'l' } else { b'k' };
-    asked(directory, h, t, "a") == Told::Key(0, byte)
-        && asked(directory, h, t, "b") == Told::Absent(0)
+fn is_told(directory: &Directory<Sha256Hash, Letters>, t: u64) -> bool {
+    asked(directory, t, "a") == Told::Key(0, key_at(t))
+        && asked(directory, t, "b") == Told::Absent(0)
 }
 
 /// Whether fifty times two lookups at the epochs up to this one tell what is bound there.
-fn look_up_often<H: Hash32>(directory: &Directory<H, Letters>, h: &H, latest: u64) -> bool {
+fn look_up_often(directory: &Directory<Sha256Hash, Letters>, latest: u64) -> bool {
     let mut right = true;
     for i in 0..50u64 {
         let t = 1 + i.checked_rem(latest).unwrap_or(0);
-        right = is_told(directory, h, t) && right;
+        right = is_told(directory, t) && right;
     }
     right
 }
@@ -91,8 +91,8 @@ fn both_look_up<R: Threads + Sync>(
 ) -> bool {
     let (one, other) = thread::join(
         rt,
-        || look_up_often(directory, &Sha256Hash, latest),
-        || look_up_often(directory, &Sha256Hash, latest),
+        || look_up_often(directory, latest),
+        || look_up_often(directory, latest),
     );
     one && other
 }
@@ -101,7 +101,7 @@ fn both_look_up<R: Threads + Sync>(
 fn round<R: Threads + Sync>(rt: &R, clerk: &mut Clerk<Sha256Hash>, t: u64) -> bool
     ensures { clerk.new.board.now.table ≡ clerk.old.board.now.table }
 {
-    let written: [Written; 1] = [(Change, "a", key_at(t))];
+    let written: [Written; 1] = [(Change, b'a', key_at(t))];
     let alloc = clerk.alloc;
     let directory = &clerk.directory;
     let (update, right) = thread::join(
@@ -119,7 +119,7 @@ fn round<R: Threads + Sync>(rt: &R, clerk: &mut Clerk<Sha256Hash>, t: u64) -> bo
 fn commit_forty<R: Threads + Sync>(rt: &R, clerk: &mut Clerk<Sha256Hash>) -> bool
     ensures { clerk.new.board.now.table ≡ clerk.old.board.now.table }
 {
-    let mut right = clerk.commit(rt, 1, &[(Register, "a", key_at(1))]).is_ok();
+    let mut right = clerk.commit(rt, 1, &[(Register, b'a', key_at(1))]).is_ok();
     for t in 2..41u64 {
         right = round(rt, clerk, t) && right;
     }
@@ -170,28 +170,52 @@ fn are_right(answers: &[Head], chain: &[Entry]) -> bool {
     right
 }
 
-#[test]
-fn four_watchers(rt: HostRuntime) -> Result<(), Fail> {
-    let Ok((board, mut publisher)) = Board::new(rt.alloc(), 64) else {
-        panic!(rt; "no board")
-    };
-    let shared = &board;
-    let mut watches = Vec::new(rt.alloc());
-    for _ in 0..4usize {
-        let Ok(watcher) = publisher.watcher(shared) else {
-            panic!(rt; "no watcher")
-        };
-        watches.push(Watch {
-            watcher,
-            answers: Vec::new(rt.alloc()),
+/// So many watchers of a board, each with no answers.
+fn watches_of(
+    rt: &impl Abort,
+    alloc: Global,
+    count: usize,
+    publisher: &mut Publisher,
+    board: &Board,
+) -> Vec<Watch>
+    requires { publisher.old.table ≡ board.now.table }
+    ensures own { All (λ w. w.watcher.table ≡ board.now.table) result.items }
+    ensures some { length result.items ≡ count }
+    ensures same { publisher.new ≡ publisher.old }
+{
+    let mut watches = Vec::new(alloc);
+    for _ in 0..count {
+        let watch = Watch {
+            watcher: publisher.watcher(board).expect(rt, "a watcher"),
+            answers: Vec::new(alloc),
             refused: false,
-        })?;
+        };
+        watches.push(watch).expect(rt, "memory");
     }
-    let mut clerk = Clerk::new(rt.alloc(), Sha256Hash, shared, publisher, u64::MAX);
-    assert!(rt; commit_beside(&rt, shared, &mut clerk, watches.as_mut_slice()));
-    assert_eq!(rt; clerk.publisher.published(), 40);
-    for one in &watches {
-        assert!(rt; !one.refused && are_right(&one.answers, clerk.directory.chain()));
+    watches
+}
+
+/// Whether no watcher was refused memory, and all answers are right.
+fn all_right(watches: &[Watch], chain: &[Entry]) -> bool {
+    let mut right = true;
+    for one in watches {
+        right = right && !one.refused && are_right(&one.answers, chain);
     }
-    Ok(())
+    right
+}
+
+/// Commits forty epochs beside four watchers.
+fn commit_watched<R: Threads + Sync + Abort>(rt: &R, clerk: &mut Clerk<Sha256Hash>) {
+    let board = clerk.board;
+    let mut watches = watches_of(rt, clerk.alloc, 4, &mut clerk.publisher, board);
+    assert!(rt; commit_beside(rt, board, clerk, watches.as_mut_slice()));
+    assert!(rt; clerk.publisher.published() == 40);
+    assert!(rt; all_right(&watches, clerk.directory.chain()));
+}
+
+#[test]
+fn four_watchers(rt: HostRuntime) {
+    with_clerk(&rt, rt.alloc(), 64, u64::MAX, |clerk| {
+        commit_watched(&rt, clerk);
+    });
 }
