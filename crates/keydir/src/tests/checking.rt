@@ -1,8 +1,9 @@
 //! Lines of `check`. The digests were computed by another program.
 
+use crate::tests::streams::are_lines;
 use coniks_tool::{MemoryIn, MemoryOut, run_check};
-use std::alloc::{AllocError, Global};
-use std::test::Fail;
+use std::alloc::Global;
+use std::process::Abort;
 
 /// What comes before the proof in a line for the name `a`: its index under a key of zeros, its name
 /// and the nonce.
@@ -21,83 +22,82 @@ const EMPTY_ROOT: &str =
 const KEY: &str =
     "{\"end\":{\"key\":\"aw==\",\"kind\":\"here\",\"name\":\"a\",\"opening\":\"2222222222222222222222222222222222222222222222222222222222222222\"},\"siblings\":[]}";
 
+/// A proof of 257 siblings, at an empty node.
+pub(crate) fn deep_proof(rt: &impl Abort, alloc: Global) -> String {
+    let digest = "\"0000000000000000000000000000000000000000000000000000000000000000\"";
+    let siblings = [digest; 257].join(alloc, ",").expect(rt, "memory");
+    format!(in alloc; "{{\"end\":{{\"kind\":\"empty\"}},\"siblings\":[{siblings}]}}").expect(
+        rt, "memory",
+    )
+}
+
 /// Whether a line is answered so, and accepted or not.
 fn is_answered(
+    rt: &impl Abort,
     alloc: Global,
     pieces: &[&str],
     answer: &str,
     accepted: bool,
-) -> Result<bool, AllocError> {
-    let mut line = Vec::new(alloc);
-    for piece in pieces {
-        line.extend_from_slice(piece.as_bytes())?;
-    }
-    let mut reader = MemoryIn::new(line);
+) -> bool {
+    let line = pieces.concat(alloc).expect(rt, "memory");
+    let mut reader = MemoryIn::new(line.into_bytes());
     let mut output = MemoryOut::new(alloc);
-    let Ok(all) = run_check(alloc, &mut reader, &mut output) else {
-        return Ok(false);
-    };
-    let Some((newline, text)) = output.bytes().split_last() else {
-        return Ok(false);
-    };
-    Ok(all == accepted && *newline == b'\n' && text == answer.as_bytes())
+    let all = run_check(alloc, &mut reader, &mut output);
+    all == Ok(accepted) && are_lines(output.bytes(), &[answer])
 }
 
 #[test]
-fn key(rt: HostRuntime) -> Result<(), Fail> {
+fn key(rt: HostRuntime) {
     let answer = "{\"answer\":\"key\",\"key\":\"aw==\",\"ok\":\"check\"}";
-    assert!(rt; is_answered(rt.alloc(), &[ASKED, KEY, ROOT], answer, true)?);
+    assert!(rt; is_answered(&rt, rt.alloc(), &[ASKED, KEY, ROOT], answer, true));
     let wrong = "{\"fault\":\"RootMismatch\"}";
-    assert!(rt; is_answered(rt.alloc(), &[ASKED, KEY, EMPTY_ROOT], wrong, false)?);
-    Ok(())
+    assert!(rt; is_answered(&rt, rt.alloc(), &[ASKED, KEY, EMPTY_ROOT], wrong, false));
 }
 
 #[test]
-fn absence(rt: HostRuntime) -> Result<(), Fail> {
-    let proof = "{\"end\":{\"kind\":\"empty\",\"index\":7},\"siblings\":[]}";
+fn absence(rt: HostRuntime) {
+    const PROOF: &str = "{\"end\":{\"kind\":\"empty\",\"index\":7},\"siblings\":[]}";
     let answer = "{\"answer\":\"absent\",\"ok\":\"check\"}";
-    assert!(rt; is_answered(rt.alloc(), &[ASKED, proof, EMPTY_ROOT], answer, true)?);
+    assert!(rt; is_answered(&rt, rt.alloc(), &[ASKED, PROOF, EMPTY_ROOT], answer, true));
     let wrong = "{\"fault\":\"RootMismatch\"}";
-    assert!(rt; is_answered(rt.alloc(), &[ASKED, proof, ROOT], wrong, false)?);
-    Ok(())
+    assert!(rt; is_answered(&rt, rt.alloc(), &[ASKED, PROOF, ROOT], wrong, false));
 }
 
 /// The digits of an accepted line in upper case.
 #[test]
-fn upper_case(rt: HostRuntime) -> Result<(), Fail> {
+fn upper_case(rt: HostRuntime) {
     let lower = "8c33c01f7c7464c4c6e45d59306e11d36aa55c793d59ab9963bbb1f48e58a7fc";
     let upper = "8C33C01F7C7464C4C6E45D59306E11D36AA55C793D59AB9963BBB1F48E58A7FC";
-    let root = ROOT.replace(rt.alloc(), lower, upper)?;
+    let root = ROOT.replace(rt.alloc(), lower, upper).expect(&rt, "memory");
     let answer = "{\"answer\":\"key\",\"key\":\"aw==\",\"ok\":\"check\"}";
-    assert!(rt; is_answered(rt.alloc(), &[ASKED, KEY, root.as_str()], answer, true)?);
-    Ok(())
+    assert!(rt; is_answered(&rt, rt.alloc(), &[ASKED, KEY, root.as_str()], answer, true));
 }
 
 /// What is wrong in a proof object is the member's fault; what is wrong with a proof is its own.
 #[test]
-fn refused_proofs(rt: HostRuntime) -> Result<(), Fail> {
-    let member = "{\"fault\":\"Member\",\"member\":\"proof\"}";
-    let cases = [
-        ("7", member),
-        ("{\"siblings\":[]}", member),
-        ("{\"end\":{\"kind\":\"empty\"}}", member),
-        ("{\"end\":{\"kind\":\"empty\"},\"siblings\":{}}", member),
-        ("{\"end\":{\"kind\":\"leaf\"},\"siblings\":[]}", member),
+fn refused_proofs(rt: HostRuntime) {
+    const MEMBER: &str = "{\"fault\":\"Member\",\"member\":\"proof\"}";
+    const CASES: [(&str, &str); 14] = [
+        ("7", MEMBER),
+        ("{\"siblings\":[]}", MEMBER),
+        ("{\"end\":{\"kind\":\"empty\"}}", MEMBER),
+        ("{\"end\":{\"kind\":\"empty\"},\"siblings\":{}}", MEMBER),
+        ("{\"end\":{\"kind\":\"leaf\"},\"siblings\":[]}", MEMBER),
         (
             "{\"end\":{\"key\":\"ax==\",\"kind\":\"here\",\"name\":\"a\",\"opening\":\"2222222222222222222222222222222222222222222222222222222222222222\"},\"siblings\":[]}",
-            member,
+            MEMBER,
         ),
         (
             "{\"end\":{\"key\":\"aw==\",\"kind\":\"here\",\"name\":\"a\",\"opening\":\"22\"},\"siblings\":[]}",
-            member,
+            MEMBER,
         ),
         (
             "{\"end\":{\"kind\":\"empty\"},\"siblings\":[\"000000000000000000000000000000000000000000000000000000000000000\"]}",
-            member,
+            MEMBER,
         ),
         (
             "{\"end\":{\"kind\":\"other\",\"commitment\":\"0000000000000000000000000000000000000000000000000000000000000000\"},\"siblings\":[]}",
-            member,
+            MEMBER,
         ),
         (
             "{\"end\":{\"key\":\"\",\"kind\":\"here\",\"name\":\"a\",\"opening\":\"2222222222222222222222222222222222222222222222222222222222222222\"},\"siblings\":[]}",
@@ -120,53 +120,45 @@ fn refused_proofs(rt: HostRuntime) -> Result<(), Fail> {
             "{\"fault\":\"RootMismatch\"}",
         ),
     ];
-    for (proof, answer) in cases {
+    for (proof, answer) in &CASES {
+        let pieces = [ASKED, *proof, ROOT];
         assert!(rt;
-            is_answered(rt.alloc(), &[ASKED, proof, ROOT], answer, false)?,
+            is_answered(&rt, rt.alloc(), &pieces, *answer, false),
             "{proof}"
         );
     }
-    Ok(())
 }
 
 /// A proof of 257 siblings is read; the number of its siblings is its first fault.
 #[test]
-fn too_deep(rt: HostRuntime) -> Result<(), Fail> {
-    let digest = "\"0000000000000000000000000000000000000000000000000000000000000000\"";
-    let mut siblings = String::new(rt.alloc());
-    siblings.push_str("{\"end\":{\"kind\":\"empty\"},\"siblings\":[")?;
-    siblings.push_str(digest)?;
-    for _ in 0..256usize {
-        siblings.push_str(",")?;
-        siblings.push_str(digest)?;
-    }
-    siblings.push_str("]}")?;
+fn too_deep(rt: HostRuntime) {
+    let proof = deep_proof(&rt, rt.alloc());
     let answer = "{\"fault\":\"TooDeep\"}";
-    assert!(rt; is_answered(rt.alloc(), &[ASKED, siblings.as_str(), ROOT], answer, false)?);
-    Ok(())
+    let pieces = [ASKED, proof.as_str(), ROOT];
+    assert!(rt; is_answered(&rt, rt.alloc(), &pieces, answer, false));
 }
 
 /// The first member in the order of reading that is missing or wrong.
 #[test]
-fn refused_members(rt: HostRuntime) -> Result<(), Fail> {
-    let digits = "\"0000000000000000000000000000000000000000000000000000000000000000\"";
-    let cases: [(&[&str], &str); 6] = [
+fn refused_members(rt: HostRuntime) {
+    const DIGITS: &str = "\"0000000000000000000000000000000000000000000000000000000000000000\"";
+    const CASES: [(&[&str], &str); 6] = [
         (&["[1]"], "{\"fault\":\"Json\"}"),
         (&["{}"], "{\"fault\":\"Member\",\"member\":\"index\"}"),
         (
-            &["{\"index\":", digits, ",\"name\":7}"],
+            &["{\"index\":", DIGITS, ",\"name\":7}"],
             "{\"fault\":\"Member\",\"member\":\"name\"}",
         ),
         (
-            &["{\"index\":", digits, ",\"name\":\"\",\"nonce\":\"11\"}"],
+            &["{\"index\":", DIGITS, ",\"name\":\"\",\"nonce\":\"11\"}"],
             "{\"fault\":\"Member\",\"member\":\"nonce\"}",
         ),
         (
             &[
                 "{\"index\":",
-                digits,
+                DIGITS,
                 ",\"name\":\"\",\"nonce\":",
-                digits,
+                DIGITS,
                 "}",
             ],
             "{\"fault\":\"Member\",\"member\":\"root\"}",
@@ -174,18 +166,20 @@ fn refused_members(rt: HostRuntime) -> Result<(), Fail> {
         (
             &[
                 "{\"index\":",
-                digits,
+                DIGITS,
                 ",\"name\":\"\",\"nonce\":",
-                digits,
+                DIGITS,
                 ",\"root\":",
-                digits,
+                DIGITS,
                 "}",
             ],
             "{\"fault\":\"Member\",\"member\":\"proof\"}",
         ),
     ];
-    for (pieces, answer) in cases {
-        assert!(rt; is_answered(rt.alloc(), pieces, answer, false)?, "{answer}");
+    for (pieces, answer) in &CASES {
+        assert!(rt;
+            is_answered(&rt, rt.alloc(), *pieces, *answer, false),
+            "{answer}"
+        );
     }
-    Ok(())
 }

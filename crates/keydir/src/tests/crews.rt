@@ -1,10 +1,10 @@
 //! `keydir run` with several workers, over prefixes of several lengths: the same bytes. They were computed by another
 //! program.
 
-use crate::tests::auditing::answers_of;
-use crate::tests::program::run_of;
-use std::alloc::{AllocError, Global};
-use std::test::Fail;
+use crate::tests::program::ends_so;
+use crate::tests::streams::lines_of;
+use std::alloc::Global;
+use std::process::Abort;
 use std::thread::Threads;
 
 /// Three names, of which one changes, looked up at each epoch.
@@ -33,34 +33,32 @@ const ANSWERS: [&str; 9] = [
 ];
 
 /// Whether the script is answered so by a run of these words.
-fn answers_with<T: Threads + Sync>(
-    rt: &T,
+fn answers_with(
+    rt: &(impl Threads + Abort + Sync),
     alloc: Global,
     workers: &str,
     depth: &str,
-) -> Result<bool, AllocError> {
-    let script = answers_of(alloc, &SCRIPT)?;
-    let answers = answers_of(alloc, &ANSWERS)?;
+) -> bool {
+    let script = lines_of(rt, alloc, &SCRIPT);
     let words = ["keydir", "run", "--workers", workers, "--depth", depth];
-    let run = run_of(rt, alloc, &words, script.as_str())?;
-    Ok(run.status == 0 && run.output.bytes() == answers.as_bytes())
+    ends_so(rt, alloc, &words, script.as_bytes(), &ANSWERS, 0)
 }
 
 #[test]
-fn same_bytes(rt: HostRuntime) -> Result<(), Fail> {
-    for workers in ["1", "2", "7", "64"] {
-        for depth in ["0", "1", "8"] {
+fn same_bytes(rt: HostRuntime) {
+    const WORKERS: [&str; 4] = ["1", "2", "7", "64"];
+    const DEPTHS: [&str; 3] = ["0", "1", "8"];
+    for workers in &WORKERS {
+        for depth in &DEPTHS {
             assert!(rt;
-                answers_with(&rt, rt.alloc(), workers, depth)?,
+                answers_with(&rt, rt.alloc(), *workers, *depth),
                 "{workers}, {depth}"
             );
         }
     }
-    Ok(())
 }
 
 #[test]
-fn four_workers(rt: HostRuntime) -> Result<(), Fail> {
-    assert!(rt; answers_with(&rt, rt.alloc(), "4", "6")?);
-    Ok(())
+fn four_workers(rt: HostRuntime) {
+    assert!(rt; answers_with(&rt, rt.alloc(), "4", "6"));
 }

@@ -1,12 +1,11 @@
 //! Lookups of `run`, line by line. The proofs were computed by another program.
 
 use crate::tests::scripts::is_answered;
-use std::test::Fail;
 
 /// An epoch with no names, an empty name there, and an epoch that isn't there.
 #[test]
-fn with_no_names(rt: HostRuntime) -> Result<(), Fail> {
-    let lines = [
+fn with_no_names(rt: HostRuntime) {
+    const LINES: [(&str, &str); 5] = [
         (
             "{\"cmd\":\"open\",\"key\":\"0000000000000000000000000000000000000000000000000000000000000000\",\"nonce\":\"1111111111111111111111111111111111111111111111111111111111111111\",\"policy\":\"3333333333333333333333333333333333333333333333333333333333333333\"}",
             "{\"ok\":\"open\"}",
@@ -28,14 +27,13 @@ fn with_no_names(rt: HostRuntime) -> Result<(), Fail> {
             "{\"entry\":\"01000000000000000100000000000000001aa9b40c9d34d625d7329003c097925b7d4c7809b864b047b71defb140aca216000000000000000000000000000000000000000000000000000000000000000011111111111111111111111111111111111111111111111111111111111111113333333333333333333333333333333333333333333333333333333333333333ae9682aec203eb680ce14cbd31a5a2681c03a354e3547be4380b2395c04d53f3504b9e0a20a3b47553f91f4dc70ae65654d8dab064060782b030be26232859e8\",\"epoch\":1,\"index\":\"b446d103998d549b0acb89e4d02276ed0c828740436366a157bea1a8a63de531\",\"name\":\"a\",\"nonce\":\"1111111111111111111111111111111111111111111111111111111111111111\",\"ok\":\"lookup\",\"proof\":{\"end\":{\"kind\":\"empty\"},\"siblings\":[]},\"root\":\"1aa9b40c9d34d625d7329003c097925b7d4c7809b864b047b71defb140aca216\"}",
         ),
     ];
-    assert!(rt; is_answered(&rt, rt.alloc(), &lines, false)?);
-    Ok(())
+    assert!(rt; is_answered(&rt, rt.alloc(), &LINES, false));
 }
 
 /// A name whose key changes, at each epoch and between the two; another name, and the longest and one longer.
 #[test]
-fn one_name(rt: HostRuntime) -> Result<(), Fail> {
-    let lines = [
+fn one_name(rt: HostRuntime) {
+    const LINES: [(&str, &str); 10] = [
         (
             "{\"cmd\":\"open\",\"key\":\"0000000000000000000000000000000000000000000000000000000000000000\",\"nonce\":\"1111111111111111111111111111111111111111111111111111111111111111\",\"policy\":\"3333333333333333333333333333333333333333333333333333333333333333\"}",
             "{\"ok\":\"open\"}",
@@ -77,14 +75,13 @@ fn one_name(rt: HostRuntime) -> Result<(), Fail> {
             "{\"fault\":\"NameLength\"}",
         ),
     ];
-    assert!(rt; is_answered(&rt, rt.alloc(), &lines, false)?);
-    Ok(())
+    assert!(rt; is_answered(&rt, rt.alloc(), &LINES, false));
 }
 
 /// Siblings at an epoch before a change and after it.
 #[test]
-fn before_a_change(rt: HostRuntime) -> Result<(), Fail> {
-    let lines = [
+fn before_a_change(rt: HostRuntime) {
+    const LINES: [(&str, &str); 6] = [
         (
             "{\"cmd\":\"open\",\"key\":\"0000000000000000000000000000000000000000000000000000000000000000\",\"nonce\":\"1111111111111111111111111111111111111111111111111111111111111111\",\"policy\":\"3333333333333333333333333333333333333333333333333333333333333333\"}",
             "{\"ok\":\"open\"}",
@@ -110,14 +107,13 @@ fn before_a_change(rt: HostRuntime) -> Result<(), Fail> {
             "{\"entry\":\"01000000000000000200000000000000005ce6bb0a66303d818beeb7ce8bb5154241041df4c8f3ab2790797e9561535956000000000000000000000000000000000000000000000000000000000000000011111111111111111111111111111111111111111111111111111111111111113333333333333333333333333333333333333333333333333333333333333333f60aa0a319b1f68574b1b1d7cc4dc847c401eb8a6c226355d00bbd2e161dc97a1061838ea19a6031bd8fc81feb77928d52430533ef8b2598c0a7a598d795a867\",\"epoch\":2,\"index\":\"bb0480188e854b44a3bfbf741222f86e47f7afef3dd7324b4e1628127bed961b\",\"name\":\"d\",\"nonce\":\"1111111111111111111111111111111111111111111111111111111111111111\",\"ok\":\"lookup\",\"proof\":{\"end\":{\"kind\":\"empty\"},\"siblings\":[\"35026163c4fbd77ebe189c0d9f0ce95af91c5a6313b6e835cbfee12d5d1c4e9a\",\"eb56a864c3056bb6bf721c2511e128362d433ef6fc76f42c81b3430ebe3edaa1\",\"5393e3a828883a98267e53380e537d892bcd9914c987f24bfb79e61341d69f79\",\"b1abc223e6be543403cf77448371d777f9f61f094266e56f6ceb66ce45aad99a\",\"d75dcdd3d946dce5bd5d7f848a93aa330e024d138a6529835d09a58fdcb5dfaf\"]},\"root\":\"5ce6bb0a66303d818beeb7ce8bb5154241041df4c8f3ab2790797e9561535956\"}",
         ),
     ];
-    assert!(rt; is_answered(&rt, rt.alloc(), &lines, true)?);
-    Ok(())
+    assert!(rt; is_answered(&rt, rt.alloc(), &LINES, true));
 }
 
 /// The name is printed as given, and its quotation mark escaped.
 #[test]
-fn a_name_to_escape(rt: HostRuntime) -> Result<(), Fail> {
-    let lines = [
+fn a_name_to_escape(rt: HostRuntime) {
+    const LINES: [(&str, &str); 3] = [
         (
             "{\"cmd\":\"open\",\"key\":\"0000000000000000000000000000000000000000000000000000000000000000\",\"nonce\":\"1111111111111111111111111111111111111111111111111111111111111111\",\"policy\":\"3333333333333333333333333333333333333333333333333333333333333333\"}",
             "{\"ok\":\"open\"}",
@@ -131,14 +127,13 @@ fn a_name_to_escape(rt: HostRuntime) -> Result<(), Fail> {
             "{\"entry\":\"0100000000000000010000000000000000493723b9eabd142e341b0783ea4e808c13dc7beb4316c82a61158a87a6a2138e000000000000000000000000000000000000000000000000000000000000000011111111111111111111111111111111111111111111111111111111111111113333333333333333333333333333333333333333333333333333333333333333248d3e86b208d7e6d1b31a1b09783bf26268919d651319e001a0a93e59b406ebadda1c770bea93b3a58a19a60be57f63c43456b3d1960a9a7803eb88d7748886\",\"epoch\":1,\"index\":\"9fa8213d6217b0e26b7185ad01113d1eab3f522d07806973834d42ab671d29b9\",\"name\":\"é\\\"\",\"nonce\":\"1111111111111111111111111111111111111111111111111111111111111111\",\"ok\":\"lookup\",\"proof\":{\"end\":{\"key\":\"aw==\",\"kind\":\"here\",\"name\":\"é\\\"\",\"opening\":\"2222222222222222222222222222222222222222222222222222222222222222\"},\"siblings\":[]},\"root\":\"493723b9eabd142e341b0783ea4e808c13dc7beb4316c82a61158a87a6a2138e\"}",
         ),
     ];
-    assert!(rt; is_answered(&rt, rt.alloc(), &lines, true)?);
-    Ok(())
+    assert!(rt; is_answered(&rt, rt.alloc(), &LINES, true));
 }
 
 /// Members that are missing or of another kind, before the directory is open and after.
 #[test]
-fn members(rt: HostRuntime) -> Result<(), Fail> {
-    let lines = [
+fn members(rt: HostRuntime) {
+    const LINES: [(&str, &str); 9] = [
         (
             "{\"cmd\":\"lookup\",\"name\":7}",
             "{\"fault\":\"Member\",\"member\":\"epoch\"}",
@@ -176,6 +171,5 @@ fn members(rt: HostRuntime) -> Result<(), Fail> {
             "{\"fault\":\"UnknownEpoch\"}",
         ),
     ];
-    assert!(rt; is_answered(&rt, rt.alloc(), &lines, false)?);
-    Ok(())
+    assert!(rt; is_answered(&rt, rt.alloc(), &LINES, false));
 }

@@ -1,21 +1,36 @@
 //! Lines that `run` printed, fed to the other subcommands.
 
-use crate::tests::auditing::answers_of;
-use crate::tests::program::{run_of, run_on};
-use std::alloc::{AllocError, Global};
-use std::test::Fail;
+use crate::tests::program::run_of;
+use crate::tests::streams::{after_lines, are_lines, lines_of};
+use std::alloc::Global;
+use std::process::Abort;
 use std::thread::Threads;
 
 const ZEROS: &str = "0000000000000000000000000000000000000000000000000000000000000000";
 
 /// One name whose key changes, and its lookups at both epochs.
 const SCRIPT: [&str; 5] = [
-    "{\"cmd\":\"open\",\"key\":\"0000000000000000000000000000000000000000000000000000000000000000\",\"nonce\":\"1111111111111111111111111111111111111111111111111111111111111111\",\"policy\":\"3333333333333333333333333333333333333333333333333333333333333333\"}",
-    "{\"cmd\":\"batch\",\"epoch\":1,\"ops\":[{\"key\":\"aw==\",\"name\":\"a\",\"op\":\"register\",\"opening\":\"2222222222222222222222222222222222222222222222222222222222222222\"}]}",
-    "{\"cmd\":\"batch\",\"epoch\":4,\"ops\":[{\"key\":\"bA==\",\"name\":\"a\",\"op\":\"change\",\"opening\":\"2222222222222222222222222222222222222222222222222222222222222222\"}]}",
+    OPEN,
+    FIRST,
+    SECOND,
     "{\"cmd\":\"lookup\",\"epoch\":1,\"name\":\"a\"}",
     "{\"cmd\":\"lookup\",\"epoch\":4,\"name\":\"a\"}",
 ];
+
+/// The same without its lookups.
+const BATCHES: [&str; 3] = [OPEN, FIRST, SECOND];
+
+const OPEN: &str =
+    "{\"cmd\":\"open\",\"key\":\"0000000000000000000000000000000000000000000000000000000000000000\",\"nonce\":\"1111111111111111111111111111111111111111111111111111111111111111\",\"policy\":\"3333333333333333333333333333333333333333333333333333333333333333\"}";
+
+const FIRST: &str =
+    "{\"cmd\":\"batch\",\"epoch\":1,\"ops\":[{\"key\":\"aw==\",\"name\":\"a\",\"op\":\"register\",\"opening\":\"2222222222222222222222222222222222222222222222222222222222222222\"}]}";
+
+const SECOND: &str =
+    "{\"cmd\":\"batch\",\"epoch\":4,\"ops\":[{\"key\":\"bA==\",\"name\":\"a\",\"op\":\"change\",\"opening\":\"2222222222222222222222222222222222222222222222222222222222222222\"}]}";
+
+/// What a run prints before the batches.
+const OPENED: [&str; 1] = ["{\"ok\":\"open\"}"];
 
 /// What a run prints before the lookups.
 const INSTALLED: [&str; 3] = [
@@ -25,74 +40,51 @@ const INSTALLED: [&str; 3] = [
 ];
 
 /// Whether what the first lines of the script print after its first so many lines is answered so by another run.
-fn is_fed<T: Threads + Sync>(
-    rt: &T,
+fn is_fed(
+    rt: &(impl Threads + Abort + Sync),
     alloc: Global,
     script: &[&str],
     before: &[&str],
     words: &[&str],
     answers: &[&str],
-) -> Result<bool, AllocError> {
-    let input = answers_of(alloc, script)?;
-    let skipped = answers_of(alloc, before)?;
-    let wanted = answers_of(alloc, answers)?;
-    let printed = run_of(rt, alloc, &["keydir", "run"], input.as_str())?;
-    let Some(rest) = printed.output.bytes().strip_prefix(skipped.as_bytes()) else {
-        return Ok(false);
+) -> bool {
+    let input = lines_of(rt, alloc, script);
+    let printed = run_of(rt, alloc, &["keydir", "run"], input.as_bytes());
+    let Some(rest) = after_lines(printed.output.bytes(), before) else {
+        return false;
     };
-    let fed = run_on(rt, alloc, words, rest)?;
-    Ok(fed.output.bytes() == wanted.as_bytes())
+    let fed = run_of(rt, alloc, words, rest);
+    are_lines(fed.output.bytes(), answers)
 }
 
 #[test]
-fn audited(rt: HostRuntime) -> Result<(), Fail> {
-    let [open, first, second, _, _] = SCRIPT;
-    let words = ["keydir", "audit", "--key", ZEROS];
-    let answers = [
+fn audited(rt: HostRuntime) {
+    const WORDS: [&str; 4] = ["keydir", "audit", "--key", ZEROS];
+    const ANSWERS: [&str; 2] = [
         "{\"epoch\":1,\"link\":\"60131ac4b030779265aacc673539c9a92168b3b060f2cfa8453cf7982fe0c8de\",\"ok\":\"audit\"}",
         "{\"epoch\":4,\"link\":\"06bbe5acb7e928cd56e6206e871a8601cda934d3d014dec93b2514dc76575343\",\"ok\":\"audit\"}",
     ];
-    assert!(rt;
-        is_fed(
-            &rt,
-            rt.alloc(),
-            &[open, first, second],
-            &["{\"ok\":\"open\"}"],
-            &words,
-            &answers
-        )?
-    );
-    Ok(())
+    assert!(rt; is_fed(&rt, rt.alloc(), &BATCHES, &OPENED, &WORDS, &ANSWERS));
 }
 
 #[test]
-fn watched(rt: HostRuntime) -> Result<(), Fail> {
-    let words = [
+fn watched(rt: HostRuntime) {
+    const WORDS: [&str; 8] = [
         "keydir", "monitor", "--key", ZEROS, "--name", "a", "--expect", "aw==",
     ];
-    let answers = [
+    const ANSWERS: [&str; 2] = [
         "{\"epoch\":1,\"ok\":\"monitor\",\"seen\":\"same\"}",
         "{\"epoch\":4,\"ok\":\"monitor\",\"seen\":\"changed\"}",
     ];
-    assert!(rt; is_fed(&rt, rt.alloc(), &SCRIPT, &INSTALLED, &words, &answers)?);
-    Ok(())
+    assert!(rt; is_fed(&rt, rt.alloc(), &SCRIPT, &INSTALLED, &WORDS, &ANSWERS));
 }
 
 #[test]
-fn checked(rt: HostRuntime) -> Result<(), Fail> {
-    let answers = [
+fn checked(rt: HostRuntime) {
+    const WORDS: [&str; 2] = ["keydir", "check"];
+    const ANSWERS: [&str; 2] = [
         "{\"answer\":\"key\",\"key\":\"aw==\",\"ok\":\"check\"}",
         "{\"answer\":\"key\",\"key\":\"bA==\",\"ok\":\"check\"}",
     ];
-    assert!(rt;
-        is_fed(
-            &rt,
-            rt.alloc(),
-            &SCRIPT,
-            &INSTALLED,
-            &["keydir", "check"],
-            &answers
-        )?
-    );
-    Ok(())
+    assert!(rt; is_fed(&rt, rt.alloc(), &SCRIPT, &INSTALLED, &WORDS, &ANSWERS));
 }

@@ -1,7 +1,7 @@
-use crate::tests::streams::{FailIn, ShortOut};
+use crate::tests::streams::{FailIn, ShortOut, are_lines};
 use coniks_tool::{MemoryIn, MemoryOut, Unread, program, unread_words};
-use std::alloc::{AllocError, Global};
-use std::test::Fail;
+use std::alloc::Global;
+use std::process::Abort;
 use std::thread::Threads;
 
 /// What a run of the program came to.
@@ -12,55 +12,175 @@ pub(crate) struct Ended {
     pub(crate) errors: MemoryOut,
 }
 
-pub(crate) fn run_of<T: Threads + Sync>(
-    rt: &T,
-    alloc: Global,
-    words: &[&str],
-    input: &str,
-) -> Result<Ended, AllocError> {
-    run_on(rt, alloc, words, input.as_bytes())
-}
-
-pub(crate) fn run_on<T: Threads + Sync>(
-    rt: &T,
+pub(crate) fn run_of(
+    rt: &(impl Threads + Abort + Sync),
     alloc: Global,
     words: &[&str],
     input: &[u8],
-) -> Result<Ended, AllocError> {
-    let mut reader = MemoryIn::new(Vec::from_slice(alloc, input)?);
+) -> Ended {
+    let mut reader = MemoryIn::new(Vec::from_slice(alloc, input).expect(rt, "memory"));
     let mut output = MemoryOut::new(alloc);
     let mut errors = MemoryOut::new(alloc);
     let status = program(rt, alloc, words, &mut reader, &mut output, &mut errors);
-    Ok(Ended {
+    Ended {
         status,
         output,
         errors,
-    })
+    }
+}
+
+/// Whether a run ends with this status and these answers, and tells nothing.
+pub(crate) fn ends_so(
+    rt: &(impl Threads + Abort + Sync),
+    alloc: Global,
+    words: &[&str],
+    input: &[u8],
+    answers: &[&str],
+    status: u8,
+) -> bool {
+    let run = run_of(rt, alloc, words, input);
+    run.status == status && are_lines(run.output.bytes(), answers) && run.errors.bytes().is_empty()
+}
+
+/// Whether a run writes nothing, and ends with this status as it tells just this text.
+pub(crate) fn tells_so(
+    rt: &(impl Threads + Abort + Sync),
+    alloc: Global,
+    words: &[&str],
+    input: &[u8],
+    text: &str,
+    status: u8,
+) -> bool {
+    let run = run_of(rt, alloc, words, input);
+    run.status == status && run.output.bytes().is_empty() && run.errors.bytes() == text.as_bytes()
+}
+
+/// Whether words are refused: with status 2, nothing written, and a text that begins so and ends its last line.
+pub(crate) fn are_refused(
+    rt: &(impl Threads + Abort + Sync),
+    alloc: Global,
+    words: &[&str],
+    text: &str,
+) -> bool {
+    let run = run_of(rt, alloc, words, b"[1]\n");
+    let told = run.errors.bytes();
+    run.status == 2
+        && run.output.bytes().is_empty()
+        && told.starts_with(text.as_bytes())
+        && told.ends_with(b"\n")
+}
+
+/// Whether words show a help that begins so, and tell nothing.
+pub(crate) fn show_help(
+    rt: &(impl Threads + Abort + Sync),
+    alloc: Global,
+    words: &[&str],
+    text: &str,
+) -> bool {
+    let run = run_of(rt, alloc, words, b"[1]\n");
+    run.status == 0
+        && run.output.bytes().starts_with(text.as_bytes())
+        && run.errors.bytes().is_empty()
+}
+
+/// Whether a run whose reads fail ends with status 3, writes nothing and tells of the read.
+pub(crate) fn are_unread(rt: &(impl Threads + Sync), alloc: Global, words: &[&str]) -> bool {
+    let mut reader = FailIn { failures: 0 };
+    let mut output = MemoryOut::new(alloc);
+    let mut errors = MemoryOut::new(alloc);
+    let status = program(rt, alloc, words, &mut reader, &mut output, &mut errors);
+    status == 3 && output.bytes().is_empty() && errors.bytes() == "keydir: read failed\n".as_bytes()
+}
+
+/// Whether a run whose reads fail ends with this status where the standard error takes so many calls, one byte a call,
+/// and takes them all.
+pub(crate) fn ends_untold(
+    rt: &(impl Threads + Sync),
+    alloc: Global,
+    words: &[&str],
+    calls: u64,
+    status: u8,
+) -> bool {
+    let mut reader = FailIn { failures: 0 };
+    let mut output = MemoryOut::new(alloc);
+    let mut errors = ShortOut {
+        bytes: Vec::new(alloc),
+        calls_left: calls,
+        failures: 0,
+        flushes: 0,
+    };
+    let ended = program(rt, alloc, words, &mut reader, &mut output, &mut errors);
+    ended == status && errors.bytes.len() as u64 == calls
+}
+
+/// The status of a run whose output takes so many calls. With status 3 it writes a beginning of its whole output and
+/// tells of the write, with another one it writes the whole and tells nothing; no status where it doesn't.
+pub(crate) fn status_cut(
+    rt: &(impl Threads + Abort + Sync),
+    alloc: Global,
+    words: &[&str],
+    input: &[u8],
+    whole: &[u8],
+    calls: u64,
+) -> Option<u8> {
+    let mut reader = MemoryIn::new(Vec::from_slice(alloc, input).expect(rt, "memory"));
+    let mut output = ShortOut {
+        bytes: Vec::new(alloc),
+        calls_left: calls,
+        failures: 0,
+        flushes: 0,
+    };
+    let mut errors = MemoryOut::new(alloc);
+    let status = program(rt, alloc, words, &mut reader, &mut output, &mut errors);
+    let is_so = if status == 3 {
+        whole.starts_with(&output.bytes) && errors.bytes() == "keydir: write failed\n".as_bytes()
+    } else {
+        output.bytes.as_slice() == whole && errors.bytes().is_empty()
+    };
+    is_so.then_some(status)
+}
+
+/// The status of the first run that doesn't fail where each call on the output fails in turn.
+pub(crate) fn status_after_cuts(
+    rt: &(impl Threads + Abort + Sync),
+    alloc: Global,
+    words: &[&str],
+    input: &[u8],
+    whole: &[u8],
+) -> Option<u8> {
+    for calls in 0..2000 {
+        let status = status_cut(rt, alloc, words, input, whole, calls);
+        if status != Some(3) {
+            return status;
+        }
+    }
+    None
 }
 
 #[test]
-fn runs(rt: HostRuntime) -> Result<(), Fail> {
-    let cases = [
-        ("", 0, ""),
-        ("[1]\n", 1, "{\"fault\":\"Json\"}\n"),
-        ("\n[", 1, "{\"fault\":\"Json\"}\n{\"fault\":\"Json\"}\n"),
-    ];
-    for (input, status, output) in cases {
-        let run = run_of(&rt, rt.alloc(), &["keydir", "run"], input)?;
-        assert_eq!(rt; run.status, status, "{input}");
-        assert!(rt; run.output.bytes() == output.as_bytes(), "{input}");
-        assert!(rt; run.errors.bytes().is_empty(), "{input}");
-    }
-    Ok(())
+fn runs(rt: HostRuntime) {
+    const FAULT: &str = "{\"fault\":\"Json\"}";
+    assert!(rt; ends_so(&rt, rt.alloc(), &["keydir", "run"], b"", &[], 0));
+    assert!(rt; ends_so(&rt, rt.alloc(), &["keydir", "run"], b"[1]\n", &[FAULT], 1));
+    assert!(rt;
+        ends_so(
+            &rt,
+            rt.alloc(),
+            &["keydir", "run"],
+            b"\n[",
+            &[FAULT, FAULT],
+            1
+        )
+    );
 }
 
 /// The first line of `clap`'s text, and its end.
 #[test]
-fn refused_words(rt: HostRuntime) -> Result<(), Fail> {
-    let missing = "error: 'keydir' requires a subcommand but one was not provided\n";
-    let cases: [(&[&str], &str); 9] = [
-        (&[], missing),
-        (&["keydir"], missing),
+fn refused_words(rt: HostRuntime) {
+    const MISSING: &str = "error: 'keydir' requires a subcommand but one was not provided\n";
+    const CASES: [(&[&str], &str); 9] = [
+        (&[], MISSING),
+        (&["keydir"], MISSING),
         (
             &["keydir", "walk"],
             "error: unrecognized subcommand 'walk'\n",
@@ -90,123 +210,68 @@ fn refused_words(rt: HostRuntime) -> Result<(), Fail> {
             "error: invalid value '9' for '--depth <depth>': 9 is not in 0..=8\n",
         ),
     ];
-    for (words, line) in cases {
-        let run = run_of(&rt, rt.alloc(), words, "[1]\n")?;
-        assert_eq!(rt; run.status, 2, "{line}");
-        assert!(rt; run.output.bytes().is_empty(), "{line}");
-        assert!(rt; run.errors.bytes().starts_with(line.as_bytes()), "{line}");
-        assert!(rt; run.errors.bytes().ends_with(b"\n"), "{line}");
+    for (words, line) in &CASES {
+        assert!(rt; are_refused(&rt, rt.alloc(), *words, *line), "{line}");
     }
-    Ok(())
 }
 
 #[test]
-fn help(rt: HostRuntime) -> Result<(), Fail> {
-    let whole = "Usage: keydir <COMMAND>\n";
-    let of_run = "Answers the lines of the standard input\n\nUsage: keydir run [OPTIONS]\n";
-    let cases: [(&[&str], &str); 4] = [
-        (&["keydir", "--help"], whole),
-        (&["keydir", "help"], whole),
-        (&["keydir", "help", "run"], of_run),
-        (&["keydir", "run", "--help"], of_run),
+fn help(rt: HostRuntime) {
+    const WHOLE: &str = "Usage: keydir <COMMAND>\n";
+    const OF_RUN: &str = "Answers the lines of the standard input\n\nUsage: keydir run [OPTIONS]\n";
+    const CASES: [(&[&str], &str); 4] = [
+        (&["keydir", "--help"], WHOLE),
+        (&["keydir", "help"], WHOLE),
+        (&["keydir", "help", "run"], OF_RUN),
+        (&["keydir", "run", "--help"], OF_RUN),
     ];
-    for (words, text) in cases {
-        let run = run_of(&rt, rt.alloc(), words, "[1]\n")?;
-        assert_eq!(rt; run.status, 0, "{text}");
-        assert!(rt; run.output.bytes().starts_with(text.as_bytes()), "{text}");
-        assert!(rt; run.errors.bytes().is_empty(), "{text}");
+    for (words, text) in &CASES {
+        assert!(rt; show_help(&rt, rt.alloc(), *words, *text), "{text}");
     }
-    Ok(())
 }
 
 /// Each call on the output fails in turn, at a run and where help is asked for.
 #[test]
-fn failing_writes(rt: HostRuntime) -> Result<(), Fail> {
-    let alloc = rt.alloc();
-    for words in [["keydir", "run"], ["keydir", "help"]] {
-        let whole = run_of(&rt, alloc, &words, "[1]\n\n")?;
-        let mut ends = 0;
-        for calls in 0..2000u64 {
-            let mut reader = MemoryIn::new(Vec::from_slice(alloc, b"[1]\n\n")?);
-            let mut output = ShortOut {
-                bytes: Vec::new(alloc),
-                calls_left: calls,
-                failures: 0,
-                flushes: 0,
-            };
-            let mut errors = MemoryOut::new(alloc);
-            let status = program(&rt, alloc, &words, &mut reader, &mut output, &mut errors);
-            assert!(rt; whole.output.bytes().starts_with(&output.bytes));
-            if status != 3 {
-                assert_eq!(rt; status, whole.status);
-                assert!(rt; output.bytes.as_slice() == whole.output.bytes());
-                assert!(rt; errors.bytes().is_empty());
-                ends = 1;
-                break;
-            }
-            assert!(rt; errors.bytes() == "keydir: write failed\n".as_bytes());
-        }
-        assert_eq!(rt; ends, 1);
+fn failing_writes(rt: HostRuntime) {
+    const CASES: [[&str; 2]; 2] = [["keydir", "run"], ["keydir", "help"]];
+    for words in &CASES {
+        let run = run_of(&rt, rt.alloc(), words, b"[1]\n\n");
+        let whole = run.output.bytes();
+        let status = status_after_cuts(&rt, rt.alloc(), words, b"[1]\n\n", whole);
+        assert!(rt; status == Some(run.status), "{words:?}");
     }
-    Ok(())
 }
 
 #[test]
 fn failing_reads(rt: HostRuntime) {
-    let mut reader = FailIn { failures: 0 };
-    let mut output = MemoryOut::new(rt.alloc());
-    let mut errors = MemoryOut::new(rt.alloc());
-    let status = program(
-        &rt,
-        rt.alloc(),
-        &["keydir", "run"],
-        &mut reader,
-        &mut output,
-        &mut errors,
-    );
-    assert_eq!(rt; status, 3);
-    assert!(rt; output.bytes().is_empty());
-    assert!(rt; errors.bytes() == "keydir: read failed\n".as_bytes());
+    assert!(rt; are_unread(&rt, rt.alloc(), &["keydir", "run"]));
 }
 
 /// A standard error that fails changes no status.
 #[test]
 fn failing_errors(rt: HostRuntime) {
-    for (word, status) in [("walk", 2), ("run", 3)] {
-        for calls in [0, 3] {
-            let mut reader = FailIn { failures: 0 };
-            let mut output = MemoryOut::new(rt.alloc());
-            let mut errors = ShortOut {
-                bytes: Vec::new(rt.alloc()),
-                calls_left: calls,
-                failures: 0,
-                flushes: 0,
-            };
-            let words = ["keydir", word];
-            let status_told = program(
-                &rt,
-                rt.alloc(),
-                &words,
-                &mut reader,
-                &mut output,
-                &mut errors,
-            );
-            assert_eq!(rt; status_told, status);
-            assert_eq!(rt; errors.bytes.len() as u64, calls);
-        }
+    for calls in [0, 3] {
+        assert!(rt;
+            ends_untold(&rt, rt.alloc(), &["keydir", "walk"], calls, 2),
+            "{calls}"
+        );
+        assert!(rt;
+            ends_untold(&rt, rt.alloc(), &["keydir", "run"], calls, 3),
+            "{calls}"
+        );
     }
 }
 
+/// Whether words that can't be read are told of by this text, with this status.
+fn tells_of_unread(alloc: Global, why: Unread, status: u8, text: &str) -> bool {
+    let mut errors = MemoryOut::new(alloc);
+    unread_words(why, &mut errors) == status && errors.bytes() == text.as_bytes()
+}
+
 #[test]
-fn no_words(rt: HostRuntime) -> Result<(), Fail> {
-    let cases = [
-        (Unread::NotText, 2, "keydir: a word is not UTF-8\n"),
-        (Unread::OutOfMemory, 3, "keydir: out of memory\n"),
-    ];
-    for (why, status, text) in cases {
-        let mut errors = MemoryOut::new(rt.alloc());
-        assert_eq!(rt; unread_words(why, &mut errors), status, "{text}");
-        assert!(rt; errors.bytes() == text.as_bytes(), "{text}");
-    }
-    Ok(())
+fn no_words(rt: HostRuntime) {
+    let text = "keydir: a word is not UTF-8\n";
+    assert!(rt; tells_of_unread(rt.alloc(), Unread::NotText, 2, text));
+    let text = "keydir: out of memory\n";
+    assert!(rt; tells_of_unread(rt.alloc(), Unread::OutOfMemory, 3, text));
 }

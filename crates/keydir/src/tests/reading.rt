@@ -1,12 +1,12 @@
 //! What counts as an object, a number, digits, base64 and an operation. Each case is one line of a script, whose answer tells
 //! whether its member was read: then what comes after it is at fault.
 
-use crate::tests::limits::repeated;
-use crate::tests::scripts::run_of;
+use crate::tests::scripts::accepted;
 use coniks_directory::IndexSource;
+use coniks_proof::Index;
 use coniks_tool::DemoIndex;
-use std::alloc::{AllocError, Global};
-use std::test::Fail;
+use std::alloc::Global;
+use std::process::Abort;
 use std::thread::Threads;
 
 const DIGITS: &str = "00112233445566778899aabbccddeeff00112233445566778899aabbccddeeff";
@@ -18,22 +18,19 @@ const NO_COMMAND: &str = "{\"fault\":\"Command\"}";
 const NOT_OPEN: &str = "{\"fault\":\"NotOpen\"}";
 
 /// Whether a script of this one line is answered so.
-fn is_answered<T: Threads + Sync>(
-    rt: &T,
+fn is_answered(
+    rt: &(impl Threads + Abort + Sync),
     alloc: Global,
     line: &[u8],
     answer: &str,
-) -> Result<bool, AllocError> {
-    let want = format!(in alloc; "{answer}\n")?;
-    match run_of(rt, alloc, line)? {
-        Some(ran) => Ok(ran.output.bytes() == want.as_bytes()),
-        None => Ok(false),
-    }
+) -> bool {
+    let want = [answer, "\n"].concat(alloc).expect(rt, "memory");
+    accepted(rt, alloc, line, want.as_bytes()).is_some()
 }
 
 #[test]
-fn objects(rt: HostRuntime) -> Result<(), Fail> {
-    let cases: [(&[u8], &str); 13] = [
+fn objects(rt: HostRuntime) {
+    const CASES: [(&[u8], &str); 13] = [
         (b"{}", NO_COMMAND),
         (b" {\"a\" : [1]} \r", NO_COMMAND),
         (b"{\"a\":\"\xc3\xa9\"}", NO_COMMAND),
@@ -48,219 +45,234 @@ fn objects(rt: HostRuntime) -> Result<(), Fail> {
         (b"{\"a\":\"\xff\"}", NOT_AN_OBJECT),
         (b"\xef\xbb\xbf{}", NOT_AN_OBJECT),
     ];
-    for (line, answer) in cases {
-        assert!(rt; is_answered(&rt, rt.alloc(), line, answer)?, "{line:?}");
+    for (line, answer) in &CASES {
+        assert!(rt; is_answered(&rt, rt.alloc(), *line, *answer), "{line:?}");
     }
-    Ok(())
 }
 
-/// A member of as many arrays in one another, in an object.
-fn nested(alloc: Global, arrays: usize) -> Result<String, AllocError> {
-    let opened = repeated(alloc, "[", arrays)?;
-    let closed = repeated(alloc, "]", arrays)?;
-    format!(in alloc; "{{\"a\":{opened}{closed}}}")
+/// Whether a member of as many arrays in one another, in an object, is answered so.
+fn nested_is_answered(
+    rt: &(impl Threads + Abort + Sync),
+    alloc: Global,
+    arrays: usize,
+    answer: &str,
+) -> bool {
+    let opened = "[".repeat(alloc, arrays).expect(rt, "memory");
+    let closed = "]".repeat(alloc, arrays).expect(rt, "memory");
+    let line = format!(in alloc; "{{\"a\":{opened}{closed}}}").expect(rt, "memory");
+    is_answered(rt, alloc, line.as_bytes(), answer)
 }
 
 /// An object and 126 arrays in it are read, one more is none.
 #[test]
-fn depth(rt: HostRuntime) -> Result<(), Fail> {
-    let deepest = nested(rt.alloc(), 126)?;
-    assert!(rt; is_answered(&rt, rt.alloc(), deepest.as_bytes(), NO_COMMAND)?);
-    let deeper = nested(rt.alloc(), 127)?;
-    assert!(rt; is_answered(&rt, rt.alloc(), deeper.as_bytes(), NOT_AN_OBJECT)?);
-    Ok(())
+fn depth(rt: HostRuntime) {
+    assert!(rt; nested_is_answered(&rt, rt.alloc(), 126, NO_COMMAND));
+    assert!(rt; nested_is_answered(&rt, rt.alloc(), 127, NOT_AN_OBJECT));
+}
+
+/// Whether a script of one line of these pieces is answered so.
+fn are_answered(
+    rt: &(impl Threads + Abort + Sync),
+    alloc: Global,
+    pieces: &[&str],
+    answer: &str,
+) -> bool {
+    let line = pieces.concat(alloc).expect(rt, "memory");
+    is_answered(rt, alloc, line.as_bytes(), answer)
 }
 
 #[test]
-fn numbers(rt: HostRuntime) -> Result<(), Fail> {
-    let bad = "{\"fault\":\"Member\",\"member\":\"epoch\"}";
-    let cases = [
+fn numbers(rt: HostRuntime) {
+    const BAD: &str = "{\"fault\":\"Member\",\"member\":\"epoch\"}";
+    const CASES: [(&str, &str); 13] = [
         ("\"epoch\":0", NOT_OPEN),
         ("\"epoch\":18446744073709551615", NOT_OPEN),
-        ("\"epoch\":18446744073709551616", bad),
-        ("\"epoch\":1.0", bad),
-        ("\"epoch\":1e3", bad),
-        ("\"epoch\":-0", bad),
-        ("\"epoch\":-1", bad),
-        ("\"epoch\":\"1\"", bad),
-        ("\"epoch\":[1]", bad),
-        ("\"epoch\":null", bad),
-        ("\"m\":1", bad),
+        ("\"epoch\":18446744073709551616", BAD),
+        ("\"epoch\":1.0", BAD),
+        ("\"epoch\":1e3", BAD),
+        ("\"epoch\":-0", BAD),
+        ("\"epoch\":-1", BAD),
+        ("\"epoch\":\"1\"", BAD),
+        ("\"epoch\":[1]", BAD),
+        ("\"epoch\":null", BAD),
+        ("\"m\":1", BAD),
         ("\"epoch\":1.5,\"epoch\":7", NOT_OPEN),
-        ("\"epoch\":7,\"epoch\":1.5", bad),
+        ("\"epoch\":7,\"epoch\":1.5", BAD),
     ];
-    for (member, answer) in cases {
-        let line = format!(in rt.alloc(); "{{\"cmd\":\"lookup\",{member},\"name\":\"a\"}}")?;
-        assert!(rt;
-            is_answered(&rt, rt.alloc(), line.as_bytes(), answer)?,
-            "{member}"
-        );
+    for (member, answer) in &CASES {
+        let pieces = ["{\"cmd\":\"lookup\",", *member, ",\"name\":\"a\"}"];
+        assert!(rt; are_answered(&rt, rt.alloc(), &pieces, *answer), "{member}");
     }
-    Ok(())
 }
 
 #[test]
-fn texts_and_arrays(rt: HostRuntime) -> Result<(), Fail> {
-    let no_name = "{\"fault\":\"Member\",\"member\":\"name\"}";
-    let no_ops = "{\"fault\":\"Member\",\"member\":\"ops\"}";
-    let cases = [
+fn texts_and_arrays(rt: HostRuntime) {
+    const NO_NAME: &str = "{\"fault\":\"Member\",\"member\":\"name\"}";
+    const NO_OPS: &str = "{\"fault\":\"Member\",\"member\":\"ops\"}";
+    const CASES: [(&str, &str); 11] = [
         (
             "{\"cmd\":\"\\u006cookup\",\"epoch\":1,\"name\":\"\\u0061\\n\"}",
             NOT_OPEN,
         ),
-        ("{\"cmd\":\"lookup\",\"epoch\":1,\"name\":1}", no_name),
-        ("{\"cmd\":\"lookup\",\"epoch\":1,\"name\":[]}", no_name),
-        ("{\"cmd\":\"lookup\",\"epoch\":1,\"name\":null}", no_name),
-        ("{\"cmd\":\"lookup\",\"epoch\":1}", no_name),
+        ("{\"cmd\":\"lookup\",\"epoch\":1,\"name\":1}", NO_NAME),
+        ("{\"cmd\":\"lookup\",\"epoch\":1,\"name\":[]}", NO_NAME),
+        ("{\"cmd\":\"lookup\",\"epoch\":1,\"name\":null}", NO_NAME),
+        ("{\"cmd\":\"lookup\",\"epoch\":1}", NO_NAME),
         ("{\"cmd\":\"batch\",\"epoch\":1,\"ops\":[]}", NOT_OPEN),
-        ("{\"cmd\":\"batch\",\"epoch\":1,\"ops\":{}}", no_ops),
-        ("{\"cmd\":\"batch\",\"epoch\":1,\"ops\":\"[]\"}", no_ops),
-        ("{\"cmd\":\"batch\",\"epoch\":1,\"ops\":null}", no_ops),
+        ("{\"cmd\":\"batch\",\"epoch\":1,\"ops\":{}}", NO_OPS),
+        ("{\"cmd\":\"batch\",\"epoch\":1,\"ops\":\"[]\"}", NO_OPS),
+        ("{\"cmd\":\"batch\",\"epoch\":1,\"ops\":null}", NO_OPS),
         ("{\"cmd\":[\"open\"]}", NO_COMMAND),
         ("{\"cmd\":null}", NO_COMMAND),
     ];
-    for (line, answer) in cases {
+    for (line, answer) in &CASES {
         assert!(rt;
-            is_answered(&rt, rt.alloc(), line.as_bytes(), answer)?,
+            is_answered(&rt, rt.alloc(), line.as_bytes(), *answer),
             "{line}"
         );
     }
-    Ok(())
 }
 
 /// Either case of the digits, and 64 of them.
 #[test]
-fn digits(rt: HostRuntime) -> Result<(), Fail> {
-    let read = "{\"fault\":\"Member\",\"member\":\"nonce\"}";
-    let bad = "{\"fault\":\"Member\",\"member\":\"key\"}";
-    let cases = [
-        (DIGITS, read),
+fn digits(rt: HostRuntime) {
+    const READ: &str = "{\"fault\":\"Member\",\"member\":\"nonce\"}";
+    const BAD: &str = "{\"fault\":\"Member\",\"member\":\"key\"}";
+    const CASES: [(&str, &str); 7] = [
+        (DIGITS, READ),
         (
             "00112233445566778899AABBCCDDEEFF00112233445566778899AABBCCDDEEFF",
-            read,
+            READ,
         ),
         (
             "00112233445566778899aAbBcCdDeEfF00112233445566778899AabbccddeefF",
-            read,
+            READ,
         ),
         (
             "00112233445566778899aabbccddeeff00112233445566778899aabbccddeef",
-            bad,
+            BAD,
         ),
         (
             "00112233445566778899aabbccddeeff00112233445566778899aabbccddeeff0",
-            bad,
+            BAD,
         ),
         (
             "00112233445566778899aabbccddeeff00112233445566778899aabbccddeefg",
-            bad,
+            BAD,
         ),
-        ("", bad),
+        ("", BAD),
     ];
-    for (digits, answer) in cases {
-        let line = format!(in rt.alloc(); "{{\"cmd\":\"open\",\"key\":\"{digits}\"}}")?;
-        assert!(rt;
-            is_answered(&rt, rt.alloc(), line.as_bytes(), answer)?,
-            "{digits}"
-        );
+    for (digits, answer) in &CASES {
+        let pieces = ["{\"cmd\":\"open\",\"key\":\"", *digits, "\"}"];
+        assert!(rt; are_answered(&rt, rt.alloc(), &pieces, *answer), "{digits}");
     }
-    Ok(())
 }
 
-/// The line of a batch of two operations, the second of which has these members beside its opening.
-fn batch_with(alloc: Global, members: &str) -> Result<String, AllocError> {
+/// Whether a batch of two operations is answered so, the second of which has these members beside its opening.
+fn batch_is_answered(
+    rt: &(impl Threads + Abort + Sync),
+    alloc: Global,
+    members: &str,
+    answer: &str,
+) -> bool {
     let good = "\"key\":\"aw==\",\"name\":\"a\",\"op\":\"register\"";
-    let first = format!(in alloc; "{{{good},\"opening\":\"{DIGITS}\"}}")?;
-    let second = format!(in alloc; "{{{members},\"opening\":\"{DIGITS}\"}}")?;
-    format!(in alloc; "{{\"cmd\":\"batch\",\"epoch\":1,\"ops\":[{first},{second}]}}")
+    let line = format!(in alloc;
+        "{{\"cmd\":\"batch\",\"epoch\":1,\"ops\":[{{{good},\"opening\":\"{DIGITS}\"}},{{{members},\"opening\":\"{DIGITS}\"}}]}}"
+    ).expect(rt, "memory");
+    is_answered(rt, alloc, line.as_bytes(), answer)
+}
+
+/// Whether a batch of two operations is answered so, the second of which has this key.
+fn key_is_answered(
+    rt: &(impl Threads + Abort + Sync),
+    alloc: Global,
+    key: &str,
+    answer: &str,
+) -> bool {
+    let members = ["\"key\":", key, ",\"name\":\"a\",\"op\":\"change\""];
+    let members = members.concat(alloc).expect(rt, "memory");
+    batch_is_answered(rt, alloc, members.as_str(), answer)
 }
 
 #[test]
-fn base64_texts(rt: HostRuntime) -> Result<(), Fail> {
-    let bad = "{\"fault\":\"Member\",\"member\":\"ops\",\"position\":1}";
-    let cases = [
+fn base64_texts(rt: HostRuntime) {
+    const BAD: &str = "{\"fault\":\"Member\",\"member\":\"ops\",\"position\":1}";
+    const CASES: [(&str, &str); 10] = [
         ("\"aw==\"", NOT_OPEN),
         ("\"a2V5LWE=\"", NOT_OPEN),
         ("\"\"", NOT_OPEN),
         ("\"+/8=\"", NOT_OPEN),
-        ("\"-_8=\"", bad),
-        ("\"aw\"", bad),
-        ("\"aw=\"", bad),
-        ("\"ax==\"", bad),
-        ("\"aw==\\n\"", bad),
-        ("null", bad),
+        ("\"-_8=\"", BAD),
+        ("\"aw\"", BAD),
+        ("\"aw=\"", BAD),
+        ("\"ax==\"", BAD),
+        ("\"aw==\\n\"", BAD),
+        ("null", BAD),
     ];
-    for (key, answer) in cases {
-        let members = format!(in rt.alloc(); "\"key\":{key},\"name\":\"a\",\"op\":\"change\"")?;
-        let line = batch_with(rt.alloc(), members.as_str())?;
-        assert!(rt;
-            is_answered(&rt, rt.alloc(), line.as_bytes(), answer)?,
-            "{key}"
-        );
+    for (key, answer) in &CASES {
+        assert!(rt; key_is_answered(&rt, rt.alloc(), *key, *answer), "{key}");
     }
-    Ok(())
 }
 
 #[test]
-fn operations(rt: HostRuntime) -> Result<(), Fail> {
-    let bad = "{\"fault\":\"Member\",\"member\":\"ops\",\"position\":1}";
-    let cases = [
+fn operations(rt: HostRuntime) {
+    const BAD: &str = "{\"fault\":\"Member\",\"member\":\"ops\",\"position\":1}";
+    const CASES: [(&str, &str); 5] = [
         (
             "\"key\":\"\",\"name\":\"\",\"op\":\"change\",\"more\":1",
             NOT_OPEN,
         ),
-        ("\"key\":\"aw==\",\"name\":1,\"op\":\"register\"", bad),
-        ("\"key\":\"aw==\",\"name\":\"a\",\"op\":\"remove\"", bad),
-        ("\"key\":\"aw==\",\"name\":\"a\"", bad),
-        ("\"key\":\"aw==\",\"op\":\"register\"", bad),
+        ("\"key\":\"aw==\",\"name\":1,\"op\":\"register\"", BAD),
+        ("\"key\":\"aw==\",\"name\":\"a\",\"op\":\"remove\"", BAD),
+        ("\"key\":\"aw==\",\"name\":\"a\"", BAD),
+        ("\"key\":\"aw==\",\"op\":\"register\"", BAD),
     ];
-    for (members, answer) in cases {
-        let line = batch_with(rt.alloc(), members)?;
+    for (members, answer) in &CASES {
         assert!(rt;
-            is_answered(&rt, rt.alloc(), line.as_bytes(), answer)?,
+            batch_is_answered(&rt, rt.alloc(), *members, *answer),
             "{members}"
         );
     }
-    Ok(())
 }
 
 /// Elements that are no objects, and one whose opening is too short.
 #[test]
-fn elements(rt: HostRuntime) -> Result<(), Fail> {
-    let bad = "{\"fault\":\"Member\",\"member\":\"ops\",\"position\":0}";
-    let short = "{\"key\":\"aw==\",\"name\":\"a\",\"op\":\"register\",\"opening\":\"11\"}";
-    for element in ["[]", "1", "null", short] {
-        let line = format!(in rt.alloc(); "{{\"cmd\":\"batch\",\"epoch\":1,\"ops\":[{element}]}}")?;
-        assert!(rt;
-            is_answered(&rt, rt.alloc(), line.as_bytes(), bad)?,
-            "{element}"
-        );
+fn elements(rt: HostRuntime) {
+    const BAD: &str = "{\"fault\":\"Member\",\"member\":\"ops\",\"position\":0}";
+    const ELEMENTS: [&str; 4] = [
+        "[]",
+        "1",
+        "null",
+        "{\"key\":\"aw==\",\"name\":\"a\",\"op\":\"register\",\"opening\":\"11\"}",
+    ];
+    for element in &ELEMENTS {
+        let pieces = ["{\"cmd\":\"batch\",\"epoch\":1,\"ops\":[", *element, "]}"];
+        assert!(rt; are_answered(&rt, rt.alloc(), &pieces, BAD), "{element}");
     }
-    Ok(())
+}
+
+/// The index that these digits write.
+fn index_of(rt: &impl Abort, digits: &str) -> Index {
+    let mut bytes = [0; 32];
+    hex::decode_to_slice(digits, &mut bytes).expect(rt, "64 digits");
+    Index(bytes)
 }
 
 /// Computed by another program's SHA-256.
 #[test]
-fn demonstration_index(rt: HostRuntime) -> Result<(), Fail> {
+fn demonstration_index(rt: HostRuntime) {
     let mut counted = [0; 32];
     for (place, byte) in counted.iter_mut().enumerate() {
         *byte = place as u8;
     }
-    let cases: [([u8; 32], &[u8], &str); 2] = [
-        (
-            [0; 32],
-            b"a",
-            "b446d103998d549b0acb89e4d02276ed0c828740436366a157bea1a8a63de531",
-        ),
-        (
-            counted,
-            b"",
-            "7d1281dbd821b9a768d5402baad146d281955a2d5ccc879d6ba9b07b50a9d47d",
-        ),
-    ];
-    for (key, name, wanted) in cases {
-        let index = hex::encode(rt.alloc(), &DemoIndex::new(key).index(name).0)?;
-        assert_eq!(rt; index.as_str(), wanted);
-    }
-    Ok(())
+    let of_zeros = index_of(
+        &rt,
+        "b446d103998d549b0acb89e4d02276ed0c828740436366a157bea1a8a63de531",
+    );
+    let of_counted = index_of(
+        &rt,
+        "7d1281dbd821b9a768d5402baad146d281955a2d5ccc879d6ba9b07b50a9d47d",
+    );
+    assert_eq!(rt; DemoIndex::new([0; 32]).index(b"a"), of_zeros);
+    assert_eq!(rt; DemoIndex::new(counted).index(b""), of_counted);
 }

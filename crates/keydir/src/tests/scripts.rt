@@ -1,75 +1,68 @@
 //! Scripts of `run`, line by line. The roots were computed by another program.
 
 use crate::tests::streams::{OneByteIn, ShortOut};
-use coniks_tool::{MemoryIn, MemoryOut, RunFault, run_script};
-use std::alloc::{AllocError, Global};
-use std::test::Fail;
+use coniks_tool::{MemoryIn, MemoryOut, run_script};
+use std::alloc::Global;
+use std::process::Abort;
 use std::thread::Threads;
 
 /// The line that opens a directory under a key of zeros.
 const OPEN: &str =
     "{\"cmd\":\"open\",\"key\":\"0000000000000000000000000000000000000000000000000000000000000000\",\"nonce\":\"1111111111111111111111111111111111111111111111111111111111111111\",\"policy\":\"3333333333333333333333333333333333333333333333333333333333333333\"}";
 
-/// What a script was answered by, and whether each line was accepted.
-#[derive(Drop)]
-pub struct Ran {
-    pub all: bool,
-    pub output: MemoryOut,
-}
-
-/// Runs the bytes of a script with one worker.
-pub fn run_of<T: Threads + Sync>(
-    rt: &T,
+/// Whether each line of a script is accepted by a run with one worker, where these bytes answer it.
+pub fn accepted(
+    rt: &(impl Threads + Abort + Sync),
     alloc: Global,
-    input: &[u8],
-) -> Result<Option<Ran>, AllocError> {
-    let mut reader = MemoryIn::new(Vec::from_slice(alloc, input)?);
+    script: &[u8],
+    answers: &[u8],
+) -> Option<bool> {
+    let mut reader = MemoryIn::new(Vec::from_slice(alloc, script).expect(rt, "memory"));
     let mut output = MemoryOut::new(alloc);
-    match run_script(rt, alloc, &mut reader, &mut output, 1, 0) {
-        Ok(all) => Ok(Some(Ran { all, output })),
-        Err(_) => Ok(None),
+    let all = run_script(rt, alloc, &mut reader, &mut output, 1, 0);
+    if output.bytes() == answers {
+        all.ok()
+    } else {
+        None
     }
 }
 
 /// The lines, each with its newline.
-fn script_of(alloc: Global, lines: &[(&str, &str)]) -> Result<String, AllocError> {
+fn script_of(rt: &impl Abort, alloc: Global, lines: &[(&str, &str)]) -> String {
     let mut script = String::new(alloc);
     for (line, _) in lines {
-        script.push_str(*line)?;
-        script.push_str("\n")?;
+        script.push_str(*line).expect(rt, "memory");
+        script.push_str("\n").expect(rt, "memory");
     }
-    Ok(script)
+    script
 }
 
 /// The answers, each with its newline.
-fn answers_of(alloc: Global, lines: &[(&str, &str)]) -> Result<String, AllocError> {
+fn answers_of(rt: &impl Abort, alloc: Global, lines: &[(&str, &str)]) -> String {
     let mut answers = String::new(alloc);
     for (_, answer) in lines {
-        answers.push_str(*answer)?;
-        answers.push_str("\n")?;
+        answers.push_str(*answer).expect(rt, "memory");
+        answers.push_str("\n").expect(rt, "memory");
     }
-    Ok(answers)
+    answers
 }
 
 /// Whether the lines are answered as written beside them, and `all` says whether each is accepted.
-pub fn is_answered<T: Threads + Sync>(
-    rt: &T,
+pub fn is_answered(
+    rt: &(impl Threads + Abort + Sync),
     alloc: Global,
     lines: &[(&str, &str)],
     all: bool,
-) -> Result<bool, AllocError> {
-    let script = script_of(alloc, lines)?;
-    let answers = answers_of(alloc, lines)?;
-    match run_of(rt, alloc, script.as_bytes())? {
-        Some(ran) => Ok(ran.all == all && ran.output.bytes() == answers.as_bytes()),
-        None => Ok(false),
-    }
+) -> bool {
+    let script = script_of(rt, alloc, lines);
+    let answers = answers_of(rt, alloc, lines);
+    accepted(rt, alloc, script.as_bytes(), answers.as_bytes()) == Some(all)
 }
 
 /// A batch before and after an `open`, and an epoch that isn't later.
 #[test]
-fn the_first_path(rt: HostRuntime) -> Result<(), Fail> {
-    let lines = [
+fn the_first_path(rt: HostRuntime) {
+    const LINES: [(&str, &str); 4] = [
         (
             "{\"cmd\":\"batch\",\"epoch\":1,\"ops\":[]}",
             "{\"fault\":\"NotOpen\"}",
@@ -87,14 +80,13 @@ fn the_first_path(rt: HostRuntime) -> Result<(), Fail> {
             "{\"fault\":\"EpochNotLater\",\"latest\":1}",
         ),
     ];
-    assert!(rt; is_answered(&rt, rt.alloc(), &lines, false)?);
-    Ok(())
+    assert!(rt; is_answered(&rt, rt.alloc(), &LINES, false));
 }
 
 /// The same without its first and last line.
 #[test]
-fn accepted_whole(rt: HostRuntime) -> Result<(), Fail> {
-    let lines = [
+fn accepted_whole(rt: HostRuntime) {
+    const LINES: [(&str, &str); 2] = [
         (
             "{\"cmd\":\"open\",\"key\":\"0000000000000000000000000000000000000000000000000000000000000000\",\"nonce\":\"1111111111111111111111111111111111111111111111111111111111111111\",\"policy\":\"3333333333333333333333333333333333333333333333333333333333333333\"}",
             "{\"ok\":\"open\"}",
@@ -104,14 +96,13 @@ fn accepted_whole(rt: HostRuntime) -> Result<(), Fail> {
             "{\"entry\":\"01000000000000000100000000000000001aa9b40c9d34d625d7329003c097925b7d4c7809b864b047b71defb140aca216000000000000000000000000000000000000000000000000000000000000000011111111111111111111111111111111111111111111111111111111111111113333333333333333333333333333333333333333333333333333333333333333ae9682aec203eb680ce14cbd31a5a2681c03a354e3547be4380b2395c04d53f3504b9e0a20a3b47553f91f4dc70ae65654d8dab064060782b030be26232859e8\",\"epoch\":1,\"link\":\"d87d9ee85e421cb7c8a5324caf11dcf32e482758aabdac5a142b5c44f5601613\",\"ok\":\"batch\",\"root\":\"1aa9b40c9d34d625d7329003c097925b7d4c7809b864b047b71defb140aca216\"}",
         ),
     ];
-    assert!(rt; is_answered(&rt, rt.alloc(), &lines, true)?);
-    Ok(())
+    assert!(rt; is_answered(&rt, rt.alloc(), &LINES, true));
 }
 
 /// One name that changes its key, and the last epoch that there is.
 #[test]
-fn epochs(rt: HostRuntime) -> Result<(), Fail> {
-    let lines = [
+fn epochs(rt: HostRuntime) {
+    const LINES: [(&str, &str); 6] = [
         (
             "{\"cmd\":\"open\",\"key\":\"0000000000000000000000000000000000000000000000000000000000000000\",\"nonce\":\"1111111111111111111111111111111111111111111111111111111111111111\",\"policy\":\"3333333333333333333333333333333333333333333333333333333333333333\"}",
             "{\"ok\":\"open\"}",
@@ -137,14 +128,13 @@ fn epochs(rt: HostRuntime) -> Result<(), Fail> {
             "{\"fault\":\"EpochNotLater\",\"latest\":18446744073709551615}",
         ),
     ];
-    assert!(rt; is_answered(&rt, rt.alloc(), &lines, false)?);
-    Ok(())
+    assert!(rt; is_answered(&rt, rt.alloc(), &LINES, false));
 }
 
 /// Three names, of which one changes.
 #[test]
-fn three_names(rt: HostRuntime) -> Result<(), Fail> {
-    let lines = [
+fn three_names(rt: HostRuntime) {
+    const LINES: [(&str, &str); 3] = [
         (
             "{\"cmd\":\"open\",\"key\":\"0000000000000000000000000000000000000000000000000000000000000000\",\"nonce\":\"1111111111111111111111111111111111111111111111111111111111111111\",\"policy\":\"3333333333333333333333333333333333333333333333333333333333333333\"}",
             "{\"ok\":\"open\"}",
@@ -158,14 +148,13 @@ fn three_names(rt: HostRuntime) -> Result<(), Fail> {
             "{\"entry\":\"01000000000000000300000000000000025724a835ca3679d2e0e3d110b696a542934dadc39b014b17046b7c62e375d62d25c4b2c9dc4ef44cadef372920cd35a7357135a94f5e49d88586f5dc976a6d8011111111111111111111111111111111111111111111111111111111111111113333333333333333333333333333333333333333333333333333333333333333afe87625137dfd124b99b1be495f4262184ae0af97bf8752d86f10c0a3fd37c73597784958657512d7be43ec4286ea14234410026401e59736206ed6b97bd2ab\",\"epoch\":3,\"link\":\"cf8360b695ff23239024d7749f23e650ea16d817d7662343ea4cc89e35fc1369\",\"ok\":\"batch\",\"root\":\"5724a835ca3679d2e0e3d110b696a542934dadc39b014b17046b7c62e375d62d\"}",
         ),
     ];
-    assert!(rt; is_answered(&rt, rt.alloc(), &lines, true)?);
-    Ok(())
+    assert!(rt; is_answered(&rt, rt.alloc(), &LINES, true));
 }
 
 /// Operations on names that are present, absent or twice there.
 #[test]
-fn with_a_name_present(rt: HostRuntime) -> Result<(), Fail> {
-    let lines = [
+fn with_a_name_present(rt: HostRuntime) {
+    const LINES: [(&str, &str); 9] = [
         (
             "{\"cmd\":\"open\",\"key\":\"0000000000000000000000000000000000000000000000000000000000000000\",\"nonce\":\"1111111111111111111111111111111111111111111111111111111111111111\",\"policy\":\"3333333333333333333333333333333333333333333333333333333333333333\"}",
             "{\"ok\":\"open\"}",
@@ -203,14 +192,13 @@ fn with_a_name_present(rt: HostRuntime) -> Result<(), Fail> {
             "{\"entry\":\"01000000000000000200000000000000018c33c01f7c7464c4c6e45d59306e11d36aa55c793d59ab9963bbb1f48e58a7fc60131ac4b030779265aacc673539c9a92168b3b060f2cfa8453cf7982fe0c8de111111111111111111111111111111111111111111111111111111111111111133333333333333333333333333333333333333333333333333333333333333337d683a723ad098175d3477addaa89978b9e5e36ffd336574b51f6fadebdbcdcc5e89c5fe4ea78f1920ce229704b2d01bb6c3c0b40e3f057ec0bc53ad5065b144\",\"epoch\":2,\"link\":\"2f37738bb8f74798970f6198c1eaa05754f2c1235a6c28b66c649c52cb79a61a\",\"ok\":\"batch\",\"root\":\"8c33c01f7c7464c4c6e45d59306e11d36aa55c793d59ab9963bbb1f48e58a7fc\"}",
         ),
     ];
-    assert!(rt; is_answered(&rt, rt.alloc(), &lines, false)?);
-    Ok(())
+    assert!(rt; is_answered(&rt, rt.alloc(), &LINES, false));
 }
 
 /// Each fault of a line, and of two at once the first.
 #[test]
-fn first_faults(rt: HostRuntime) -> Result<(), Fail> {
-    let lines = [
+fn first_faults(rt: HostRuntime) {
+    const LINES: [(&str, &str); 26] = [
         (
             "{\"cmd\":\"open\",\"nonce\":\"11\",\"policy\":7}",
             "{\"fault\":\"Member\",\"member\":\"key\"}",
@@ -298,35 +286,30 @@ fn first_faults(rt: HostRuntime) -> Result<(), Fail> {
             "{\"entry\":\"010000000000000001000000000000000015a6aa01575cdbffedd8ff254626a0da2891e86624be6eefde5a70462a6e8e240000000000000000000000000000000000000000000000000000000000000000111111111111111111111111111111111111111111111111111111111111111133333333333333333333333333333333333333333333333333333333333333338db1ab387328713ccde14efef954ff8eafe253d8e11c9a79df2c7b0a60830c29e8f13c0610145afe56996ff987f8d022c281bb41c24fe4df3182922e1885cf68\",\"epoch\":1,\"link\":\"27233b879020377f06c247661c7f914eb35b9d2a0aedad44373bf431faa401fc\",\"ok\":\"batch\",\"root\":\"15a6aa01575cdbffedd8ff254626a0da2891e86624be6eefde5a70462a6e8e24\"}",
         ),
     ];
-    assert!(rt; is_answered(&rt, rt.alloc(), &lines, false)?);
-    Ok(())
+    assert!(rt; is_answered(&rt, rt.alloc(), &LINES, false));
 }
 
 /// A carriage return before the newline is white space, a byte FF is no text, and a last line needs no newline.
 #[test]
-fn ends_of_lines(rt: HostRuntime) -> Result<(), Fail> {
-    let mut script = Vec::new(rt.alloc());
-    script.extend_from_slice(b"\xff\n\r\n")?;
-    script.extend_from_slice(OPEN.as_bytes())?;
-    script.extend_from_slice(b"\r\n{\"cmd\":\"batch\",\"epoch\":1,\"ops\":[]}")?;
+fn ends_of_lines(rt: HostRuntime) {
+    let script = [
+        b"\xff\n\r\n".as_slice(),
+        OPEN.as_bytes(),
+        b"\r\n{\"cmd\":\"batch\",\"epoch\":1,\"ops\":[]}",
+    ]
+    .concat(rt.alloc())
+    .expect(&rt, "memory");
     let want =
         "{\"fault\":\"Json\"}\n{\"fault\":\"Json\"}\n{\"ok\":\"open\"}\n{\"entry\":\"01000000000000000100000000000000001aa9b40c9d34d625d7329003c097925b7d4c7809b864b047b71defb140aca216000000000000000000000000000000000000000000000000000000000000000011111111111111111111111111111111111111111111111111111111111111113333333333333333333333333333333333333333333333333333333333333333ae9682aec203eb680ce14cbd31a5a2681c03a354e3547be4380b2395c04d53f3504b9e0a20a3b47553f91f4dc70ae65654d8dab064060782b030be26232859e8\",\"epoch\":1,\"link\":\"d87d9ee85e421cb7c8a5324caf11dcf32e482758aabdac5a142b5c44f5601613\",\"ok\":\"batch\",\"root\":\"1aa9b40c9d34d625d7329003c097925b7d4c7809b864b047b71defb140aca216\"}\n";
-    match run_of(&rt, rt.alloc(), &script)? {
-        Some(ran) => {
-            assert!(rt; ran.output.bytes() == want.as_bytes());
-            assert_eq!(rt; ran.all, false);
-        }
-        None => assert!(rt; false),
-    }
-    Ok(())
+    let all = accepted(&rt, rt.alloc(), &script, want.as_bytes());
+    assert_eq!(rt; all, Some(false));
 }
 
 /// A reader of one byte a call and a writer of one byte a call.
 #[test]
-fn byte_by_byte(rt: HostRuntime) -> Result<(), Fail> {
-    let mut script = String::from_str(rt.alloc(), OPEN)?;
-    script.push_str("\n[]")?;
-    let mut reader = OneByteIn::new(Vec::from_slice(rt.alloc(), script.as_bytes())?);
+fn byte_by_byte(rt: HostRuntime) {
+    let script = [OPEN, "\n[]"].concat(rt.alloc()).expect(&rt, "memory");
+    let mut reader = OneByteIn::new(script.into_bytes());
     let mut writer = ShortOut {
         bytes: Vec::new(rt.alloc()),
         calls_left: 1000,
@@ -334,7 +317,6 @@ fn byte_by_byte(rt: HostRuntime) -> Result<(), Fail> {
         flushes: 0,
     };
     let ran = run_script(&rt, rt.alloc(), &mut reader, &mut writer, 1, 0);
-    assert_eq!(rt; ran, Ok(false));
+    assert!(rt; ran == Ok(false));
     assert!(rt; writer.bytes.as_slice() == b"{\"ok\":\"open\"}\n{\"fault\":\"Json\"}\n".as_slice());
-    Ok(())
 }
