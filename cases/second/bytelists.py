@@ -1,0 +1,52 @@
+"""The hashed byte lists, each hashed with SHA-256."""
+
+import hashlib
+
+ZEROS = bytes(32)
+
+
+def sha256(*parts):
+    return hashlib.sha256(b"".join(parts)).digest()
+
+
+def number(value, length):
+    return value.to_bytes(length, "big")
+
+
+def bit(index, k):
+    """Bit k of an index: bit 0 is the most significant bit of the first byte."""
+    return index[k // 8] >> (7 - k % 8) & 1
+
+
+def padded(bits):
+    """A prefix as 32 bytes: its bits, then zero bits."""
+    digits = "".join(map(str, bits)).ljust(256, "0")
+    return number(int(digits, 2), 32)
+
+
+def empty_node(nonce, prefix):
+    return sha256(b"\x45", nonce, padded(prefix), number(len(prefix), 2))
+
+
+def leaf(nonce, index, level, commitment):
+    return sha256(b"\x4c", nonce, index, number(level, 2), commitment)
+
+
+def interior_node(left, right):
+    return sha256(b"\x49", left, right)
+
+
+def commitment(opening, name, key):
+    return sha256(b"\x43", opening, number(len(name), 2), name, number(len(key), 4), key)
+
+
+def link(entry):
+    return sha256(b"\x53", entry)
+
+
+def demonstration_index(key, name):
+    return sha256(b"\x56", key, name)
+
+
+def demonstration_seal(key, body):
+    return sha256(b"\x41", key, body) + sha256(b"\x42", key, body)

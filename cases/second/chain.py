@@ -1,0 +1,93 @@
+"""`keydir audit` and `keydir monitor`: entries, each compared with the last one that was accepted."""
+
+import members
+from bytelists import ZEROS, demonstration_index, demonstration_seal, link, number
+from members import Fault, b64, member, read_object
+from proofs import Proof, judge
+
+
+class Entry:
+    """An entry of 209 bytes, by its parts."""
+
+    def __init__(self, whole):
+        self.whole = whole
+        self.body = whole[:145]
+        self.version = whole[0]
+        self.epoch = int.from_bytes(whole[1:9], "big")
+        self.epoch_before = int.from_bytes(whole[9:17], "big")
+        self.root = whole[17:49]
+        self.previous_link = whole[49:81]
+        self.nonce = whole[81:113]
+        self.signature = whole[145:]
+
+
+def entry_after(before, key, epoch, root, nonce, policy):
+    """The entry that a directory signs after another one, or first."""
+    body = b"\x01" + number(epoch, 8) + number(before.epoch if before else 0, 8) + root
+    body += (link(before.whole) if before else ZEROS) + nonce + policy
+    return Entry(body + demonstration_seal(key, body))
+
+
+def audit(entry, before, key):
+    """Refuses an entry that doesn't follow the one before it, or none."""
+    if entry.version != 1:
+        raise Fault("Version")
+    if before is None and entry.epoch == 0:
+        raise Fault("FirstEpoch")
+    if before is not None and entry.epoch <= before.epoch:
+        raise Fault("NotLater")
+    if entry.epoch_before != (before.epoch if before else 0):
+        raise Fault("PreviousEpoch")
+    if entry.previous_link != (link(before.whole) if before else ZEROS):
+        raise Fault("PreviousLink")
+    if before is not None and entry.nonce != before.nonce:
+        raise Fault("NonceChanged")
+    if entry.signature != demonstration_seal(key, entry.body):
+        raise Fault("Verdict")
+
+
+class Auditor:
+    def __init__(self, key):
+        self.key = key
+        self.before = None
+
+    def answer(self, line):
+        entry = Entry(member(read_object(line), "entry", members.entry))
+        audit(entry, self.before, self.key)
+        self.before = entry
+        return {"epoch": entry.epoch, "link": link(entry.whole).hex(), "ok": "audit"}
+
+
+def key_or_null(value):
+    return None if value is None else b64(value)
+
+
+class Monitor:
+    def __init__(self, key, name, expected):
+        self.key = key
+        self.name = name
+        self.index = demonstration_index(key, name)
+        self.expected = expected
+        self.before = None
+
+    def answer(self, line):
+        found = read_object(line)
+        if found.get("cmd") == "expect":
+            return self.expect(found)
+        entry = Entry(member(found, "entry", members.entry))
+        proof = member(found, "proof", Proof)
+        audit(entry, self.before, self.key)
+        shown = judge(proof, self.index, self.name, entry.nonce, entry.root)
+        self.before = entry
+        return {"epoch": entry.epoch, "ok": "monitor", "seen": self.seen(shown)}
+
+    def expect(self, found):
+        if "key" not in found:
+            raise Fault("Member", member="key")
+        self.expected = member(found, "key", key_or_null)
+        return {"ok": "expect"}
+
+    def seen(self, shown):
+        if shown == self.expected:
+            return "same"
+        return "absent" if shown is None else "changed"
