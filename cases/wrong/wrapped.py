@@ -1,0 +1,21 @@
+"""Runs the program that KEYDIR names, the repository's `keydir` where it is unset, with the words and the input given."""
+
+import os
+import subprocess
+import sys
+from pathlib import Path
+
+sys.dont_write_bytecode = True
+
+
+def run():
+    """Runs it without KEYDIR, so that a wrong program that is named there doesn't run itself again and again."""
+    others = {name: value for name, value in os.environ.items() if name != "KEYDIR"}
+    program = os.environ.get("KEYDIR") or Path(__file__).resolve().parents[2] / "keydir"
+    return subprocess.run([program, *sys.argv[1:]], stdout=subprocess.PIPE, env=others)
+
+
+def end(output, status):
+    sys.stdout.buffer.write(output)
+    sys.stdout.buffer.flush()
+    sys.exit(status)
