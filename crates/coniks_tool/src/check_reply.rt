@@ -5,14 +5,14 @@ ghost use Rattle.serde_json.specs.View.{view};
 ghost use Rattle.coniks_proof.specs.Proofs.{said};
 ghost use Rattle.coniks_tool.specs.CheckReplies.{answer_data, check_data, check_fault_name, check_outcome, check_text};
 
-use crate::reply::{Member, bad_member, fault, member_text};
+use crate::reply::{Member, bad_member, fault, member_text, print_value};
 use base64::engine::general_purpose::STANDARD;
 use coniks_proof::{Answer, CheckFault};
 use serde_json::{Value, json};
 use std::alloc::{AllocError, Global};
 
 /// What `check` answers to a line.
-#[derive(Clone, Copy, Debug)]
+#[derive(Clone, Copy)]
 pub enum CheckReply<'a> {
     /// The proof is accepted, and says this of the name.
     Answered(Answer<'a>),
@@ -47,8 +47,8 @@ pub fn print_check(
     ensures ok { OnOk result (out.new.items ≡ out.old.items ++ check_text (check_outcome reply.now)) }
     ensures err { OnErr result (out.new.items ≡ out.old.items) }
 {
-    let text = value_of(alloc, reply)?.to_vec(alloc)?;
-    out.extend_from_slice(&text)
+    let value = value_of(alloc, reply)?;
+    print_value(alloc, &value, out)
 }
 
 fn value_of(alloc: Global, reply: &CheckReply<'_>) -> Result<Value, AllocError>
