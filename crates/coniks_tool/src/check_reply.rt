@@ -3,7 +3,7 @@
 ghost use Rattle.std.specs.Prelude.{◌≡◌, ◌++◌, IfOk, OnOk, OnErr};
 ghost use Rattle.serde_json.specs.View.{view};
 ghost use Rattle.coniks_proof.specs.Proofs.{said};
-ghost use Rattle.coniks_tool.specs.CheckReplies.{answer_data, check_data, check_fault_name, check_outcome, check_text};
+ghost use Rattle.coniks_tool.specs.CheckReplies.{answer_data, key_data, check_data, check_fault_name, check_outcome, check_text};
 
 use crate::reply::{Member, bad_member, fault, member_text, print_value};
 use base64::engine::general_purpose::STANDARD;
@@ -66,13 +66,19 @@ fn answer_value(alloc: Global, answer: &Answer<'_>) -> Result<Value, AllocError>
     ensures { IfOk result (λ value. view value ≡ answer_data (said answer.now)) }
 {
     match answer {
-        Answer::Key(key) => json!(in alloc; {
-            "answer": "key",
-            "key": STANDARD.encode(alloc, *key)?,
-            "ok": "check",
-        }),
+        Answer::Key(key) => key_value(alloc, *key),
         Answer::Absent => json!(in alloc; {"answer": "absent", "ok": "check"}),
     }
+}
+
+fn key_value(alloc: Global, key: &[u8]) -> Result<Value, AllocError>
+    ensures { IfOk result (λ value. view value ≡ key_data key.now) }
+{
+    json!(in alloc; {
+        "answer": "key",
+        "key": STANDARD.encode(alloc, key)?,
+        "ok": "check",
+    })
 }
 
 /// The name of a fault.

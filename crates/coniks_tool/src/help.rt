@@ -11,13 +11,15 @@ Status:
   3  a stream failed, or memory ran out";
 
 /// At the end of the help of `keydir run`.
-pub(crate) const OF_RUN: &str = "Workers share out work only from a depth of about 4 on; with depth 0 there is one job.
+pub(crate) const OF_RUN: &str =
+    "Workers share out work only from a depth of about 4 on; with depth 0 there is one job.
 
 Example:
   ./keydir run --workers 4 --depth 4 < examples/first.jsonl";
 
 /// At the end of the help of `keydir check`.
-pub(crate) const OF_CHECK: &str = "A proof is judged against the root, nonce and index that its own line holds: trust begins with audit
+pub(crate) const OF_CHECK: &str =
+    "A proof is judged against the root, nonce and index that its own line holds: trust begins with audit
 and monitor.
 
 Example:

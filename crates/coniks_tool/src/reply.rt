@@ -114,11 +114,7 @@ pub fn print(alloc: Global, reply: &Reply, out: &mut Vec<u8>) -> Result<(), Allo
 }
 
 /// Adds the text of a value.
-pub(crate) fn print_value(
-    alloc: Global,
-    value: &Value,
-    out: &mut Vec<u8>,
-) -> Result<(), AllocError>
+pub(crate) fn print_value(alloc: Global, value: &Value, out: &mut Vec<u8>) -> Result<(), AllocError>
     ensures ok { has_float (view value.now) ≡ false → OnOk result (out.new.items ≡ out.old.items ++ compact_text (view value.now)) }
     ensures err { OnErr result (out.new.items ≡ out.old.items) }
 {
