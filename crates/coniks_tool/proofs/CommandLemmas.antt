@@ -1,5 +1,5 @@
 -- A command with one more subcommand, or one more option.
-use Rattle.std.proofs.Common.{◌≡◌, ◌∙◌, ◌||◌, ap, refl, Bool, false, true}
+use Rattle.std.proofs.Common.{◌≡◌, ◌∙◌, ◌||◌, ap, refl, Bool, true}
 use Rattle.clap.specs.Words.{App, AddsArg, AddsSubcommand, Rule, is_simple_and_free, rule_of, shape_of, with_rule, with_subcommand}
 use Rattle.clap.specs.declared.builder.arg.Arg.{Arg}
 use Rattle.clap.specs.declared.builder.command.Command.{Command}

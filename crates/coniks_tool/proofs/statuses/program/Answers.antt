@@ -1,5 +1,4 @@
-use Rattle.std.proofs.Common.{◌≡◌, ◌≤◌, ◌∙◌, ℕ, List, map, subst, sym}
-use Rattle.coniks_tool.specs.Program.{status_of}
+use Rattle.std.proofs.Common.{◌≤◌, ◌∙◌, map, subst, sym}
 use Rattle.coniks_tool.proofs.ProgramLemmas.{status_within, quiet-below_2, told-at_3, idle-at_2, done-at_0, ran-at_1, refused-at_2, taken-at_2, bad_key-from_2, bad_expectation-from_2, bad_key-at_2, bad_expectation-at_2}
 use Rattle.coniks_tool.proofs.statuses.program.Goals as goal
 
