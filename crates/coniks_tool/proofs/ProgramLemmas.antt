@@ -1,27 +1,35 @@
--- Words that are refused.
-use Rattle.std.proofs.Common.{◌≡◌, ℕ, List, Bool, true, false, Option, Some, None, ap, sym, subst}
+-- What comes of the program's words.
+use Rattle.std.proofs.Common.{◌≡◌, ◌≢◌, ◌≤◌, ◌⊎◌, inl, inr, ℕ, List, [], Bool, true, false, Option, Some, None, ap, arith, sym, subst, ◌∙◌}
 use Rattle.std.specs.Prelude.{◌&&◌, Result, Ok, Err, IfOk, is_none, is_some}
 use Rattle.std.proofs.lemmas.Bool.{false≢true}
+use Rattle.clap.specs.Words.{Kinds, IsAmong, fault_of, subcommand_of, takes}
 use Rattle.clap.specs.declared.error.Error.{Error}
+use Rattle.clap.specs.declared.error.kind.ErrorKind.{ErrorKind}
 use Rattle.coniks_lines.specs.declared.fault.RunFault.{RunFault}
 use Rattle.coniks_lines.specs.Known.{Source, Sink}
-use Rattle.clap.specs.Words.{subcommand_of}
 use Rattle.coniks_tool.specs.Choice.{Choice, run, check, audit, monitor, chosen, key_in, lacks_key, lacks_expectation}
 use Rattle.coniks_tool.specs.Expectations.{expectation_in}
 use Rattle.coniks_tool.specs.Keydir.{keydir}
-use Rattle.coniks_tool.specs.Program.{EndsFor, HasBadExpectation, HasBadKey, IfRefused}
+use Rattle.coniks_tool.specs.Program.{AsksForHelp, EndsBy, EndsFor, HasBadExpectation, HasBadKey, HasMistake, IfIdle, IfRefused, IsExplained, Runs, RunsFor, Tells, TellsIf, bad_expectation_line, bad_key_line, fault_line, status_of, told_of}
 use Rattle.coniks_tool.specs.declared.choice.WordsFault.{WordsFault}
 use Rattle.coniks_tool.specs.declared.choice.WordsFault.TheVariants.{Clap, OutOfMemory}
-use Rattle.coniks_tool.specs.declared.statuses.Ending.{Ending}
-use Rattle.coniks_tool.specs.declared.statuses.Ending.TheVariants.{Done, Refused, BadKey, BadExpectation}
+use Rattle.coniks_tool.specs.declared.ending.Ending.{Ending}
+use Rattle.coniks_tool.specs.declared.ending.Ending.TheVariants.{Done, Refused, BadKey, BadExpectation}
 
--- a fact that always holds also holds where the words are refused
+-- a fact that always holds also holds where the words are refused, and where nothing was run or shown
 pub holds_if_refused : {P : Type 0} (r : Result Ending RunFault) → P → IfOk r (λ ending. IfRefused ending P)
 holds_if_refused (Ok (Done all)) p = tt
 holds_if_refused (Ok (Refused text)) p = p
 holds_if_refused (Ok BadKey) p = tt
 holds_if_refused (Ok BadExpectation) p = tt
 holds_if_refused (Err fault) p = tt
+
+pub holds_if_idle : {P : Type 0} (r : Result Ending RunFault) → P → IfOk r (λ ending. IfIdle ending P)
+holds_if_idle (Ok (Done all)) p = tt
+holds_if_idle (Ok (Refused text)) p = p
+holds_if_idle (Ok BadKey) p = p
+holds_if_idle (Ok BadExpectation) p = p
+holds_if_idle (Err fault) p = tt
 
 is_of_clap : WordsFault → Bool
 is_of_clap (Clap error) = true
@@ -36,6 +44,7 @@ there_and_not : (key : Option (List ℕ)) (b : Bool) → is_none key ≡ true �
 there_and_not None b none both = false≢true both
 there_and_not (Some key) b none both = false≢true none
 
+-- a key is never told as a bad one and an expectation as a bad one at once
 lacks_one : (choice : Option Choice) → lacks_key choice ≡ true → lacks_expectation choice ≡ true → ⊥
 lacks_one None key expectation = false≢true key
 lacks_one (Some (run workers depth)) key expectation = false≢true key
@@ -43,14 +52,163 @@ lacks_one (Some check) key expectation = false≢true key
 lacks_one (Some (audit text)) key expectation = false≢true expectation
 lacks_one (Some (monitor text name expect)) key expectation = there_and_not (key_in text) (is_none (expectation_in expect)) key expectation
 
--- a bad key isn't told as a bad expectation
-pub bad_key-alone : (words : List (List ℕ)) (from from' : Source) (to to' : Sink) (ending : Ending) → ending ≡ BadKey → EndsFor words from from' to to' ending → HasBadExpectation words → ⊥
-bad_key-alone words from from' to to' ending is ends bad =
-    let key : HasBadKey words = subst (λ e. EndsFor words from from' to to' e) is ends in
-    lacks_one (chosen (subcommand_of keydir words)) key.no_key bad.no_expectation
+there : {T : Type 0} (option : Option T) (value : T) → option ≡ Some value → is_none option ≡ true → ⊥
+there option value is none = false≢true (sym (ap is_none is) ∙ none)
 
--- nor the other way round
-pub bad_expectation-alone : (words : List (List ℕ)) (from from' : Source) (to to' : Sink) (ending : Ending) → ending ≡ BadExpectation → EndsFor words from from' to to' ending → HasBadKey words → ⊥
-bad_expectation-alone words from from' to to' ending is ends bad =
-    let expectation : HasBadExpectation words = subst (λ e. EndsFor words from from' to to' e) is ends in
-    lacks_one (chosen (subcommand_of keydir words)) bad.no_key expectation.no_expectation
+none_there : (key : Option (List ℕ)) (expected : Option (Option (List ℕ))) (value : Option (List ℕ)) → expected ≡ Some value → (is_some key && is_none expected) ≡ true → ⊥
+none_there None expected value is none = false≢true none
+none_there (Some key) expected value is none = there expected value is none
+
+-- a choice whose key is bad doesn't run
+runs-key : (choice : Option Choice) (from from' : Source) (to to' : Sink) (all : Bool) → Runs choice from from' to to' all → lacks_key choice ≡ true → ⊥
+runs-key None from from' to to' all ran bad = ran
+runs-key (Some (run workers depth)) from from' to to' all ran bad = false≢true bad
+runs-key (Some check) from from' to to' all ran bad = false≢true bad
+runs-key (Some (audit text)) from from' to to' all ran bad = there (key_in text) ran.0 ran.1.0 bad
+runs-key (Some (monitor text name expect)) from from' to to' all ran bad = there (key_in text) ran.0 ran.1.0 bad
+
+-- nor one whose expectation is bad
+runs-expectation : (choice : Option Choice) (from from' : Source) (to to' : Sink) (all : Bool) → Runs choice from from' to to' all → lacks_expectation choice ≡ true → ⊥
+runs-expectation None from from' to to' all ran bad = ran
+runs-expectation (Some (run workers depth)) from from' to to' all ran bad = false≢true bad
+runs-expectation (Some check) from from' to to' all ran bad = false≢true bad
+runs-expectation (Some (audit text)) from from' to to' all ran bad = false≢true bad
+runs-expectation (Some (monitor text name expect)) from from' to to' all ran bad = none_there (key_in text) (expectation_in expect) ran.1.1.0 ran.1.1.1.0 bad
+
+-- an error has a kind, so there are kinds
+no_kind : (kinds : Kinds) (kind : ErrorKind) → kinds ≡ [] → IsAmong kind kinds → ⊥
+no_kind kinds kind none among = subst (IsAmong kind) none among
+
+-- the status is 0 to 3
+pub status_within : (outcome : Result Ending RunFault) → status_of outcome ≤ 3
+status_within (Ok (Done true)) = omega arith
+status_within (Ok (Done false)) = omega arith
+status_within (Ok (Refused text)) = omega arith
+status_within (Ok BadKey) = omega arith
+status_within (Ok BadExpectation) = omega arith
+status_within (Err fault) = omega arith
+
+-- nothing is told below 2
+pub quiet-below_2 : (outcome : Result Ending RunFault) (old new : Sink) → TellsIf (told_of outcome) old new → status_of outcome ≤ 1 → new ≡ old
+quiet-below_2 (Ok (Done all)) old new told low = told
+quiet-below_2 (Ok (Refused text)) old new told low = absurd (omega (arith, low))
+quiet-below_2 (Ok BadKey) old new told low = absurd (omega (arith, low))
+quiet-below_2 (Ok BadExpectation) old new told low = absurd (omega (arith, low))
+quiet-below_2 (Err fault) old new told low = absurd (omega (arith, low))
+
+-- at 3 a fault is told
+pub told-at_3 : (outcome : Result Ending RunFault) (old new : Sink) → TellsIf (told_of outcome) old new → status_of outcome ≡ 3 → (fault : RunFault) × Tells old (fault_line fault) new
+told-at_3 (Ok (Done true)) old new told is = absurd (omega (arith, is))
+told-at_3 (Ok (Done false)) old new told is = absurd (omega (arith, is))
+told-at_3 (Ok (Refused text)) old new told is = absurd (omega (arith, is))
+told-at_3 (Ok BadKey) old new told is = absurd (omega (arith, is))
+told-at_3 (Ok BadExpectation) old new told is = absurd (omega (arith, is))
+told-at_3 (Err fault) old new told is = (fault, told)
+
+-- what holds of an idle ending holds at 2
+pub idle-at_2 : {P : Type 0} (outcome : Result Ending RunFault) → IfOk outcome (λ ending. IfIdle ending P) → status_of outcome ≡ 2 → P
+idle-at_2 (Ok (Done true)) idle is = absurd (omega (arith, is))
+idle-at_2 (Ok (Done false)) idle is = absurd (omega (arith, is))
+idle-at_2 (Ok (Refused text)) idle is = idle
+idle-at_2 (Ok BadKey) idle is = idle
+idle-at_2 (Ok BadExpectation) idle is = idle
+idle-at_2 (Err fault) idle is = absurd (omega (arith, is))
+
+module _ (words : List (List ℕ)) (from from' : Source) (to to' : Sink) where
+  -- the ending of the run that the words choose is one for the words
+  ends_for : (choice : Choice) (ending : Ending) → fault_of keydir words ≡ [] → chosen (subcommand_of keydir words) ≡ Some choice → EndsBy (Some choice) from from' to to' ending → EndsFor words from from' to to' ending
+  ends_for choice (Done true) none is ends = inl (record { faultless = none; runs = subst (λ c. Runs c from from' to to' true) (sym is) ends })
+  ends_for choice (Done false) none is ends = record { faultless = none; runs = subst (λ c. Runs c from from' to to' false) (sym is) ends }
+  ends_for choice (Refused text) none is ends = absurd ends
+  ends_for choice BadKey none is ends = record { faultless = none; no_key = ap lacks_key is ∙ ends }
+  ends_for choice BadExpectation none is ends = record { faultless = none; no_expectation = ap lacks_expectation is ∙ ends }
+
+  pub run-ends_for : (choice : Choice) (outcome : Result Ending RunFault) → fault_of keydir words ≡ [] → chosen (subcommand_of keydir words) ≡ Some choice → IfOk outcome (EndsBy (Some choice) from from' to to') → IfOk outcome (EndsFor words from from' to to')
+  run-ends_for choice (Ok ending) none is ends = ends_for choice ending none is ends
+  run-ends_for choice (Err fault) none is ends = tt
+
+  -- it isn't a refusal of the words
+  pub run-isnt_refused : (P : Type 0) (choice : Option Choice) (outcome : Result Ending RunFault) → IfOk outcome (EndsBy choice from from' to to') → IfOk outcome (λ ending. IfRefused ending P)
+  run-isnt_refused P choice (Ok (Done all)) ends = tt
+  run-isnt_refused P choice (Ok (Refused text)) ends = absurd ends
+  run-isnt_refused P choice (Ok BadKey) ends = tt
+  run-isnt_refused P choice (Ok BadExpectation) ends = tt
+  run-isnt_refused P choice (Err fault) ends = tt
+
+  -- an error of `clap` that is explained is an ending for the words
+  pub explained-ends_for : (kind : ErrorKind) (outcome : Result Ending RunFault) → IsAmong kind (fault_of keydir words) → IfOk outcome (IsExplained kind) → IfOk outcome (EndsFor words from from' to to')
+  explained-ends_for kind (Ok (Done true)) among is = inr (kind, (among, is))
+  explained-ends_for kind (Ok (Done false)) among is = absurd is
+  explained-ends_for kind (Ok (Refused text)) among is = (kind, (among, is))
+  explained-ends_for kind (Ok BadKey) among is = absurd is
+  explained-ends_for kind (Ok BadExpectation) among is = absurd is
+  explained-ends_for kind (Err fault) among is = tt
+
+  pub done-at_0 : (outcome : Result Ending RunFault) → IfOk outcome (EndsFor words from from' to to') → status_of outcome ≡ 0 → RunsFor words from from' to to' true ⊎ AsksForHelp (fault_of keydir words)
+  done-at_0 (Ok (Done true)) ends is = ends
+  done-at_0 (Ok (Done false)) ends is = absurd (omega (arith, is))
+  done-at_0 (Ok (Refused text)) ends is = absurd (omega (arith, is))
+  done-at_0 (Ok BadKey) ends is = absurd (omega (arith, is))
+  done-at_0 (Ok BadExpectation) ends is = absurd (omega (arith, is))
+  done-at_0 (Err fault) ends is = absurd (omega (arith, is))
+
+  pub ran-at_1 : (outcome : Result Ending RunFault) → IfOk outcome (EndsFor words from from' to to') → status_of outcome ≡ 1 → RunsFor words from from' to to' false
+  ran-at_1 (Ok (Done true)) ends is = absurd (omega (arith, is))
+  ran-at_1 (Ok (Done false)) ends is = ends
+  ran-at_1 (Ok (Refused text)) ends is = absurd (omega (arith, is))
+  ran-at_1 (Ok BadKey) ends is = absurd (omega (arith, is))
+  ran-at_1 (Ok BadExpectation) ends is = absurd (omega (arith, is))
+  ran-at_1 (Err fault) ends is = absurd (omega (arith, is))
+
+  pub refused-at_2 : (outcome : Result Ending RunFault) → IfOk outcome (EndsFor words from from' to to') → status_of outcome ≡ 2 → HasMistake (fault_of keydir words) ⊎ HasBadKey words ⊎ HasBadExpectation words
+  refused-at_2 (Ok (Done true)) ends is = absurd (omega (arith, is))
+  refused-at_2 (Ok (Done false)) ends is = absurd (omega (arith, is))
+  refused-at_2 (Ok (Refused text)) ends is = inl ends
+  refused-at_2 (Ok BadKey) ends is = inr (inl ends)
+  refused-at_2 (Ok BadExpectation) ends is = inr (inr ends)
+  refused-at_2 (Err fault) ends is = absurd (omega (arith, is))
+
+  pub taken-at_2 : (outcome : Result Ending RunFault) → IfOk outcome (EndsFor words from from' to to') → IfOk outcome (λ ending. IfRefused ending (takes keydir words ≢ true)) → takes keydir words ≡ true → status_of outcome ≡ 2 → HasBadKey words ⊎ HasBadExpectation words
+  taken-at_2 (Ok (Done true)) ends refused taken is = absurd (omega (arith, is))
+  taken-at_2 (Ok (Done false)) ends refused taken is = absurd (omega (arith, is))
+  taken-at_2 (Ok (Refused text)) ends refused taken is = absurd (refused taken)
+  taken-at_2 (Ok BadKey) ends refused taken is = inl ends
+  taken-at_2 (Ok BadExpectation) ends refused taken is = inr ends
+  taken-at_2 (Err fault) ends refused taken is = absurd (omega (arith, is))
+
+  -- neither a run nor help comes of a bad key
+  pub bad_key-from_2 : (outcome : Result Ending RunFault) → IfOk outcome (EndsFor words from from' to to') → HasBadKey words → 2 ≤ status_of outcome
+  bad_key-from_2 (Ok (Done true)) (inl ran) bad = absurd (runs-key (chosen (subcommand_of keydir words)) from from' to to' true ran.runs bad.no_key)
+  bad_key-from_2 (Ok (Done true)) (inr asks) bad = absurd (no_kind (fault_of keydir words) asks.0 bad.faultless asks.1.0)
+  bad_key-from_2 (Ok (Done false)) ran bad = absurd (runs-key (chosen (subcommand_of keydir words)) from from' to to' false ran.runs bad.no_key)
+  bad_key-from_2 (Ok (Refused text)) ends bad = omega arith
+  bad_key-from_2 (Ok BadKey) ends bad = omega arith
+  bad_key-from_2 (Ok BadExpectation) ends bad = omega arith
+  bad_key-from_2 (Err fault) ends bad = omega arith
+
+  pub bad_expectation-from_2 : (outcome : Result Ending RunFault) → IfOk outcome (EndsFor words from from' to to') → HasBadExpectation words → 2 ≤ status_of outcome
+  bad_expectation-from_2 (Ok (Done true)) (inl ran) bad = absurd (runs-expectation (chosen (subcommand_of keydir words)) from from' to to' true ran.runs bad.no_expectation)
+  bad_expectation-from_2 (Ok (Done true)) (inr asks) bad = absurd (no_kind (fault_of keydir words) asks.0 bad.faultless asks.1.0)
+  bad_expectation-from_2 (Ok (Done false)) ran bad = absurd (runs-expectation (chosen (subcommand_of keydir words)) from from' to to' false ran.runs bad.no_expectation)
+  bad_expectation-from_2 (Ok (Refused text)) ends bad = omega arith
+  bad_expectation-from_2 (Ok BadKey) ends bad = omega arith
+  bad_expectation-from_2 (Ok BadExpectation) ends bad = omega arith
+  bad_expectation-from_2 (Err fault) ends bad = omega arith
+
+  -- a bad key is told as one
+  pub bad_key-at_2 : (outcome : Result Ending RunFault) (old new : Sink) → IfOk outcome (EndsFor words from from' to to') → TellsIf (told_of outcome) old new → HasBadKey words → status_of outcome ≡ 2 → Tells old bad_key_line new
+  bad_key-at_2 (Ok (Done true)) old new ends told bad is = absurd (omega (arith, is))
+  bad_key-at_2 (Ok (Done false)) old new ends told bad is = absurd (omega (arith, is))
+  bad_key-at_2 (Ok (Refused text)) old new ends told bad is = absurd (no_kind (fault_of keydir words) ends.0 bad.faultless ends.1.0)
+  bad_key-at_2 (Ok BadKey) old new ends told bad is = told
+  bad_key-at_2 (Ok BadExpectation) old new ends told bad is = absurd (lacks_one (chosen (subcommand_of keydir words)) bad.no_key ends.no_expectation)
+  bad_key-at_2 (Err fault) old new ends told bad is = absurd (omega (arith, is))
+
+  -- and a bad expectation as one
+  pub bad_expectation-at_2 : (outcome : Result Ending RunFault) (old new : Sink) → IfOk outcome (EndsFor words from from' to to') → TellsIf (told_of outcome) old new → HasBadExpectation words → status_of outcome ≡ 2 → Tells old bad_expectation_line new
+  bad_expectation-at_2 (Ok (Done true)) old new ends told bad is = absurd (omega (arith, is))
+  bad_expectation-at_2 (Ok (Done false)) old new ends told bad is = absurd (omega (arith, is))
+  bad_expectation-at_2 (Ok (Refused text)) old new ends told bad is = absurd (no_kind (fault_of keydir words) ends.0 bad.faultless ends.1.0)
+  bad_expectation-at_2 (Ok BadKey) old new ends told bad is = absurd (lacks_one (chosen (subcommand_of keydir words)) ends.no_key bad.no_expectation)
+  bad_expectation-at_2 (Ok BadExpectation) old new ends told bad is = told
+  bad_expectation-at_2 (Err fault) old new ends told bad is = absurd (omega (arith, is))

@@ -1,13 +1,17 @@
 -- The command that reads the program's words, as `clap`'s definitions see it.
-use Rattle.std.specs.Prelude.{codes, pos, true, [], ◌∷◌, Some}
-use Rattle.clap.specs.Words.{App, Rule, new_app, new_rule, with_rule, with_subcommand}
+use Rattle.std.specs.Prelude.{◌≡◌, codes, pos, false, true, [], ◌∷◌, Some}
+use Rattle.clap.specs.Words.{App, Rule, app_of, new_app, new_rule, rule_of, with_rule, with_subcommand}
 use Rattle.clap.specs.Simple.{on_top}
+use Rattle.clap.specs.declared.builder.arg.Arg.{Arg}
+use Rattle.clap.specs.declared.builder.command.Command.{Command}
+use Rattle.clap.specs.declared.builder.command.Command.TheViews.{out-Command as fields_of}
 use Rattle.clap.specs.declared.builder.value_parser.ValueParser.TheVariants as parser
 
 -- `--workers`, a number from 1 to 64
 abbrev pub workers_rule : Rule
 workers_rule = record (new_rule (codes "workers")) {
   long = Some (codes "workers");
+  value_names = 1;
   defaults = codes "1" ∷ [];
   parser = Some (parser.Signed (pos 1) (pos 64));
 }
@@ -16,6 +20,7 @@ workers_rule = record (new_rule (codes "workers")) {
 abbrev pub depth_rule : Rule
 depth_rule = record (new_rule (codes "depth")) {
   long = Some (codes "depth");
+  value_names = 1;
   defaults = codes "0" ∷ [];
   parser = Some (parser.Signed (pos 0) (pos 8));
 }
@@ -26,7 +31,11 @@ run_app = with_rule (with_rule (new_app (codes "run")) workers_rule) depth_rule
 
 -- `--key`, which is required
 abbrev pub key_rule : Rule
-key_rule = record (new_rule (codes "key")) { long = Some (codes "key"); required = true }
+key_rule = record (new_rule (codes "key")) {
+  long = Some (codes "key");
+  value_names = 1;
+  required = true;
+}
 
 -- `audit`, which has a key
 abbrev pub audit_app : App
@@ -38,19 +47,26 @@ check_app = new_app (codes "check")
 
 -- `--name`, which is required
 abbrev pub name_rule : Rule
-name_rule = record (new_rule (codes "name")) { long = Some (codes "name"); required = true }
+name_rule = record (new_rule (codes "name")) {
+  long = Some (codes "name");
+  value_names = 1;
+  required = true;
+}
 
 -- `--expect`, which may be left out
 abbrev pub expect_rule : Rule
-expect_rule = record (new_rule (codes "expect")) { long = Some (codes "expect") }
+expect_rule = record (new_rule (codes "expect")) {
+  long = Some (codes "expect");
+  value_names = 1;
+}
 
 -- `monitor`, which has a key, a name and an expectation
 abbrev pub monitor_app : App
 monitor_app = with_rule (with_rule (with_rule (new_app (codes "monitor")) key_rule) name_rule) expect_rule
 
--- the command itself: it has no options, and a subcommand is required
+-- the command itself: it has a version and no options of its own, and a subcommand is required
 abbrev pub keydir_top : App
-keydir_top = on_top (λ shape. record shape { subcommand_required = true }) (new_app (codes "keydir"))
+keydir_top = on_top (λ shape. record shape { has_version = true; subcommand_required = true }) (new_app (codes "keydir"))
 
 -- the command with the subcommands that ask for no key
 abbrev pub with_run_and_check : App
@@ -59,3 +75,11 @@ with_run_and_check = with_subcommand (with_subcommand keydir_top run_app.top) ch
 -- the command with its subcommands
 abbrev pub keydir : App
 keydir = with_subcommand (with_subcommand with_run_and_check audit_app.top) monitor_app.top
+
+-- the argument has this rule, and is not global
+abbrev pub IsOption : Rule → Arg → Type 0
+IsOption rule option = (rule_of option ≡ rule) × (option.global ≡ false)
+
+-- the command has this app, and no global argument
+abbrev pub IsCommand : App → Command → Type 0
+IsCommand app command = (app_of command ≡ app) × ((fields_of command).has_globals ≡ false)

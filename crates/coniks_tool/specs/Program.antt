@@ -1,5 +1,6 @@
 -- What the program does about its words, and what it tells.
-use Rattle.std.specs.Prelude.{◌≡◌, ◌⊎◌, ℕ, List, [], Bool, true, false, codes, Option, Some, None}
+use Rattle.std.specs.Prelude.{◌≡◌, ◌⊎◌, ℕ, List, [], Bool, true, false, codes, Option, Some, None, Result, Ok, Err}
+use Rattle.std.specs.String.{string_bytes}
 use Rattle.clap.specs.Words.{Kinds, IsAmong, fault_of, subcommand_of}
 use Rattle.clap.specs.declared.error.kind.ErrorKind.{ErrorKind}
 use Rattle.clap.specs.declared.error.kind.ErrorKind.TheVariants.{DisplayHelp, DisplayVersion}
@@ -16,8 +17,8 @@ use Rattle.coniks_tool.specs.Monitor.{MonitorState, monitor_answer, none_watched
 use Rattle.coniks_tool.specs.Script.{State, script_answer}
 use Rattle.coniks_tool.specs.declared.choice.Unread.{Unread}
 use Rattle.coniks_tool.specs.declared.choice.Unread.TheVariants as unread
-use Rattle.coniks_tool.specs.declared.statuses.Ending.{Ending}
-use Rattle.coniks_tool.specs.declared.statuses.Ending.TheVariants.{Done, Refused, BadKey, BadExpectation}
+use Rattle.coniks_tool.specs.declared.ending.Ending.{Ending}
+use Rattle.coniks_tool.specs.declared.ending.Ending.TheVariants.{Done, Refused, BadKey, BadExpectation}
 
 -- the line that tells of a fault
 abbrev pub fault_line : RunFault → List ℕ
@@ -38,11 +39,11 @@ unread_status unread.OutOfMemory = 3
 
 -- the line that tells of a key's text that isn't a key
 abbrev pub bad_key_line : List ℕ
-bad_key_line = codes "keydir: bad key\n"
+bad_key_line = codes "keydir: bad key: 64 hexadecimal digits are wanted\n"
 
 -- the line that tells of an expectation's text that isn't base64
 abbrev pub bad_expectation_line : List ℕ
-bad_expectation_line = codes "keydir: bad expectation\n"
+bad_expectation_line = codes "keydir: bad expectation: base64 with its padding is wanted\n"
 
 -- a text was written, and one flush followed
 pub record TellsWhole (old : Sink) (text : List ℕ) (new : Sink) : Type 0 where
@@ -66,6 +67,28 @@ abbrev pub is_asked_for : ErrorKind → Bool
 is_asked_for DisplayHelp = true
 is_asked_for DisplayVersion = true
 is_asked_for _ = false
+
+-- the status of what came of the words
+abbrev pub status_of : Result Ending RunFault → ℕ
+status_of (Ok (Done true)) = 0
+status_of (Ok (Done false)) = 1
+status_of (Ok (Refused text)) = 2
+status_of (Ok BadKey) = 2
+status_of (Ok BadExpectation) = 2
+status_of (Err fault) = 3
+
+-- what is told of it, if anything
+abbrev pub told_of : Result Ending RunFault → Option (List ℕ)
+told_of (Ok (Done all)) = None
+told_of (Ok (Refused text)) = Some (string_bytes text)
+told_of (Ok BadKey) = Some bad_key_line
+told_of (Ok BadExpectation) = Some bad_expectation_line
+told_of (Err fault) = Some (fault_line fault)
+
+-- the text was told as far as the sink let it; where there is none, nothing was
+abbrev pub TellsIf : Option (List ℕ) → Sink → Sink → Type 0
+TellsIf None old new = new ≡ old
+TellsIf (Some text) old new = Tells old text new
 
 -- one of the kinds that `clap` may give is a text that was asked for
 abbrev pub AsksForHelp : Kinds → Type 0

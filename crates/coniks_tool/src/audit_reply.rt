@@ -4,14 +4,14 @@ ghost use Rattle.std.specs.Prelude.{◌≡◌, ◌++◌, IfOk, OnOk, OnErr};
 ghost use Rattle.serde_json.specs.View.{view};
 ghost use Rattle.coniks_tool.specs.AuditReplies.{audit_data, audit_fault_name, audit_outcome, audit_text, audited_data};
 
-use crate::reply::{bad_member, fault};
+use crate::reply::{bad_member, fault, print_value};
 use coniks_chain::AuditFault;
 use coniks_proof::Digest;
 use serde_json::{Value, json};
 use std::alloc::{AllocError, Global};
 
 /// What `audit` answers to a line.
-#[derive(Clone, Copy, Debug, PartialEq, Eq)]
+#[derive(Clone, Copy)]
 pub enum AuditReply {
     /// The entry follows the one that was accepted last.
     Audited { epoch: u64, link: Digest },
@@ -42,8 +42,8 @@ pub fn print_audit(alloc: Global, reply: &AuditReply, out: &mut Vec<u8>) -> Resu
     ensures ok { OnOk result (out.new.items ≡ out.old.items ++ audit_text (audit_outcome reply.now)) }
     ensures err { OnErr result (out.new.items ≡ out.old.items) }
 {
-    let text = value_of(alloc, reply)?.to_vec(alloc)?;
-    out.extend_from_slice(&text)
+    let value = value_of(alloc, reply)?;
+    print_value(alloc, &value, out)
 }
 
 fn value_of(alloc: Global, reply: &AuditReply) -> Result<Value, AllocError>

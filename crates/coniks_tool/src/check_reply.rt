@@ -3,16 +3,16 @@
 ghost use Rattle.std.specs.Prelude.{◌≡◌, ◌++◌, IfOk, OnOk, OnErr};
 ghost use Rattle.serde_json.specs.View.{view};
 ghost use Rattle.coniks_proof.specs.Proofs.{said};
-ghost use Rattle.coniks_tool.specs.CheckReplies.{answer_data, check_data, check_fault_name, check_outcome, check_text};
+ghost use Rattle.coniks_tool.specs.CheckReplies.{answer_data, key_data, check_data, check_fault_name, check_outcome, check_text};
 
-use crate::reply::{Member, bad_member, fault, member_text};
+use crate::reply::{Member, bad_member, fault, member_text, print_value};
 use base64::engine::general_purpose::STANDARD;
 use coniks_proof::{Answer, CheckFault};
 use serde_json::{Value, json};
 use std::alloc::{AllocError, Global};
 
 /// What `check` answers to a line.
-#[derive(Clone, Copy, Debug)]
+#[derive(Clone, Copy)]
 pub enum CheckReply<'a> {
     /// The proof is accepted, and says this of the name.
     Answered(Answer<'a>),
@@ -47,8 +47,8 @@ pub fn print_check(
     ensures ok { OnOk result (out.new.items ≡ out.old.items ++ check_text (check_outcome reply.now)) }
     ensures err { OnErr result (out.new.items ≡ out.old.items) }
 {
-    let text = value_of(alloc, reply)?.to_vec(alloc)?;
-    out.extend_from_slice(&text)
+    let value = value_of(alloc, reply)?;
+    print_value(alloc, &value, out)
 }
 
 fn value_of(alloc: Global, reply: &CheckReply<'_>) -> Result<Value, AllocError>
@@ -66,13 +66,19 @@ fn answer_value(alloc: Global, answer: &Answer<'_>) -> Result<Value, AllocError>
     ensures { IfOk result (λ value. view value ≡ answer_data (said answer.now)) }
 {
     match answer {
-        Answer::Key(key) => json!(in alloc; {
-            "answer": "key",
-            "key": STANDARD.encode(alloc, *key)?,
-            "ok": "check",
-        }),
+        Answer::Key(key) => key_value(alloc, *key),
         Answer::Absent => json!(in alloc; {"answer": "absent", "ok": "check"}),
     }
+}
+
+fn key_value(alloc: Global, key: &[u8]) -> Result<Value, AllocError>
+    ensures { IfOk result (λ value. view value ≡ key_data key.now) }
+{
+    json!(in alloc; {
+        "answer": "key",
+        "key": STANDARD.encode(alloc, key)?,
+        "ok": "check",
+    })
 }
 
 /// The name of a fault.

@@ -1,9 +1,10 @@
 //! The machine of `check`, and its engine.
 
 ghost use Rattle.std.specs.Prelude.{◌≡◌, ◌<◌, ◌+◌, ◌^◌, ◌++◌, ℕ, List, Ok, IfOk, IfErr, OnOk, OnErr, Some};
+ghost use Rattle.serde_json.specs.View.{view};
 ghost use Rattle.coniks_lines.specs.Lines.{lines_of};
 ghost use Rattle.coniks_lines.specs.Runs.{AnswersAll, EndsBadly, EndsWell, WritesPart};
-ghost use Rattle.coniks_tool.specs.Check.{Stateless, asked_by, check_answer, question_outcome, stateless};
+ghost use Rattle.coniks_tool.specs.Check.{Stateless, asked_by, asked_in, check_answer, question_outcome, stateless};
 ghost use Rattle.coniks_tool.specs.CheckReplies.{check_outcome, check_text, is_answered};
 
 use crate::check_reply::{CheckReply, print_check};
@@ -11,6 +12,7 @@ use crate::members::read_object;
 use crate::question::{Question, read_question};
 use coniks_lines::{ByteIn, ByteOut, LineMachine, RunFault, run_lines};
 use coniks_proof::{Sha256Hash, check};
+use serde_json::Value;
 use std::alloc::{AllocError, Global};
 
 /// Checks the proofs of lines, each by itself.
@@ -60,10 +62,18 @@ impl LineMachine for Checking {
         let Some(object) = read_object(self.alloc, line)? else {
             return reply(self.alloc, &CheckReply::NotJson, out);
         };
-        match read_question(self.alloc, &object)? {
-            Ok(question) => reply(self.alloc, &judge(&question), out),
-            Err(member) => reply(self.alloc, &CheckReply::NoMember(member), out),
-        }
+        answer(self.alloc, &object, out)
+    }
+}
+
+/// Answers a line that is an object.
+fn answer(alloc: Global, object: &Value, out: &mut Vec<u8>) -> Result<bool, AllocError>
+    ensures text { OnOk result (out.new.items ≡ out.old.items ++ check_text (question_outcome (asked_in (view object.now)))) }
+    ensures accepted { IfOk result (λ accepted. accepted ≡ is_answered (question_outcome (asked_in (view object.now)))) }
+{
+    match read_question(alloc, object)? {
+        Ok(question) => reply(alloc, &judge(&question), out),
+        Err(member) => reply(alloc, &CheckReply::NoMember(member), out),
     }
 }
 

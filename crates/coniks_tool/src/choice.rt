@@ -29,7 +29,7 @@ pub enum Settings<'a> {
 /// Why the words ask for nothing.
 #[derive(Debug, Drop)]
 pub enum WordsFault {
-    /// `clap` refused them, or they ask for help.
+    /// `clap` refused them, or they ask for help or the version.
     Clap(Error),
     /// Memory ran out.
     OutOfMemory,

@@ -6,13 +6,13 @@ ghost use Rattle.coniks_tool.specs.MonitorReplies.{expecting_data, monitor_data,
 
 use crate::audit_reply::audit_fault_text;
 use crate::check_reply::check_fault_text;
-use crate::reply::{Member, bad_member, fault, member_text};
+use crate::reply::{Member, bad_member, fault, member_text, print_value};
 use coniks_chain::{MonitorFault, Seen};
 use serde_json::{Value, json};
 use std::alloc::{AllocError, Global};
 
 /// What `monitor` answers to a line.
-#[derive(Clone, Copy, Debug, PartialEq, Eq)]
+#[derive(Clone, Copy)]
 pub enum MonitorReply {
     /// Entry and proof are accepted: the entry's epoch, and what the proof says against the expectation.
     Watched { epoch: u64, seen: Seen },
@@ -50,8 +50,8 @@ pub fn print_monitor(
     ensures ok { OnOk result (out.new.items ≡ out.old.items ++ monitor_text (monitor_outcome reply.now)) }
     ensures err { OnErr result (out.new.items ≡ out.old.items) }
 {
-    let text = value_of(alloc, reply)?.to_vec(alloc)?;
-    out.extend_from_slice(&text)
+    let value = value_of(alloc, reply)?;
+    print_value(alloc, &value, out)
 }
 
 fn value_of(alloc: Global, reply: &MonitorReply) -> Result<Value, AllocError>

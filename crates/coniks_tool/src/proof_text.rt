@@ -1,13 +1,14 @@
 //! How a proof is printed: a JSON object with its members in the order of their names' bytes.
 
 ghost use Rattle.std.specs.Prelude.{◌≡◌, IfOk, map};
-ghost use Rattle.serde_json.specs.View.{view};
+ghost use Rattle.serde_json.specs.Data.{array};
+ghost use Rattle.serde_json.specs.View.{items_of, view};
 ghost use Rattle.coniks_proof.specs.Paths.{digests};
-ghost use Rattle.coniks_tool.specs.Paths.{end_shown, path_of};
+ghost use Rattle.coniks_tool.specs.Paths.{end_shown, its_entry, other_entry, path_of};
 ghost use Rattle.coniks_tool.specs.ProofTexts.{digits, end_data, proof_data};
 
 use base64::engine::general_purpose::STANDARD;
-use coniks_proof::{Digest, End, Proof};
+use coniks_proof::{Bytes, Digest, End, Index, Opening, Proof};
 use serde_json::{Value, json};
 use std::alloc::{AllocError, Global};
 
@@ -17,8 +18,15 @@ pub fn proof_value(alloc: Global, proof: &Proof) -> Result<Value, AllocError>
 {
     json!(in alloc; {
         "end": end_value(alloc, &proof.end)?,
-        "siblings": Value::Array(digits_of(alloc, proof.siblings.as_slice())?),
+        "siblings": siblings_value(alloc, proof.siblings.as_slice())?,
     })
+}
+
+/// The array of the siblings.
+fn siblings_value(alloc: Global, siblings: &[Digest]) -> Result<Value, AllocError>
+    ensures { IfOk result (λ value. view value ≡ array (items_of (map digits (digests siblings.now)))) }
+{
+    Ok(Value::Array(digits_of(alloc, siblings)?))
 }
 
 /// The object of an end, by its kind.
@@ -27,18 +35,35 @@ fn end_value(alloc: Global, end: &End) -> Result<Value, AllocError>
 {
     match end {
         End::Empty => json!(in alloc; {"kind": "empty"}),
-        End::Other { index, commitment } => json!(in alloc; {
-            "commitment": hex::encode(alloc, &commitment.0)?,
-            "index": hex::encode(alloc, &index.0)?,
-            "kind": "other",
-        }),
-        End::Here { name, key, opening } => json!(in alloc; {
-            "key": STANDARD.encode(alloc, key.as_slice())?,
-            "kind": "here",
-            "name": String::from_utf8_lossy(alloc, name.as_slice())?,
-            "opening": hex::encode(alloc, &opening.0)?,
-        }),
+        End::Other { index, commitment } => other_end(alloc, index, commitment),
+        End::Here { name, key, opening } => here_end(alloc, name, key, opening),
     }
+}
+
+fn other_end(alloc: Global, index: &Index, commitment: &Digest) -> Result<Value, AllocError>
+    ensures { IfOk result (λ value. view value ≡ end_data (other_entry index.now.0 commitment.now.0)) }
+{
+    json!(in alloc; {
+        "commitment": hex::encode(alloc, &commitment.0)?,
+        "index": hex::encode(alloc, &index.0)?,
+        "kind": "other",
+    })
+}
+
+fn here_end(
+    alloc: Global,
+    name: &Bytes,
+    key: &Bytes,
+    opening: &Opening,
+) -> Result<Value, AllocError>
+    ensures { IfOk result (λ value. view value ≡ end_data (its_entry name.now key.now opening.now.0)) }
+{
+    json!(in alloc; {
+        "key": STANDARD.encode(alloc, key.as_slice())?,
+        "kind": "here",
+        "name": String::from_utf8_lossy(alloc, name.as_slice())?,
+        "opening": hex::encode(alloc, &opening.0)?,
+    })
 }
 
 /// Each digest in 64 lower case hexadecimal digits.

@@ -1,7 +1,8 @@
 //! What a line is answered by, and its text.
 
-ghost use Rattle.std.specs.Prelude.{◌≡◌, ◌++◌, IfOk, OnOk, OnErr};
+ghost use Rattle.std.specs.Prelude.{◌≡◌, ◌++◌, IfOk, OnOk, OnErr, false};
 ghost use Rattle.serde_json.specs.View.{view};
+ghost use Rattle.serde_json.specs.Written.{compact_text, has_float};
 ghost use Rattle.coniks_directory.specs.Batches.{fault_is};
 ghost use Rattle.coniks_tool.specs.Paths.{path_of};
 ghost use Rattle.coniks_tool.specs.Replies.{outcome_of, reply_data, reply_text, member_name, fault_name, fault_data, placed_fault_data, looked_up_data, bad_member_data, bad_operation_data, epoch_not_later_data, opened_data, installed_data};
@@ -15,7 +16,7 @@ use serde_json::{Value, json};
 use std::alloc::{AllocError, Global};
 
 /// A member of a line.
-#[derive(Clone, Copy, Debug, PartialEq, Eq)]
+#[derive(Clone, Copy)]
 pub enum Member {
     Key,
     Nonce,
@@ -108,15 +109,17 @@ pub fn print(alloc: Global, reply: &Reply, out: &mut Vec<u8>) -> Result<(), Allo
     ensures ok { OnOk result (out.new.items ≡ out.old.items ++ reply_text (outcome_of reply.now)) }
     ensures err { OnErr result (out.new.items ≡ out.old.items) }
 {
-    let text = text_of(alloc, reply)?;
-    out.extend_from_slice(&text)
+    let value = value_of(alloc, reply)?;
+    print_value(alloc, &value, out)
 }
 
-fn text_of(alloc: Global, reply: &Reply) -> Result<Vec<u8>, AllocError>
-    ensures { IfOk result (λ text. text.items ≡ reply_text (outcome_of reply.now)) }
+/// Adds the text of a value.
+pub(crate) fn print_value(alloc: Global, value: &Value, out: &mut Vec<u8>) -> Result<(), AllocError>
+    ensures ok { has_float (view value.now) ≡ false → OnOk result (out.new.items ≡ out.old.items ++ compact_text (view value.now)) }
+    ensures err { OnErr result (out.new.items ≡ out.old.items) }
 {
-    let value = value_of(alloc, reply)?;
-    Ok(value.to_vec(alloc)?)
+    let text = value.to_vec(alloc)?;
+    out.extend_from_slice(&text)
 }
 
 fn value_of(alloc: Global, reply: &Reply) -> Result<Value, AllocError>

@@ -58,7 +58,7 @@ impl<'r, T: Threads + Sync> Script<'r, T> {
             return Ok(Reply::BadMember(Member::Ops));
         };
         match read_ops(self.alloc, elements)? {
-            Ok(ops) => Ok(self.store.install(&self.crew, epoch, &ops)?),
+            Ok(ops) => self.store.install(&self.crew, epoch, &ops),
             Err(place) => Ok(Reply::BadOperation(place)),
         }
     }
@@ -72,7 +72,7 @@ impl<'r, T: Threads + Sync> Script<'r, T> {
         let Some(name) = text(object, "name") else {
             return Ok(Reply::BadMember(Member::Name));
         };
-        Ok(self.store.look_up(epoch, name)?)
+        self.store.look_up(epoch, name)
     }
 
     fn command(&mut self, object: &Value) -> Result<Reply, AllocError>
@@ -86,10 +86,10 @@ impl<'r, T: Threads + Sync> Script<'r, T> {
             return Ok(self.open(object));
         }
         if name == "batch" {
-            return Ok(self.batch(object)?);
+            return self.batch(object);
         }
         if name == "lookup" {
-            return Ok(self.lookup(object)?);
+            return self.lookup(object);
         }
         Ok(Reply::NoCommand)
     }
@@ -99,7 +99,7 @@ impl<'r, T: Threads + Sync> Script<'r, T> {
         ensures state { OnOk result (self.new.store ≡ (turn self.old.store line.now).state) }
     {
         match read_object(self.alloc, line)? {
-            Some(object) => Ok(self.command(&object)?),
+            Some(object) => self.command(&object),
             None => Ok(Reply::NotJson),
         }
     }

@@ -1,51 +1,25 @@
 //! The whole program over its streams.
 
-ghost use Rattle.std.specs.Prelude.{◌≡◌, ◌≢◌, ◌⊎◌, ◌<◌, ◌≤◌, ◌+◌, ◌^◌, IfOk, List, Some, false, map, option_map, true, ℕ};
+ghost use Rattle.std.specs.Prelude.{◌≡◌, ◌≢◌, ◌⊎◌, ◌<◌, ◌≤◌, ◌+◌, ◌^◌, IfOk, false, map, true};
 ghost use Rattle.clap.specs.Words.{fault_of, kind_of, takes};
 ghost use Rattle.coniks_lines.specs.declared.fault.RunFault.{RunFault as Fault};
 ghost use Rattle.coniks_tool.specs.Keydir.{keydir};
-ghost use Rattle.coniks_tool.specs.Choice.{choice_of, key_in, monitor, IsWithin};
-ghost use Rattle.coniks_tool.specs.Expectations.{expectation_in};
-ghost use Rattle.coniks_tool.specs.Program.{bad_expectation_line, bad_key_line, fault_line, unread_line, unread_status, AsksForHelp, EndsBy, EndsFor, HasBadExpectation, HasBadKey, HasMistake, IfIdle, IfRefused, IsExplained, RunsFor, Tells};
+ghost use Rattle.coniks_tool.specs.Program.{bad_expectation_line, bad_key_line, fault_line, status_of, told_of, unread_line, unread_status, AsksForHelp, EndsFor, HasBadExpectation, HasBadKey, HasMistake, IfIdle, IfRefused, IsExplained, RunsFor, Tells, TellsIf};
 
-use crate::auditing::run_audit;
-use crate::checking::run_check;
-use crate::choice::{Settings, Unread, WordsFault};
-use crate::expectation::expectation;
-use crate::members::bytes_of_digits;
-use crate::monitoring::run_monitor;
-use crate::script::run_script;
+use crate::choice::{Unread, WordsFault};
+use crate::ending::{Ending, fault_text, status, told};
+use crate::running::run_settings;
 use crate::telling::tell;
 use crate::words::settings;
 use clap::Error;
 use coniks_lines::{ByteIn, ByteOut, RunFault};
-use coniks_proof::Bytes;
 use std::alloc::Global;
 use std::convert::AsStr;
 use std::thread::Threads;
 
-/// What came of the words.
-#[derive(Drop)]
-enum Ending {
-    /// A run ended, or help was shown. Whether all was accepted.
-    Done(bool),
-    /// `clap` refused the words, and says why.
-    Refused(String),
-    /// The text of a key isn't 64 hexadecimal digits.
-    BadKey,
-    /// The text of an expectation isn't base64.
-    BadExpectation,
-}
-
-/// The line that tells of a bad key.
-const BAD_KEY: &str = "keydir: bad key\n";
-
-/// The line that tells of a bad expectation.
-const BAD_EXPECTATION: &str = "keydir: bad expectation\n";
-
 /// Does what the words ask for, of which the first is the program's name, and answers the status.
 ///
-/// 0: the run accepted every line, or help was asked for, which goes to `writer`. 1: the run
+/// 0: the run accepted every line, or help or the version was asked for, which goes to `writer`. 1: the run
 /// refused a line, or a proof showed something else than what is expected. 2: `clap` refused the words, and its text goes to `errors`; or the key that they
 /// give isn't 64 hexadecimal digits, or the key is one and the expectation that they give isn't
 /// base64, and `errors` gets a line that says so. 3: a read or a write failed, or memory ran out;
@@ -63,7 +37,7 @@ pub fn program<T: Threads + Sync, S: AsStr, R: ByteIn, W: ByteOut, E: ByteOut>(
     requires tells { (E.sink errors.old).failed + 1 < 2 ^ 64 }
     ensures status { result ≤ 3 }
 
-    // What `clap` finds in the words decides between a run, help and a refusal. A run is that of what they choose, under
+    // What `clap` finds in the words decides between a run, help or the version, and a refusal. A run is that of what they choose, under
     // the key and the expectation that they give, and the status is 0 or 1 as it accepted every line or not.
     ensures done { result ≡ 0 → RunsFor (map S.text words.entry.now) (R.source reader.old) (R.source reader.new) (W.sink writer.old) (W.sink writer.new) true ⊎ AsksForHelp (fault_of keydir (map S.text words.entry.now)) }
     ensures ran { result ≡ 1 → RunsFor (map S.text words.entry.now) (R.source reader.old) (R.source reader.new) (W.sink writer.old) (W.sink writer.new) false }
@@ -80,26 +54,20 @@ pub fn program<T: Threads + Sync, S: AsStr, R: ByteIn, W: ByteOut, E: ByteOut>(
     ensures bad_expectation_told { HasBadExpectation (map S.text words.entry.now) → result ≡ 2 → Tells (E.sink errors.old) bad_expectation_line (E.sink errors.new) }
     ensures told { result ≡ 3 → (fault : Fault) × Tells (E.sink errors.old) (fault_line fault) (E.sink errors.new) }
 {
-    match obey(rt, alloc, words, reader, writer) {
-        Ok(Ending::Done(true)) => 0,
-        Ok(Ending::Done(false)) => 1,
-        Ok(Ending::Refused(text)) => {
-            let _ = tell(errors, text.as_str());
-            2
-        }
-        Ok(Ending::BadKey) => {
-            let _ = tell(errors, BAD_KEY);
-            2
-        }
-        Ok(Ending::BadExpectation) => {
-            let _ = tell(errors, BAD_EXPECTATION);
-            2
-        }
-        Err(fault) => {
-            let _ = tell(errors, fault_text(fault));
-            3
-        }
+    let outcome = obey(rt, alloc, words, reader, writer);
+    conclude(&outcome, errors)
+}
+
+/// Tells what came of the words, and answers the status.
+fn conclude<E: ByteOut>(outcome: &Result<Ending, RunFault>, errors: &mut E) -> u8
+    requires { (E.sink errors.old).failed + 1 < 2 ^ 64 }
+    ensures status { result ≡ status_of outcome.now }
+    ensures told { TellsIf (told_of outcome.now) (E.sink errors.old) (E.sink errors.new) }
+{
+    if let Some(text) = told(outcome) {
+        let _ = tell(errors, text);
     }
+    status(outcome)
 }
 
 /// Tells why there are no words to do anything about, and answers the status: 2 for a word that
@@ -140,90 +108,13 @@ fn obey<T: Threads + Sync, S: AsStr, R: ByteIn, W: ByteOut>(
     ensures unwritten { IfOk result (λ ending. IfIdle ending (W.sink writer.new ≡ W.sink writer.old)) }
 {
     match settings(alloc, words) {
-        Ok(settings) => run(rt, alloc, settings, reader, writer),
+        Ok(settings) => run_settings(rt, alloc, settings, reader, writer),
         Err(WordsFault::Clap(error)) => explain(alloc, error, writer),
         Err(WordsFault::OutOfMemory) => Err(RunFault::OutOfMemory),
     }
 }
 
-/// Runs what the settings say, once the texts of a key and of an expectation were read.
-fn run<T: Threads + Sync, R: ByteIn, W: ByteOut>(
-    rt: &T,
-    alloc: Global,
-    settings: Settings,
-    reader: &mut R,
-    writer: &mut W,
-) -> Result<Ending, RunFault>
-    requires within { IsWithin settings }
-    requires reads { (R.source reader.old).failed + 1 < 2 ^ 64 }
-    requires writes { (W.sink writer.old).failed + 1 < 2 ^ 64 }
-    ensures ends { IfOk result (EndsBy (Some (choice_of settings.entry)) (R.source reader.old) (R.source reader.new) (W.sink writer.old) (W.sink writer.new)) }
-    ensures unread { IfOk result (λ ending. IfIdle ending (R.source reader.new ≡ R.source reader.old)) }
-    ensures unwritten { IfOk result (λ ending. IfIdle ending (W.sink writer.new ≡ W.sink writer.old)) }
-{
-    match settings {
-        Settings::Run { workers, depth } => {
-            let all = run_script(rt, alloc, reader, writer, workers, depth)?;
-            Ok(Ending::Done(all))
-        }
-        Settings::Check => Ok(Ending::Done(run_check(alloc, reader, writer)?)),
-        Settings::Audit { key } => {
-            let Some(key) = bytes_of_digits(key) else {
-                return Ok(Ending::BadKey);
-            };
-            Ok(Ending::Done(run_audit(alloc, key, reader, writer)?))
-        }
-        Settings::Monitor { key, name, expect } => match bytes_of_digits(key) {
-            Some(key) => watch(alloc, key, name, expect, reader, writer),
-            None => Ok(Ending::BadKey),
-        },
-    }
-}
-
-/// Watches a name under a key, once the text of an expectation was read.
-fn watch<R: ByteIn, W: ByteOut>(
-    alloc: Global,
-    key: [u8; 32],
-    name: &str,
-    expect: Option<&str>,
-    reader: &mut R,
-    writer: &mut W,
-) -> Result<Ending, RunFault>
-    requires reads { (R.source reader.old).failed + 1 < 2 ^ 64 }
-    requires writes { (W.sink writer.old).failed + 1 < 2 ^ 64 }
-    ensures ends { (digits : List ℕ) → key_in digits ≡ Some key → IfOk result (EndsBy (Some (monitor digits name.now (option_map (λ text. text.now) expect.entry))) (R.source reader.old) (R.source reader.new) (W.sink writer.old) (W.sink writer.new)) }
-    ensures unread { IfOk result (λ ending. IfIdle ending (R.source reader.new ≡ R.source reader.old)) }
-    ensures unwritten { IfOk result (λ ending. IfIdle ending (W.sink writer.new ≡ W.sink writer.old)) }
-{
-    let Some(expected) = expectation_of(alloc, expect)? else {
-        return Ok(Ending::BadExpectation);
-    };
-    let name = copy_of(alloc, name)?;
-    let all = run_monitor(alloc, key, name, expected, reader, writer)?;
-    Ok(Ending::Done(all))
-}
-
-/// What the text of an expectation says, `None` where it isn't base64.
-fn expectation_of(alloc: Global, text: Option<&str>) -> Result<Option<Option<Bytes>>, RunFault>
-    ensures { IfOk result (λ expected. expected ≡ expectation_in (option_map (λ t. t.now) text.entry)) }
-{
-    match expectation(alloc, text) {
-        Ok(expected) => Ok(expected),
-        Err(_) => Err(RunFault::OutOfMemory),
-    }
-}
-
-/// The bytes of a text.
-fn copy_of(alloc: Global, text: &str) -> Result<Bytes, RunFault>
-    ensures { IfOk result (λ copy. copy ≡ text.now) }
-{
-    match Bytes::copy_of(alloc, text.as_bytes()) {
-        Ok(copy) => Ok(copy),
-        Err(_) => Err(RunFault::OutOfMemory),
-    }
-}
-
-/// Shows help, or says why the words are refused.
+/// Shows help or the version, or says why the words are refused.
 fn explain<W: ByteOut>(alloc: Global, error: Error, writer: &mut W) -> Result<Ending, RunFault>
     requires { (W.sink writer.old).failed + 1 < 2 ^ 64 }
     ensures kind { IfOk result (IsExplained (kind_of error)) }
@@ -237,15 +128,4 @@ fn explain<W: ByteOut>(alloc: Global, error: Error, writer: &mut W) -> Result<En
     }
     tell(writer, text.as_str())?;
     Ok(Ending::Done(true))
-}
-
-fn fault_text(fault: RunFault) -> &'static str
-    ensures { result.now ≡ fault_line fault }
-{
-    match fault {
-        RunFault::Read => "keydir: read failed\n",
-        RunFault::Write => "keydir: write failed\n",
-        RunFault::OutOfMemory => "keydir: out of memory\n",
-        RunFault::NoBoard => "keydir: no board\n",
-    }
 }

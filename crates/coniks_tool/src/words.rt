@@ -16,7 +16,8 @@ use std::alloc::Global;
 use std::convert::AsStr;
 
 /// What the words ask for. The first word is the program's name. A subcommand is required. Where
-/// help is asked for, the fault is an error of `clap` whose text goes to the standard output.
+/// help or the version is asked for, the fault is an error of `clap` whose text goes to the standard
+/// output.
 pub fn settings<'a, S: AsStr>(alloc: Global, words: &'a [S]) -> Result<Settings<'a>, WordsFault>
     // What `clap` defines for these words is chosen, and only where it finds no fault in them.
     ensures ok { IfOk result (λ settings. chosen (subcommand_of keydir (map S.text words.entry.now)) ≡ Some (choice_of settings)) }

@@ -49,7 +49,7 @@ fn bad_keys(rt: HostRuntime) {
     for key in &KEYS {
         let words = ["keydir", "audit", "--key", *key];
         assert!(rt;
-            tells_so(&rt, rt.alloc(), &words, b"[1]\n", "keydir: bad key\n", 2),
+            tells_so(&rt, rt.alloc(), &words, b"[1]\n", "keydir: bad key: 64 hexadecimal digits are wanted\n", 2),
             "{key}"
         );
     }
@@ -65,7 +65,7 @@ fn refused_words(rt: HostRuntime) {
         ),
         (
             &["keydir", "audit", "--key"],
-            "error: a value is required for '--key <key>' but none was supplied\n",
+            "error: a value is required for '--key <HEX64>' but none was supplied\n",
         ),
         (
             &["keydir", "audit", "--key", ZEROS, "fast"],
@@ -84,7 +84,7 @@ fn refused_words(rt: HostRuntime) {
 #[test]
 fn help(rt: HostRuntime) {
     const TEXT: &str =
-        "Audits the entries of the standard input\n\nUsage: keydir audit --key <key>\n";
+        "Audits the entries of the standard input\n\nUsage: keydir audit --key <HEX64>\n";
     assert!(rt; show_help(&rt, rt.alloc(), &["keydir", "help", "audit"], TEXT));
     assert!(rt; show_help(&rt, rt.alloc(), &["keydir", "audit", "--help"], TEXT));
 }

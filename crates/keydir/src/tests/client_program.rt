@@ -149,8 +149,8 @@ fn options_tell(
 /// A key that is none is told before an expectation that is none; nothing is read or written.
 #[test]
 fn bad_texts(rt: HostRuntime) {
-    const KEY: &str = "keydir: bad key\n";
-    const EXPECTATION: &str = "keydir: bad expectation\n";
+    const KEY: &str = "keydir: bad key: 64 hexadecimal digits are wanted\n";
+    const EXPECTATION: &str = "keydir: bad expectation: base64 with its padding is wanted\n";
     const CASES: [(&str, &str, &str); 9] = [
         ("", "aw==", KEY),
         ("00", "aw==", KEY),
@@ -182,7 +182,7 @@ fn refused_words(rt: HostRuntime) {
             &[
                 "keydir", "monitor", "--key", ZEROS, "--name", "a", "--expect",
             ],
-            "error: a value is required for '--expect <expect>' but none was supplied\n",
+            "error: a value is required for '--expect <BASE64>' but none was supplied\n",
         ),
         (
             &["keydir", "check", "--key", ZEROS],
@@ -202,7 +202,7 @@ fn refused_words(rt: HostRuntime) {
 fn help(rt: HostRuntime) {
     const CHECK: &str = "Checks the proofs of the standard input\n\nUsage: keydir check\n";
     const MONITOR: &str =
-        "Watches a name over the standard input\n\nUsage: keydir monitor [OPTIONS] --key <key> --name <name>\n";
+        "Watches a name over the standard input\n\nUsage: keydir monitor [OPTIONS] --key <HEX64> --name <TEXT>\n";
     assert!(rt; show_help(&rt, rt.alloc(), &["keydir", "check", "--help"], CHECK));
     assert!(rt; show_help(&rt, rt.alloc(), &["keydir", "help", "monitor"], MONITOR));
     assert!(rt; show_help(&rt, rt.alloc(), &["keydir", "monitor", "--help"], MONITOR));

@@ -199,15 +199,15 @@ fn refused_words(rt: HostRuntime) {
         ),
         (
             &["keydir", "run", "--workers", "0"],
-            "error: invalid value '0' for '--workers <workers>': 0 is not in 1..=64\n",
+            "error: invalid value '0' for '--workers <1-64>': 0 is not in 1..=64\n",
         ),
         (
             &["keydir", "run", "--workers", "65"],
-            "error: invalid value '65' for '--workers <workers>': 65 is not in 1..=64\n",
+            "error: invalid value '65' for '--workers <1-64>': 65 is not in 1..=64\n",
         ),
         (
             &["keydir", "run", "--depth", "9"],
-            "error: invalid value '9' for '--depth <depth>': 9 is not in 0..=8\n",
+            "error: invalid value '9' for '--depth <0-8>': 9 is not in 0..=8\n",
         ),
     ];
     for (words, line) in &CASES {

@@ -1,0 +1,167 @@
+//! Runs what the words chose.
+
+ghost use Rattle.std.specs.Prelude.{◌≡◌, ◌<◌, ◌≤◌, ◌+◌, ◌^◌, IfOk, List, Some, option_map, ℕ};
+ghost use Rattle.coniks_tool.specs.Choice.{audit, check, choice_of, key_in, monitor, run, IsWithin};
+ghost use Rattle.coniks_tool.specs.Expectations.{expectation_in};
+ghost use Rattle.coniks_tool.specs.Program.{EndsBy, IfIdle};
+ghost use Rattle.coniks_directory.specs.Batches.{AreWorkers};
+ghost use Rattle.coniks_work.specs.declared.jobs.TheConstants.{MAX_DEPTH};
+
+use crate::auditing::run_audit;
+use crate::checking::run_check;
+use crate::choice::Settings;
+use crate::ending::Ending;
+use crate::expectation::expectation;
+use crate::members::bytes_of_digits;
+use crate::monitoring::run_monitor;
+use crate::script::run_script;
+use coniks_lines::{ByteIn, ByteOut, RunFault};
+use coniks_proof::Bytes;
+use std::alloc::Global;
+use std::thread::Threads;
+
+/// Runs what the settings say, once the texts of a key and of an expectation were read.
+pub(crate) fn run_settings<T: Threads + Sync, R: ByteIn, W: ByteOut>(
+    rt: &T,
+    alloc: Global,
+    settings: Settings,
+    reader: &mut R,
+    writer: &mut W,
+) -> Result<Ending, RunFault>
+    requires within { IsWithin settings }
+    requires reads { (R.source reader.old).failed + 1 < 2 ^ 64 }
+    requires writes { (W.sink writer.old).failed + 1 < 2 ^ 64 }
+    ensures ends { IfOk result (EndsBy (Some (choice_of settings.entry)) (R.source reader.old) (R.source reader.new) (W.sink writer.old) (W.sink writer.new)) }
+    ensures unread { IfOk result (λ ending. IfIdle ending (R.source reader.new ≡ R.source reader.old)) }
+    ensures unwritten { IfOk result (λ ending. IfIdle ending (W.sink writer.new ≡ W.sink writer.old)) }
+{
+    match settings {
+        Settings::Run { workers, depth } => {
+            answer_lines(rt, alloc, workers, depth, reader, writer)
+        }
+        Settings::Check => check_lines(alloc, reader, writer),
+        Settings::Audit { key } => audit_under(alloc, key, reader, writer),
+        Settings::Monitor { key, name, expect } => {
+            watch_under(alloc, key, name, expect, reader, writer)
+        }
+    }
+}
+
+/// Answers the lines by so many workers, over prefixes of so many bits.
+fn answer_lines<T: Threads + Sync, R: ByteIn, W: ByteOut>(
+    rt: &T,
+    alloc: Global,
+    workers: usize,
+    depth: usize,
+    reader: &mut R,
+    writer: &mut W,
+) -> Result<Ending, RunFault>
+    requires workers { AreWorkers workers }
+    requires depth { depth ≤ MAX_DEPTH }
+    requires reads { (R.source reader.old).failed + 1 < 2 ^ 64 }
+    requires writes { (W.sink writer.old).failed + 1 < 2 ^ 64 }
+    ensures ends { IfOk result (EndsBy (Some (run workers depth)) (R.source reader.old) (R.source reader.new) (W.sink writer.old) (W.sink writer.new)) }
+    ensures unread { IfOk result (λ ending. IfIdle ending (R.source reader.new ≡ R.source reader.old)) }
+    ensures unwritten { IfOk result (λ ending. IfIdle ending (W.sink writer.new ≡ W.sink writer.old)) }
+{
+    let all = run_script(rt, alloc, reader, writer, workers, depth)?;
+    Ok(Ending::Done(all))
+}
+
+/// Checks the proofs of the lines.
+fn check_lines<R: ByteIn, W: ByteOut>(
+    alloc: Global,
+    reader: &mut R,
+    writer: &mut W,
+) -> Result<Ending, RunFault>
+    requires reads { (R.source reader.old).failed + 1 < 2 ^ 64 }
+    requires writes { (W.sink writer.old).failed + 1 < 2 ^ 64 }
+    ensures ends { IfOk result (EndsBy (Some check) (R.source reader.old) (R.source reader.new) (W.sink writer.old) (W.sink writer.new)) }
+    ensures unread { IfOk result (λ ending. IfIdle ending (R.source reader.new ≡ R.source reader.old)) }
+    ensures unwritten { IfOk result (λ ending. IfIdle ending (W.sink writer.new ≡ W.sink writer.old)) }
+{
+    Ok(Ending::Done(run_check(alloc, reader, writer)?))
+}
+
+/// Audits under the key of a text.
+fn audit_under<R: ByteIn, W: ByteOut>(
+    alloc: Global,
+    key: &str,
+    reader: &mut R,
+    writer: &mut W,
+) -> Result<Ending, RunFault>
+    requires reads { (R.source reader.old).failed + 1 < 2 ^ 64 }
+    requires writes { (W.sink writer.old).failed + 1 < 2 ^ 64 }
+    ensures ends { IfOk result (EndsBy (Some (audit key.now)) (R.source reader.old) (R.source reader.new) (W.sink writer.old) (W.sink writer.new)) }
+    ensures unread { IfOk result (λ ending. IfIdle ending (R.source reader.new ≡ R.source reader.old)) }
+    ensures unwritten { IfOk result (λ ending. IfIdle ending (W.sink writer.new ≡ W.sink writer.old)) }
+{
+    let Some(key) = bytes_of_digits(key) else {
+        return Ok(Ending::BadKey);
+    };
+    Ok(Ending::Done(run_audit(alloc, key, reader, writer)?))
+}
+
+/// Watches a name under the key of a text.
+fn watch_under<R: ByteIn, W: ByteOut>(
+    alloc: Global,
+    key: &str,
+    name: &str,
+    expect: Option<&str>,
+    reader: &mut R,
+    writer: &mut W,
+) -> Result<Ending, RunFault>
+    requires reads { (R.source reader.old).failed + 1 < 2 ^ 64 }
+    requires writes { (W.sink writer.old).failed + 1 < 2 ^ 64 }
+    ensures ends { IfOk result (EndsBy (Some (monitor key.now name.now (option_map (λ text. text.now) expect.entry))) (R.source reader.old) (R.source reader.new) (W.sink writer.old) (W.sink writer.new)) }
+    ensures unread { IfOk result (λ ending. IfIdle ending (R.source reader.new ≡ R.source reader.old)) }
+    ensures unwritten { IfOk result (λ ending. IfIdle ending (W.sink writer.new ≡ W.sink writer.old)) }
+{
+    match bytes_of_digits(key) {
+        Some(key) => watch(alloc, key, name, expect, reader, writer),
+        None => Ok(Ending::BadKey),
+    }
+}
+
+/// Watches a name under a key, once the text of an expectation was read.
+fn watch<R: ByteIn, W: ByteOut>(
+    alloc: Global,
+    key: [u8; 32],
+    name: &str,
+    expect: Option<&str>,
+    reader: &mut R,
+    writer: &mut W,
+) -> Result<Ending, RunFault>
+    requires reads { (R.source reader.old).failed + 1 < 2 ^ 64 }
+    requires writes { (W.sink writer.old).failed + 1 < 2 ^ 64 }
+    ensures ends { (digits : List ℕ) → key_in digits ≡ Some key → IfOk result (EndsBy (Some (monitor digits name.now (option_map (λ text. text.now) expect.entry))) (R.source reader.old) (R.source reader.new) (W.sink writer.old) (W.sink writer.new)) }
+    ensures unread { IfOk result (λ ending. IfIdle ending (R.source reader.new ≡ R.source reader.old)) }
+    ensures unwritten { IfOk result (λ ending. IfIdle ending (W.sink writer.new ≡ W.sink writer.old)) }
+{
+    let Some(expected) = expectation_of(alloc, expect)? else {
+        return Ok(Ending::BadExpectation);
+    };
+    let name = copy_of(alloc, name)?;
+    let all = run_monitor(alloc, key, name, expected, reader, writer)?;
+    Ok(Ending::Done(all))
+}
+
+/// What the text of an expectation says, `None` where it isn't base64.
+fn expectation_of(alloc: Global, text: Option<&str>) -> Result<Option<Option<Bytes>>, RunFault>
+    ensures { IfOk result (λ expected. expected ≡ expectation_in (option_map (λ t. t.now) text.entry)) }
+{
+    match expectation(alloc, text) {
+        Ok(expected) => Ok(expected),
+        Err(_) => Err(RunFault::OutOfMemory),
+    }
+}
+
+/// The bytes of a text.
+fn copy_of(alloc: Global, text: &str) -> Result<Bytes, RunFault>
+    ensures { IfOk result (λ copy. copy ≡ text.now) }
+{
+    match Bytes::copy_of(alloc, text.as_bytes()) {
+        Ok(copy) => Ok(copy),
+        Err(_) => Err(RunFault::OutOfMemory),
+    }
+}
