@@ -13,8 +13,6 @@ pub mod laws;
 pub mod monitor;
 pub mod seen;
 pub mod signer;
-#[cfg(test)]
-mod tests;
 
 pub use auditor::{AuditFault, Auditor, Before, audit};
 pub use entry::{Body, Entry, Signature, link};

@@ -6,5 +6,4 @@ pub mod Updates
 pub mod Lookups
 pub mod Holders
 pub mod Judged
-pub mod Letters
 pub mod Built

@@ -19,8 +19,6 @@ mod preparing;
 mod seen;
 pub mod source;
 mod stand;
-#[cfg(test)]
-mod tests;
 pub mod update;
 
 pub use batch::{BatchFault, Op, OpFault, OpKind};

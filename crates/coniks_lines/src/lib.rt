@@ -7,8 +7,6 @@ pub mod fault;
 pub mod lines;
 pub mod memory;
 pub mod system;
-#[cfg(test)]
-mod tests;
 
 pub use bytes::{ByteIn, ByteOut, Failed};
 pub use engine::{LineMachine, run_lines, write_all};

@@ -14,8 +14,6 @@ pub mod laws;
 mod meeting;
 pub mod paths;
 mod strings;
-#[cfg(test)]
-mod tests;
 pub mod values;
 
 pub use bits::{Prefix, bit};

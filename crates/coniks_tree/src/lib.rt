@@ -15,8 +15,6 @@ pub mod part;
 mod part_at;
 mod path;
 pub mod table;
-#[cfg(test)]
-mod tests;
 pub mod tree;
 
 pub use memory::OutOfMemory;

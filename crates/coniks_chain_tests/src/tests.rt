@@ -1,0 +1,596 @@
+//! Worked examples, whose digests and signatures were computed by other programs.
+
+use coniks_chain::{
+    AuditFault, Auditor, Body, Entry, Monitor, MonitorFault, Seen, Sign, Signature, Tally, Verify,
+    audit, extract_history, link,
+};
+use coniks_proof::{
+    Bytes, CheckFault, Digest, Digests, End, Flat, Hash32, Head, Index, Nonce, Opening, Proof,
+    Sha256Hash,
+};
+use std::alloc::Global;
+use std::process::Abort;
+
+/// The entries of a directory in which `a` is registered with the key `k` at epoch 1 and changed to `l` at epoch 4: body
+/// and signature, in hexadecimal.
+const ENTRIES: [(&str, &str); 2] = [
+    (
+        "0100000000000000010000000000000000042fd8b84dddf51f9702df23af5d7b8085d9e48571804622630a4fdab7481c17000000000000000000000000000000000000000000000000000000000000000011111111111111111111111111111111111111111111111111111111111111113333333333333333333333333333333333333333333333333333333333333333",
+        "1b0a09cc59064dfd269bba6a05e3b75d680a77c659ce00376b9d3017627ddf5ce3f9ed55d10da41620561c73cbeb0d2782374c74a78e0344e820bd7284ee19e4",
+    ),
+    (
+        "0100000000000000040000000000000001a2f0d2cefb6df12439c8d518c855dd999273a14ff8a2d2f0dbb155ee5ce9486110b77bd8c5b9c4085b97e77e31ad14418c96227fa397e9e41ce717b49122ccdf11111111111111111111111111111111111111111111111111111111111111113333333333333333333333333333333333333333333333333333333333333333",
+        "4dbc177994e0a78de0c831acc3f6b4bb6499f40a203a475360ea263a1eba9a94afa1d17229cc6386975136465708dc89397d1a4060f8ecab8f3746eb4eb83f5d",
+    ),
+];
+
+/// Their links under SHA-256, and that of `third_entry`.
+const LINKS: [&str; 3] = [
+    "10b77bd8c5b9c4085b97e77e31ad14418c96227fa397e9e41ce717b49122ccdf",
+    "1145bc5b9cba19a0d06065c98e8599bf9517b1c70da22189706c67979ad6dac1",
+    "6e077461995342fc12e1aab26d2989453c37374c56ff332500fa143aec6e1e72",
+];
+
+/// The root of the tree at epoch 1.
+const ROOT_OF_A: &str = "042fd8b84dddf51f9702df23af5d7b8085d9e48571804622630a4fdab7481c17";
+
+/// The root of a tree with no names.
+const EMPTY_ROOT: &str = "1aa9b40c9d34d625d7329003c097925b7d4c7809b864b047b71defb140aca216";
+
+/// What is hashed to the links of two first entries that differ in the first byte of the root, and of one that follows
+/// them at epoch 2 where the hash is 32 zero bytes.
+const PREIMAGES: [&str; 3] = [
+    "530100000000000000010000000000000000000000000000000000000000000000000000000000000000000000000000000000000000000000000000000000000000000000000000000000000000000000001111111111111111111111111111111111111111111111111111111111111111333333333333333333333333333333333333333333333333333333333333333300000000000000000000000000000000000000000000000000000000000000000000000000000000000000000000000000000000000000000000000000000000",
+    "530100000000000000010000000000000000010000000000000000000000000000000000000000000000000000000000000000000000000000000000000000000000000000000000000000000000000000001111111111111111111111111111111111111111111111111111111111111111333333333333333333333333333333333333333333333333333333333333333300000000000000000000000000000000000000000000000000000000000000000000000000000000000000000000000000000000000000000000000000000000",
+    "530100000000000000020000000000000001000000000000000000000000000000000000000000000000000000000000000000000000000000000000000000000000000000000000000000000000000000001111111111111111111111111111111111111111111111111111111111111111333333333333333333333333333333333333333333333333333333333333333300000000000000000000000000000000000000000000000000000000000000000000000000000000000000000000000000000000000000000000000000000000",
+];
+
+/// Takes every signature.
+struct Yes;
+
+impl Verify for Yes {
+    ghost use Rattle.std.specs.Prelude.{true};
+
+    ghost verdict_of = { λ _ _ _. true };
+
+    fn verdict(&self, _body: &[u8; 145], _signature: &Signature) -> bool {
+        true
+    }
+}
+
+/// Takes one signature.
+#[derive(Drop)]
+struct Only(Signature);
+
+impl Verify for Only {
+    ghost use Rattle.std.specs.Str.{bytes_eq};
+
+    ghost verdict_of = { λ only _ signature. bytes_eq signature only.0.0 };
+
+    fn verdict(&self, _body: &[u8; 145], signature: &Signature) -> bool {
+        signature.0 == self.0.0
+    }
+}
+
+/// Gives one signature for everything, or refuses while it is closed.
+#[derive(Drop)]
+struct Stamp {
+    closed: bool,
+    made: u64,
+    refused: u64,
+    last: Option<Entry>,
+}
+
+impl Verify for Stamp {
+    ghost use Rattle.std.specs.Prelude.{true};
+
+    ghost verdict_of = { λ _ _ _. true };
+
+    fn verdict(&self, _body: &[u8; 145], _signature: &Signature) -> bool {
+        true
+    }
+}
+
+impl Sign for Stamp {
+    ghost made_of = { λ stamp. stamp.made };
+
+    ghost refused_of = { λ stamp. stamp.refused };
+
+    ghost last_of = { λ stamp. stamp.last };
+
+    fn sign(&mut self, body: &[u8; 145]) -> Option<Signature> {
+        if self.closed {
+            self.refused += 1;
+            return None;
+        }
+        let signature = Signature([7; 64]);
+        self.made += 1;
+        self.last = Some(Entry {
+            body: Body::read(body),
+            signature,
+        });
+        Some(signature)
+    }
+
+    fn made(&self) -> u64 {
+        self.made
+    }
+
+    fn refused(&self) -> u64 {
+        self.refused
+    }
+
+    fn last(&self) -> Option<Entry> {
+        self.last
+    }
+}
+
+/// The bytes that hexadecimal digits write.
+fn bytes_of<const N: usize>(rt: &impl Abort, digits: &str) -> [u8; N] {
+    let mut bytes = [0; N];
+    hex::decode_to_slice(digits, &mut bytes).expect(rt, "two digits for each byte");
+    bytes
+}
+
+/// The entry of one of the two epochs.
+fn entry_at(rt: &impl Abort, place: usize) -> Entry {
+    let (body, signature) = ENTRIES.get(place).expect(rt, "an entry");
+    Entry {
+        body: Body::read(&bytes_of(rt, body)),
+        signature: Signature(bytes_of(rt, signature)),
+    }
+}
+
+/// The link of one of the three.
+fn link_at(rt: &impl Abort, place: usize) -> Digest {
+    Digest(bytes_of(rt, LINKS.get(place).expect(rt, "a link")))
+}
+
+/// The two entries, and one at epoch 5 that follows them.
+fn good_chain(rt: &impl Abort) -> [Entry; 3] {
+    let second = entry_at(rt, 1);
+    let mut third = second;
+    third.body.t = 5;
+    third.body.t_prev = 4;
+    third.body.previous = link_at(rt, 1);
+    [entry_at(rt, 0), second, third]
+}
+
+/// The head at one of the three.
+fn head_at(rt: &impl Abort, epoch: u64, place: usize) -> Head {
+    Head {
+        epoch,
+        link: link_at(rt, place),
+    }
+}
+
+/// An entry for the flat hash, by its epochs and the first byte of its root.
+fn flat_entry(t: u64, t_prev: u64, root: u8) -> Entry {
+    let mut bytes = [0; 32];
+    bytes[0] = root;
+    Entry {
+        body: Body {
+            version: 1,
+            t,
+            t_prev,
+            root: Digest(bytes),
+            previous: Digest([0; 32]),
+            nonce: Nonce([0x11; 32]),
+            policy: [0x33; 32],
+        },
+        signature: Signature([0; 64]),
+    }
+}
+
+/// A copy of a name or a key.
+fn copied(rt: &impl Abort, alloc: Global, bytes: &[u8]) -> Bytes {
+    Bytes::copy_of(alloc, bytes).expect(rt, "memory")
+}
+
+/// The proof of a tree with one name, `a`, which has this key.
+fn proof_of(rt: &impl Abort, alloc: Global, key: &[u8]) -> Proof {
+    Proof {
+        siblings: Digests::new(Vec::new(alloc)),
+        end: End::Here {
+            name: copied(rt, alloc, b"a"),
+            key: copied(rt, alloc, key),
+            opening: Opening([0x22; 32]),
+        },
+    }
+}
+
+/// The proof of a tree with no names.
+fn proof_of_none(alloc: Global) -> Proof {
+    Proof {
+        siblings: Digests::new(Vec::new(alloc)),
+        end: End::Empty,
+    }
+}
+
+/// A monitor of a name, whose index is 32 zero bytes.
+fn watch(
+    rt: &impl Abort,
+    alloc: Global,
+    name: &[u8],
+    expected: Option<&[u8]>,
+) -> Monitor<Sha256Hash> {
+    let expected = expected.map(|key| copied(rt, alloc, key));
+    Monitor::new(
+        Sha256Hash,
+        copied(rt, alloc, name),
+        Index([0; 32]),
+        expected,
+    )
+}
+
+#[test]
+fn bytes_and_links(rt: HostRuntime) {
+    for place in [0, 1] {
+        let entry = entry_at(&rt, place);
+        assert_eq!(rt; link(&Sha256Hash, &entry), link_at(&rt, place));
+        assert_eq!(rt; link(&Flat, &entry), Digest([0; 32]));
+        entry.known();
+    }
+}
+
+#[test]
+fn bytes_of_a_body(rt: HostRuntime) {
+    let (body, _) = ENTRIES[1];
+    let mut bytes = bytes_of(&rt, body);
+    assert!(rt; Body::read(&bytes).bytes() == bytes);
+    bytes[0] = 2;
+    let other = Body::read(&bytes);
+    assert_eq!(rt; other.version, 2);
+    assert!(rt; other.bytes() == bytes);
+}
+
+#[test]
+fn fields_of_a_body(rt: HostRuntime) {
+    let first = entry_at(&rt, 0).body;
+    let want = Body {
+        version: 1,
+        t: 1,
+        t_prev: 0,
+        root: Digest(bytes_of(&rt, ROOT_OF_A)),
+        previous: Digest([0; 32]),
+        nonce: Nonce([0x11; 32]),
+        policy: [0x33; 32],
+    };
+    assert!(rt; first == want);
+    let second = entry_at(&rt, 1).body;
+    assert_eq!(rt; (second.t, second.t_prev), (4, 1));
+    assert_eq!(rt; second.previous, link_at(&rt, 0));
+}
+
+#[test]
+fn audited_chains(rt: HostRuntime) {
+    let good = good_chain(&rt);
+    let last = head_at(&rt, 5, 2);
+    assert_eq!(rt; audit(&Sha256Hash, &good, &Yes), Ok(Some(last)));
+    let second = head_at(&rt, 4, 1);
+    assert_eq!(rt; audit(&Sha256Hash, &good[..2], &Yes), Ok(Some(second)));
+    assert_eq!(rt; audit(&Sha256Hash, &[], &Yes), Ok(None));
+}
+
+#[test]
+fn refused_chains(rt: HostRuntime) {
+    let good = good_chain(&rt);
+    let mut bent = good;
+    bent[1].body.previous.0[31] ^= 1;
+    let refused = audit(&Sha256Hash, &bent, &Yes);
+    assert_eq!(rt; refused, Err((1, AuditFault::PreviousLink)));
+    let mut late = good;
+    late[2].body.t = 4;
+    let refused = audit(&Sha256Hash, &late, &Yes);
+    assert_eq!(rt; refused, Err((2, AuditFault::NotLater)));
+    let refused = audit(&Sha256Hash, &good, &Only(good[0].signature));
+    assert_eq!(rt; refused, Err((1, AuditFault::Verdict)));
+}
+
+/// What an auditor says of an entry whose signature is taken, or isn't.
+fn fed(
+    auditor: &mut Auditor<Sha256Hash>,
+    entry: &Entry,
+    is_signed: bool,
+) -> Result<(), AuditFault> {
+    if is_signed {
+        auditor.feed(entry, &Yes)
+    } else {
+        auditor.feed(entry, &Only(Signature([0; 64])))
+    }
+}
+
+/// What is said of three entries that are fed in an order.
+fn answers(rt: &impl Abort, order: [usize; 3], is_signed: bool) -> [Result<(), AuditFault>; 3] {
+    let good = good_chain(rt);
+    let mut auditor = Auditor::new(Sha256Hash);
+    let mut answers = [Ok(()); 3];
+    for (answer, place) in answers.iter_mut().zip(order) {
+        *answer = fed(
+            &mut auditor,
+            good.get(place).expect(rt, "an entry"),
+            is_signed,
+        );
+    }
+    answers
+}
+
+#[test]
+fn orders_of_feeding(rt: HostRuntime) {
+    let early = Err(AuditFault::PreviousEpoch);
+    assert_eq!(rt; answers(&rt, [0, 1, 2], true), [Ok(()); 3]);
+    assert_eq!(rt; answers(&rt, [1, 0, 2], true), [early, Ok(()), early]);
+    let again = Err(AuditFault::NotLater);
+    assert_eq!(rt; answers(&rt, [0, 0, 1], true), [Ok(()), again, Ok(())]);
+    let unsigned = Err(AuditFault::Verdict);
+    assert_eq!(rt; answers(&rt, [0, 1, 2], false), [unsigned, early, early]);
+}
+
+/// The head after each entry, and after one that is refused.
+#[test]
+fn heads_of_an_auditor(rt: HostRuntime) {
+    let good = good_chain(&rt);
+    let mut auditor = Auditor::new(Sha256Hash);
+    assert!(rt; auditor.head().is_none());
+    let early = Err(AuditFault::PreviousEpoch);
+    for (place, want, epoch, last) in [
+        (0, Ok(()), 1, 0),
+        (2, early, 1, 0),
+        (1, Ok(()), 4, 1),
+        (2, Ok(()), 5, 2),
+    ] {
+        let entry = good.get(place).expect(&rt, "an entry");
+        assert_eq!(rt; auditor.feed(entry, &Yes), want);
+        assert_eq!(rt; auditor.head(), Some(head_at(&rt, epoch, last)));
+    }
+}
+
+/// Each fault of a first entry, together with the next one that can stand beside it.
+#[test]
+fn first_faults(rt: HostRuntime) {
+    let mut entry = entry_at(&rt, 0);
+    let mut auditor = Auditor::new(Sha256Hash);
+    for (version, t, t_prev, link, is_signed, want) in [
+        (2, 0, 7, 0, true, Err(AuditFault::Version)),
+        (1, 0, 7, 0, true, Err(AuditFault::FirstEpoch)),
+        (1, 1, 7, 1, true, Err(AuditFault::PreviousEpoch)),
+        (1, 1, 0, 1, false, Err(AuditFault::PreviousLink)),
+        (1, 1, 0, 0, true, Ok(())),
+    ] {
+        entry.body.version = version;
+        entry.body.t = t;
+        entry.body.t_prev = t_prev;
+        entry.body.previous.0[0] = link;
+        assert_eq!(rt; fed(&mut auditor, &entry, is_signed), want);
+    }
+}
+
+/// An auditor that has seen the first entry.
+fn auditor_of_one(rt: &impl Abort) -> Auditor<Sha256Hash> {
+    let mut auditor = Auditor::new(Sha256Hash);
+    assert_eq!(rt; auditor.feed(&entry_at(rt, 0), &Yes), Ok(()));
+    auditor
+}
+
+/// Each fault of a later entry, together with the next one that can stand beside it. A bent link or nonce has another
+/// first byte.
+#[test]
+fn later_faults(rt: HostRuntime) {
+    let mut auditor = auditor_of_one(&rt);
+    let good = entry_at(&rt, 1);
+    for (version, t, t_prev, link, nonce, is_signed, want) in [
+        (0, 1, 0, 1, 1, false, Err(AuditFault::Version)),
+        (1, 1, 0, 1, 1, false, Err(AuditFault::NotLater)),
+        (1, 2, 0, 1, 1, false, Err(AuditFault::PreviousEpoch)),
+        (1, 2, 1, 1, 1, false, Err(AuditFault::PreviousLink)),
+        (1, 2, 1, 0, 1, false, Err(AuditFault::NonceChanged)),
+        (1, 2, 1, 0, 0, false, Err(AuditFault::Verdict)),
+        (1, 2, 1, 0, 0, true, Ok(())),
+    ] {
+        let mut entry = good;
+        entry.body.version = version;
+        entry.body.t = t;
+        entry.body.t_prev = t_prev;
+        entry.body.previous.0[0] ^= link;
+        entry.body.nonce.0[0] ^= nonce;
+        assert_eq!(rt; fed(&mut auditor, &entry, is_signed), want);
+    }
+}
+
+#[test]
+fn texts_of_faults(rt: HostRuntime) {
+    for (fault, want) in [
+        (
+            MonitorFault::Audit(AuditFault::NotLater),
+            "the entry is refused: the epoch isn't later than the one before",
+        ),
+        (
+            MonitorFault::Check(CheckFault::RootMismatch),
+            "the proof is refused: the proof's path doesn't lead to the root",
+        ),
+    ] {
+        let text = format!(in rt.alloc(); "{fault}").expect(&rt, "memory");
+        assert_eq!(rt; text.as_str(), want);
+    }
+}
+
+#[test]
+fn signed_or_refused(rt: HostRuntime) {
+    let mut stamp = Stamp {
+        closed: true,
+        made: 0,
+        refused: 0,
+        last: None,
+    };
+    let body = flat_entry(1, 0, 0).body;
+    assert!(rt; stamp.sign(&body.bytes()).is_none());
+    assert_eq!(rt; (stamp.made(), stamp.refused()), (0, 1));
+    assert!(rt; stamp.last().is_none());
+    stamp.closed = false;
+    let signature = Signature([7; 64]);
+    assert!(rt; stamp.sign(&body.bytes()) == Some(signature));
+    assert_eq!(rt; (stamp.made(), stamp.refused()), (1, 1));
+    assert!(rt; stamp.last() == Some(Entry { body, signature }));
+    assert!(rt; stamp.verdict(&body.bytes(), &signature));
+}
+
+/// Steps to the entry of one of the two epochs, with the proof of this key.
+fn step_to(
+    rt: &impl Abort,
+    alloc: Global,
+    monitor: &mut Monitor<Sha256Hash>,
+    place: usize,
+    key: u8,
+) -> Result<Seen, MonitorFault> {
+    monitor.step(&entry_at(rt, place), &proof_of(rt, alloc, &[key]), &Yes)
+}
+
+#[test]
+fn watched_epochs(rt: HostRuntime) {
+    let alloc = rt.alloc();
+    let mut monitor = watch(&rt, alloc, b"a", Some(b"k"));
+    for (place, key, want) in [
+        (1, b'l', Err(MonitorFault::Audit(AuditFault::PreviousEpoch))),
+        (0, b'l', Err(MonitorFault::Check(CheckFault::RootMismatch))),
+        (0, b'k', Ok(Seen::Same)),
+        (0, b'k', Err(MonitorFault::Audit(AuditFault::NotLater))),
+        (1, b'l', Ok(Seen::Changed)),
+    ] {
+        assert_eq!(rt; step_to(&rt, alloc, &mut monitor, place, key), want);
+    }
+}
+
+#[test]
+fn told_of_a_change(rt: HostRuntime) {
+    let alloc = rt.alloc();
+    let mut told = watch(&rt, alloc, b"a", Some(b"k"));
+    assert_eq!(rt; step_to(&rt, alloc, &mut told, 0, b'k'), Ok(Seen::Same));
+    told.expect(Some(copied(&rt, alloc, b"l")));
+    assert_eq!(rt; step_to(&rt, alloc, &mut told, 1, b'l'), Ok(Seen::Same));
+}
+
+/// What is seen of a name in an epoch with no names.
+fn seen_of_none(
+    rt: &impl Abort,
+    alloc: Global,
+    name: &[u8],
+    expected: Option<&[u8]>,
+) -> Result<Seen, MonitorFault> {
+    let mut entry = entry_at(rt, 0);
+    entry.body.root = Digest(bytes_of(rt, EMPTY_ROOT));
+    watch(rt, alloc, name, expected).step(&entry, &proof_of_none(alloc), &Yes)
+}
+
+#[test]
+fn watched_absence(rt: HostRuntime) {
+    for (name, expected, want) in [
+        (b"a".as_slice(), None, Ok(Seen::Same)),
+        (b"a", Some(b"k".as_slice()), Ok(Seen::Absent)),
+        (b"a", Some(b""), Ok(Seen::Absent)),
+        (b"", None, Err(MonitorFault::Check(CheckFault::NameLength))),
+    ] {
+        assert_eq!(rt; seen_of_none(&rt, rt.alloc(), name, expected), want);
+    }
+}
+
+#[test]
+fn unexpected_key(rt: HostRuntime) {
+    let mut monitor = watch(&rt, rt.alloc(), b"a", None);
+    let seen = step_to(&rt, rt.alloc(), &mut monitor, 0, b'k');
+    assert_eq!(rt; seen, Ok(Seen::Changed));
+}
+
+/// What a run over the two entries, each with its proof, gives.
+fn run_over_two<V: Verify>(
+    rt: &impl Abort,
+    alloc: Global,
+    monitor: &mut Monitor<Sha256Hash>,
+    verify: &V,
+) -> Result<Tally, (usize, MonitorFault)> {
+    let items = [
+        (entry_at(rt, 0), proof_of(rt, alloc, b"k")),
+        (entry_at(rt, 1), proof_of(rt, alloc, b"l")),
+    ];
+    monitor.run(&items, verify)
+}
+
+#[test]
+fn watched_runs(rt: HostRuntime) {
+    let mut monitor = watch(&rt, rt.alloc(), b"a", Some(b"k"));
+    let tally = Tally {
+        same: 1,
+        changed: 1,
+        absent: 0,
+    };
+    let run = run_over_two(&rt, rt.alloc(), &mut monitor, &Yes);
+    assert_eq!(rt; run, Ok(tally));
+    let none = Tally {
+        same: 0,
+        changed: 0,
+        absent: 0,
+    };
+    assert_eq!(rt; monitor.run(&[], &Yes), Ok(none));
+}
+
+#[test]
+fn refused_runs(rt: HostRuntime) {
+    let alloc = rt.alloc();
+    let mut refused = watch(&rt, alloc, b"a", Some(b"k"));
+    let first_only = Only(entry_at(&rt, 0).signature);
+    let run = run_over_two(&rt, alloc, &mut refused, &first_only);
+    let unsigned = MonitorFault::Audit(AuditFault::Verdict);
+    assert_eq!(rt; run, Err((1, unsigned)));
+    let seen = step_to(&rt, alloc, &mut refused, 1, b'l');
+    assert_eq!(rt; seen, Ok(Seen::Changed));
+}
+
+/// Whether these are the bytes that hexadecimal digits write.
+fn are(rt: &impl Abort, bytes: &[u8], digits: &str) -> bool {
+    let want: [u8; 210] = bytes_of(rt, digits);
+    bytes == want.as_slice()
+}
+
+/// Whether two histories under the flat hash give what is hashed to two links.
+fn give(rt: &impl Abort, alloc: Global, a: &[Entry], b: &[Entry], x: &str, y: &str) -> bool {
+    let found = extract_history(alloc, &Flat, a, b).expect(rt, "memory");
+    let found = found.expect(rt, "two texts");
+    are(rt, found.x.as_slice(), x) && are(rt, found.y.as_slice(), y)
+}
+
+/// Whether two histories give nothing.
+fn give_nothing<H: Hash32>(
+    rt: &impl Abort,
+    alloc: Global,
+    h: &H,
+    a: &[Entry],
+    b: &[Entry],
+) -> bool {
+    extract_history(alloc, h, a, b)
+        .expect(rt, "memory")
+        .is_none()
+}
+
+/// Histories under the flat hash, and what their ends tell.
+#[test]
+fn histories(rt: HostRuntime) {
+    let alloc = rt.alloc();
+    let one = flat_entry(1, 0, 0);
+    let other = flat_entry(1, 0, 1);
+    let two = flat_entry(2, 1, 0);
+    let [of_one, of_other, of_two] = PREIMAGES;
+    assert!(rt; give(&rt, alloc, &[one], &[other], of_one, of_other));
+    assert!(rt; give(&rt, alloc, &[one, two], &[other, two], of_one, of_other));
+    assert!(rt; give(&rt, alloc, &[one], &[one, two], of_one, of_two));
+}
+
+/// Histories that are the same, or of which one has no entry, or under SHA-256, of which no collision is known.
+#[test]
+fn histories_without_a_collision(rt: HostRuntime) {
+    let alloc = rt.alloc();
+    let one = [flat_entry(1, 0, 0)];
+    assert!(rt; give_nothing(&rt, alloc, &Flat, &one, &one));
+    assert!(rt; give_nothing(&rt, alloc, &Flat, &[], &one));
+    let good = good_chain(&rt);
+    assert!(rt; give_nothing(&rt, alloc, &Sha256Hash, &good, &good));
+    assert!(rt; give_nothing(&rt, alloc, &Sha256Hash, &good, &good[..2]));
+}

@@ -1,0 +1,136 @@
+//! How often the source of indices is asked.
+
+use crate::tests::batches::sized;
+use crate::tests::clerk::{NONCE, POLICY, Stamp};
+use coniks_chain::Sign;
+use coniks_directory::{Directory, IndexSource, LookupFault};
+use coniks_proof::{Index, Sha256Hash};
+use coniks_shared::Board;
+use coniks_work::Open;
+use std::alloc::Global;
+use std::cell::Cell;
+use std::process::Abort;
+use std::thread::Threads;
+
+/// Gives every name one index, and counts how often it is asked.
+#[derive(Drop)]
+struct Asked<'a> {
+    calls: &'a Cell<u64>,
+}
+
+impl<'a> IndexSource for Asked<'a> {
+    ghost use Rattle.coniks_proof.specs.Preimages.{zeros};
+
+    ghost index_of = { λ source name. zeros };
+
+    fn index(&self, _name: &[u8]) -> Index {
+        self.calls.set(self.calls.get().wrapping_add(1));
+        Index([0; 32])
+    }
+}
+
+/// Whether an operation with a name and a key of so many bytes is sound.
+fn is_sound<R: Threads + Sync + Abort>(
+    rt: &R,
+    alloc: Global,
+    directory: &Directory<Sha256Hash, Asked<'_>>,
+    name: usize,
+    key: usize,
+) -> bool {
+    let ops = [sized(rt, alloc, name, key)];
+    directory.prepare(rt, &ops, 0, 1, &Open).is_ok()
+}
+
+/// Operations by the lengths of their names and keys, whether they are sound, and how often the source is asked in all.
+const OPERATIONS: [(usize, usize, bool, u64); 5] = [
+    (256, 1, false, 0),
+    (0, 1, false, 0),
+    (1, 4097, false, 0),
+    (1, 0, false, 0),
+    (255, 4096, true, 1),
+];
+
+/// Prepares each operation.
+fn prepare_each<R: Threads + Sync + Abort>(
+    rt: &R,
+    alloc: Global,
+    directory: &Directory<Sha256Hash, Asked<'_>>,
+    calls: &Cell<u64>,
+) {
+    for &(name, key, sound, asked) in &OPERATIONS {
+        assert!(rt; is_sound(rt, alloc, directory, name, key) == sound);
+        assert!(rt; calls.get() == asked);
+    }
+}
+
+/// The source of indices isn't asked about an operation whose name or key is of a wrong length.
+#[test]
+fn lengths_before_indices(rt: HostRuntime) {
+    let calls = Cell::new(0);
+    let source = Asked { calls: &calls };
+    let directory = Directory::open(rt.alloc(), Sha256Hash, source, NONCE, POLICY);
+    prepare_each(&rt, rt.alloc(), &directory, &calls);
+}
+
+/// A directory with an epoch 2, in which the name `b` is registered.
+fn with_epoch<'a, R: Threads + Sync + Abort>(
+    rt: &R,
+    alloc: Global,
+    calls: &'a Cell<u64>,
+) -> Directory<Sha256Hash, Asked<'a>> {
+    let (board, mut publisher) = Board::new(alloc, 1).expect(rt, "a board");
+    let mut signer = Stamp::refusing(u64::MAX);
+    assert!(rt; signer.made() < u64::MAX && signer.refused() < u64::MAX);
+    let ops = [sized(rt, alloc, 1, 1)];
+    let mut directory = Directory::open(alloc, Sha256Hash, Asked { calls }, NONCE, POLICY);
+    let committed = directory.commit(
+        rt,
+        &ops,
+        0,
+        1,
+        &Open,
+        2,
+        &mut signer,
+        &mut publisher,
+        &board,
+    );
+    assert!(rt; committed.is_ok());
+    directory
+}
+
+/// The fault of a lookup of a name of so many bytes `b`, at most 256.
+fn fault_of_lookup(
+    directory: &Directory<Sha256Hash, Asked<'_>>,
+    t: u64,
+    length: usize,
+) -> Option<LookupFault> {
+    let name = [b'b'; 256];
+    directory.lookup(t, name.get(..length).unwrap_or(&[])).err()
+}
+
+/// Lookups by their epochs and the lengths of their names, their faults, and how often the source is asked in each.
+const LOOKUPS: [(u64, usize, Option<LookupFault>, u64); 6] = [
+    (1, 1, Some(LookupFault::UnknownEpoch), 0),
+    (3, 1, Some(LookupFault::UnknownEpoch), 0),
+    (2, 0, Some(LookupFault::NameLength), 0),
+    (2, 256, Some(LookupFault::NameLength), 0),
+    (2, 255, None, 1),
+    (2, 1, None, 1),
+];
+
+/// Looks each name up.
+fn look_up_each(rt: &impl Abort, directory: &Directory<Sha256Hash, Asked<'_>>, calls: &Cell<u64>) {
+    for &(t, length, fault, asked) in &LOOKUPS {
+        calls.set(0);
+        assert!(rt; fault_of_lookup(directory, t, length) == fault);
+        assert!(rt; calls.get() == asked);
+    }
+}
+
+/// It isn't asked about a lookup in an unknown epoch or of a name of a wrong length, and once about any other.
+#[test]
+fn lookups_ask_once(rt: HostRuntime) {
+    let calls = Cell::new(0);
+    let directory = with_epoch(&rt, rt.alloc(), &calls);
+    look_up_each(&rt, &directory, &calls);
+}

@@ -1,0 +1,247 @@
+//! Batches that are refused, and one that each crew prepares.
+
+use crate::tests::answers::{Told, asked, digest};
+use crate::tests::clerk::{Clerk, Letters, NONCE, POLICY, Written, ops_of, with_clerk};
+use coniks_directory::OpKind::{Change, Register};
+use coniks_directory::{BatchFault, Directory, Op, OpFault, OpKind};
+use coniks_proof::{Bytes, Opening, Sha256Hash};
+use coniks_work::Open;
+use std::alloc::Global;
+use std::process::Abort;
+use std::thread::Threads;
+
+/// The fault of a batch on a new directory.
+fn fault_of<R: Threads + Sync>(
+    rt: &R,
+    alloc: Global,
+    ops: &[Op],
+    depth: usize,
+    workers: usize,
+) -> Option<BatchFault> {
+    let directory = Directory::open(alloc, Sha256Hash, Letters, NONCE, POLICY);
+    directory.prepare(rt, ops, depth, workers, &Open).err()
+}
+
+/// The position of an operation at fault, and its fault.
+fn place_of(fault: Option<BatchFault>) -> Option<(usize, OpFault)> {
+    match fault {
+        Some(BatchFault::At { position, fault }) => Some((position, fault)),
+        _ => None,
+    }
+}
+
+/// An operation with a name and a key of so many bytes `b`, at most 4,097.
+pub fn sized(rt: &impl Abort, alloc: Global, name: usize, key: usize) -> Op {
+    let letters = [b'b'; 4097];
+    let (name, key) = (letters.get(..name), letters.get(..key));
+    Op {
+        kind: OpKind::Register,
+        name: Bytes::copy_of(alloc, name.unwrap_or(&[])).expect(rt, "memory"),
+        key: Bytes::copy_of(alloc, key.unwrap_or(&[])).expect(rt, "memory"),
+        opening: Opening([0x22; 32]),
+    }
+}
+
+/// So many operations with no name.
+fn nameless(rt: &impl Abort, alloc: Global, count: usize) -> Vec<Op> {
+    let mut ops = Vec::new(alloc);
+    for _ in 0..count {
+        ops.push(sized(rt, alloc, 0, 0)).expect(rt, "memory");
+    }
+    ops
+}
+
+/// The fault of so many operations with no name.
+fn fault_of_many<R: Threads + Sync + Abort>(
+    rt: &R,
+    alloc: Global,
+    count: usize,
+    depth: usize,
+    workers: usize,
+) -> Option<BatchFault> {
+    fault_of(rt, alloc, &nameless(rt, alloc, count), depth, workers)
+}
+
+/// Workers, depth and the number of operations, in this order and before any operation.
+#[test]
+fn limits(rt: HostRuntime) {
+    let no_name = BatchFault::At {
+        position: 0,
+        fault: OpFault::NameLength,
+    };
+    for &(count, depth, workers, fault) in &[
+        (4097, 9, 0, BatchFault::Workers),
+        (4097, 9, 65, BatchFault::Workers),
+        (4097, 9, 64, BatchFault::Depth),
+        (4097, 8, 1, BatchFault::BatchTooLong),
+        (4096, 8, 64, no_name),
+    ] {
+        let got = fault_of_many(&rt, rt.alloc(), count, depth, workers);
+        assert_eq!(rt; got, Some(fault));
+    }
+}
+
+/// The fault of a batch that registers `b` and then a name and a key of so many bytes `b`.
+fn second_of_size<R: Threads + Sync + Abort>(
+    rt: &R,
+    alloc: Global,
+    name: usize,
+    key: usize,
+) -> Option<(usize, OpFault)> {
+    let mut ops = ops_of(alloc, &[B]).expect(rt, "memory");
+    ops.push(sized(rt, alloc, name, key)).expect(rt, "memory");
+    place_of(fault_of(rt, alloc, &ops, 0, 1))
+}
+
+/// The longest name and key, and one byte more; the name comes before the key, and both before the name's first use.
+#[test]
+fn lengths(rt: HostRuntime) {
+    for (name, key, fault) in [
+        (255, 4096, None),
+        (256, 4097, Some((1, OpFault::NameLength))),
+        (0, 0, Some((1, OpFault::NameLength))),
+        (1, 4097, Some((1, OpFault::KeyLength))),
+        (1, 0, Some((1, OpFault::KeyLength))),
+        (1, 4096, Some((1, OpFault::NameTwice))),
+    ] {
+        assert_eq!(rt; second_of_size(&rt, rt.alloc(), name, key), fault);
+    }
+}
+
+const A: Written = (Register, b'a', b'k');
+
+const B: Written = (Register, b'b', b'k');
+
+const P: Written = (Register, b'p', b'k');
+
+const Q: Written = (Register, b'q', b'k');
+
+/// The fault of a batch on the registry that another batch leaves.
+fn fault_on<R: Threads + Sync + Abort>(
+    rt: &R,
+    clerk: &mut Clerk<Sha256Hash>,
+    before: &[Written],
+    written: &[Written],
+) -> Option<BatchFault> {
+    assert!(rt; clerk.commit(rt, 1, before).is_ok());
+    let ops = ops_of(clerk.alloc, written).expect(rt, "memory");
+    clerk.directory.prepare(rt, &ops, 0, 1, &Open).err()
+}
+
+/// The first operation at fault of a batch, on the registry that another batch leaves in a new directory, and its fault.
+fn fault_after<R: Threads + Sync + Abort>(
+    rt: &R,
+    alloc: Global,
+    before: &[Written],
+    written: &[Written],
+) -> Option<(usize, OpFault)> {
+    with_clerk(rt, alloc, 1, u64::MAX, |clerk| {
+        place_of(fault_on(rt, clerk, before, written))
+    })
+}
+
+/// A batch that is refused: the one before it, its operations, the place of the first one at fault, and its first fault.
+type Refused<'a> = (&'a [Written], &'a [Written], usize, OpFault);
+
+/// Asserts the first fault of each batch.
+fn are_refused<R: Threads + Sync + Abort>(rt: &R, alloc: Global, batches: &[Refused<'_>]) {
+    for &(before, written, position, fault) in batches {
+        let want = Some((position, fault));
+        assert_eq!(rt;
+            fault_after(rt, alloc, before, written),
+            want,
+            "of {written:?}"
+        );
+    }
+}
+
+/// Names that come twice or are taken.
+#[test]
+fn twice_or_taken(rt: HostRuntime) {
+    are_refused(
+        &rt,
+        rt.alloc(),
+        &[
+            (&[A], &[B, B], 1, OpFault::NameTwice),
+            (&[A], &[A], 0, OpFault::NameTaken),
+            (&[A], &[(Change, b'a', b'l'), A], 1, OpFault::NameTwice),
+        ],
+    );
+}
+
+/// A name that is unknown, and the first of two operations at fault.
+#[test]
+fn unknown_or_first(rt: HostRuntime) {
+    let changes = [(Change, b'a', b'l'), (Change, b'b', b'l')];
+    are_refused(
+        &rt,
+        rt.alloc(),
+        &[
+            (&[A], &changes, 1, OpFault::NameUnknown),
+            (&[A], &[A, B, B], 0, OpFault::NameTaken),
+        ],
+    );
+}
+
+/// Two names with one index, in one batch and in two.
+#[test]
+fn one_index(rt: HostRuntime) {
+    are_refused(
+        &rt,
+        rt.alloc(),
+        &[
+            (&[], &[P, Q], 1, OpFault::IndexClash),
+            (&[P], &[Q], 0, OpFault::IndexClash),
+            (&[P], &[(Change, b'q', b'k')], 0, OpFault::NameUnknown),
+        ],
+    );
+}
+
+/// Whether three names and then a change of one, committed at a depth with so many workers, have the nodes, the root and
+/// the answers that they have.
+fn is_same<R: Threads + Sync + Abort>(
+    rt: &R,
+    clerk: &mut Clerk<Sha256Hash>,
+    depth: usize,
+    workers: usize,
+) -> bool {
+    let three = [A, B, (Register, b'c', b'k')];
+    let change = [(Change, b'b', b'l')];
+    let root = "3561a57a963e7a5b825887fc338f85e89b699fc6361bcb0f383fa49ae4b04042";
+    clerk
+        .commit_by(rt, 1, &three, depth, workers, &Open)
+        .is_ok()
+        && clerk
+            .commit_by(rt, 2, &change, depth, workers, &Open)
+            .is_ok()
+        && clerk.directory.nodes() == 7
+        && clerk.directory.root_at(2) == Some(digest(rt, root))
+        && asked(&clerk.directory, 1, "b") == Told::Key(1, b'k')
+        && asked(&clerk.directory, 2, "b") == Told::Key(1, b'l')
+}
+
+/// Whether a crew makes of these batches what each crew does.
+fn makes_same<R: Threads + Sync + Abort>(
+    rt: &R,
+    alloc: Global,
+    depth: usize,
+    workers: usize,
+) -> bool {
+    with_clerk(
+        rt,
+        alloc,
+        2,
+        u64::MAX,
+        |clerk| is_same(rt, clerk, depth, workers),
+    )
+}
+
+#[test]
+fn same_for_every_crew(rt: HostRuntime) {
+    for &workers in &[1, 2, 7, 64] {
+        for &depth in &[0, 1, 8] {
+            let same = makes_same(&rt, rt.alloc(), depth, workers);
+            assert!(rt; same, "{workers} workers at depth {depth}");
+        }
+    }
+}

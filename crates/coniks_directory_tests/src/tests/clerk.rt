@@ -1,0 +1,342 @@
+//! A directory with its signer and its board, for tests.
+
+ghost use Rattle.std.specs.Prelude.{◌≡◌, ◌<◌, ◌-◌, ◌^◌, [], IfErr, IfSome, true};
+ghost use Rattle.coniks_directory.specs.Chain.{heads_of};
+ghost use Rattle.coniks_directory_tests.specs.Letters.{high as high_of, index_of_letter, low as low_of};
+ghost use Rattle.coniks_directory.specs.Updates.{Grows, IsUpdateOf};
+
+use coniks_chain::{Body, Entry, Sign, Signature, Verify};
+use coniks_directory::{
+    BatchFault, CommitFault, Directory, IndexSource, InstallFault, Op, OpKind, Prepared,
+};
+use coniks_proof::{Bytes, Hash32, Index, Nonce, Opening, Sha256Hash};
+use coniks_shared::{Board, MAX_HEADS, Publisher, Watcher};
+use coniks_work::{Gate, Open};
+use std::alloc::{AllocError, Global};
+use std::process::Abort;
+use std::thread::Threads;
+
+pub const NONCE: Nonce = Nonce([0x11; 32]);
+
+pub const POLICY: [u8; 32] = [0x33; 32];
+
+const OPENING: Opening = Opening([0x22; 32]);
+
+/// Gives each letter of the worked examples an index of its own, but `p` and `q` one, and every other name that of `a`.
+#[derive(Clone, Copy, Drop)]
+pub struct Letters;
+
+fn high(name: &[u8]) -> u8
+    ensures { result ≡ high_of name.now }
+{
+    if name == b"b".as_slice() {
+        0x80
+    } else if name == b"c".as_slice() {
+        0x40
+    } else if name == b"d".as_slice() {
+        0x20
+    } else if name == b"p".as_slice() {
+        0x10
+    } else if name == b"q".as_slice() {
+        0x10
+    } else {
+        0
+    }
+}
+
+fn low(name: &[u8]) -> u8
+    ensures { result ≡ low_of name.now }
+{
+    if name == b"z".as_slice() { 1 } else { 0 }
+}
+
+impl IndexSource for Letters {
+    ghost use Rattle.coniks_directory_tests.specs.Letters.{index_of_letter};
+
+    ghost index_of = { λ source name. index_of_letter name };
+
+    fn index(&self, name: &[u8]) -> Index {
+        let mut bytes = [0; 32];
+        bytes[0] = high(name);
+        bytes[31] = low(name);
+        Index(bytes)
+    }
+}
+
+/// Signs with 64 bytes 55, and refuses the call of one number, counted from 0.
+#[derive(Drop)]
+pub struct Stamp {
+    made: u64,
+    refused: u64,
+    last: Option<Entry>,
+    refused_call: u64,
+}
+
+impl Stamp {
+    /// A signer that refuses the call of this number.
+    pub fn refusing(refused_call: u64) -> Stamp {
+        Stamp {
+            made: 0,
+            refused: 0,
+            last: None,
+            refused_call,
+        }
+    }
+
+    /// How often it signed.
+    pub fn times_made(&self) -> u64 {
+        self.made
+    }
+
+    /// How often it refused.
+    pub fn times_refused(&self) -> u64 {
+        self.refused
+    }
+}
+
+impl Verify for Stamp {
+    ghost use Rattle.std.specs.Prelude.{replicate};
+    ghost use Rattle.std.specs.Str.{bytes_eq};
+
+    ghost verdict_of = { λ _ body signature. bytes_eq signature (replicate 64 0x55) };
+
+    fn verdict(&self, _body: &[u8; 145], signature: &Signature) -> bool {
+        signature.0 == [0x55; 64]
+    }
+}
+
+impl Sign for Stamp {
+    ghost made_of = { λ stamp. stamp.made };
+
+    ghost refused_of = { λ stamp. stamp.refused };
+
+    ghost last_of = { λ stamp. stamp.last };
+
+    fn sign(&mut self, body: &[u8; 145]) -> Option<Signature> {
+        if self.made.wrapping_add(self.refused) == self.refused_call {
+            self.refused += 1;
+            return None;
+        }
+        let signature = Signature([0x55; 64]);
+        self.made += 1;
+        self.last = Some(Entry {
+            body: Body::read(body),
+            signature,
+        });
+        Some(signature)
+    }
+
+    fn made(&self) -> u64 {
+        self.made
+    }
+
+    fn refused(&self) -> u64 {
+        self.refused
+    }
+
+    fn last(&self) -> Option<Entry> {
+        self.last
+    }
+}
+
+/// An operation as the tests write it: its kind, its name and its key, each of one letter.
+pub type Written = (OpKind, u8, u8);
+
+fn op_of(alloc: Global, written: Written) -> Result<Op, AllocError> {
+    let (kind, name, key) = written;
+    Ok(Op {
+        kind,
+        name: Bytes::copy_of(alloc, &[name])?,
+        key: Bytes::copy_of(alloc, &[key])?,
+        opening: OPENING,
+    })
+}
+
+/// The operations, each with the opening of 32 bytes 22.
+pub fn ops_of(alloc: Global, written: &[Written]) -> Result<Vec<Op>, AllocError> {
+    let mut ops = Vec::new(alloc);
+    for &one in written {
+        ops.push(op_of(alloc, one)?)?;
+    }
+    Ok(ops)
+}
+
+/// A directory over letters, with its signer and its board's publisher.
+#[derive(Drop)]
+pub struct Clerk<'a, H: Hash32> {
+    pub alloc: Global,
+    pub directory: Directory<H, Letters>,
+    pub signer: Stamp,
+    pub publisher: Publisher,
+    pub board: &'a Board,
+    ghost tabled: { publisher.table ≡ board.now.table },
+    ghost headed: { publisher.heads ≡ heads_of (H.digest_of directory.0) directory.2.chain },
+}
+
+impl<'a, H: Hash32 + Sync> Clerk<'a, H> {
+    /// A clerk of a new directory, with a signer that refuses the call of this number.
+    pub fn new(
+        alloc: Global,
+        h: H,
+        board: &'a Board,
+        publisher: Publisher,
+        refused_call: u64,
+    ) -> Clerk<'a, H>
+        requires tabled { publisher.table ≡ board.now.table }
+        requires headed { publisher.heads ≡ [] }
+        ensures { result.board.now.table ≡ board.now.table }
+    {
+        Clerk {
+            alloc,
+            directory: Directory::open(alloc, h, Letters, NONCE, POLICY),
+            signer: Stamp::refusing(refused_call),
+            publisher,
+            board,
+        }
+    }
+
+    /// A watcher of the board.
+    pub fn watcher(&mut self, rt: &impl Abort) -> Watcher
+        ensures board { self.new.board.now.table ≡ self.old.board.now.table }
+        ensures watcher { result.table ≡ self.new.board.now.table }
+    {
+        self.publisher.watcher(self.board).expect(rt, "a watcher")
+    }
+
+    /// Whether the signer may be asked once more.
+    fn may_sign(&self) -> bool
+        ensures { result ≡ true → (self.now.signer.made < 2 ^ 64 - 1) × (self.now.signer.refused < 2 ^ 64 - 1) }
+    {
+        self.signer.made() < u64::MAX && self.signer.refused() < u64::MAX
+    }
+
+    /// Commits a batch at depth 1 with two workers, as `commit_by` does.
+    pub fn commit<R: Threads + Sync>(
+        &mut self,
+        rt: &R,
+        t: u64,
+        written: &[Written],
+    ) -> Result<Entry, CommitFault>
+        ensures { self.new.board.now.table ≡ self.old.board.now.table }
+    {
+        self.commit_by(rt, t, written, 1, 2, &Open)
+    }
+
+    /// Registers the name `a` with the key `k`.
+    pub fn register_a<R: Threads + Sync>(&mut self, rt: &R, t: u64) -> Result<Entry, CommitFault>
+        ensures { self.new.board.now.table ≡ self.old.board.now.table }
+    {
+        self.commit(rt, t, &[(OpKind::Register, b'a', b'k')])
+    }
+
+    /// Prepares a batch at depth 1 with two workers. None where it is refused.
+    pub fn prepare<R: Threads + Sync>(&self, rt: &R, written: &[Written]) -> Option<Prepared>
+        ensures { IfSome result (IsUpdateOf (H.digest_of self.now.directory.0) index_of_letter self.now.directory.2) }
+    {
+        prepared(rt, self.alloc, &self.directory, written)
+    }
+
+    /// Installs an update.
+    pub fn install(&mut self, update: Prepared, t: u64) -> Result<Entry, (InstallFault, Prepared)>
+        requires { IsUpdateOf (H.digest_of self.old.directory.0) index_of_letter self.old.directory.2 update }
+        ensures table { self.new.board.now.table ≡ self.old.board.now.table }
+        ensures hash { self.new.directory.0 ≡ self.old.directory.0 }
+        ensures grows { Grows self.old.directory.2 self.new.directory.2 }
+        ensures back { IfErr result (λ r. r.1 ≡ update) }
+    {
+        if !self.may_sign() {
+            return Err((InstallFault::SignerRefused, update));
+        }
+        self.directory.install(update, t, &mut self.signer, &mut self.publisher, self.board)
+    }
+
+    /// Commits a batch at a depth, with so many workers that pass a gate. It is `BatchTooLong` where there is no memory for
+    /// the operations.
+    pub fn commit_by<G: Gate + Sync, R: Threads + Sync>(
+        &mut self,
+        rt: &R,
+        t: u64,
+        written: &[Written],
+        depth: usize,
+        workers: usize,
+        gate: &G,
+    ) -> Result<Entry, CommitFault>
+        ensures { self.new.board.now.table ≡ self.old.board.now.table }
+    {
+        let Ok(ops) = ops_of(self.alloc, written) else {
+            return Err(CommitFault::Batch(BatchFault::BatchTooLong));
+        };
+        if !self.may_sign() {
+            return Err(CommitFault::Batch(BatchFault::BatchTooLong));
+        }
+        self.directory.commit(
+            rt,
+            &ops,
+            depth,
+            workers,
+            gate,
+            t,
+            &mut self.signer,
+            &mut self.publisher,
+            self.board,
+        )
+    }
+
+    /// Installs an update, and then hands in another one of the same base twice. The faults of these two, where the first
+    /// is installed and they aren't.
+    pub fn install_both(
+        &mut self,
+        first: Prepared,
+        second: Prepared,
+        t: u64,
+    ) -> Option<(InstallFault, InstallFault)>
+        requires first { IsUpdateOf (H.digest_of self.old.directory.0) index_of_letter self.old.directory.2 first }
+        requires second { IsUpdateOf (H.digest_of self.old.directory.0) index_of_letter self.old.directory.2 second }
+    {
+        if self.install(first, t).is_err() {
+            return None;
+        }
+        let Err((fault, second)) = self.install(second, t.saturating_add(1)) else {
+            return None;
+        };
+        let Err((again, _)) = self.install(second, t.saturating_add(1)) else {
+            return None;
+        };
+        Some((fault, again))
+    }
+}
+
+/// Prepares a batch at depth 1 with two workers. None where it is refused.
+pub fn prepared<H: Hash32 + Sync, R: Threads + Sync>(
+    rt: &R,
+    alloc: Global,
+    directory: &Directory<H, Letters>,
+    written: &[Written],
+) -> Option<Prepared>
+    ensures { IfSome result (IsUpdateOf (H.digest_of directory.now.0) index_of_letter directory.now.2) }
+{
+    let Ok(ops) = ops_of(alloc, written) else {
+        return None;
+    };
+    match directory.prepare(rt, &ops, 1, 2, &Open) {
+        Ok(update) => Some(update),
+        Err(_) => None,
+    }
+}
+
+/// Takes steps with the clerk of a new directory, whose board takes so many heads, at least 1, and whose signer refuses the
+/// call of this number.
+pub fn with_clerk<T, F: FnOnce(&mut Clerk<Sha256Hash>) -> T>(
+    rt: &impl Abort,
+    alloc: Global,
+    heads: usize,
+    refused_call: u64,
+    steps: F,
+) -> T
+    requires { F.IsAlwaysCallable steps }
+{
+    assert!(rt; 1 <= heads && heads <= MAX_HEADS);
+    let (board, publisher) = Board::new(alloc, heads).expect(rt, "a board");
+    let mut clerk = Clerk::new(alloc, Sha256Hash, &board, publisher, refused_call);
+    steps(&mut clerk)
+}

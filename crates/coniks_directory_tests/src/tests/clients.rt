@@ -1,0 +1,102 @@
+//! What clients of two directories find, where the hash has collisions and where it has none that are known.
+
+use crate::tests::answers::decoded;
+use crate::tests::clerk::{Clerk, Letters, NONCE, with_clerk};
+use coniks_chain::{Entry, extract_history};
+use coniks_directory::IndexSource;
+use coniks_directory::OpKind::Register;
+use coniks_proof::{Collision, Digest, Flat, Hash32, Proof, Sha256Hash, extract};
+use coniks_shared::Board;
+use std::alloc::Global;
+use std::process::Abort;
+use std::thread::Threads;
+
+/// What two proofs of `a` give.
+fn collision_of<H: Hash32>(
+    rt: &impl Abort,
+    alloc: Global,
+    h: &H,
+    root: &Digest,
+    first: &Proof,
+    second: &Proof,
+) -> Option<Collision> {
+    let index = Letters.index(b"a");
+    let (first, second) = ((b"a".as_slice(), first), (b"a".as_slice(), second));
+    extract(alloc, h, &NONCE, root, &index, first, second).expect(rt, "memory")
+}
+
+/// The proof of `a` at epoch 1.
+fn proof_of_a<H: Hash32>(rt: &impl Abort, clerk: &Clerk<H>) -> Proof {
+    clerk.directory.lookup(1, b"a").expect(rt, "a proof")
+}
+
+/// The chain of a directory, and its proof of `a` at epoch 1.
+#[derive(Drop)]
+struct Shown {
+    chain: Vec<Entry>,
+    proof: Proof,
+}
+
+/// What a clerk shows a client, once it has bound `a` to a key.
+fn shown_by<R: Threads + Sync + Abort>(rt: &R, clerk: &mut Clerk<Flat>, key: u8) -> Shown {
+    assert!(rt; clerk.commit(rt, 1, &[(Register, b'a', key)]).is_ok());
+    Shown {
+        chain: Vec::from_slice(clerk.alloc, clerk.directory.chain()).expect(rt, "memory"),
+        proof: proof_of_a(rt, clerk),
+    }
+}
+
+/// What a directory over a flat hash that binds `a` to a key shows a client.
+fn showing<R: Threads + Sync + Abort>(rt: &R, alloc: Global, key: u8) -> Shown {
+    let (board, publisher) = Board::new(alloc, 1).expect(rt, "a board");
+    let mut clerk = Clerk::new(alloc, Flat, &board, publisher, u64::MAX);
+    shown_by(rt, &mut clerk, key)
+}
+
+/// Whether two chains give no collision.
+fn is_one_history(rt: &impl Abort, alloc: Global, one: &Shown, other: &Shown) -> bool {
+    let history = extract_history(alloc, &Flat, &one.chain, &other.chain);
+    history.expect(rt, "memory").is_none()
+}
+
+/// Whether two proofs give the two preimages of a commitment with these digits.
+fn gives(rt: &impl Abort, alloc: Global, one: &Shown, other: &Shown, x: &str, y: &str) -> bool {
+    let root = Digest([0; 32]);
+    let found = collision_of(rt, alloc, &Flat, &root, &one.proof, &other.proof);
+    let found = found.expect(rt, "a collision");
+    let (x, y): ([u8; 41], [u8; 41]) = (decoded(rt, x), decoded(rt, y));
+    found.x.as_slice() == x.as_slice() && found.y.as_slice() == y.as_slice()
+}
+
+/// Two directories over a flat hash that bind one name to two keys: their entries are the same, and their proofs give
+/// the two commitment preimages.
+#[test]
+fn two_clients(rt: HostRuntime) {
+    let one = showing(&rt, rt.alloc(), b'k');
+    let other = showing(&rt, rt.alloc(), b'l');
+    assert!(rt; is_one_history(&rt, rt.alloc(), &one, &other));
+    let k = "432222222222222222222222222222222222222222222222222222222222222222000161000000016b";
+    let l = "432222222222222222222222222222222222222222222222222222222222222222000161000000016c";
+    assert!(rt; gives(&rt, rt.alloc(), &one, &other, k, l));
+}
+
+/// What two lookups of `a` at epoch 1 give.
+fn collision_within<R: Threads + Sync + Abort>(
+    rt: &R,
+    clerk: &mut Clerk<Sha256Hash>,
+) -> Option<Collision> {
+    assert!(rt; clerk.register_a(rt, 1).is_ok());
+    let root = clerk.directory.root_at(1).expect(rt, "a root");
+    let first = proof_of_a(rt, clerk);
+    let second = proof_of_a(rt, clerk);
+    collision_of(rt, clerk.alloc, &Sha256Hash, &root, &first, &second)
+}
+
+/// Two lookups of one name at one epoch give no collision.
+#[test]
+fn one_answer(rt: HostRuntime) {
+    let collides = with_clerk(&rt, rt.alloc(), 1, u64::MAX, |clerk| {
+        collision_within(&rt, clerk).is_some()
+    });
+    assert!(rt; !collides);
+}

@@ -1,0 +1,90 @@
+//! Installs that are refused.
+
+use crate::tests::clerk::{Clerk, Written, with_clerk};
+use coniks_chain::Entry;
+use coniks_directory::OpKind::{Change, Register};
+use coniks_directory::{BatchFault, CommitFault, InstallFault, OpFault};
+use coniks_proof::Sha256Hash;
+use std::process::Abort;
+use std::thread::Threads;
+
+/// How often the signer signed and refused, how many entries there are, and how many heads are published.
+fn counts(clerk: &Clerk<Sha256Hash>) -> (u64, u64, usize, usize) {
+    let published = clerk.publisher.published();
+    (
+        clerk.signer.times_made(),
+        clerk.signer.times_refused(),
+        clerk.directory.chain().len(),
+        published,
+    )
+}
+
+/// The fault of a commit that is refused.
+fn refusal<R: Threads + Sync>(
+    rt: &R,
+    clerk: &mut Clerk<Sha256Hash>,
+    t: u64,
+    written: &[Written],
+) -> Option<CommitFault> {
+    clerk.commit(rt, t, written).err()
+}
+
+/// The fault of an epoch that isn't later than the latest one.
+fn not_later_than(latest: u64) -> Option<CommitFault> {
+    Some(CommitFault::Install(InstallFault::EpochNotLater { latest }))
+}
+
+/// Commits that are refused, and what they leave.
+fn commit_not_later<R: Threads + Sync + Abort>(rt: &R, clerk: &mut Clerk<Sha256Hash>) {
+    assert!(rt; refusal(rt, clerk, 0, &[]) == not_later_than(0));
+    assert!(rt; clerk.register_a(rt, 4).is_ok());
+    assert!(rt; refusal(rt, clerk, 4, &[]) == not_later_than(4));
+    let at_fault = CommitFault::Batch(BatchFault::At {
+        position: 0,
+        fault: OpFault::NameTaken,
+    });
+    assert!(rt; clerk.register_a(rt, 4) == Err(at_fault));
+    assert!(rt; counts(clerk) == (1, 0, 1, 1));
+}
+
+/// An epoch that isn't later, as the first one and as the second.
+#[test]
+fn not_later(rt: HostRuntime) {
+    with_clerk(&rt, rt.alloc(), 4, u64::MAX, |clerk| {
+        commit_not_later(&rt, clerk);
+    });
+}
+
+const SECOND: [Written; 2] = [(Change, b'a', b'l'), (Register, b'c', b'k')];
+
+/// The entry of a second epoch where the signer refuses nothing.
+fn unrefused_entry<R: Threads + Sync + Abort>(rt: &R, clerk: &mut Clerk<Sha256Hash>) -> Entry {
+    assert!(rt; clerk.register_a(rt, 1).is_ok());
+    clerk.commit(rt, 4, &SECOND).expect(rt, "a second entry")
+}
+
+/// Commits a first epoch, and a second one, which the signer refuses.
+fn commit_refused<R: Threads + Sync + Abort>(rt: &R, clerk: &mut Clerk<Sha256Hash>) {
+    assert!(rt; clerk.register_a(rt, 1).is_ok());
+    let refused = Some(CommitFault::Install(InstallFault::SignerRefused));
+    assert!(rt; refusal(rt, clerk, 4, &SECOND) == refused);
+    assert!(rt; counts(clerk) == (1, 1, 1, 1));
+    assert!(rt; clerk.directory.nodes() == 1);
+}
+
+/// The entry of a second epoch where the signer refuses its second call.
+fn entry_after_refusal<R: Threads + Sync + Abort>(rt: &R, clerk: &mut Clerk<Sha256Hash>) -> Entry {
+    commit_refused(rt, clerk);
+    let entry = clerk.commit(rt, 4, &SECOND).expect(rt, "a second entry");
+    assert!(rt; counts(clerk) == (2, 1, 2, 2));
+    entry
+}
+
+/// A signer that refuses its second call: the next install gives the entry that the second would have been.
+#[test]
+fn signer_refuses(rt: HostRuntime) {
+    let alloc = rt.alloc();
+    let unrefused = with_clerk(&rt, alloc, 4, u64::MAX, |clerk| unrefused_entry(&rt, clerk));
+    let entry = with_clerk(&rt, alloc, 4, 1, |clerk| entry_after_refusal(&rt, clerk));
+    assert!(rt; entry == unrefused);
+}

@@ -1,0 +1,174 @@
+//! Lookups and watchers beside a batch that is prepared.
+
+ghost use Rattle.std.specs.Prelude.{◌≡◌};
+
+use crate::tests::answers::{Told, asked};
+use crate::tests::clerk::{Clerk, Letters, ops_of, with_clerk};
+use coniks_chain::link;
+use coniks_directory::Directory;
+use coniks_directory::OpKind::Register;
+use coniks_proof::{Head, Sha256Hash};
+use coniks_shared::{Board, Watcher};
+use coniks_work::Gate;
+use std::alloc::Global;
+use std::process::Abort;
+use std::sync::atomic::{AtomicU64, Ordering};
+use std::thread;
+use std::thread::Threads;
+
+/// Holds the first job until so many others have done what they do, and notes whether they had.
+#[derive(Drop)]
+struct Until {
+    wanted: u64,
+    entered: AtomicU64,
+    done: AtomicU64,
+    met: AtomicU64,
+}
+
+impl Until {
+    fn of(wanted: u64) -> Until {
+        Until {
+            wanted,
+            entered: AtomicU64::new(0),
+            done: AtomicU64::new(0),
+            met: AtomicU64::new(0),
+        }
+    }
+
+    /// One of the others has done it.
+    fn one_did(&self) {
+        self.done.fetch_add(1, Ordering::SeqCst);
+    }
+
+    /// Whether so many had done it while the first job was held.
+    fn met(&self) -> bool {
+        self.met.load(Ordering::SeqCst) == 1
+    }
+}
+
+impl Gate for Until {
+    fn enter(&self, _job: usize) {
+        if self.entered.fetch_add(1, Ordering::SeqCst) > 0 {
+            return;
+        }
+        for _ in 0..1u64 << 32 {
+            if self.done.load(Ordering::SeqCst) >= self.wanted {
+                self.met.store(1, Ordering::SeqCst);
+                return;
+            }
+        }
+    }
+}
+
+/// Prepares a batch through the gate, and says whether it was accepted.
+fn prepares<R: Threads + Sync>(
+    rt: &R,
+    alloc: Global,
+    directory: &Directory<Sha256Hash, Letters>,
+    gate: &Until,
+) -> bool {
+    match ops_of(alloc, &[(Register, b'b', b'k')]) {
+        Ok(ops) => directory.prepare(rt, &ops, 1, 2, gate).is_ok(),
+        Err(_) => false,
+    }
+}
+
+/// Looks the name up once, and tells the gate.
+fn looks_up(directory: &Directory<Sha256Hash, Letters>, gate: &Until) -> bool {
+    let told = asked(directory, 1, "a");
+    gate.one_did();
+    told == Told::Key(0, b'k')
+}
+
+/// Looks the name up on two threads.
+fn both_look_up<R: Threads + Sync>(
+    rt: &R,
+    directory: &Directory<Sha256Hash, Letters>,
+    gate: &Until,
+) -> bool {
+    let (one, other) = thread::join(
+        rt,
+        || looks_up(directory, gate),
+        || looks_up(directory, gate),
+    );
+    one && other
+}
+
+/// Whether a batch is prepared while two threads look up.
+fn prepares_beside<R: Threads + Sync>(
+    rt: &R,
+    alloc: Global,
+    directory: &Directory<Sha256Hash, Letters>,
+    gate: &Until,
+) -> bool {
+    let (prepared, both) = thread::join(
+        rt,
+        || prepares(rt, alloc, directory, gate),
+        || both_look_up(rt, directory, gate),
+    );
+    prepared && both
+}
+
+/// Commits an epoch, and prepares the next batch beside two lookups.
+fn prepare_held<R: Threads + Sync + Abort>(rt: &R, clerk: &mut Clerk<Sha256Hash>) {
+    assert!(rt; clerk.register_a(rt, 1).is_ok());
+    let gate = Until::of(2);
+    assert!(rt; prepares_beside(rt, clerk.alloc, &clerk.directory, &gate));
+    assert!(rt; gate.met());
+}
+
+/// Two threads look up while the first job of a batch is held.
+#[test]
+fn look_up_while_preparing(rt: HostRuntime) {
+    with_clerk(&rt, rt.alloc(), 4, u64::MAX, |clerk| {
+        prepare_held(&rt, clerk);
+    });
+}
+
+/// Looks at the board once, and tells the gate.
+fn looks_once(watcher: &mut Watcher, board: &Board, gate: &Until) -> Option<Head>
+    requires { watcher.old.table ≡ board.now.table }
+{
+    let seen = watcher.latest(board);
+    gate.one_did();
+    seen
+}
+
+/// What a watcher answers while the first job of a batch is held. None also where the batch isn't prepared.
+fn seen_beside<R: Threads + Sync>(
+    rt: &R,
+    clerk: &Clerk<Sha256Hash>,
+    watcher: &mut Watcher,
+    gate: &Until,
+) -> Option<Head>
+    requires { watcher.old.table ≡ clerk.now.board.now.table }
+{
+    let (alloc, directory, board) = (clerk.alloc, &clerk.directory, clerk.board);
+    let (prepared, seen) = thread::join(
+        rt,
+        || prepares(rt, alloc, directory, gate),
+        ||
+            requires { watcher.now.table ≡ board.now.table }
+        { looks_once(watcher, board, gate) },
+    );
+    if prepared { seen } else { None }
+}
+
+/// Commits an epoch, and prepares the next batch beside a watcher, which answers the epoch's head.
+fn watch_held<R: Threads + Sync + Abort>(rt: &R, clerk: &mut Clerk<Sha256Hash>) {
+    let mut watcher = clerk.watcher(rt);
+    let entry = clerk.register_a(rt, 1).expect(rt, "an epoch");
+    let head = Head {
+        epoch: 1,
+        link: link(&Sha256Hash, &entry),
+    };
+    let gate = Until::of(1);
+    assert!(rt; seen_beside(rt, clerk, &mut watcher, &gate) == Some(head));
+    assert!(rt; gate.met());
+}
+
+/// A watcher looks while the first job of a batch is held, and answers the head installed before.
+#[test]
+fn watch_while_preparing(rt: HostRuntime) {
+    with_clerk(&rt, rt.alloc(), 4, u64::MAX, |clerk| watch_held(&rt, clerk));
+}

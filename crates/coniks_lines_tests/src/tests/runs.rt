@@ -1,0 +1,299 @@
+//! Runs, and what they write.
+
+use crate::tests::machine::{Echo, echoed};
+use crate::tests::streams::{SlowIn, SlowOut, Stop};
+use coniks_lines::{
+    ByteIn, ByteOut, MemoryIn, MemoryOut, RunFault, SystemIn, SystemOut, run_lines,
+};
+use std::alloc::Global;
+use std::io;
+use std::process::Abort;
+
+/// More calls than a test makes.
+const MANY: u64 = 1 << 40;
+
+/// Inputs, what is written for them, and whether each line is accepted.
+const RUNS: [(&[u8], &[u8], bool); 14] = [
+    (b"", b"", true),
+    (b"\n", b"0\n", true),
+    (b"a", b"0a\n", true),
+    (b"abc\n", b"0abc\n", true),
+    (b"abc\nde", b"0abc\n1de\n", true),
+    (b"\n\n\n", b"0\n1\n0\n", true),
+    (b"a\n\nb", b"0a\n1\n0b\n", true),
+    (b"a\r\nb\r", b"0a\r\n1b\r\n", true),
+    (b"\r\n", b"0\r\n", true),
+    (b"\xff\n\x00", b"0\xff\n1\x00\n", true),
+    (b"!", b"?\n", false),
+    (b"a\n!b\nc\n", b"0a\n?\n1c\n", false),
+    (b"!a\nb\nc", b"?\n0b\n1c\n", false),
+    (b"a\nb\n!c", b"0a\n1b\n?\n", false),
+];
+
+/// Bytes that a reader gives, whose memory a test has.
+fn input_of(rt: &impl Abort, alloc: Global, bytes: &[u8]) -> Vec<u8> {
+    Vec::from_slice(alloc, bytes).expect(rt, "memory")
+}
+
+/// How a run ended: its answer, whether just the wanted bytes are written, and how often a read or a write failed.
+#[derive(Clone, Copy)]
+struct Ended {
+    all: Result<bool, RunFault>,
+    wrote: bool,
+    failures: u64,
+}
+
+/// A run over memory.
+fn memory_run(rt: &impl Abort, alloc: Global, input: &[u8], wanted: &[u8]) -> Ended {
+    let (writer, all) = echoed(alloc, input_of(rt, alloc, input)).expect(rt, "a run");
+    Ended {
+        all: Ok(all),
+        wrote: writer.bytes() == wanted,
+        failures: writer.failures(),
+    }
+}
+
+#[test]
+fn over_memory(rt: HostRuntime) {
+    let alloc = rt.alloc();
+    for (input, wanted, accepted) in RUNS {
+        let ended = memory_run(&rt, alloc, input, wanted);
+        assert!(rt; ended.wrote);
+        assert!(rt; ended.all == Ok(accepted));
+        assert_eq!(rt; ended.failures, 0);
+    }
+}
+
+/// A run over a reader and a writer that stop nowhere.
+fn slow_run(alloc: Global, input: Vec<u8>, gives: usize, takes: usize, wanted: &[u8]) -> Ended {
+    let mut reader = SlowIn::new(input, gives, MANY);
+    let mut writer = SlowOut::new(alloc, takes, MANY, Stop::Fails);
+    let all = run_lines(alloc, &mut Echo { odd: false }, &mut reader, &mut writer);
+    Ended {
+        all,
+        wrote: writer.bytes.as_slice() == wanted,
+        failures: writer.failures(),
+    }
+}
+
+#[test]
+fn little_at_a_time(rt: HostRuntime) {
+    let alloc = rt.alloc();
+    for (input, wanted, accepted) in RUNS {
+        for gives in 1..6 {
+            for takes in 1..4 {
+                let input = input_of(&rt, alloc, input);
+                let ended = slow_run(alloc, input, gives, takes, wanted);
+                assert!(rt; ended.all == Ok(accepted));
+                assert!(rt; ended.wrote);
+            }
+        }
+    }
+}
+
+#[test]
+fn one_flush_a_line(rt: HostRuntime) {
+    let alloc = rt.alloc();
+    let mut reader = SlowIn::new(input_of(&rt, alloc, b"ab\n!\n\nc"), 100, MANY);
+    let mut writer = SlowOut::new(alloc, 100, MANY, Stop::Fails);
+    let all = run_lines(alloc, &mut Echo { odd: true }, &mut reader, &mut writer);
+    assert!(rt; all == Ok(false));
+    assert!(rt; writer.bytes.as_slice() == b"1ab\n?\n0\n1c\n".as_slice());
+    assert!(rt; writer.flushed.as_slice() == [4, 6, 8, 11].as_slice());
+}
+
+/// A line of so many bytes, and then a short one.
+fn long_input(alloc: Global, size: usize) -> Option<Vec<u8>> {
+    let mut input = vec![in alloc; b'x'; size].ok()?;
+    input.extend_from_slice(b"\nend").ok()?;
+    Some(input)
+}
+
+#[test]
+fn long_lines(rt: HostRuntime) {
+    let alloc = rt.alloc();
+    for size in [65_534, 65_535, 65_536, 65_537, 131_072, 200_000, 5_000_000] {
+        let input = long_input(alloc, size).expect(&rt, "memory");
+        let (writer, all) = echoed(alloc, input).expect(&rt, "a run");
+        let bytes = writer.bytes();
+        assert!(rt; all);
+        assert_eq!(rt; bytes.len(), size + 7);
+        assert!(rt; bytes.starts_with(b"0x"));
+        assert!(rt; bytes.ends_with(b"x\n1end\n"));
+        assert_eq!(rt; bytes.iter().filter(|b| **b == b'x').count(), size);
+    }
+}
+
+/// A run whose writer takes a byte a write, and stops at a call.
+fn stopped_run(alloc: Global, input: Vec<u8>, calls: u64, stop: Stop, wanted: &[u8]) -> Ended {
+    let mut reader = MemoryIn::new(input);
+    let mut writer = SlowOut::new(alloc, 1, calls, stop);
+    let all = run_lines(alloc, &mut Echo { odd: false }, &mut reader, &mut writer);
+    Ended {
+        all,
+        wrote: writer.bytes.as_slice() == wanted,
+        failures: writer.failures(),
+    }
+}
+
+#[test]
+fn a_write_stops(rt: HostRuntime) {
+    // the writer takes a byte a write: each line is as many writes as its answer has bytes, and a flush
+    let wanted: &[u8] = b"0ab\n?\n1d\n";
+    let written = [0, 1, 2, 3, 4, 4, 5, 6, 6, 7, 8, 9];
+    let flushes = [4, 7, 11];
+    let alloc = rt.alloc();
+    for stop in [Stop::Fails, Stop::TakesNone] {
+        for k in 0..written.len() {
+            let input = input_of(&rt, alloc, b"ab\n!c\nd");
+            let ended = stopped_run(alloc, input, k as u64, stop, &wanted[..written[k]]);
+            assert!(rt; ended.all == Err(RunFault::Write), "at call {k}");
+            assert!(rt; ended.wrote, "at call {k}");
+            let fails = stop == Stop::Fails || flushes.contains(&k);
+            assert_eq!(rt; ended.failures, fails as u64, "at call {k}");
+        }
+        let input = input_of(&rt, alloc, b"ab\n!c\nd");
+        let ended = stopped_run(alloc, input, 12, stop, wanted);
+        assert!(rt; ended.all == Ok(false));
+        assert!(rt; ended.wrote);
+    }
+}
+
+/// A run whose reader gives two bytes a read, and fails at one; with how often it failed.
+fn unread_run(alloc: Global, input: Vec<u8>, reads: u64, wanted: &[u8]) -> Ended {
+    let mut reader = SlowIn::new(input, 2, reads);
+    let mut writer = SlowOut::new(alloc, 100, MANY, Stop::Fails);
+    let all = run_lines(alloc, &mut Echo { odd: false }, &mut reader, &mut writer);
+    Ended {
+        all,
+        wrote: writer.bytes.as_slice() == wanted,
+        failures: reader.failures(),
+    }
+}
+
+#[test]
+fn a_read_fails(rt: HostRuntime) {
+    // two bytes a read: what stands after the last newline isn't answered where a read fails
+    let wanted: [&[u8]; 5] = [b"", b"", b"0ab\n", b"0ab\n1cd\n", b"0ab\n1cd\n"];
+    let alloc = rt.alloc();
+    for k in 0..wanted.len() {
+        let input = input_of(&rt, alloc, b"ab\ncd\nef");
+        let ended = unread_run(alloc, input, k as u64, wanted[k]);
+        assert!(rt; ended.all == Err(RunFault::Read), "at read {k}");
+        assert!(rt; ended.wrote, "at read {k}");
+        assert_eq!(rt; ended.failures, 1, "at read {k}");
+    }
+    let input = input_of(&rt, alloc, b"ab\ncd\nef");
+    let ended = unread_run(alloc, input, 5, b"0ab\n1cd\n0ef\n");
+    assert!(rt; ended.all == Ok(true));
+    assert!(rt; ended.wrote);
+    assert_eq!(rt; ended.failures, 0);
+}
+
+/// Refuses each read, write and flush.
+#[derive(Drop)]
+struct Broken;
+
+impl io::Read for Broken {
+    fn read(&mut self, _buf: &mut [u8]) -> io::Result<usize> {
+        Err(io::Error::from(io::ErrorKind::BrokenPipe))
+    }
+}
+
+impl io::Write for Broken {
+    fn write(&mut self, _buf: &[u8]) -> io::Result<usize> {
+        Err(io::Error::from(io::ErrorKind::BrokenPipe))
+    }
+
+    fn flush(&mut self) -> io::Result<()> {
+        Err(io::Error::from(io::ErrorKind::BrokenPipe))
+    }
+}
+
+#[test]
+fn streams_of_the_system(rt: HostRuntime) {
+    let alloc = rt.alloc();
+    let input: &[u8] = b"a\nb";
+    let mut written = Vec::new(alloc);
+    let mut reader = SystemIn::new(input);
+    let mut writer = SystemOut::new(&mut written);
+    let all = run_lines(alloc, &mut Echo { odd: false }, &mut reader, &mut writer);
+    assert!(rt; all == Ok(true));
+    assert_eq!(rt; reader.failures(), 0);
+    assert_eq!(rt; writer.failures(), 0);
+    assert!(rt; written.as_slice() == b"0a\n1b\n".as_slice());
+}
+
+#[test]
+fn streams_of_the_system_that_fail(rt: HostRuntime) {
+    let alloc = rt.alloc();
+    let mut writer = MemoryOut::new(alloc);
+    let mut broken = SystemIn::new(Broken);
+    let all = run_lines(alloc, &mut Echo { odd: false }, &mut broken, &mut writer);
+    assert!(rt; all == Err(RunFault::Read));
+    assert_eq!(rt; broken.failures(), 1);
+
+    let input: &[u8] = b"a\nb";
+    let mut reader = SystemIn::new(input);
+    let mut broken = SystemOut::new(Broken);
+    let all = run_lines(alloc, &mut Echo { odd: false }, &mut reader, &mut broken);
+    assert!(rt; all == Err(RunFault::Write));
+    assert_eq!(rt; broken.failures(), 1);
+    assert!(rt; broken.flush().is_err());
+    assert_eq!(rt; broken.failures(), 2);
+}
+
+#[test]
+fn standard_streams(rt: HostRuntime) {
+    let reader = SystemIn::new(rt.stdin());
+    let mut out = SystemOut::new(rt.stdout());
+    let mut err = SystemOut::new(rt.stderr());
+    assert_eq!(rt; reader.failures(), 0);
+    assert!(rt; out.flush().is_ok());
+    assert!(rt; err.flush().is_ok());
+}
+
+#[test]
+fn memory_reads(rt: HostRuntime) {
+    let alloc = rt.alloc();
+    let mut reader = MemoryIn::new(input_of(&rt, alloc, b"abc"));
+    let mut buffer = [b'.'; 2];
+    assert!(rt; reader.read(&mut buffer) == Ok(2));
+    assert!(rt; buffer == *b"ab");
+    assert!(rt; reader.read(&mut buffer) == Ok(1));
+    assert!(rt; buffer[0] == b'c');
+    assert!(rt; reader.read(&mut buffer) == Ok(0));
+    assert!(rt; reader.read(&mut buffer) == Ok(0));
+    assert_eq!(rt; reader.failures(), 0);
+}
+
+/// Where memory is refused, as it is in a trial run whose n-th allocation fails, nothing is written.
+#[test]
+fn memory_writes(rt: HostRuntime) {
+    let alloc = rt.alloc();
+    let mut writer = MemoryOut::new(alloc);
+    let first = writer.write(b"ab");
+    if first.is_err() {
+        assert_eq!(rt; writer.failures(), 1);
+        assert!(rt; writer.bytes() == b"".as_slice());
+        return;
+    }
+    assert!(rt; first == Ok(2));
+    assert!(rt; writer.write(b"c") == Ok(1));
+    assert!(rt; writer.flush() == Ok(()));
+    assert!(rt; writer.bytes() == b"abc".as_slice());
+    assert_eq!(rt; writer.failures(), 0);
+}
+
+#[test]
+fn messages(rt: HostRuntime) {
+    let alloc = rt.alloc();
+    for (fault, wanted) in [
+        (RunFault::Read, "read failed"),
+        (RunFault::Write, "write failed"),
+        (RunFault::OutOfMemory, "out of memory"),
+    ] {
+        let text = fault.to_string(alloc).expect(&rt, "memory");
+        assert_eq!(rt; text.as_str(), wanted);
+    }
+}

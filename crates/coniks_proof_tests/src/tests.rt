@@ -1,0 +1,317 @@
+//! Worked examples, whose digests were computed by other programs.
+
+mod collisions;
+
+use coniks_proof::{
+    Answer, Bytes, CheckFault, Digest, Digests, End, Flat, Hash32, Head, Index, MAX_KEY, MAX_NAME,
+    Nonce, Opening, Prefix, Proof, Sha256Hash, bit, check, commit_hash, empty_hash, inner_hash,
+    leaf_hash,
+};
+use std::alloc::Global;
+use std::process::Abort;
+
+const NONCE: Nonce = Nonce([0x11; 32]);
+
+const OPENING: Opening = Opening([0x22; 32]);
+
+const ZERO: Digest = Digest([0; 32]);
+
+/// The index that begins with a byte, and has zeros after it.
+fn index_of(first: u8) -> Index {
+    let mut bytes = [0; 32];
+    bytes[0] = first;
+    Index(bytes)
+}
+
+/// The digest with these hexadecimal digits.
+fn digest(rt: &impl Abort, digits: &str) -> Digest {
+    let mut bytes = [0; 32];
+    hex::decode_to_slice(digits, &mut bytes).expect(rt, "64 digits");
+    Digest(bytes)
+}
+
+/// The commitment to a name with the key `k`.
+fn sealed(name: &[u8]) -> Digest {
+    sealed_with(name, b"k")
+}
+
+/// The commitment to a name and a key, which are within their limits.
+fn sealed_with(name: &[u8], key: &[u8]) -> Digest {
+    if name.len() <= MAX_NAME && key.len() <= MAX_KEY {
+        commit_hash(&Sha256Hash, &OPENING, name, key)
+    } else {
+        ZERO
+    }
+}
+
+/// A name or a key of one repeated letter.
+fn repeated(rt: &impl Abort, alloc: Global, letter: u8, count: usize) -> Vec<u8> {
+    vec![in alloc; letter; count].expect(rt, "memory")
+}
+
+/// The end of a proof of presence.
+fn here(rt: &impl Abort, alloc: Global, name: &[u8], key: &[u8]) -> End {
+    End::Here {
+        name: Bytes::copy_of(alloc, name).expect(rt, "memory"),
+        key: Bytes::copy_of(alloc, key).expect(rt, "memory"),
+        opening: OPENING,
+    }
+}
+
+/// A proof with these siblings.
+fn proof_of(rt: &impl Abort, alloc: Global, siblings: &[Digest], end: End) -> Proof {
+    let siblings = Vec::from_slice(alloc, siblings).expect(rt, "memory");
+    Proof {
+        siblings: Digests::new(siblings),
+        end,
+    }
+}
+
+/// A proof with this many zero digests beside it.
+fn beside(rt: &impl Abort, alloc: Global, siblings: usize, end: End) -> Proof {
+    let siblings = vec![in alloc; ZERO; siblings].expect(rt, "memory");
+    Proof {
+        siblings: Digests::new(siblings),
+        end,
+    }
+}
+
+/// The fault of a proof for a name of index 0, under the root of zeros.
+fn fault_of(proof: &Proof, name: &[u8]) -> Option<CheckFault> {
+    check(&Sha256Hash, &NONCE, &ZERO, &index_of(0), name, proof).err()
+}
+
+#[test]
+fn pieces_are_one_message(rt: HostRuntime) {
+    let empty = digest(
+        &rt,
+        "e3b0c44298fc1c149afbf4c8996fb92427ae41e4649b934ca495991b7852b855",
+    );
+    let abc = digest(
+        &rt,
+        "ba7816bf8f01cfea414140de5dae2223b00361a396177a9cb410ff61f20015ad",
+    );
+    assert_eq!(rt; Sha256Hash.hash(&[]), empty);
+    assert_eq!(rt; Sha256Hash.hash(&[b""]), empty);
+    assert_eq!(rt; Sha256Hash.hash(&[b"abc"]), abc);
+    assert_eq!(rt; Sha256Hash.hash(&[b"a", b"", b"bc"]), abc);
+    assert_eq!(rt; Flat.hash(&[b"abc"]), ZERO);
+}
+
+#[test]
+fn commitments(rt: HostRuntime) {
+    for (name, want) in [
+        (
+            b"a",
+            "9697af36269af4396623d099e742626139b4bf3f7cb5563ceb5cf523eb3f90eb",
+        ),
+        (
+            b"b",
+            "414f33be72fa7df6c2042da8159d121690e19ccdae694bddbc9f8aa4cb500651",
+        ),
+        (
+            b"z",
+            "b0df976167a07eb1cfc063bac4fb4e15e2e93c6c8eff6d6f947763d202429992",
+        ),
+    ] {
+        assert_eq!(rt; sealed(name), digest(&rt, want));
+    }
+    let name = repeated(&rt, rt.alloc(), b'n', 255);
+    let key = repeated(&rt, rt.alloc(), b'k', 4096);
+    let longest = "e6cff40f63dd173c920d2dd9c66e6f8fe0e121da35f1ad304c41ea3c5f57253f";
+    assert_eq!(rt; sealed_with(&name, &key), digest(&rt, longest));
+}
+
+/// A leaf at level 1.
+fn half(name: &[u8], first: u8) -> Digest {
+    leaf_hash(&Sha256Hash, &NONCE, &index_of(first), 1, &sealed(name))
+}
+
+#[test]
+fn nodes(rt: HostRuntime) {
+    let root = "1aa9b40c9d34d625d7329003c097925b7d4c7809b864b047b71defb140aca216";
+    let right = "4efd57d68394bbbb37d8c702001e95330c4da455acb24567f83c5dc95c691776";
+    for (prefix, want) in [(Prefix::root(), root), (Prefix::root().child(true), right)] {
+        assert_eq!(rt; empty_hash(&Sha256Hash, &NONCE, &prefix), digest(&rt, want));
+    }
+    let mut last = [0; 32];
+    last[31] = 1;
+    let deepest = leaf_hash(&Sha256Hash, &NONCE, &Index(last), 256, &sealed(b"z"));
+    let want = "35f0449094f01d65f8e5833f8a4c6325bbc804feee898e7bd83d5b996054ddcf";
+    assert_eq!(rt; deepest, digest(&rt, want));
+    let inner = inner_hash(&Sha256Hash, &half(b"a", 0), &half(b"b", 0x80));
+    let want = "46de554c28df523fe8bbcbf7cf90c45cc1f44d29be6fc4bf4fa5fd416437b6ba";
+    assert_eq!(rt; inner, digest(&rt, want));
+}
+
+#[test]
+fn bits_from_the_most_significant(rt: HostRuntime) {
+    let index = index_of(0x41);
+    index.known();
+    assert!(rt; !bit(&index, 0));
+    assert!(rt; bit(&index, 1));
+    assert!(rt; bit(&index, 7));
+    let prefix = Prefix::of(&index, 9);
+    assert_eq!(rt; prefix.len(), 9);
+    assert_eq!(rt; prefix.bytes()[0], 0x41);
+    assert!(rt; prefix.at(1));
+}
+
+#[test]
+fn heads(rt: HostRuntime) {
+    let head = |epoch| Head { epoch, link: ZERO };
+    assert!(rt; head(7) == head(7));
+    assert!(rt; head(7) != head(8));
+}
+
+#[test]
+fn presence(rt: HostRuntime) {
+    let (a, b) = (half(b"a", 0), half(b"b", 0x80));
+    let root = inner_hash(&Sha256Hash, &a, &b);
+    let end = here(&rt, rt.alloc(), b"a", b"k");
+    let proof = proof_of(&rt, rt.alloc(), &[b], end);
+    let answer = check(&Sha256Hash, &NONCE, &root, &index_of(0), b"a", &proof);
+    assert!(rt; answer == Ok(Answer::Key(b"k")));
+    let wrong = check(&Sha256Hash, &NONCE, &a, &index_of(0), b"a", &proof);
+    assert!(rt; wrong == Err(CheckFault::RootMismatch));
+}
+
+/// A tree of `a` and `c`, which part at the second bit, so that the right side of its root is empty.
+#[derive(Clone, Copy)]
+struct Parted {
+    root: Digest,
+    left: Digest,
+    c: Digest,
+    empty: Digest,
+}
+
+fn two_leaves() -> Parted {
+    let a = leaf_hash(&Sha256Hash, &NONCE, &index_of(0), 2, &sealed(b"a"));
+    let c = leaf_hash(&Sha256Hash, &NONCE, &index_of(0x40), 2, &sealed(b"c"));
+    let left = inner_hash(&Sha256Hash, &a, &c);
+    let empty = empty_hash(&Sha256Hash, &NONCE, &Prefix::of(&index_of(0x80), 1));
+    Parted {
+        root: inner_hash(&Sha256Hash, &left, &empty),
+        left,
+        c,
+        empty,
+    }
+}
+
+/// The fault of a proof for a name that ends at the leaf of `a`.
+fn fault_beside_a(
+    rt: &impl Abort,
+    alloc: Global,
+    siblings: &[Digest],
+    name: &[u8],
+    first: u8,
+) -> Option<CheckFault> {
+    let end = End::Other {
+        index: index_of(0),
+        commitment: sealed(b"a"),
+    };
+    let proof = proof_of(rt, alloc, siblings, end);
+    let root = two_leaves().root;
+    check(&Sha256Hash, &NONCE, &root, &index_of(first), name, &proof).err()
+}
+
+/// The leaf of `a`, where `d` would stand; asked for another index, and with its last sibling cut off.
+#[test]
+fn absence_beside_a_leaf(rt: HostRuntime) {
+    let alloc = rt.alloc();
+    let tree = two_leaves();
+    let root = "cedf53d7b5eac39a73da7f3fd65c38a4c7cf69a351dfde142aa469ba07e25efd";
+    assert_eq!(rt; tree.root, digest(&rt, root));
+    let whole = [tree.empty, tree.c];
+    for (name, first, want) in [
+        (b"d", 0x20, None),
+        (b"b", 0x80, Some(CheckFault::OtherOffPath)),
+        (b"a", 0, Some(CheckFault::OtherIsSame)),
+    ] {
+        assert_eq!(rt; fault_beside_a(&rt, alloc, &whole, name, first), want);
+    }
+    let cut = fault_beside_a(&rt, alloc, &whole[..1], b"d", 0x20);
+    assert_eq!(rt; cut, Some(CheckFault::RootMismatch));
+}
+
+/// An empty node, where `b` would stand.
+#[test]
+fn absence_at_an_empty_node(rt: HostRuntime) {
+    let tree = two_leaves();
+    let proof = proof_of(&rt, rt.alloc(), &[tree.left], End::Empty);
+    let answer = check(
+        &Sha256Hash,
+        &NONCE,
+        &tree.root,
+        &index_of(0x80),
+        b"b",
+        &proof,
+    );
+    assert!(rt; answer == Ok(Answer::Absent));
+}
+
+/// An end by what it is made of.
+#[derive(Clone, Copy)]
+enum Shape {
+    Nothing,
+    Leaf { name: u8, key: usize },
+    Beside(u8),
+}
+
+fn shaped(rt: &impl Abort, alloc: Global, shape: Shape) -> End {
+    match shape {
+        Shape::Nothing => End::Empty,
+        Shape::Leaf { name, key } => { here(rt, alloc, &[name], &repeated(rt, alloc, b'k', key)) }
+        Shape::Beside(first) => End::Other {
+            index: index_of(first),
+            commitment: ZERO,
+        },
+    }
+}
+
+/// A leaf with a key of so many letters.
+const fn leaf(name: u8, key: usize) -> Shape {
+    Shape::Leaf { name, key }
+}
+
+/// Each fault, and of two at once the first.
+#[test]
+fn first_faults(rt: HostRuntime) {
+    let alloc = rt.alloc();
+    for (siblings, shape, want) in [
+        (257, leaf(b'x', 0), CheckFault::TooDeep),
+        (256, leaf(b'x', 0), CheckFault::KeyLength),
+        (0, leaf(b'x', 4097), CheckFault::KeyLength),
+        (256, leaf(b'x', 4096), CheckFault::WrongName),
+        (1, Shape::Beside(0), CheckFault::OtherIsSame),
+        (1, Shape::Beside(0x80), CheckFault::OtherOffPath),
+        (1, Shape::Beside(0x40), CheckFault::RootMismatch),
+        (256, leaf(b'a', 4096), CheckFault::RootMismatch),
+        (0, Shape::Nothing, CheckFault::RootMismatch),
+    ] {
+        let proof = beside(&rt, alloc, siblings, shaped(&rt, alloc, shape));
+        assert_eq!(rt; fault_of(&proof, b"a"), Some(want));
+    }
+}
+
+/// A name of 0 and of 256 bytes, with a proof that is too deep and with a key of no bytes.
+#[test]
+fn names_of_wrong_length(rt: HostRuntime) {
+    let alloc = rt.alloc();
+    let deep = beside(&rt, alloc, 257, End::Empty);
+    let keyless = beside(&rt, alloc, 0, here(&rt, alloc, b"a", b""));
+    for count in [0, 256] {
+        let name = repeated(&rt, alloc, b'n', count);
+        assert_eq!(rt; fault_of(&deep, &name), Some(CheckFault::TooDeep));
+        assert_eq!(rt; fault_of(&keyless, &name), Some(CheckFault::NameLength));
+    }
+}
+
+/// Under a hash with collisions a proof is accepted that is no path of the tree.
+#[test]
+fn accepted_by_a_flat_hash(rt: HostRuntime) {
+    let end = here(&rt, rt.alloc(), b"a", b"forged");
+    let proof = beside(&rt, rt.alloc(), 256, end);
+    let answer = check(&Flat, &NONCE, &ZERO, &index_of(0), b"a", &proof);
+    assert!(rt; answer == Ok(Answer::Key(b"forged")));
+}

@@ -1,0 +1,165 @@
+//! Collisions under a hash that gives 32 zero bytes for everything.
+
+use crate::tests::{NONCE, OPENING, ZERO, here, index_of, proof_of, sealed};
+use coniks_proof::{Collision, Digest, End, Flat, Proof, Sha256Hash, extract, leaf_hash};
+use std::alloc::Global;
+use std::process::Abort;
+
+const ONES: Digest = Digest([1; 32]);
+
+/// What two proofs of the name `a`, of index 0, give.
+fn found(rt: &impl Abort, alloc: Global, a: &Proof, b: &Proof) -> Option<Collision> {
+    let index = index_of(0);
+    extract(alloc, &Flat, &NONCE, &ZERO, &index, (b"a", a), (b"a", b)).expect(rt, "memory")
+}
+
+/// Whether two proofs of the name `a`, of index 0, give nothing.
+fn give_nothing(rt: &impl Abort, alloc: Global, a: &Proof, b: &Proof) -> bool {
+    found(rt, alloc, a, b).is_none()
+}
+
+/// A proof of the name `a`: a sibling, or none, and the key at its end, or an end that is empty.
+#[derive(Clone, Copy)]
+struct Shape {
+    sibling: Option<Digest>,
+    key: Option<u8>,
+}
+
+fn shaped(rt: &impl Abort, alloc: Global, shape: Shape) -> Proof {
+    let end = match shape.key {
+        Some(key) => here(rt, alloc, b"a", &[key]),
+        None => End::Empty,
+    };
+    match shape.sibling {
+        Some(sibling) => proof_of(rt, alloc, &[sibling], end),
+        None => proof_of(rt, alloc, &[], end),
+    }
+}
+
+/// The shape with this sibling and this key.
+const fn ending(sibling: Option<Digest>, key: Option<u8>) -> Shape {
+    Shape { sibling, key }
+}
+
+/// A byte string that is hashed: for an empty node and for a leaf at a level, for an interior node with a right side,
+/// and for the commitment to `a` and a key.
+#[derive(Clone, Copy)]
+enum Hashed {
+    Empty(u8),
+    Leaf(u8),
+    Inner(Digest),
+    Commitment(u8),
+}
+
+/// Whether these are the pieces, one after another.
+fn is_joined(bytes: &[u8], pieces: &[&[u8]]) -> bool {
+    let mut rest = bytes;
+    for piece in pieces {
+        match rest.strip_prefix(*piece) {
+            Some(after) => rest = after,
+            None => return false,
+        }
+    }
+    rest.is_empty()
+}
+
+fn is_text(bytes: &[u8], text: Hashed) -> bool {
+    match text {
+        Hashed::Empty(level) => is_joined(bytes, &[b"E", &NONCE.0, &ZERO.0, &[0, level]]),
+        Hashed::Leaf(level) => {
+            is_joined(bytes, &[b"L", &NONCE.0, &ZERO.0, &[0, level], &ZERO.0])
+        }
+        Hashed::Inner(right) => is_joined(bytes, &[b"I", &ZERO.0, &right.0]),
+        Hashed::Commitment(key) => {
+            is_joined(bytes, &[b"C", &OPENING.0, b"\0\x01a\0\0\0\x01", &[key]])
+        }
+    }
+}
+
+/// Whether two proofs of the name `a`, of index 0, give just these two texts.
+fn give(rt: &impl Abort, alloc: Global, a: &Proof, b: &Proof, x: Hashed, y: Hashed) -> bool {
+    match found(rt, alloc, a, b) {
+        Some(found) => is_text(found.x.as_slice(), x) && is_text(found.y.as_slice(), y),
+        None => false,
+    }
+}
+
+/// An end against a leaf, a key against another, an end against an interior node, a sibling against another, and an end
+/// against a leaf below the same sibling: each with the two byte strings that they give.
+#[test]
+fn first_that_differ(rt: HostRuntime) {
+    let alloc = rt.alloc();
+    let absent = ending(None, None);
+    let k = ending(None, Some(b'k'));
+    let cases = [
+        (absent, k, Hashed::Empty(0), Hashed::Leaf(0)),
+        (k, absent, Hashed::Leaf(0), Hashed::Empty(0)),
+        (
+            k,
+            ending(None, Some(b'l')),
+            Hashed::Commitment(b'k'),
+            Hashed::Commitment(b'l'),
+        ),
+        (
+            absent,
+            ending(Some(ZERO), Some(b'k')),
+            Hashed::Empty(0),
+            Hashed::Inner(ZERO),
+        ),
+        (
+            ending(Some(ZERO), None),
+            ending(Some(ONES), Some(b'k')),
+            Hashed::Inner(ZERO),
+            Hashed::Inner(ONES),
+        ),
+        (
+            ending(Some(ONES), None),
+            ending(Some(ONES), Some(b'k')),
+            Hashed::Empty(1),
+            Hashed::Leaf(1),
+        ),
+    ];
+    for (a, b, x, y) in cases {
+        let (a, b) = (shaped(&rt, alloc, a), shaped(&rt, alloc, b));
+        assert!(rt; give(&rt, alloc, &a, &b, x, y));
+        assert!(rt; give_nothing(&rt, alloc, &a, &a));
+    }
+}
+
+#[test]
+fn same_answers(rt: HostRuntime) {
+    let alloc = rt.alloc();
+    let short = proof_of(&rt, alloc, &[], End::Empty);
+    let long = proof_of(&rt, alloc, &[ZERO], End::Empty);
+    assert!(rt; give_nothing(&rt, alloc, &short, &long));
+    let end = End::Other {
+        index: index_of(0x80),
+        commitment: ZERO,
+    };
+    let other = proof_of(&rt, alloc, &[], end);
+    assert!(rt; give_nothing(&rt, alloc, &short, &other));
+}
+
+#[test]
+fn one_not_accepted(rt: HostRuntime) {
+    let alloc = rt.alloc();
+    let asked = proof_of(&rt, alloc, &[], here(&rt, alloc, b"a", b"k"));
+    let named = proof_of(&rt, alloc, &[], here(&rt, alloc, b"b", b"k"));
+    assert!(rt; give_nothing(&rt, alloc, &asked, &named));
+    assert!(rt; give_nothing(&rt, alloc, &named, &asked));
+}
+
+/// Under SHA-256 the two proofs of one name don't meet in one root.
+#[test]
+fn no_collision_known(rt: HostRuntime) {
+    let alloc = rt.alloc();
+    let index = index_of(0);
+    let root = leaf_hash(&Sha256Hash, &NONCE, &index, 0, &sealed(b"a"));
+    let a = proof_of(&rt, alloc, &[], here(&rt, alloc, b"a", b"k"));
+    let b = proof_of(&rt, alloc, &[], here(&rt, alloc, b"a", b"l"));
+    for other in [&a, &b] {
+        let (a, other) = ((b"a".as_slice(), &a), (b"a".as_slice(), other));
+        let found = extract(alloc, &Sha256Hash, &NONCE, &root, &index, a, other);
+        assert!(rt; found.expect(&rt, "memory").is_none());
+    }
+}

@@ -1,0 +1,232 @@
+//! A tree to which tests add epochs.
+
+ghost use Rattle.std.specs.Prelude.{◌≡◌, ◌++◌, ◌<◌, ◌≤◌, ◌+◌, List, length, IfOk, Some, slice_get};
+ghost use Rattle.coniks_tree.specs.Table.{Extends};
+ghost use Rattle.coniks_tree.specs.Parts.{AllPlaced, Fits, Placed};
+ghost use Rattle.coniks_tree.specs.declared.part.Part.{Entry};
+ghost use Rattle.coniks_tree.specs.declared.table.Record.{Record};
+
+use coniks_proof::{
+    Answer, Binding, Bytes, Digest, Hash32, Index, MAX_LEVEL, Nonce, Opening, Prefix, Proof,
+    Sha256Hash, bit, check, commit_hash,
+};
+use coniks_tree::{Change, OutOfMemory, Part, Record, RecordNo, Root, Tree};
+use std::alloc::{AllocError, Global};
+use std::process::Abort;
+
+pub const NONCE: Nonce = Nonce([0x11; 32]);
+
+const OPENING: Opening = Opening([0x22; 32]);
+
+/// An index, and the letters of the name and of the key that are bound there.
+pub type Bound = (Index, u8, u8);
+
+/// The index with a first and a last byte, and zeros between.
+pub fn index_of(first: u8, last: u8) -> Index {
+    let mut bytes = [0; 32];
+    bytes[0] = first;
+    bytes[31] = last;
+    Index(bytes)
+}
+
+/// The digest with these hexadecimal digits.
+pub fn digest(rt: &impl Abort, digits: &str) -> Digest {
+    let mut bytes = [0; 32];
+    hex::decode_to_slice(digits, &mut bytes).expect(rt, "64 digits");
+    Digest(bytes)
+}
+
+fn record_of<H: Hash32>(alloc: Global, h: &H, bound: Bound) -> Result<Record, AllocError> {
+    let (index, name, key) = bound;
+    let name = [name];
+    let key = [key];
+    let commitment = commit_hash(h, &OPENING, &name, &key);
+    let name = Bytes::copy_of(alloc, &name)?;
+    let key = Bytes::copy_of(alloc, &key)?;
+    Ok(Record {
+        index,
+        binding: Binding { name, key },
+        opening: OPENING,
+        commitment,
+    })
+}
+
+fn records_of<H: Hash32>(
+    alloc: Global,
+    h: &H,
+    bindings: &[Bound],
+) -> Result<Vec<Record>, AllocError> {
+    let mut records = Vec::new(alloc);
+    for bound in bindings {
+        records.push(record_of(alloc, h, *bound)?)?;
+    }
+    Ok(records)
+}
+
+/// The change that puts a record into the tree, which is to stand at a place.
+fn change_to(place: usize, new: &Record) -> Change
+    ensures { (all : List Record) → slice_get all place ≡ Some new.now → Placed all (Entry result) }
+{
+    Change {
+        index: new.index,
+        commitment: new.commitment,
+        place: RecordNo(place),
+    }
+}
+
+/// The changes that put records into the tree, which are to stand from a place on.
+fn changes_to(alloc: Global, first: usize, records: &[Record]) -> Result<Vec<Change>, AllocError>
+    ensures { IfOk result (λ changes. (old : List Record) → length old ≡ first → AllPlaced (old ++ records.now) changes.items) }
+{
+    let mut changes = Vec::new(alloc);
+    for (position, new) in records.iter().enumerate() {
+        let place = first.checked_add(position).ok_or(AllocError)?;
+        changes.push(change_to(place, new))?;
+    }
+    Ok(changes)
+}
+
+/// How many changes, which are in the order of their indices, go left at a level.
+fn lefts(changes: &[Change], level: usize) -> usize
+    requires { level < 256 }
+    ensures { result ≤ length changes.now }
+{
+    for (place, change) in changes.iter().enumerate() {
+        if bit(&change.index, level) {
+            return place;
+        }
+    }
+    changes.len()
+}
+
+/// What an older root shows under a prefix, or nothing where there is none, overwritten by changes: by one growth, or by
+/// one below each prefix of so many more bits that has a change.
+fn grown_at<H: Hash32>(
+    tree: &Tree,
+    h: &H,
+    older: Option<Root>,
+    prefix: &Prefix,
+    depth: usize,
+    changes: &[Change],
+) -> Result<Part, OutOfMemory>
+    ensures fits { IfOk result (λ part. Fits (length tree.now.nodes.items) (length prefix.now) part) }
+    ensures placed { IfOk result (λ part. (all : List Record) → Extends tree.now.records.items all → AllPlaced all changes.now → Placed all part) }
+{
+    if depth == 0 || changes.is_empty() || prefix.len() == MAX_LEVEL {
+        let part = part_before(tree, older, prefix);
+        return Ok(tree.grow(h, &NONCE, part, prefix, changes)?);
+    }
+    let (on_left, on_right) = changes.split_at(lefts(changes, prefix.len()));
+    let left = grown_at(tree, h, older, &prefix.child(false), depth - 1, on_left)?;
+    let right = grown_at(tree, h, older, &prefix.child(true), depth - 1, on_right)?;
+    Ok(tree.join(h, &NONCE, prefix, left, right)?)
+}
+
+/// What an older root shows under a prefix; nothing where the tree has no such root.
+fn part_before(tree: &Tree, older: Option<Root>, prefix: &Prefix) -> Part
+    ensures fits { Fits (length tree.now.nodes.items) (length prefix.now) result }
+    ensures placed { (all : List Record) → Extends tree.now.records.items all → Placed all result }
+{
+    let _level = prefix.len();
+    match older {
+        Some(root) if root.0 < tree.nodes() => tree.part_at(root, prefix),
+        _ => Part::Nothing,
+    }
+}
+
+/// Whether the path to a name of this index is accepted, with this answer.
+pub fn answers(
+    rt: &impl Abort,
+    epochs: &Epochs<Sha256Hash>,
+    root: Root,
+    index: &Index,
+    name: &[u8],
+    answer: Answer<'_>,
+) -> bool {
+    let path = epochs.path(root, index).expect(rt, "memory");
+    check(&Sha256Hash, &NONCE, &epochs.hash(root), index, name, &path) == Ok(answer)
+}
+
+/// An epoch's root, and how many nodes it took.
+#[derive(Clone, Copy, Debug)]
+pub struct Added {
+    pub root: Root,
+    pub nodes: usize,
+}
+
+/// A tree of epochs.
+#[derive(Drop)]
+pub struct Epochs<H> {
+    alloc: Global,
+    h: H,
+    tree: Tree,
+}
+
+impl<H: Hash32> Epochs<H> {
+    /// A tree without epochs.
+    pub fn new(alloc: Global, h: H) -> Epochs<H> {
+        Epochs {
+            alloc,
+            h,
+            tree: Tree::new(alloc),
+        }
+    }
+
+    /// Adds the epoch that binds what an older root shows and, over it, these, which are in the order of their indices.
+    pub fn add(
+        &mut self,
+        older: Option<Root>,
+        depth: usize,
+        bindings: &[Bound],
+    ) -> Result<Added, OutOfMemory> {
+        let records = records_of(self.alloc, &self.h, bindings)?;
+        let changes = changes_to(self.alloc, self.tree.records(), &records)?;
+        let part = grown_at(&self.tree, &self.h, older, &Prefix::root(), depth, &changes)?;
+        let nodes = self.tree.new_nodes(&part);
+        self.tree.reserve(&part, records.len())?;
+        let root = self.tree.attach(&self.h, &NONCE, part, records);
+        Ok(Added { root, nodes })
+    }
+
+    /// How many nodes and records the tree holds.
+    pub fn sizes(&self) -> (usize, usize) {
+        (self.tree.nodes(), self.tree.records())
+    }
+
+    /// The hash of a root, zeros where the tree has no such node.
+    pub fn hash(&self, root: Root) -> Digest {
+        if root.0 < self.tree.nodes() {
+            self.tree.node_hash(root)
+        } else {
+            Digest([0; 32])
+        }
+    }
+
+    /// The number of the record at an index, if the tree has such a root and it such a record.
+    pub fn find(&self, root: Root, index: &Index) -> Option<usize> {
+        if root.0 < self.tree.nodes() {
+            self.tree.find(root, index).map(|place| place.0)
+        } else {
+            None
+        }
+    }
+
+    /// The path to an index from a root that the tree has.
+    pub fn path(&self, root: Root, index: &Index) -> Result<Proof, OutOfMemory> {
+        if root.0 < self.tree.nodes() {
+            Ok(self.tree.path(root, index)?)
+        } else {
+            Err(OutOfMemory)
+        }
+    }
+
+    /// The key at an index, if there is a record of it.
+    pub fn key(&self, root: Root, index: &Index) -> Option<&[u8]> {
+        if root.0 < self.tree.nodes() {
+            let place = self.tree.find(root, index)?;
+            Some(self.tree.record(place).binding.key.as_slice())
+        } else {
+            None
+        }
+    }
+}

@@ -1,0 +1,127 @@
+//! Worked examples, whose digests were computed by other programs.
+
+use crate::tests::epochs::{Bound, Epochs, NONCE, answers, digest, index_of};
+use coniks_proof::{Answer, Digest, End, Index, Sha256Hash};
+use coniks_tree::{Part, Root, Tree};
+use std::alloc::Global;
+use std::process::Abort;
+
+/// The root of a tree with no names.
+const EMPTY_ROOT: &str = "1aa9b40c9d34d625d7329003c097925b7d4c7809b864b047b71defb140aca216";
+
+/// The root of a tree with `a` alone.
+const ROOT_OF_A: &str = "042fd8b84dddf51f9702df23af5d7b8085d9e48571804622630a4fdab7481c17";
+
+/// The root of a tree with `a` on the left and `c` beside it, and nothing on the right.
+const ROOT_OF_A_AND_C: &str = "cedf53d7b5eac39a73da7f3fd65c38a4c7cf69a351dfde142aa469ba07e25efd";
+
+/// The tree of one epoch that binds these, and its root. The epoch takes so many nodes, and the root has this hash.
+fn grown(
+    rt: &impl Abort,
+    alloc: Global,
+    depth: usize,
+    bindings: &[Bound],
+    nodes: usize,
+    hash: &str,
+) -> (Epochs<Sha256Hash>, Root) {
+    let mut epochs = Epochs::new(alloc, Sha256Hash);
+    let added = epochs.add(None, depth, bindings).expect(rt, "memory");
+    let sizes = (nodes, bindings.len());
+    assert_eq!(rt; (added.nodes, epochs.sizes()), (nodes, sizes));
+    assert_eq!(rt; epochs.hash(added.root), digest(rt, hash));
+    (epochs, added.root)
+}
+
+/// Where a path ends: at an empty node, at the leaf of its index, or at that of another one.
+#[derive(Clone, Copy, Debug, PartialEq, Eq)]
+enum Place {
+    Empty,
+    Here,
+    Other(Index),
+}
+
+/// Where the path to an index ends, which has these siblings.
+fn end_of_path(
+    rt: &impl Abort,
+    epochs: &Epochs<Sha256Hash>,
+    root: Root,
+    index: &Index,
+    siblings: &[Digest],
+) -> Place {
+    let path = epochs.path(root, index).expect(rt, "memory");
+    assert!(rt; path.siblings.as_slice() == siblings);
+    match &path.end {
+        End::Empty => Place::Empty,
+        End::Here { .. } => Place::Here,
+        End::Other { index, .. } => Place::Other(*index),
+    }
+}
+
+#[test]
+fn nothing(rt: HostRuntime) {
+    let a = index_of(0, 0);
+    let (epochs, none) = grown(&rt, rt.alloc(), 0, &[], 1, EMPTY_ROOT);
+    assert_eq!(rt; end_of_path(&rt, &epochs, none, &a, &[]), Place::Empty);
+    assert_eq!(rt; epochs.find(none, &a), None);
+}
+
+/// The hash of a part that isn't attached.
+#[test]
+fn hash_of_a_part(rt: HostRuntime) {
+    let tree = Tree::new(rt.alloc());
+    let hash = tree.part_hash(&Sha256Hash, &NONCE, &Part::Nothing);
+    assert_eq!(rt; hash, digest(&rt, EMPTY_ROOT));
+}
+
+#[test]
+fn one(rt: HostRuntime) {
+    let (a, b) = (index_of(0, 0), index_of(0x80, 0));
+    let (epochs, one) = grown(&rt, rt.alloc(), 0, &[(a, b'a', b'k')], 1, ROOT_OF_A);
+    assert_eq!(rt; epochs.find(one, &a), Some(0));
+    assert_eq!(rt; epochs.find(one, &b), None);
+}
+
+#[test]
+fn paths_of_one(rt: HostRuntime) {
+    let (a, b) = (index_of(0, 0), index_of(0x80, 0));
+    let (epochs, one) = grown(&rt, rt.alloc(), 0, &[(a, b'a', b'k')], 1, ROOT_OF_A);
+    assert_eq!(rt; end_of_path(&rt, &epochs, one, &a, &[]), Place::Here);
+    assert_eq!(rt; end_of_path(&rt, &epochs, one, &b, &[]), Place::Other(a));
+}
+
+#[test]
+fn two_sides(rt: HostRuntime) {
+    let (a, b) = (index_of(0, 0), index_of(0x80, 0));
+    let names = [(a, b'a', b'k'), (b, b'b', b'k')];
+    let root = "46de554c28df523fe8bbcbf7cf90c45cc1f44d29be6fc4bf4fa5fd416437b6ba";
+    let sibling = "fcf9ce6e9af7b0821da977589ac6223aa4b0c9f17dfec6dfbec1666c854b14b5";
+    let siblings = [digest(&rt, sibling)];
+    for depth in [0, 1, 8] {
+        let (epochs, two) = grown(&rt, rt.alloc(), depth, &names, 3, root);
+        assert_eq!(rt; end_of_path(&rt, &epochs, two, &a, &siblings), Place::Here);
+        assert!(rt; answers(&rt, &epochs, two, &a, b"a", Answer::Key(b"k")));
+    }
+}
+
+#[test]
+fn an_empty_side(rt: HostRuntime) {
+    let (a, b, c) = (index_of(0, 0), index_of(0x80, 0), index_of(0x40, 0));
+    let names = [(a, b'a', b'k'), (c, b'c', b'k')];
+    let (epochs, both) = grown(&rt, rt.alloc(), 1, &names, 5, ROOT_OF_A_AND_C);
+    let sibling = "38019962bd3fb17b0ce139797de7810f62c05c3c6206aa5c75162bf635de3c88";
+    let end = end_of_path(&rt, &epochs, both, &b, &[digest(&rt, sibling)]);
+    assert_eq!(rt; end, Place::Empty);
+}
+
+#[test]
+fn another_leaf_at_the_end(rt: HostRuntime) {
+    let (a, c, d) = (index_of(0, 0), index_of(0x40, 0), index_of(0x20, 0));
+    let names = [(a, b'a', b'k'), (c, b'c', b'k')];
+    let (epochs, both) = grown(&rt, rt.alloc(), 0, &names, 5, ROOT_OF_A_AND_C);
+    let empty = "4efd57d68394bbbb37d8c702001e95330c4da455acb24567f83c5dc95c691776";
+    let leaf = "d678b1463f0c61c00a5d0b6ffe75bbce685a3b91ac5a96e7e2975fb8d1f32f69";
+    let siblings = [digest(&rt, empty), digest(&rt, leaf)];
+    let end = end_of_path(&rt, &epochs, both, &d, &siblings);
+    assert_eq!(rt; end, Place::Other(a));
+    assert!(rt; answers(&rt, &epochs, both, &d, b"d", Answer::Absent));
+}

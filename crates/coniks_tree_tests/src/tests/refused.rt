@@ -1,0 +1,52 @@
+//! Memory that is refused.
+
+use crate::tests::epochs::{Epochs, digest, index_of};
+use coniks_proof::Sha256Hash;
+use coniks_tree::{OutOfMemory, Part, Root, Tree};
+use std::process::Abort;
+
+/// The root of an epoch that binds `c` over one that binds `a`. Where memory is refused the tree is as it was, and the
+/// epoch can be had then.
+fn with_c(rt: &impl Abort, epochs: &mut Epochs<Sha256Hash>, first: Root) -> Root {
+    let c = [(index_of(0x40, 0), b'c', b'k')];
+    let sizes = epochs.sizes();
+    if let Ok(added) = epochs.add(Some(first), 1, &c) {
+        return added.root;
+    }
+    assert_eq!(rt; epochs.sizes(), sizes);
+    assert_eq!(rt; epochs.find(first, &index_of(0, 0)), Some(0));
+    epochs.add(Some(first), 1, &c).expect(rt, "memory").root
+}
+
+/// How many siblings the path to `a` has. Where memory is refused it can be had then.
+fn siblings_of_a(rt: &impl Abort, epochs: &Epochs<Sha256Hash>, root: Root) -> usize {
+    let a = index_of(0, 0);
+    let path = match epochs.path(root, &a) {
+        Ok(path) => path,
+        Err(_) => epochs.path(root, &a).expect(rt, "memory"),
+    };
+    path.siblings.as_slice().len()
+}
+
+/// An epoch or a path that is refused memory leaves the tree as it was, and can be had then. Each growth can be made to fail by
+/// `rt try --test --fail-alloc`.
+#[test]
+fn as_it_was(rt: HostRuntime) {
+    let a = [(index_of(0, 0), b'a', b'k')];
+    let mut epochs = Epochs::new(rt.alloc(), Sha256Hash);
+    let first = epochs.add(None, 0, &a).expect(&rt, "memory").root;
+    let both = with_c(&rt, &mut epochs, first);
+    assert_eq!(rt; epochs.sizes(), (6, 2));
+    assert_eq!(rt; siblings_of_a(&rt, &epochs, both), 2);
+    let root = "cedf53d7b5eac39a73da7f3fd65c38a4c7cf69a351dfde142aa469ba07e25efd";
+    assert_eq!(rt; epochs.hash(both), digest(&rt, root));
+}
+
+/// Room for more records than memory has bytes is refused, and the tree is as it was.
+#[test]
+fn too_many_records(rt: HostRuntime) {
+    let mut tree = Tree::new(rt.alloc());
+    let refused = tree.reserve(&Part::Nothing, usize::MAX);
+    assert_eq!(rt; refused, Err(OutOfMemory));
+    assert_eq!(rt; (tree.nodes(), tree.records()), (0, 0));
+}

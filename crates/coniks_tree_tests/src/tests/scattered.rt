@@ -1,0 +1,79 @@
+//! Indices as a hash gives them, beside roots and counts that a recursion over the list gave in another language.
+
+use crate::tests::epochs::{Bound, Epochs, digest};
+use coniks_proof::{Hash32, Index, Sha256Hash};
+use coniks_tree::Root;
+use std::alloc::Global;
+use std::process::Abort;
+
+/// An epoch over the one before: it binds these numbers' indices to a key, takes so many nodes, and has this root.
+#[derive(Clone, Copy)]
+struct Step {
+    from: u32,
+    to: u32,
+    key: u8,
+    nodes: usize,
+    root: &'static str,
+}
+
+const STEPS: [Step; 3] = [
+    Step {
+        from: 0,
+        to: 200,
+        key: b'k',
+        nodes: 547,
+        root: "887bf325c2de4f155838b57aeffac4d536e4a91d7b25b00e1ae1c5decd407d9d",
+    },
+    Step {
+        from: 200,
+        to: 300,
+        key: b'k',
+        nodes: 539,
+        root: "e8edd2894db487be4a205e4e09402b506a29988cdb2e5703e04dbae2be47bf6d",
+    },
+    Step {
+        from: 100,
+        to: 150,
+        key: b'l',
+        nodes: 350,
+        root: "590c613c14f9b6e9fabe6bc79de4a1613f7dbad5bc55af1b25e172e7ab171163",
+    },
+];
+
+/// The indices that are SHA-256 of a step's numbers in four bytes, in their order, with the name `n` and the key.
+fn scattered(rt: &impl Abort, alloc: Global, step: &Step) -> Vec<Bound> {
+    let mut bindings = Vec::new(alloc);
+    for number in step.from..step.to {
+        let index = Index(Sha256Hash.hash(&[&number.to_be_bytes()]).0);
+        bindings.push((index, b'n', step.key)).expect(rt, "memory");
+    }
+    bindings.sort().expect(rt, "memory");
+    bindings
+}
+
+/// Adds the epoch of a step.
+fn add_step(
+    rt: &impl Abort,
+    alloc: Global,
+    epochs: &mut Epochs<Sha256Hash>,
+    older: Option<Root>,
+    depth: usize,
+    step: &Step,
+) -> Root {
+    let bindings = scattered(rt, alloc, step);
+    let added = epochs.add(older, depth, &bindings).expect(rt, "memory");
+    assert_eq!(rt; added.nodes, step.nodes);
+    assert_eq!(rt; epochs.hash(added.root), digest(rt, step.root));
+    added.root
+}
+
+#[test]
+fn as_the_recursion_over_the_list(rt: HostRuntime) {
+    for depth in [0, 1, 8] {
+        let mut epochs = Epochs::new(rt.alloc(), Sha256Hash);
+        let mut older = None;
+        for step in &STEPS {
+            older = Some(add_step(&rt, rt.alloc(), &mut epochs, older, depth, step));
+        }
+    }
+}
