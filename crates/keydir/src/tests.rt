@@ -1,14 +1,5 @@
-mod audit_program;
-mod auditing;
-mod checking;
-mod client_program;
-mod crews;
-mod limits;
-mod lookups;
-mod monitoring;
-mod pipes;
+mod failing;
 mod program;
-mod reading;
-mod scripts;
 mod seals;
+mod slow;
 mod streams;

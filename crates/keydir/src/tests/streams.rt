@@ -1,34 +1,8 @@
-//! Streams that fail or give little, and their lines.
+//! Streams that fail or give little.
 
 ghost use Rattle.std.specs.Prelude.{◌≡◌};
 
 use coniks_tool::{ByteIn, ByteOut, Failed};
-use std::alloc::Global;
-use std::process::Abort;
-
-/// The lines, each with its newline.
-pub(crate) fn lines_of(rt: &impl Abort, alloc: Global, lines: &[&str]) -> String {
-    let mut text = String::new(alloc);
-    for line in lines {
-        text.push_str(*line).expect(rt, "memory");
-        text.push_str("\n").expect(rt, "memory");
-    }
-    text
-}
-
-/// What comes after these lines, each with its newline, where bytes begin with them.
-pub(crate) fn after_lines<'a>(bytes: &'a [u8], lines: &[&str]) -> Option<&'a [u8]> {
-    let mut rest = bytes;
-    for line in lines {
-        rest = rest.strip_prefix(line.as_bytes())?.strip_prefix(b"\n")?;
-    }
-    Some(rest)
-}
-
-/// Whether bytes are these lines, each with its newline.
-pub(crate) fn are_lines(bytes: &[u8], lines: &[&str]) -> bool {
-    after_lines(bytes, lines).is_some_and(|rest| rest.is_empty())
-}
 
 /// Each read fails.
 #[derive(Drop)]

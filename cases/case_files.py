@@ -1,0 +1,76 @@
+"""The files of the cases: which there are, and what a case says of a run."""
+
+from pathlib import Path
+
+HERE = Path(__file__).resolve().parent
+FOLDERS = ["run", "check", "audit", "monitor", "words"]
+KINDS = [".in", ".out", ".holds", ".words", ".status", ".err", ".turns"]
+
+
+class Unknown(Exception):
+    """What no case or folder is named."""
+
+
+class Case:
+    """A case by the path of its files without what comes after the last dot."""
+
+    def __init__(self, stem):
+        self.stem = stem
+        self.name = f"{stem.parent.name}/{stem.name}"
+
+    def has(self, kind):
+        return Path(f"{self.stem}{kind}").is_file()
+
+    def read(self, kind):
+        return Path(f"{self.stem}{kind}").read_bytes()
+
+    def words(self):
+        usual = self.stem.parent / "words"
+        text = self.read(".words") if self.has(".words") else usual.read_bytes()
+        return text.removesuffix(b"\n").split(b"\n") if text else []
+
+    def status(self):
+        if self.has(".status"):
+            return int(self.read(".status"))
+        return usual_status(self.read(".out")) if self.has(".out") else 0
+
+
+def usual_status(output):
+    """1 where a line was refused, or the monitor saw something else than what is expected."""
+    seen = (b'"seen":"changed"', b'"seen":"absent"')
+    lines = output.split(b"\n")
+    refused = any(line.startswith(b'{"fault":') for line in lines)
+    return 1 if refused or any(text in output for text in seen) else 0
+
+
+def cases_of(folder):
+    """The cases of a folder by their names, and what is wrong with its files."""
+    cases, wrong = {}, []
+    for path in sorted(folder.iterdir()) if folder.is_dir() else []:
+        case = Case(path.with_suffix(""))
+        if path.suffix not in KINDS and path.name != "words":
+            wrong.append(f"{folder.name}/{path.name}: no file of a case")
+        elif path.suffix == ".in":
+            cases[case.name] = case
+        elif path.suffix and not case.has(".in"):
+            wrong.append(f"{folder.name}/{path.name}: no case {case.name}.in")
+    wrong += [f"{name}: not one of .out and .holds" for name, case in cases.items() if case.has(".out") == case.has(".holds")]
+    return cases, wrong if cases else wrong + [f"{folder.name}: no case"]
+
+
+def chosen(names):
+    """The cases that the names say, and what is wrong with files."""
+    cases, wrong = {}, []
+    for name in names:
+        folder, _, one = name.rstrip("/").partition("/")
+        if folder not in FOLDERS:
+            raise Unknown(f"no folder of cases: {folder}")
+        found, faults = cases_of(HERE / folder)
+        if not one:
+            cases.update(found)
+            wrong += faults
+        elif name not in found:
+            raise Unknown(f"no case: {name}")
+        else:
+            cases[name] = found[name]
+    return list(cases.values()), wrong
