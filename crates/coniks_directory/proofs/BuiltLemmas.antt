@@ -23,10 +23,10 @@ use Rattle.coniks_directory.specs.Holders.{ShowsLatest}
 use Rattle.coniks_directory.specs.Judged.{AreChangesOf, AreSeen}
 use Rattle.coniks_directory.specs.Built.{IsBuilt}
 use Rattle.coniks_directory.proofs.MirrorLemmas.{registered_at-extended}
-use Rattle.coniks_directory.proofs.NameLemmas.{not_true, has_of, named_of}
+use Rattle.coniks_proof.proofs.NameLemmas.{not_true, has_of, in_overlaid, named_of}
 use Rattle.coniks_directory.proofs.HolderLemmas.{backed_in, in_backed}
-use Rattle.coniks_directory.proofs.OrderLemmas.{IsMap-increasing}
-use Rattle.coniks_directory.proofs.OverlaidLemmas.{ArePart, IsMap-overlaid, IsMap-overwritten, in_overlaid, in_overwritten, index_there, once, overlaid_new, overlaid_old, overwritten_new, overwritten_old, part, there_index, within-overlaid}
+use Rattle.coniks_proof.proofs.OrderLemmas.{increasing_map}
+use Rattle.coniks_directory.proofs.OverlaidLemmas.{ArePart, IsMap-overlaid, IsMap-overwritten, in_overwritten, index_there, once, overlaid_new, overlaid_old, overwritten_new, overwritten_old, part, there_index, within-overlaid}
 use Rattle.coniks_directory.proofs.SeenLemmas.{in_records, record_in}
 
 -- what stands in a list stands that much further on where it follows another
@@ -128,7 +128,7 @@ module _ (hash of : List ℕ → List ℕ) (old : List Record) (es : List Number
   unfolding binding
   Mirrors-overlaid = record {
     stored = stored_all;
-    indices = IsMap-overwritten es cs m.indices (IsMap-increasing cs c.increasing);
+    indices = IsMap-overwritten es cs m.indices (increasing_map cs c.increasing);
     names = IsMap-overlaid hash of registry bs m.names s.distinct apart;
     same = record { there = there; back = back };
     limits = within-overlaid registry bs m.limits (λ b is.
@@ -171,7 +171,7 @@ built hash of nonce nodes records root registry ops new numbers changes base p s
     let o = old_map hash of nonce nodes records root registry shown in
     let bs = map bound_by ops in
     let apart = part of registry ops none in
-    let own = IsMap-increasing cs c.increasing in
+    let own = increasing_map cs c.increasing in
     record {
       binds = s.binds;
       placed = placed (records ++ new) (Extends-append records new) (placed_all (records ++ new) changes (stored_new hash of records o.0 registry o.2 bs new numbers s cs c apart));

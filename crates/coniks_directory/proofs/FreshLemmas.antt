@@ -1,16 +1,12 @@
 -- An update that isn't stale is one of the directory as it is.
-use Rattle.std.proofs.Common.{◌≡◌, ℕ, List, [], ◌∷◌, ◌++◌, length, refl, sym, ap, subst, ◌∙◌, arith, length-append, append_assoc}
+use Rattle.std.proofs.Common.{◌≡◌, ℕ, List, [], ◌∷◌, ◌++◌, length, map, refl, sym, ap, subst, ◌∙◌, arith, length-append, append_assoc}
 use Rattle.std.proofs.lemmas.List.{append-nil}
 use Rattle.coniks_tree.proofs.PushLemmas.{Extends-trans, Fits-more, Stands-extended}
 use Rattle.coniks_tree.specs.declared.table.Record.{Record}
-use Rattle.coniks_directory.specs.State.{State, last_count}
-use Rattle.coniks_directory.specs.Updates.{Grows, IsUpdate, IsUpdateOf}
+use Rattle.coniks_directory.specs.State.{State, history_of, registry_at, shown_of}
+use Rattle.coniks_directory.specs.Updates.{Grows, IsUpdate, IsUpdateOf, registry_after}
 use Rattle.coniks_directory.specs.declared.epochs.Epoch.{Epoch}
 use Rattle.coniks_directory.specs.declared.update.Prepared.{Prepared}
-
-none_more : {T : Type 0} (xs ys zs : List T) → zs ≡ xs ++ ys → length xs ≡ length zs → zs ≡ xs
-none_more xs [] zs is same = is ∙ append-nil xs
-none_more xs (y ∷ ys) zs is same = let sum = ap length is in let both = length-append xs (y ∷ ys) in absurd (omega (arith, sum, both))
 
 -- more nodes, another policy and another chain are of no account to an update
 onto : (hash of : List ℕ → List ℕ) (s t : State) (p : Prepared) → t.nonce ≡ s.nonce → t.records ≡ s.records → t.epochs ≡ s.epochs → Grows s t → IsUpdate hash of s p → IsUpdate hash of t p
@@ -30,20 +26,39 @@ onto hash of s t p nonce records epochs grows u =
     (subst (λ (rs : List Record). IsUpdate hash of (record { nonce = t.nonce; policy = t.policy; nodes = t.nodes; records = rs; epochs = s.epochs; chain = t.chain }) p) (sym records)
     (subst (λ (n : List ℕ). IsUpdate hash of (record { nonce = n; policy = t.policy; nodes = t.nodes; records = s.records; epochs = s.epochs; chain = t.chain }) p) (sym nonce) over))
 
-pub fresh : (hash of : List ℕ → List ℕ) (s : State) (p : Prepared) → last_count s.epochs ≡ length s.records → IsUpdateOf hash of s p → p.base ≡ length s.epochs → IsUpdate hash of s p
-fresh hash of s p counted u base =
-    let old = u.earlier in
-    let lengths : length old.epochs ≡ length s.epochs = sym u.update.base ∙ base in
-    let epochs : s.epochs ≡ old.epochs = none_more old.epochs u.grows.more_epochs s.epochs u.grows.epochs lengths in
-    let count : length old.records ≡ length s.records = sym u.update.counted ∙ ap last_count (sym epochs) ∙ counted in
-    let records : s.records ≡ old.records = none_more old.records u.grows.more_records s.records u.grows.records count in
-    onto hash of old s p u.grows.nonce records epochs u.grows u.update
+-- where no epoch came since, neither did records: the update is one of the later state
+module _ (hash of : List ℕ → List ℕ) (s t : State) (p : Prepared) (grows : Grows s t) (u : IsUpdate hash of s p) (base : p.base ≡ length t.epochs) where
+  none_since : grows.more_epochs ≡ []
+  none_since = let same = u.base in let sum = ap length grows.epochs in let both = length-append s.epochs grows.more_epochs in none_of grows.more_epochs (omega (arith, same, base, sum, both))
+    where
+      none_of : {T : Type 0} (xs : List T) → length xs ≡ 0 → xs ≡ []
+      none_of [] none = refl
+      none_of (x ∷ xs) none = absurd (let never = none in omega (arith, never))
+
+  same_epochs : t.epochs ≡ s.epochs
+  same_epochs = grows.epochs ∙ ap (λ es. s.epochs ++ es) none_since ∙ append-nil s.epochs
+
+  same_records : t.records ≡ s.records
+  same_records = grows.records ∙ ap (λ rs. s.records ++ rs) (grows.still none_since) ∙ append-nil s.records
+
+  pub fresh_update : IsUpdate hash of t p
+  fresh_update = onto hash of s t p grows.nonce same_records same_epochs grows u
+
+  -- and the directory shows what it showed, and the update leaves what it left
+  pub fresh_history : history_of t ≡ history_of s
+  fresh_history = ap (λ (rs : List Record). map (shown_of rs) t.epochs) same_records ∙ ap (map (shown_of s.records)) same_epochs
+
+  pub fresh_registry : registry_after t p ≡ registry_after s p
+  fresh_registry = ap (λ (rs : List Record). registry_at (rs ++ p.records.items) (length (rs ++ p.records.items))) same_records
+
+pub fresh : (hash of : List ℕ → List ℕ) (s : State) (p : Prepared) → IsUpdateOf hash of s p → p.base ≡ length s.epochs → IsUpdate hash of s p
+fresh hash of s p u base = fresh_update hash of u.earlier s p u.grows u.update base
 
 -- the same behind the view of a directory
 pub fresh_in_view : {H X : Type 0} (digest : H → List ℕ → List ℕ) (index : X → List ℕ → List ℕ) (h : H) (x : X) (s : State) (v : H × X × State) (p : Prepared)
-    → (let w : H × X × State = (h, x, s) in w ≡ v) → IsUpdateOf (digest v.0) (index v.1) v.2 p → last_count s.epochs ≡ length s.records → p.base ≡ length s.epochs → IsUpdate (digest h) (index x) s p
-fresh_in_view {H} {X} digest index h x s v p is u counted base =
-    fresh (digest h) (index x) s p counted (subst (λ (w : H × X × State). IsUpdateOf (digest w.0) (index w.1) w.2 p) (sym is) u) base
+    → (let w : H × X × State = (h, x, s) in w ≡ v) → IsUpdateOf (digest v.0) (index v.1) v.2 p → p.base ≡ length s.epochs → IsUpdate (digest h) (index x) s p
+fresh_in_view {H} {X} digest index h x s v p is u base =
+    fresh (digest h) (index x) s p (subst (λ (w : H × X × State). IsUpdateOf (digest w.0) (index w.1) w.2 p) (sym is) u) base
 
 -- a state that stays has grown
 pub Grows-refl : (s : State) → Grows s s
@@ -56,7 +71,12 @@ Grows-refl s = record {
   records = sym (append-nil s.records);
   more_epochs = [];
   epochs = sym (append-nil s.epochs);
+  still = λ none. refl;
 }
+
+neither_more : {T : Type 0} (xs ys : List T) → xs ++ ys ≡ [] → (xs ≡ []) × (ys ≡ [])
+neither_more [] ys none = (refl, none)
+neither_more (x ∷ xs) ys none = absurd (let never = none in cc)
 
 -- what grows and grows again has grown
 pub Grows-trans : (s t u : State) → Grows s t → Grows t u → Grows s u
@@ -69,6 +89,7 @@ Grows-trans s t u a b = record {
   records = b.records ∙ ap (λ rs. rs ++ b.more_records) a.records ∙ append_assoc s.records a.more_records b.more_records;
   more_epochs = a.more_epochs ++ b.more_epochs;
   epochs = b.epochs ∙ ap (λ es. es ++ b.more_epochs) a.epochs ∙ append_assoc s.epochs a.more_epochs b.more_epochs;
+  still = λ none. let both = neither_more a.more_epochs b.more_epochs none in rw (a.still both.0, b.still both.1) refl;
 }
 
 -- an update stays one of its directory

@@ -18,7 +18,7 @@ use Rattle.coniks_tree.specs.declared.table.Record.{Record}
 use Rattle.coniks_tree.specs.declared.table.RecordNo.{RecordNo}
 use Rattle.coniks_directory.specs.State.{ShowsRegistry, registered_of}
 use Rattle.coniks_directory.specs.Holders.{HolderIs, IsHeld}
-use Rattle.coniks_directory.proofs.NameLemmas.{not_true, eq_same, named_of, same_bool, clash_found, clash_made}
+use Rattle.coniks_proof.proofs.NameLemmas.{not_true, eq_same, named_of, same_bool, clash_found, clash_made}
 
 -- an entry with something else behind it was one before
 pub in_backed : {B C : Type 0} (f : B → C) (es : List (Entry B)) (e : Entry C) → IsIn e (map (backed_by f) es) → (x : Entry B) × IsIn x es × (backed_by f x ≡ e)

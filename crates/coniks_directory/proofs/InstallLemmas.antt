@@ -216,6 +216,7 @@ module _ (hash of : List ℕ → List ℕ) (s : State) (p : Prepared) (t : ℕ) 
           records = stored;
           more_epochs = epoch ∷ [];
           epochs = epochs-are;
+          still = λ none. absurd (let never = none in cc);
         };
         good = λ verdict verdict' same signed good.
             subst (GoodChain hash verdict') (sym chain-is) (good_next hash of s p nodes' root t entry whole u grown longer entered.known shows later body verdict verdict' same signed good);
@@ -255,4 +256,5 @@ stays_same s nodes records epochs chain r = record {
   records = r.records_kept ∙ sym (append-nil s.records);
   more_epochs = [];
   epochs = r.epochs_kept ∙ sym (append-nil s.epochs);
+  still = λ none. refl;
 }

@@ -1,6 +1,5 @@
 pub mod StateLemmas
 pub mod MirrorLemmas
-pub mod NameLemmas
 pub mod HolderLemmas
 pub mod JudgeLemmas
 pub mod SeenLemmas

@@ -1,18 +1,19 @@
 -- What a state shows at an epoch.
-use Rattle.std.proofs.Common.{◌≡◌, ◌==◌, ℕ, suc, List, [], ◌∷◌, map, true, false, refl, sym, ap, subst, ◌∙◌, cond, Option, Some, None, option_map, slice_get, is_some}
+use Rattle.std.proofs.Common.{◌≡◌, ◌==◌, ℕ, zero, suc, List, [], ◌∷◌, map, true, false, refl, sym, ap, subst, ◌∙◌, cond, Option, Some, None, option_map, slice_get, is_some}
 use Rattle.std.specs.List.{find}
 use Rattle.coniks_proof.specs.Batches.{fits}
 use Rattle.coniks_proof.specs.Entries.{backed_by}
 use Rattle.coniks_proof.specs.Paths.{IsPath}
 use Rattle.coniks_proof.specs.Proofs.{Accepts}
-use Rattle.coniks_proof.specs.Registry.{IsLength, entries_of, has_name, key_of}
+use Rattle.coniks_proof.specs.Registry.{HaveOwnIndices, IsFree, IsLength, entries_of, has_name, key_of}
 use Rattle.coniks_proof.specs.Tree.{node}
 use Rattle.coniks_proof.specs.declared.paths.Proof.{Proof}
 use Rattle.coniks_proof.specs.declared.values.TheConstants.{MAX_NAME}
+use Rattle.coniks_proof.proofs.BatchLemmas.{own_of_map}
 use Rattle.coniks_proof.proofs.LookupLemmas.{path_accepted}
 use Rattle.coniks_tree.specs.Table.{Numbered, Shows, registered_at}
 use Rattle.coniks_tree.specs.declared.table.Record.{Record}
-use Rattle.coniks_directory.specs.History.{Shown, numbers_of, root_at, shown_at}
+use Rattle.coniks_directory.specs.History.{AllHaveOwnIndices, Shown, numbers_of, root_at, shown_at}
 use Rattle.coniks_directory.specs.Lookups.{IsAcceptedAt, IsFound, IsMissed}
 use Rattle.coniks_directory.specs.State.{HoldsEpoch, State, Whole, history_of, shown_of}
 use Rattle.coniks_directory.specs.declared.epochs.Epoch.{Epoch}
@@ -69,7 +70,7 @@ module _ (hash of : List ℕ → List ℕ) (s : State) (whole : Whole hash of s)
   accepted_there name proof sized path shown there alone =
       let same : shown_of s.records e ≡ shown = one_shown (shown_of s.records e) shown (sym shown_there ∙ there) in
       let m = holds.registry.mirrors in
-      subst (λ (x : Shown). ((other : List ℕ) → has_name x.registry other ≡ true → of other ≡ of name → other ≡ name) → Accepts hash x.nonce (root_at hash of x) (of name) name proof (key_of x.registry name)) same
+      subst (λ (x : Shown). (has_name x.registry name ≡ false → IsFree of x.registry (of name)) → Accepts hash x.nonce (root_at hash of x) (of name) name proof (key_of x.registry name)) same
       (λ own. path_accepted hash of e.nonce.0 (root_at hash of (shown_of s.records e)) (shown_of s.records e).registry name proof m.names m.limits refl path own sized) alone
     where
       one_shown : (x y : Shown) → Some x ≡ Some y → x ≡ y
@@ -81,7 +82,20 @@ none_there s t none = shown-found s.records s.epochs t ∙ ap (option_map (shown
 pub some_there : (s : State) (t : ℕ) (e : Epoch) → find (λ (f : Epoch). f.t == t) s.epochs ≡ Some e → is_some (shown_at (history_of s) t) ≡ true
 some_there s t e found = ap is_some (shown-found s.records s.epochs t ∙ ap (option_map (shown_of s.records)) found)
 
+-- in no epoch's registry two names have one index
+pub all_own : (hash of : List ℕ → List ℕ) (s : State) → Whole hash of s → AllHaveOwnIndices of (history_of s)
+all_own hash of s whole k shown there = let e = get-mapped (shown_of s.records) s.epochs k shown there in
+    subst (λ (x : Shown). HaveOwnIndices of x.registry) e.2 (own_of_map hash of (shown_of s.records e.0).registry (whole.held k e.0 e.1).registry.mirrors.names)
+  where
+    get-mapped : (f : Epoch → Shown) (es : List Epoch) (k : ℕ) (x : Shown) → slice_get (map f es) k ≡ Some x → (e : Epoch) × (slice_get es k ≡ Some e) × (f e ≡ x)
+    get-mapped f [] k x at = absurd (let never = at in cc)
+    get-mapped f (e ∷ es) zero x at = (e, refl, (let same : f e ≡ x = cc in same))
+    get-mapped f (e ∷ es) (suc k) x at = get-mapped f es k x at
+
 -- ---- through the view
+
+pub own_in_view : {H X : Type 0} (index : X → List ℕ → List ℕ) (h : H) (x : X) (s : State) (v : H × X × State) → (let w : H × X × State = (h, x, s) in w ≡ v) → AllHaveOwnIndices (index x) (history_of s) → AllHaveOwnIndices (index v.1) (history_of v.2)
+own_in_view {H} {X} index h x s v same own = subst (λ (w : H × X × State). AllHaveOwnIndices (index w.1) (history_of w.2)) same own
 
 pub third : {H X : Type 0} {s : State} {h : H} {x : X} {v : H × X × State} → (let w : H × X × State = (h, x, s) in w ≡ v) → s ≡ v.2
 third {H} {X} {s} {h} {x} {v} same = ap (λ (w : H × X × State). w.2) same

@@ -1,5 +1,5 @@
 -- The changes of a batch, in the order of the map of their records.
-use Rattle.std.proofs.Common.{◌≡◌, ◌≢◌, ℕ, zero, suc, ◌+◌, ◌<◌, List, [], ◌∷◌, ◌++◌, length, map, arith, true, false, refl, sym, ap, subst, ◌∙◌, ◌⊎◌, inl, inr, cond, nat_lt, ◌==◌, slice_index, slice_index_or, Option, Some, None, slice_get}
+use Rattle.std.proofs.Common.{◌≡◌, ℕ, zero, suc, ◌+◌, ◌<◌, List, [], ◌∷◌, ◌++◌, length, map, arith, true, false, refl, sym, ap, subst, ◌∙◌, ◌⊎◌, inl, inr, cond, nat_lt, ◌==◌, slice_index, slice_index_or, Option, Some, None, slice_get}
 use Rattle.std.specs.declared.cmp.Ordering.TheVariants.{Less, Equal, Greater}
 use Rattle.std.specs.Borrow.{Bor}
 use Rattle.std.specs.Map.Iter.{deref}
@@ -13,8 +13,8 @@ use Rattle.std.proofs.lemmas.List.{map-append}
 use Rattle.std.proofs.lemmas.Bool.Decides.{nat_tests, Decides-eqb}
 use Rattle.std.proofs.lemmas.Cmp.{nat_list_cmp_total}
 use Rattle.std.proofs.lemmas.Map.Views.{All-found}
-use Rattle.coniks_proof.specs.Entries.{Entry, IsIn}
-use Rattle.coniks_proof.specs.Maps.{IsIndex, IsNew, IsMap}
+use Rattle.coniks_proof.specs.Entries.{IsIn}
+use Rattle.coniks_proof.specs.Maps.{IsIndex}
 use Rattle.coniks_proof.specs.Changes.{IsBefore, AllAfter, AreIncreasing}
 use Rattle.coniks_proof.specs.Registry.{Registered}
 use Rattle.coniks_tree.specs.Table.{Numbered, entry_of_record}
@@ -65,17 +65,6 @@ before : (x y : List ℕ) → IsIndex x → IsIndex y → slice_cmp nat_cmp x y 
 before x y ix iy h =
     let l = less x y (ix.size ∙ sym iy.size) h in
     record { place = l.place; within = omega (arith, l.within, ix.size); same = l.same; smaller = l.smaller }
-
-before_apart : (x y : List ℕ) → IsBefore x y → x ≢ y
-before_apart x y b same = let equal = ap (λ z. slice_index z b.place) same in let smaller = b.smaller in omega arith
-
-IsNew-after : {B : Type 0} (x : List ℕ) (es : List (Entry B)) → AllAfter x es → IsNew x es
-IsNew-after x [] after = tt
-IsNew-after x (e ∷ es) after = (before_apart x e.index after.0, IsNew-after x es after.1)
-
-pub IsMap-increasing : {B : Type 0} (es : List (Entry B)) → AreIncreasing es → IsMap es
-IsMap-increasing [] up = tt
-IsMap-increasing (e ∷ es) up = (up.0, IsNew-after e.index es up.1, IsMap-increasing es up.2)
 
 -- ---- the entries of the numbers of a map
 

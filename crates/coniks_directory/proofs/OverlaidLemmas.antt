@@ -1,5 +1,5 @@
 -- A registry that a batch's bindings are laid over, and entries that changes are laid over.
-use Rattle.std.proofs.Common.{◌≡◌, ◌≢◌, ℕ, ◌+◌, List, [], ◌∷◌, ◌++◌, map, Bool, true, false, refl, sym, ap, subst, ◌∙◌, not, ◌||◌, ◌⊎◌, inl, inr, Option, Some, None, if◌then◌else◌}
+use Rattle.std.proofs.Common.{◌≡◌, ◌≢◌, ℕ, ◌+◌, List, [], ◌∷◌, ◌++◌, map, Bool, true, false, refl, sym, ap, subst, ◌∙◌, not, ◌||◌, ◌⊎◌, inl, inr, None}
 use Rattle.std.specs.List.{filter}
 use Rattle.std.specs.Str.{bytes_eq}
 use Rattle.std.proofs.lemmas.Slice.Eq.{bytes_eq-Decides}
@@ -7,11 +7,12 @@ use Rattle.coniks_proof.specs.Entries.{Entry, IsIn}
 use Rattle.coniks_proof.specs.Maps.{IsIndex, IsNew, IsMap}
 use Rattle.coniks_proof.specs.Changes.{has_index, overwritten}
 use Rattle.coniks_proof.specs.Registry.{Registered, Registry, AreWithin, IsLength, has_name, rebound, overlaid, entry_of, entries_of}
-use Rattle.coniks_proof.specs.Batches.{Operation, Fault, bound_by, clashes, fault_from, fault_of, first_fault, fits, index_clash, key_length, kind_fault, name_length, name_twice, or_else, placed}
+use Rattle.coniks_proof.specs.Batches.{AreOnce, Operation, bound_by, clashes, fault_from, fault_of, first_fault}
 use Rattle.coniks_proof.specs.declared.values.TheConstants.{MAX_KEY, MAX_NAME}
 use Rattle.coniks_proof.proofs.MapLemmas.{IsIn-filter, IsMap-filter, of_filter, passes}
 use Rattle.coniks_proof.proofs.RegistryLemmas.{entry_in, within}
-use Rattle.coniks_directory.proofs.NameLemmas.{eq_same, eq_apart, in_rebound, rebound_new, rebound_old, IsMap-rebound, clash_of, clashes-append, or_cases}
+use Rattle.coniks_proof.proofs.BatchLemmas.{clear_of, neither, placed_none}
+use Rattle.coniks_proof.proofs.NameLemmas.{eq_same, eq_apart, in_overlaid, in_rebound, rebound_new, rebound_old, IsMap-rebound, clash_of, clashes-append, or_cases}
 use Rattle.coniks_directory.proofs.HolderLemmas.{same_entry}
 
 -- ---- lists
@@ -32,32 +33,12 @@ append_right x (y ∷ xs) ys there = inr (append_right x xs ys there)
 
 -- ---- the bindings of a registry that is overlaid
 
--- a binding that is left is a new one, or an old one whose name has no new one
-pub in_overlaid : (registry : Registry) (bs : List Registered) (b : Registered) → IsIn b (overlaid registry bs) → IsIn b bs ⊎ (IsIn b registry × (has_name bs b.name ≡ false))
-in_overlaid registry [] b there = inr (there, refl)
-in_overlaid registry (x ∷ xs) b there = elim (in_overlaid (rebound registry x) xs b there) [
-  | inl new ↦ inl (inr new)
-  | inr (old, gone) ↦ elim (in_rebound registry x b old) [
-    | inl same ↦ inl (inl same)
-    | inr (stays, apart) ↦ inr (stays, ap (λ v. v || has_name xs b.name) (eq_apart x.name b.name (λ same. apart (sym same))) ∙ gone)
-  ]
-]
-
-neither : (a b : Bool) → a || b ≡ false → (a ≡ false) × (b ≡ false)
-neither true b h = absurd (let never = h in cc)
-neither false b h = (refl, h)
-
 -- an old binding whose name has no new one stays
 pub overlaid_old : (registry : Registry) (bs : List Registered) (b : Registered) → IsIn b registry → has_name bs b.name ≡ false → IsIn b (overlaid registry bs)
 overlaid_old registry [] b there gone = there
 overlaid_old registry (x ∷ xs) b there gone =
     let both = neither (bytes_eq x.name b.name) (has_name xs b.name) gone in
     overlaid_old (rebound registry x) xs b (rebound_old registry x b there (λ same. let on = eq_same x.name b.name (sym same) in let off = both.0 in cc)) both.1
-
--- each name has one new binding at most
-abbrev pub AreOnce : List Registered → Type 0
-AreOnce [] = Unit {0}
-AreOnce (b ∷ bs) = (has_name bs b.name ≡ false) × AreOnce bs
 
 pub overlaid_new : (registry : Registry) (bs : List Registered) (b : Registered) → AreOnce bs → IsIn b bs → IsIn b (overlaid registry bs)
 overlaid_new registry [] b once there = absurd there
@@ -167,41 +148,12 @@ IsMap-overwritten {B} es cs old new =
 
 -- ---- a batch without fault
 
-if_none : (b : Bool) (x : Fault) (rest : Option Fault) → (if b then Some x else rest) ≡ None → rest ≡ None
-if_none true x rest h = absurd (let never = h in cc)
-if_none false x rest h = h
-
-else_none : (o p : Option Fault) → or_else o p ≡ None → p ≡ None
-else_none None p h = h
-else_none (Some x) p h = absurd (let never = h in cc)
-
-if_off : (b : Bool) (x : Fault) → (if b then Some x else None) ≡ None → b ≡ false
-if_off true x h = absurd (let never = h in cc)
-if_off false x h = refl
-
--- an operation without fault clashes with nothing
-calm : (of : List ℕ → List ℕ) (registry : Registry) (earlier : List Registered) (op : Operation) → fault_of of registry earlier op ≡ None → clashes of (registry ++ earlier) op.name ≡ false
-calm of registry earlier op none =
-    let clash : Option Fault = if clashes of (registry ++ earlier) op.name then Some index_clash else None in
-    let kind : Option Fault = or_else (kind_fault op.kind (has_name registry op.name)) clash in
-    let twice : Option Fault = if has_name earlier op.name then Some name_twice else kind in
-    let key : Option Fault = if not (fits MAX_KEY op.key) then Some key_length else twice in
-    if_off (clashes of (registry ++ earlier) op.name) index_clash
-    (else_none (kind_fault op.kind (has_name registry op.name)) clash
-    (if_none (has_name earlier op.name) name_twice kind
-    (if_none (not (fits MAX_KEY op.key)) key_length twice
-    (if_none (not (fits MAX_NAME op.name)) name_length key none))))
-
-placed_none : (place : ℕ) (fault : Option Fault) (later : Option (ℕ × Fault)) → placed place fault later ≡ None → (fault ≡ None) × (later ≡ None)
-placed_none place None later h = (refl, h)
-placed_none place (Some x) later h = absurd (let never = h in cc)
-
 part_from : (of : List ℕ → List ℕ) (registry : Registry) (earlier : List Registered) (place : ℕ) (ops : List Operation) → fault_from of registry earlier place ops ≡ None → ArePart of registry (map bound_by ops)
 part_from of registry earlier place [] none c d there later apart same = absurd later
 part_from of registry earlier place (op ∷ ops) none c d there (inl here) apart same =
     let both = placed_none place (fault_of of registry earlier op) (fault_from of registry (earlier ++ bound_by op ∷ []) (place + 1) ops) none in
     let named : op.name ≡ d.name = ap (λ (x : Registered). x.name) here in
-    let quiet = neither (clashes of registry op.name) (clashes of earlier op.name) (sym (clashes-append of registry earlier op.name) ∙ calm of registry earlier op both.0) in
+    let quiet = neither (clashes of registry op.name) (clashes of earlier op.name) (sym (clashes-append of registry earlier op.name) ∙ (clear_of of registry earlier op both.0).apart) in
     let loud = clash_of of registry op.name c there (same ∙ ap of (sym named)) (λ e. apart (e ∙ named)) in
     let off = quiet.0 in
     cc

@@ -1,7 +1,7 @@
 -- The history of a directory: its epochs, each with the registry that its batch left.
 use Rattle.std.specs.Prelude.{◌≡◌, ◌==◌, ◌<◌, ℕ, List, [], ◌∷◌, map, slice_get, Option, Some}
 use Rattle.std.specs.List.{find}
-use Rattle.coniks_proof.specs.Registry.{Registry, root_of}
+use Rattle.coniks_proof.specs.Registry.{HaveOwnIndices, Registry, root_of}
 
 -- an epoch: its number, the version of its entry, the nonce under which its tree is hashed, and its registry
 pub record Shown : Type 0 where
@@ -42,6 +42,10 @@ latest_nonce nonce (s ∷ ss) = latest_nonce s.nonce ss
 -- each epoch was made under this nonce, and its entry is of version 1
 abbrev pub AllUnder : List ℕ → List Shown → Type 0
 AllUnder nonce history = (k : ℕ) (s : Shown) → slice_get history k ≡ Some s → (s.version ≡ 1) × (s.nonce ≡ nonce)
+
+-- in no epoch's registry two names have one index
+abbrev pub AllHaveOwnIndices : (List ℕ → List ℕ) → List Shown → Type 0
+AllHaveOwnIndices of history = (k : ℕ) (s : Shown) → slice_get history k ≡ Some s → HaveOwnIndices of s.registry
 
 -- the epoch of exactly this number
 abbrev pub shown_at : List Shown → ℕ → Option Shown

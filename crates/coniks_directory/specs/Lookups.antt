@@ -3,7 +3,7 @@ use Rattle.std.specs.Prelude.{◌≡◌, ℕ, List, true, false, Some, None, is_
 use Rattle.coniks_proof.specs.Batches.{fits}
 use Rattle.coniks_proof.specs.Paths.{IsPath}
 use Rattle.coniks_proof.specs.Proofs.{Accepts}
-use Rattle.coniks_proof.specs.Registry.{Registry, entries_of, has_name, key_of}
+use Rattle.coniks_proof.specs.Registry.{IsFree, entries_of, has_name, key_of}
 use Rattle.coniks_proof.specs.declared.values.TheConstants.{MAX_NAME}
 use Rattle.coniks_proof.specs.declared.paths.Proof.{Proof}
 use Rattle.coniks_directory.specs.History.{Shown, shown_at, root_at}
@@ -17,15 +17,11 @@ pub record IsFound (hash of : List ℕ → List ℕ) (history : List Shown) (t :
   pub sized : fits MAX_NAME name ≡ true
   pub path : IsPath hash shown.nonce (entries_of hash of shown.registry) (of name) proof
 
--- no other registered name has the name's index
-abbrev pub IsAlone : (List ℕ → List ℕ) → Registry → List ℕ → Type 0
-IsAlone of registry name = (other : List ℕ) → has_name registry other ≡ true → of other ≡ of name → other ≡ name
-
--- where the name is alone at its index, the proof is accepted under the root of the epoch with exactly the key that the name is
--- bound to, or as absence
+-- the proof is accepted under the root of the epoch with exactly the key that the name is bound to, or as absence; for absence
+-- no registered name may have the name's index
 abbrev pub IsAcceptedAt : (List ℕ → List ℕ) → (List ℕ → List ℕ) → List Shown → ℕ → List ℕ → Proof → Type 0
 IsAcceptedAt hash of history t name proof =
-    (shown : Shown) → shown_at history t ≡ Some shown → IsAlone of shown.registry name
+    (shown : Shown) → shown_at history t ≡ Some shown → (has_name shown.registry name ≡ false → IsFree of shown.registry (of name))
     → Accepts hash shown.nonce (root_at hash of shown) (of name) name proof (key_of shown.registry name)
 
 -- why a lookup isn't answered: of what applies, the first in the order of the faults

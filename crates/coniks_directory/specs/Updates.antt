@@ -66,6 +66,7 @@ pub record Grows (s t : State) : Type 0 where
   pub records : t.records ≡ s.records ++ more_records
   pub more_epochs : List Epoch
   pub epochs : t.epochs ≡ s.epochs ++ more_epochs
+  pub still : more_epochs ≡ [] → more_records ≡ []
 
 -- the update was prepared from this directory, in this state or an earlier one
 pub record IsUpdateOf (hash of : List ℕ → List ℕ) (s : State) (p : Prepared) : Type 0 where

@@ -6,7 +6,7 @@ ghost use Rattle.coniks_chain.specs.Entries.{body_bytes};
 ghost use Rattle.coniks_proof.specs.Batches.{after};
 ghost use Rattle.coniks_directory.specs.Batches.{IsAccepted, IsBatchFault, most_nodes, operations};
 ghost use Rattle.coniks_directory.specs.Chain.{IsChainOf, heads_of};
-ghost use Rattle.coniks_directory.specs.History.{AllUnder, AreRising, latest_registry, numbers_of, root_at, shown_at};
+ghost use Rattle.coniks_directory.specs.History.{AllHaveOwnIndices, AllUnder, AreRising, latest_registry, numbers_of, root_at, shown_at};
 ghost use Rattle.coniks_directory.specs.Lookups.{IsAcceptedAt, IsFound, IsMissed};
 
 use crate::batch::{BatchFault, Op};
@@ -84,6 +84,7 @@ impl<H: Hash32, X: IndexSource> Directory<H, X> {
         ensures of_history { IsChainOf (H.digest_of self.now.0) (X.index_of self.now.1) self.now.2.policy (history_of self.now.2) self.now.2.chain }
         ensures rising { AreRising 0 (numbers_of (history_of self.now.2)) }
         ensures under { AllUnder self.now.2.nonce (history_of self.now.2) }
+        ensures names { AllHaveOwnIndices (X.index_of self.now.1) (history_of self.now.2) }
     {
         &self.chain
     }
@@ -286,6 +287,7 @@ impl<H: Hash32 + Sync, X: IndexSource> Directory<H, X> {
         ensures history { OnOk result (history_of self.new.2 ≡ history_of self.old.2 ++ shown_next self.old.2 (operations ops.now) t ∷ []) }
         ensures chain { IfOk result (λ entry. self.new.2.chain ≡ self.old.2.chain ++ entry ∷ []) }
         ensures nodes { OnOk result (length self.new.2.nodes ≤ length self.old.2.nodes + most_nodes (history_of self.old.2) (length ops.now)) }
+        ensures none { OnOk result (length ops.now ≡ 0 → length self.new.2.nodes ≡ length self.old.2.nodes + most_nodes (history_of self.old.2) 0) }
         ensures accepted { OnOk result (IsAccepted (X.index_of self.old.1) (latest_registry (history_of self.old.2)) (operations ops.now) depth workers) }
         ensures may { OnOk result (MayInstall self.old.2 (length self.old.2.epochs) t (length publisher.old.heads) board.now.capacity) }
 

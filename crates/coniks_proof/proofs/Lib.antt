@@ -13,3 +13,5 @@ pub mod BackedLemmas
 pub mod PreimageLemmas
 pub mod CollisionLemmas
 pub mod MeetingLemmas
+pub mod NameLemmas
+pub mod BatchLemmas

@@ -9,7 +9,7 @@ use Rattle.coniks_proof.specs.Preimages.{empty_preimage, leaf_preimage, inner_pr
 use Rattle.coniks_proof.specs.Tree.{node}
 use Rattle.coniks_proof.specs.Paths.{siblings, end_of, EndIs, digests, IsPath}
 use Rattle.coniks_proof.specs.Proofs.{end_preimage, joined, preimage, Accepts, EndFits, answer_of}
-use Rattle.coniks_proof.specs.Registry.{Registered, Registry, has_name, bound_to, key_of, commitment_to, entry_of, entries_of, root_of, IsLength, AreWithin}
+use Rattle.coniks_proof.specs.Registry.{Registered, Registry, has_name, bound_to, key_of, commitment_to, entry_of, entries_of, root_of, IsFree, IsLength, AreWithin}
 use Rattle.coniks_proof.specs.declared.values.Digest.{Digest}
 use Rattle.coniks_proof.specs.declared.paths.Proof.{Proof}
 use Rattle.coniks_proof.specs.declared.paths.End.{End}
@@ -19,7 +19,7 @@ use Rattle.coniks_proof.proofs.ChangeLemmas.{apart-halves, apart-last}
 use Rattle.coniks_proof.proofs.MapLemmas.{BeginAlike, IsMap-apart, IsIn-filter, of_filter}
 use Rattle.coniks_proof.proofs.ClimbLemmas.{climb, onwards, climbs}
 use Rattle.coniks_proof.proofs.PrefixLemmas.{length-first_bits, first_bits-same}
-use Rattle.coniks_proof.proofs.RegistryLemmas.{in_entries, entry_in, bound_in, named_in, none_in, within}
+use Rattle.coniks_proof.proofs.RegistryLemmas.{in_entries, entry_in, bound_in, named_in, unnamed, within}
 
 -- ---- what stands at the end of the way
 
@@ -227,7 +227,7 @@ record SaysOf (name : List ℕ) (index : List ℕ) (level : ℕ) (a : End) (key 
 
 says : (hash of : List ℕ → List ℕ) (nonce : List ℕ) (registry : Registry) (name : List ℕ) (n : ℕ) (a : End) (found : Option Registered)
     → IsMap (entries_of hash of registry) → AreWithin registry → n ≡ length (siblings hash nonce [] (of name) (entries_of hash of registry))
-    → ((other : List ℕ) → has_name registry other ≡ true → of other ≡ of name → other ≡ name)
+    → (has_name registry name ≡ false → IsFree of registry (of name))
     → bound_to registry name ≡ found → EndIs (of name) (end_of [] (of name) (entries_of hash of registry)) a
     → SaysOf name (of name) n a (key_of registry name)
 says hash of nonce registry name n Empty None map all size alone found is = record { fits = tt; said = rw found refl }
@@ -240,23 +240,27 @@ says hash of nonce registry name n (Other other c) None map all size alone found
 says hash of nonce registry name n (Other other c) (Some b) map all size alone found is =
     let same = first_same (record { index = other.0; commitment = c.0; behind = is.1.0 }) (entry_of hash of b) (sym is.1.1 ∙ stands_there hash of registry name b map found) in
     absurd (is.0 (ap (λ (x : Entry Registered). x.index) same ∙ ap of (bound_in registry name b found).1))
-says hash of nonce registry name n (Here held key o) found map all size alone is-found is =
+says hash of nonce registry name n (Here held key o) None map all size alone none is =
+    let b : Registered = record { name = held; key = key; opening = o.0 } in
+    let own = at_end hash of registry (of name) (record { index = of name; commitment = is.0; behind = b }) map is.1 in
+    let at : of held ≡ of name = ap (λ (x : Entry Registered). x.index) own.0 in
+    let free : has_name registry held ≡ false = alone (unnamed registry name none) held at in
+    let has : has_name registry held ≡ true = named_in b registry own.1 in
+    cc
+says hash of nonce registry name n (Here held key o) (Some x) map all size alone some is =
     let b : Registered = record { name = held; key = key; opening = o.0 } in
     let e : Entry Registered = record { index = of name; commitment = is.0; behind = b } in
     let own = at_end hash of registry (of name) e map is.1 in
-    let at : of held ≡ of name = ap (λ (x : Entry Registered). x.index) own.0 in
-    let named : held ≡ name = alone held (named_in b registry own.1) at in
+    let same : x ≡ b = ap (λ (y : Entry Registered). y.behind) (first_same (entry_of hash of x) e (sym (stands_there hash of registry name x map some) ∙ is.1)) in
+    let bound : bound_to registry name ≡ Some b = some ∙ ap Some same in
     let good = within b registry all own.1 in
-    let bound : bound_to registry name ≡ Some b = (elim found as (λ f. bound_to registry name ≡ f → bound_to registry name ≡ Some b) [
-      | None ↦ λ none. absurd (none_in registry name none b own.1 named)
-      | Some x ↦ λ some. some ∙ ap Some (ap (λ (y : Entry Registered). y.behind) (first_same (entry_of hash of x) e (sym (stands_there hash of registry name x map some) ∙ is.1)))
-    ]) is-found in
-    record { fits = (named, good.1.0, good.1.1); said = rw bound refl }
+    record { fits = ((bound_in registry name b bound).1, good.1.0, good.1.1); said = rw bound refl }
 
--- the path to a name's index is accepted with exactly what the name is bound to, where no other name has the index
+-- the path to a name's index is accepted with exactly what the name is bound to; of a name that is bound to nothing no registered
+-- name may have the index
 pub path_accepted : (hash of : List ℕ → List ℕ) (nonce root : List ℕ) (registry : Registry) (name : List ℕ) (proof : Proof)
     → IsMap (entries_of hash of registry) → AreWithin registry → root ≡ root_of hash of nonce registry → IsPath hash nonce (entries_of hash of registry) (of name) proof
-    → ((other : List ℕ) → has_name registry other ≡ true → of other ≡ of name → other ≡ name) → IsLength 255 name
+    → (has_name registry name ≡ false → IsFree of registry (of name)) → IsLength 255 name
     → Accepts hash nonce root (of name) name proof (key_of registry name)
 path_accepted hash of nonce root registry name proof map all root-is path alone fits =
     let deep = path_depth hash of nonce registry (of name) proof map path in

@@ -1,5 +1,5 @@
 -- Indices in increasing order are in the order of their bits.
-use Rattle.std.proofs.Common.{◌≡◌, ℕ, zero, suc, ◌+◌, ◌-◌, ◌*◌, ◌/◌, ◌%◌, ◌^◌, ◌==◌, ◌<◌, List, [], ◌∷◌, ◌++◌, Bool, true, false, refl, sym, ap, subst, ◌∙◌, arith, not, cond, slice_index, inl, inr}
+use Rattle.std.proofs.Common.{◌≡◌, ◌≢◌, ℕ, zero, suc, ◌+◌, ◌-◌, ◌*◌, ◌/◌, ◌%◌, ◌^◌, ◌==◌, ◌<◌, List, [], ◌∷◌, ◌++◌, Bool, true, false, refl, sym, ap, subst, ◌∙◌, arith, not, cond, slice_index, inl, inr}
 use Rattle.std.specs.Int as int
 use Rattle.std.proofs.Math.Nat.{pow-suc}
 use Rattle.std.proofs.lemmas.Nat.Bits.{same_from_bits_below, bit_at-lt, bit_at-suc}
@@ -8,7 +8,7 @@ use Rattle.coniks_proof.specs.Bits.{bit_at}
 use Rattle.std.specs.List.{filter}
 use Rattle.coniks_proof.specs.Entries.{Entry, half}
 use Rattle.coniks_proof.specs.Changes.{InOrderWithin, AreInOrder, IsBefore, AllAfter, AreIncreasing}
-use Rattle.coniks_proof.specs.Maps.{IsIndex, IsMap}
+use Rattle.coniks_proof.specs.Maps.{IsIndex, IsNew, IsMap}
 use Rattle.coniks_proof.proofs.MapLemmas.{bit_of_byte, same_test, same_index, IsMap-filter, BeginAlike, BeginAlike-half, next_bits, alike_none}
 
 half_below : (w a : ℕ) → a < 2 ^ suc w → a / 2 < 2 ^ w
@@ -116,3 +116,16 @@ in_order_within (suc h) k bits es full map up alike = (
 pub AreIncreasing-in_order : {B : Type 0} (es : List (Entry B)) → IsMap es → AreIncreasing es → AreInOrder 0 es
 unfolding AreInOrder
 AreIncreasing-in_order es map up = in_order_within 256 0 (λ _. false) es refl map up (alike_none es)
+
+-- an index that comes before another is another
+before_apart : (x y : List ℕ) → IsBefore x y → x ≢ y
+before_apart x y before same = let small : slice_index x before.place < slice_index x before.place = subst (λ z. slice_index x before.place < slice_index z before.place) (sym same) before.smaller in absurd (omega (arith, small))
+
+after_new : {B : Type 0} (index : List ℕ) (es : List (Entry B)) → AllAfter index es → IsNew index es
+after_new index [] after = tt
+after_new index (e ∷ es) after = (before_apart index e.index after.0, after_new index es after.1)
+
+-- entries in increasing order of index are a map
+pub increasing_map : {B : Type 0} (es : List (Entry B)) → AreIncreasing es → IsMap es
+increasing_map [] rising = tt
+increasing_map (e ∷ es) rising = (rising.0, after_new e.index es rising.1, increasing_map es rising.2)

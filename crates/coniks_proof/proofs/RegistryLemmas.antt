@@ -1,5 +1,5 @@
 -- Registries: names, bindings and their entries.
-use Rattle.std.proofs.Common.{◌≡◌, ◌≢◌, ℕ, List, [], ◌∷◌, Bool, true, false, refl, sym, ap, subst, ◌∙◌, cond, ◌||◌, inl, inr, Some, None}
+use Rattle.std.proofs.Common.{◌≡◌, ℕ, List, [], ◌∷◌, Bool, true, false, refl, sym, ap, subst, ◌∙◌, cond, ◌||◌, inl, inr, Some, None}
 use Rattle.std.specs.Str.{bytes_eq}
 use Rattle.std.proofs.lemmas.Slice.Eq.{bytes_eq-Decides}
 use Rattle.coniks_proof.specs.Entries.{Entry, IsIn}
@@ -38,15 +38,13 @@ named_in b [] there = absurd there
 named_in b (x ∷ xs) (inl here) = let on : bytes_eq x.name b.name ≡ true = subst (λ (y : Registered). bytes_eq y.name b.name ≡ true) (sym here) (self_named b) in rw on refl
 named_in b (x ∷ xs) (inr later) = or_true (bytes_eq x.name b.name) (has_name xs b.name) (named_in b xs later)
 
-pub none_in : (registry : Registry) (name : List ℕ) → bound_to registry name ≡ None → (b : Registered) → IsIn b registry → b.name ≢ name
-none_in [] name none b there = absurd there
-none_in (x ∷ xs) name none b there = (elim (bytes_eq x.name name) as (λ v. bytes_eq x.name name ≡ v → cond v (Some x) (bound_to xs name) ≡ None → b.name ≢ name) [
-  | true ↦ λ on is. cc
-  | false ↦ λ off is. elim there [
-    | inl here ↦ λ same. let on : bytes_eq x.name name ≡ true = (bytes_eq-Decides x.name name).1 (ap (λ (y : Registered). y.name) here ∙ same) in cc
-    | inr later ↦ none_in xs name is b later
-  ]
-]) refl none
+-- a name that is bound to nothing isn't registered
+pub unnamed : (registry : Registry) (name : List ℕ) → bound_to registry name ≡ None → has_name registry name ≡ false
+unnamed [] name none = refl
+unnamed (x ∷ xs) name none = (elim (bytes_eq x.name name) as (λ v. cond v (Some x) (bound_to xs name) ≡ None → v || has_name xs name ≡ false) [
+  | true ↦ λ some. absurd (let never = some in cc)
+  | false ↦ λ is. unnamed xs name is
+]) none
 
 pub within : (b : Registered) (registry : Registry) → AreWithin registry → IsIn b registry → IsLength 255 b.name × IsLength 4096 b.key
 within b [] all there = absurd there

@@ -1,9 +1,10 @@
 -- Batches of operations on a registry, and what may be wrong with one.
 use Rattle.coniks_proof.specs.declared.values.TheConstants.{MAX_KEY, MAX_NAME}
-use Rattle.std.specs.Prelude.{ℕ, ◌+◌, List, [], ◌∷◌, ◌++◌, length, Bool, true, false, not, ◌&&◌, nat_lt, nat_le, map, Option, Some, None, if◌then◌else◌}
+use Rattle.std.specs.Prelude.{◌≡◌, ℕ, ◌+◌, List, [], ◌∷◌, ◌++◌, length, Bool, true, false, not, ◌&&◌, nat_lt, nat_le, map, Option, Some, None, if◌then◌else◌}
 use Rattle.std.specs.List.{list_any}
 use Rattle.std.specs.Str.{bytes_eq}
-use Rattle.coniks_proof.specs.Registry.{Registered, Registry, has_name, overlaid}
+use Rattle.coniks_proof.specs.Entries.{IsIn}
+use Rattle.coniks_proof.specs.Registry.{Registered, Registry, has_name, overlaid, AreWithin, HaveOwnIndices}
 
 -- registers a name that is absent, or changes the key of one that is present
 pub data Kind : Type 0 where
@@ -76,3 +77,21 @@ fault_from of registry earlier place (op ∷ ops) =
 -- the first operation of a batch with a fault, and its first fault
 abbrev pub first_fault : (List ℕ → List ℕ) → Registry → List Operation → Option (ℕ × Fault)
 first_fault of registry ops = fault_from of registry [] 0 ops
+
+-- no name stands twice
+abbrev pub AreOnce : List Registered → Type 0
+AreOnce [] = Unit {0}
+AreOnce (b ∷ bs) = (has_name bs b.name ≡ false) × AreOnce bs
+
+-- a registered name is absent, and a changed one present
+abbrev pub Suits : Kind → Bool → Type 0
+Suits register present = present ≡ false
+Suits change present = present ≡ true
+
+-- the batch may follow the registry: names and keys are within their limits, no name stands twice, each registered name is
+-- absent and each changed one present, and no two names of registry and batch have one index
+pub record MayFollow (of : List ℕ → List ℕ) (registry : Registry) (ops : List Operation) : Type 0 where
+  pub within : AreWithin (map bound_by ops)
+  pub once : AreOnce (map bound_by ops)
+  pub kinds : (op : Operation) → IsIn op ops → Suits op.kind (has_name registry op.name)
+  pub apart : HaveOwnIndices of (registry ++ map bound_by ops)

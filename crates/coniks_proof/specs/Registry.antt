@@ -1,6 +1,6 @@
 -- Registries: what each registered name is bound to, and the map that the tree holds of it.
 use Rattle.coniks_proof.specs.declared.values.TheConstants.{MAX_KEY, MAX_NAME}
-use Rattle.std.specs.Prelude.{◌≡◌, ◌<◌, ◌≤◌, ℕ, List, [], ◌∷◌, ◌++◌, length, Bool, false, not, map, filter, Option, option_map}
+use Rattle.std.specs.Prelude.{◌≡◌, ◌<◌, ◌≤◌, ℕ, List, [], ◌∷◌, ◌++◌, length, Bool, true, false, not, map, filter, Option, option_map}
 use Rattle.std.specs.List.{list_any, find}
 use Rattle.std.specs.Str.{bytes_eq}
 use Rattle.coniks_proof.specs.Preimages.{commitment_preimage}
@@ -66,3 +66,7 @@ AreWithin (b ∷ bs) = IsLength MAX_NAME b.name × IsLength MAX_KEY b.key × Are
 -- no name of the registry has the index
 abbrev pub IsFree : (List ℕ → List ℕ) → Registry → List ℕ → Type 0
 IsFree of registry index = (name : List ℕ) → of name ≡ index → has_name registry name ≡ false
+
+-- no two names of the registry have one index
+abbrev pub HaveOwnIndices : (List ℕ → List ℕ) → Registry → Type 0
+HaveOwnIndices of registry = (x y : List ℕ) → has_name registry x ≡ true → has_name registry y ≡ true → of x ≡ of y → x ≡ y

@@ -1,12 +1,14 @@
 //! Laws of the definitions, each the contract of a function that only reads.
 
-ghost use Rattle.std.specs.Prelude.{◌↔◌, ◌≡◌, List, ℕ, Bool, true, map};
-ghost use Rattle.coniks_proof.specs.Entries.{Entry, backed_by};
+ghost use Rattle.std.specs.Prelude.{◌↔◌, ◌≡◌, ◌∷◌, [], List, ℕ, Bool, None, false, map};
+ghost use Rattle.coniks_proof.specs.Batches.{MayFollow, Operation, after, first_fault};
+ghost use Rattle.coniks_proof.specs.Changes.{AreApart, AreIncreasing, AreInOrder};
+ghost use Rattle.coniks_proof.specs.Entries.{Entry, IsIn, backed_by};
 ghost use Rattle.coniks_proof.specs.Maps.{IsMap, SameEntries};
 ghost use Rattle.coniks_proof.specs.Faults.{Has};
 ghost use Rattle.coniks_proof.specs.Proofs.{Accepts, answer_of};
 ghost use Rattle.coniks_proof.specs.declared.checker.CheckFault.{CheckFault};
-ghost use Rattle.coniks_proof.specs.Registry.{AreWithin, IsLength, Registry, entries_of, has_name, key_of, root_of};
+ghost use Rattle.coniks_proof.specs.Registry.{AreWithin, HaveOwnIndices, IsFree, IsLength, Registry, entries_of, has_name, key_of, root_of};
 ghost use Rattle.coniks_proof.specs.Paths.{IsPath, end_of, siblings};
 ghost use Rattle.coniks_proof.specs.Tree.{node};
 
@@ -15,12 +17,12 @@ use crate::paths::Proof;
 use crate::values::{Digest, Index, MAX_NAME, Nonce};
 
 /// The path to a name's index is accepted, under the root of its registry, with exactly the key that the name is bound
-/// to, or as absence where it is bound to none. The premise is that no other registered name has the name's index.
+/// to, or as absence where it is bound to none. For absence the premise is that no registered name has the name's index.
 pub fn path_is_accepted<H: Hash32>(h: &H, nonce: &Nonce, root: &Digest, name: &[u8], proof: &Proof)
     ensures { (of : List ℕ → List ℕ) (registry : Registry) → IsMap (entries_of (H.digest_of h.now) of registry) → AreWithin registry
         → root.now.0 ≡ root_of (H.digest_of h.now) of nonce.now.0 registry
         → IsPath (H.digest_of h.now) nonce.now.0 (entries_of (H.digest_of h.now) of registry) (of name.now) proof.now
-        → ((other : List ℕ) → has_name registry other ≡ true → of other ≡ of name.now → other ≡ name.now)
+        → (has_name registry name.now ≡ false → IsFree of registry (of name.now))
         → IsLength MAX_NAME name.now
         → Accepts (H.digest_of h.now) nonce.now.0 root.now.0 (of name.now) name.now proof.now (key_of registry name.now) }
 {}
@@ -57,4 +59,28 @@ pub fn no_fault_is_accepted<H: Hash32>(
 )
     ensures { ((fault : CheckFault) → Has (H.digest_of h.now) nonce.now.0 root.now.0 index.now.0 name.now proof.now fault → ⊥)
         ↔ (Accepts (H.digest_of h.now) nonce.now.0 root.now.0 index.now.0 name.now proof.now (answer_of proof.now.end)) }
+{}
+
+/// A batch is without fault on a registry exactly where it may follow it, if no two names of the registry have one index;
+/// and so it is of the registry that the batch leaves, and of the empty one.
+pub fn faultless_batches()
+    ensures exactly { (of : List ℕ → List ℕ) (registry : Registry) (ops : List Operation) → HaveOwnIndices of registry
+        → ((first_fault of registry ops ≡ None) ↔ MayFollow of registry ops) }
+    ensures after { (of : List ℕ → List ℕ) (registry : Registry) (ops : List Operation) → MayFollow of registry ops → HaveOwnIndices of (after registry ops) }
+    ensures first { (of : List ℕ → List ℕ) → HaveOwnIndices of [] }
+    ensures maps { (hash of : List ℕ → List ℕ) (registry : Registry) → IsMap (entries_of hash of registry) → HaveOwnIndices of registry }
+{}
+
+/// What callers of a tree owe follows from what they have: entries in increasing order of index are in the order of their
+/// bits, and those of a map part within 256 bits.
+pub fn orders<T>()
+    ensures increasing { (entries : List (Entry T)) → AreIncreasing entries → AreInOrder 0 entries }
+    ensures apart { (entries : List (Entry T)) → IsMap entries → AreApart 0 entries }
+    ensures one { (entries : List (Entry T)) → AreIncreasing entries → IsMap entries }
+{}
+
+/// What the way to an index ends with is the entry at the index, if the map has one.
+pub fn ends<T>()
+    ensures present { (index : List ℕ) (entries : List (Entry T)) (e : Entry T) → IsMap entries → IsIn e entries → e.index ≡ index → end_of [] index entries ≡ e ∷ [] }
+    ensures found { (index : List ℕ) (entries : List (Entry T)) (e : Entry T) → IsMap entries → end_of [] index entries ≡ e ∷ [] → IsIn e entries }
 {}

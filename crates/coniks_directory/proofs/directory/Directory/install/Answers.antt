@@ -55,7 +55,7 @@ make_room-made-requires g c =
     let p = c.args.update in
     let s : State = record { nonce = d.nonce.0; policy = d.policy; nodes = d.tree.nodes.items; records = d.tree.records.items; epochs = d.epochs.items; chain = d.chain.items } in
     let count : c.len.result ≡ length s.epochs = c.len.ensures ∙ d.epochs.ok.0 in
-    let u = fresh_in_view g.H.Hash32.digest_of g.X.IndexSource.index_of d.h d.source s c.args.self.now p c.self.view_is c.requires.update c.self.invariant.last (c.if-update-len.false ∙ count) in
+    let u = fresh_in_view g.H.Hash32.digest_of g.X.IndexSource.index_of d.h d.source s c.args.self.now p c.self.view_is c.requires.update (c.if-update-len.false ∙ count) in
     u.fits
 
 pub returns-then-is_err-clause-good : goal.returns-then-is_err-clause-good
@@ -85,7 +85,7 @@ part_hash-root-requires g c =
     let p = c.args.update in
     let s : State = record { nonce = d.nonce.0; policy = d.policy; nodes = d.tree.nodes.items; records = d.tree.records.items; epochs = d.epochs.items; chain = d.chain.items } in
     let count : c.len.result ≡ length s.epochs = c.len.ensures ∙ d.epochs.ok.0 in
-    let u = fresh_in_view g.H.Hash32.digest_of g.X.IndexSource.index_of d.h d.source s c.args.self.now p c.self.view_is c.requires.update c.self.invariant.last (c.if-update-len.false ∙ count) in
+    let u = fresh_in_view g.H.Hash32.digest_of g.X.IndexSource.index_of d.h d.source s c.args.self.now p c.self.view_is c.requires.update (c.if-update-len.false ∙ count) in
     let fits : Fits (length c.make_room-made.new.tree.nodes.items) 0 p.part = subst (λ (ns : List Node). Fits (length ns) 0 p.part) (sym c.make_room-made.ensures.nodes) u.fits in
     fits
 
@@ -126,7 +126,7 @@ enter-requires-clause-fits g c =
     let p = c.args.update in
     let s : State = record { nonce = d.nonce.0; policy = d.policy; nodes = d.tree.nodes.items; records = d.tree.records.items; epochs = d.epochs.items; chain = d.chain.items } in
     let count : c.len.result ≡ length s.epochs = c.len.ensures ∙ d.epochs.ok.0 in
-    let u = fresh_in_view g.H.Hash32.digest_of g.X.IndexSource.index_of d.h d.source s c.args.self.now p c.self.view_is c.requires.update c.self.invariant.last (c.if-update-len.false ∙ count) in
+    let u = fresh_in_view g.H.Hash32.digest_of g.X.IndexSource.index_of d.h d.source s c.args.self.now p c.self.view_is c.requires.update (c.if-update-len.false ∙ count) in
     let fits : Fits (length c.make_room-made.new.tree.nodes.items) 0 p.part = subst (λ (ns : List Node). Fits (length ns) 0 p.part) (sym c.make_room-made.ensures.nodes) u.fits in
     fits
 
@@ -139,7 +139,7 @@ invariant_of-self-2 g c =
     let of = g.X.IndexSource.index_of d.source in
     let latest : c.latest-latest.result ≡ latest_epoch (history_of s) = c.latest-latest.ensures ∙ ap (λ (es : List Epoch). last_number 0 (numbers es)) c.deref.ensures.value ∙ ap (last_number 0) (sym (numbers-history s.records s.epochs)) in
     let count : c.len.result ≡ length s.epochs = c.len.ensures ∙ d.epochs.ok.0 in
-    let u = fresh_in_view g.H.Hash32.digest_of g.X.IndexSource.index_of d.h d.source s c.args.self.now p c.self.view_is c.requires.update c.self.invariant.last (c.if-update-len.false ∙ count) in
+    let u = fresh_in_view g.H.Hash32.digest_of g.X.IndexSource.index_of d.h d.source s c.args.self.now p c.self.view_is c.requires.update (c.if-update-len.false ∙ count) in
     let after = subst (λ n. n < c.args.t) latest c.if-t-latest.false in
     let room = c.make_room-made in
     let body = signed_is hash of s p c.args.t c.latest-latest.result c.part_hash-root.result c.last_link-previous.result room.new.tree.nodes.items room.new.tree.records.items s.chain c.in-Some.entry.body u c.self.invariant
@@ -163,7 +163,7 @@ returns-clause-history g c =
     let of = g.X.IndexSource.index_of d.source in
     let latest : c.latest-latest.result ≡ latest_epoch (history_of s) = c.latest-latest.ensures ∙ ap (λ (es : List Epoch). last_number 0 (numbers es)) c.deref.ensures.value ∙ ap (last_number 0) (sym (numbers-history s.records s.epochs)) in
     let count : c.len.result ≡ length s.epochs = c.len.ensures ∙ d.epochs.ok.0 in
-    let u = fresh_in_view g.H.Hash32.digest_of g.X.IndexSource.index_of d.h d.source s c.args.self.now p c.self.view_is c.requires.update c.self.invariant.last (c.if-update-len.false ∙ count) in
+    let u = fresh_in_view g.H.Hash32.digest_of g.X.IndexSource.index_of d.h d.source s c.args.self.now p c.self.view_is c.requires.update (c.if-update-len.false ∙ count) in
     let after = subst (λ n. n < c.args.t) latest c.if-t-latest.false in
     let room = c.make_room-made in
     let body = signed_is hash of s p c.args.t c.latest-latest.result c.part_hash-root.result c.last_link-previous.result room.new.tree.nodes.items room.new.tree.records.items s.chain c.in-Some.entry.body u c.self.invariant
@@ -202,7 +202,7 @@ returns-clause-good g c =
     let of = g.X.IndexSource.index_of d.source in
     let latest : c.latest-latest.result ≡ latest_epoch (history_of s) = c.latest-latest.ensures ∙ ap (λ (es : List Epoch). last_number 0 (numbers es)) c.deref.ensures.value ∙ ap (last_number 0) (sym (numbers-history s.records s.epochs)) in
     let count : c.len.result ≡ length s.epochs = c.len.ensures ∙ d.epochs.ok.0 in
-    let u = fresh_in_view g.H.Hash32.digest_of g.X.IndexSource.index_of d.h d.source s c.args.self.now p c.self.view_is c.requires.update c.self.invariant.last (c.if-update-len.false ∙ count) in
+    let u = fresh_in_view g.H.Hash32.digest_of g.X.IndexSource.index_of d.h d.source s c.args.self.now p c.self.view_is c.requires.update (c.if-update-len.false ∙ count) in
     let after = subst (λ n. n < c.args.t) latest c.if-t-latest.false in
     let room = c.make_room-made in
     let body = signed_is hash of s p c.args.t c.latest-latest.result c.part_hash-root.result c.last_link-previous.result room.new.tree.nodes.items room.new.tree.records.items s.chain c.in-Some.entry.body u c.self.invariant
@@ -226,7 +226,7 @@ returns-clause-grows g c =
     let of = g.X.IndexSource.index_of d.source in
     let latest : c.latest-latest.result ≡ latest_epoch (history_of s) = c.latest-latest.ensures ∙ ap (λ (es : List Epoch). last_number 0 (numbers es)) c.deref.ensures.value ∙ ap (last_number 0) (sym (numbers-history s.records s.epochs)) in
     let count : c.len.result ≡ length s.epochs = c.len.ensures ∙ d.epochs.ok.0 in
-    let u = fresh_in_view g.H.Hash32.digest_of g.X.IndexSource.index_of d.h d.source s c.args.self.now p c.self.view_is c.requires.update c.self.invariant.last (c.if-update-len.false ∙ count) in
+    let u = fresh_in_view g.H.Hash32.digest_of g.X.IndexSource.index_of d.h d.source s c.args.self.now p c.self.view_is c.requires.update (c.if-update-len.false ∙ count) in
     let after = subst (λ n. n < c.args.t) latest c.if-t-latest.false in
     let room = c.make_room-made in
     let body = signed_is hash of s p c.args.t c.latest-latest.result c.part_hash-root.result c.last_link-previous.result room.new.tree.nodes.items room.new.tree.records.items s.chain c.in-Some.entry.body u c.self.invariant

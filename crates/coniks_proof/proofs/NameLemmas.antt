@@ -71,6 +71,17 @@ rebound_old registry b c there apart =
     let on : not (bytes_eq c.name b.name) ≡ true = ap not (eq_apart c.name b.name apart) in
     IsIn-append_left c (filter (λ x. not (bytes_eq x.name b.name)) registry) (b ∷ []) (IsIn-filter c (λ x. not (bytes_eq x.name b.name)) registry on there)
 
+-- a binding that is left is a new one, or an old one whose name has no new one
+pub in_overlaid : (registry : Registry) (bs : List Registered) (b : Registered) → IsIn b (overlaid registry bs) → IsIn b bs ⊎ (IsIn b registry × (has_name bs b.name ≡ false))
+in_overlaid registry [] b there = inr (there, refl)
+in_overlaid registry (x ∷ xs) b there = elim (in_overlaid (rebound registry x) xs b there) [
+  | inl new ↦ inl (inr new)
+  | inr (old, gone) ↦ elim (in_rebound registry x b old) [
+    | inl same ↦ inl (inl same)
+    | inr (stays, apart) ↦ inr (stays, ap (λ v. v || has_name xs b.name) (eq_apart x.name b.name (λ same. apart (sym same))) ∙ gone)
+  ]
+]
+
 -- ---- names
 
 or_assoc : (a b c : Bool) → (a || b) || c ≡ a || (b || c)
