@@ -14,3 +14,4 @@ pub mod ChainLemmas
 pub mod InstallLemmas
 pub mod HeadLemmas
 pub mod PrepareLemmas
+pub mod RunLemmas

@@ -7,3 +7,4 @@ pub mod Lookups
 pub mod Holders
 pub mod Judged
 pub mod Built
+pub mod Runs

@@ -1,12 +1,17 @@
 //! Laws of the definitions, each the contract of a function that does nothing.
 
-ghost use Rattle.std.specs.Prelude.{◌≡◌, ◌≤◌, List, ℕ, Some, length};
+ghost use Rattle.std.specs.Prelude.{◌≡◌, ◌≢◌, ◌≤◌, List, ℕ, Option, Some, length, option_map};
 ghost use Rattle.coniks_chain.specs.declared.entry.Entry.{Entry};
 ghost use Rattle.coniks_directory.specs.Chain.{IsChainOf, heads_of};
-ghost use Rattle.coniks_directory.specs.History.{AreRising, Shown, numbers_of};
+ghost use Rattle.coniks_directory.specs.History.{AreRising, Shown, numbers_of, root_at, shown_at};
+ghost use Rattle.coniks_directory.specs.Lookups.{IsAcceptedAt, IsFound};
+ghost use Rattle.coniks_directory.specs.Runs.{AreAccepted, Batch, Run, defined};
 ghost use Rattle.coniks_directory.specs.State.{State, history_of};
 ghost use Rattle.coniks_directory.specs.Updates.{Grows, IsUpdate, IsUpdateOf, base_of, registry_after};
 ghost use Rattle.coniks_directory.specs.declared.update.Prepared.{Prepared};
+ghost use Rattle.coniks_proof.specs.Collisions.{Disagree};
+ghost use Rattle.coniks_proof.specs.Proofs.{Accepts};
+ghost use Rattle.coniks_proof.specs.declared.paths.Proof.{Proof};
 ghost use Rattle.coniks_proof.specs.declared.values.Head.{Head};
 ghost use Rattle.coniks_shared.specs.Lists.{Begins, last_of};
 
@@ -38,4 +43,26 @@ pub fn answers_are_no_older()
     ensures { (hash of : List ℕ → List ℕ) (policy : List ℕ) (history : List Shown) (chain : List Entry) (had has : List Head) (latest answer : Head)
         → IsChainOf hash of policy history chain → AreRising 0 (numbers_of history)
         → Begins had has → Begins has (heads_of hash chain) → last_of had ≡ Some latest → last_of has ≡ Some answer → latest.epoch ≤ answer.epoch }
+{}
+
+/// The directory theorem: a run of public calls from `open` on, refused ones among them, leaves the directory that its
+/// batches define, whatever workers and depths were chosen, and these are a history of accepted batches. So the entries
+/// are those of that directory, where `chain` says that they are the history's, and so are the answers of `root_at` and of
+/// `lookup`. Two proofs that are accepted for one root, nonce and index with different answers disagree, and there
+/// `coniks_proof::extract` gives two different byte strings of one hash.
+pub fn directory_theorem()
+    ensures epochs { (hash of : List ℕ → List ℕ) (nonce policy : List ℕ) (batches : List Batch) (s : State) → Run hash of nonce policy batches s
+        → history_of s ≡ defined nonce batches }
+    ensures accepted { (hash of : List ℕ → List ℕ) (nonce policy : List ℕ) (batches : List Batch) (s : State) → Run hash of nonce policy batches s
+        → AreAccepted of batches }
+    ensures entries { (hash of : List ℕ → List ℕ) (nonce policy : List ℕ) (batches : List Batch) (s : State) → Run hash of nonce policy batches s
+        → IsChainOf hash of s.policy (history_of s) s.chain → IsChainOf hash of policy (defined nonce batches) s.chain }
+    ensures roots { (hash of : List ℕ → List ℕ) (nonce policy : List ℕ) (batches : List Batch) (s : State) → Run hash of nonce policy batches s
+        → (t : ℕ) (root : Option (List ℕ)) → root ≡ option_map (root_at hash of) (shown_at (history_of s) t) → root ≡ option_map (root_at hash of) (shown_at (defined nonce batches) t) }
+    ensures paths { (hash of : List ℕ → List ℕ) (nonce policy : List ℕ) (batches : List Batch) (s : State) → Run hash of nonce policy batches s
+        → (t : ℕ) (name : List ℕ) (proof : Proof) → IsFound hash of (history_of s) t name proof → IsFound hash of (defined nonce batches) t name proof }
+    ensures lookups { (hash of : List ℕ → List ℕ) (nonce policy : List ℕ) (batches : List Batch) (s : State) → Run hash of nonce policy batches s
+        → (t : ℕ) (name : List ℕ) (proof : Proof) → IsAcceptedAt hash of (history_of s) t name proof → IsAcceptedAt hash of (defined nonce batches) t name proof }
+    ensures answers { (hash : List ℕ → List ℕ) (nonce root index name_a name_b : List ℕ) (a b : Proof) (x y : Option (List ℕ)) → Accepts hash nonce root index name_a a x
+        → Accepts hash nonce root index name_b b y → x ≢ y → Disagree hash nonce root index name_a a name_b b }
 {}

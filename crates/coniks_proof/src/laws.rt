@@ -14,7 +14,15 @@ ghost use Rattle.coniks_proof.specs.Tree.{node};
 
 use crate::hashing::Hash32;
 use crate::paths::Proof;
-use crate::values::{Digest, Index, MAX_NAME, Nonce};
+use crate::values::{Digest, Index, MAX_KEY, MAX_LEVEL, MAX_NAME, MAX_OPERATIONS, Nonce};
+
+/// The limits of the specification.
+pub fn limits()
+    ensures name { MAX_NAME ≡ 255 }
+    ensures key { MAX_KEY ≡ 4096 }
+    ensures level { MAX_LEVEL ≡ 256 }
+    ensures operations { MAX_OPERATIONS ≡ 4096 }
+{}
 
 /// The path to a name's index is accepted, under the root of its registry, with exactly the key that the name is bound
 /// to, or as absence where it is bound to none. For absence the premise is that no registered name has the name's index.

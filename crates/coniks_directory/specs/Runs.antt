@@ -1,0 +1,58 @@
+-- Runs of public calls on a directory, each as its contract tells it, and the directory that the batches define.
+use Rattle.std.specs.Prelude.{◌≡◌, ◌<◌, ◌≤◌, ℕ, List, [], ◌∷◌, ◌++◌, length}
+use Rattle.coniks_proof.specs.Batches.{MayFollow, Operation, after}
+use Rattle.coniks_proof.specs.Registry.{Registry}
+use Rattle.coniks_proof.specs.declared.values.TheConstants.{MAX_OPERATIONS}
+use Rattle.coniks_directory.specs.Batches.{IsAccepted}
+use Rattle.coniks_directory.specs.History.{Shown, latest_registry}
+use Rattle.coniks_directory.specs.State.{State, history_of}
+use Rattle.coniks_directory.specs.Updates.{Grows, IsUpdate, MayInstall, base_of, registry_after, shown_after, shown_next}
+use Rattle.coniks_directory.specs.declared.update.Prepared.{Prepared}
+
+-- a batch, and the epoch that it was installed under
+pub record Batch : Type 0 where
+  pub t : ℕ
+  pub ops : List Operation
+
+-- the epochs that batches make, one after the other, from a registry on
+abbrev pub epochs_from : List ℕ → Registry → List Batch → List Shown
+epochs_from nonce registry [] = []
+epochs_from nonce registry (b ∷ bs) =
+    record { t = b.t; version = 1; nonce = nonce; registry = after registry b.ops } ∷ epochs_from nonce (after registry b.ops) bs
+
+-- the directory that batches define: its epochs, from the empty registry on
+abbrev pub defined : List ℕ → List Batch → List Shown
+defined nonce batches = epochs_from nonce [] batches
+
+-- each batch is under a later epoch, has not too many operations, and may follow the registry before it
+abbrev pub AreAcceptedFrom : (List ℕ → List ℕ) → ℕ → Registry → List Batch → Type 0
+AreAcceptedFrom of t registry [] = Unit {0}
+AreAcceptedFrom of t registry (b ∷ bs) =
+    (t < b.t) × (length b.ops ≤ MAX_OPERATIONS) × MayFollow of registry b.ops × AreAcceptedFrom of b.t (after registry b.ops) bs
+
+-- a history of accepted batches
+abbrev pub AreAccepted : (List ℕ → List ℕ) → List Batch → Type 0
+AreAccepted of batches = AreAcceptedFrom of 0 [] batches
+
+-- what an Ok `prepare` of the operations says of its update, by the directory as it was then
+pub record IsPreparedOf (hash of : List ℕ → List ℕ) (s : State) (ops : List Operation) (depth workers : ℕ) (update : Prepared) : Type 0 where
+  pub is_update : IsUpdate hash of s update
+  pub registry : registry_after s update ≡ after (latest_registry (history_of s)) ops
+  pub accepted : IsAccepted of (latest_registry (history_of s)) ops depth workers
+
+-- public calls on a directory, from `open` on, in which these batches were installed: each call as its contract tells it
+pub data Run (hash of : List ℕ → List ℕ) (nonce policy : List ℕ) : List Batch → State → Type 0 where
+  opened : Run hash of nonce policy [] (record { nonce = nonce; policy = policy; nodes = []; records = []; epochs = []; chain = [] })
+  -- a call that was refused, or that only reads
+  stayed : (batches : List Batch) (s later : State) → Run hash of nonce policy batches s → later ≡ s → Run hash of nonce policy batches later
+  committed : (batches : List Batch) (b : Batch) (s later : State) (depth workers published capacity : ℕ) → Run hash of nonce policy batches s
+      → IsAccepted of (latest_registry (history_of s)) b.ops depth workers
+      → MayInstall s (length s.epochs) b.t published capacity
+      → history_of later ≡ history_of s ++ shown_next s b.ops b.t ∷ [] → Grows s later
+      → Run hash of nonce policy (batches ++ b ∷ []) later
+  -- the update was prepared earlier, with any calls in between
+  installed : (batches : List Batch) (b : Batch) (earlier s later : State) (update : Prepared) (depth workers published capacity : ℕ) → Run hash of nonce policy batches s
+      → IsPreparedOf hash of earlier b.ops depth workers update → Grows earlier s
+      → MayInstall s (base_of update) b.t published capacity
+      → history_of later ≡ history_of s ++ shown_after s update b.t ∷ [] → Grows s later
+      → Run hash of nonce policy (batches ++ b ∷ []) later
