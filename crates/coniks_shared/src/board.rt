@@ -155,26 +155,28 @@ fn show(table: &Shared<u8, BoardView, usize, ByBoard>, seat: &mut Seat<u8, Board
     table.store::<StoreCount>(seat, 0, count as u64);
 }
 
-// Stores the five words of a block, and then the count.
+// Stores the five words of a block, and then the count, which is one more.
 fn put_block(
     table: &Shared<u8, BoardView, usize, ByBoard>,
     seat: &mut Seat<u8, BoardView>,
-    count: usize,
+    count: &mut usize,
     block: &[u64; 5],
 )
     requires table { (seat.old.table_id ≡ table.now.table_id) × (table.now.table_id.words ≡ 5 * table.now.key + 1) × (table.now.key ≤ most_heads) }
     requires publisher { seat.old.me.0 ≡ publisher_view seat.old.me.0.blocks seat.old.me.0.told [] seat.old.me.0.room }
-    requires count { (count ≡ length seat.old.me.0.blocks) × (count < table.now.key) }
+    requires count { (count.old ≡ length seat.old.me.0.blocks) × (count.old < table.now.key) }
     ensures same { (seat.new.table_id ≡ seat.old.table_id) × (seat.new.me.1 ≡ seat.old.me.1) }
+    ensures counted { count.new ≡ count.old + 1 }
     ensures view { seat.new.me.0 ≡ publisher_view (seat.old.me.0.blocks ++ block.now ∷ []) seat.old.me.0.told [] seat.old.me.0.room }
 {
-    let at = 5 * count + 1;
+    let at = 5 * *count + 1;
     put(table, seat, at, block[0]);
     put(table, seat, at + 1, block[1]);
     put(table, seat, at + 2, block[2]);
     put(table, seat, at + 3, block[3]);
     put(table, seat, at + 4, block[4]);
-    show(table, seat, count + 1);
+    *count += 1;
+    show(table, seat, *count);
 }
 
 // Loads the count. As many blocks are then seen.
@@ -290,8 +292,7 @@ impl Publisher {
             return Err(BoardFull);
         }
         let block = head_words(&head);
-        put_block(&board.table.shared, &mut self.seat, self.count, &block);
-        self.count += 1;
+        put_block(&board.table.shared, &mut self.seat, &mut self.count, &block);
         self.last = Some(head);
         Ok(())
     }
