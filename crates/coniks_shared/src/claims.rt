@@ -185,8 +185,8 @@ impl Drawer {
         })
     }
 
-    /// Draws in one step. It answers a number below n, which its list gains and which no other drawer draws, or None
-    /// where none is left. After its first None it answers None, and makes no step.
+    /// Draws in one step. It answers a number below n, which its list gains and which, by the rule of the claims, no other
+    /// drawer draws, or None where none is left. After its first None it answers None, and makes no step.
     ///
     /// A loop over it ends: a number makes the list longer, which is never longer than n.
     pub fn draw(&mut self, claims: &Claims) -> Option<usize>
