@@ -5,12 +5,11 @@ use Rattle.std.specs.Option.{option_map}
 use Rattle.std.proofs.lemmas.Option.{slice_get_within, slice_get-get_or, slice_get-map, same_Some}
 use Rattle.std.proofs.lemmas.Bool.{cases_lt}
 use Rattle.coniks_proof.specs.declared.paths.Proof.{Proof}
-use Rattle.coniks_proof.specs.Proofs.{Accepts, answer_of}
 use Rattle.coniks_chain.specs.declared.entry.Entry.{Entry}
 use Rattle.coniks_chain.specs.declared.auditor.AuditFault.TheVariants.{NotLater}
 use Rattle.coniks_chain.specs.Chain.{Follows, before_of, before_at, GoodChain}
 use Rattle.coniks_chain.specs.Watch.{IsSoundRun, entries_of}
-use Rattle.coniks_chain.specs.Clients.{TwoClients}
+use Rattle.coniks_chain.specs.Clients.{IsAcceptedUnder, TwoClients}
 use Rattle.coniks_chain.proofs.ChainLemmas.{row}
 
 -- equality of entries is decided
@@ -92,21 +91,22 @@ entry_at : (items : List (Entry × Proof)) (k : ℕ) (item : Entry × Proof) →
 entry_at items k item at = slice_get-map (λ x. x.0) items k ∙ ap (option_map (λ x. x.0)) at
 
 pub two_clients : TwoClients
-two_clients hash verdict index name_a name_b link a b at_a at_b both_are =
-    let good_a = run_good hash verdict name_a index a both_are.sound_a in
-    let good_b = run_good hash verdict name_b index b both_are.sound_b in
+two_clients hash verdict index link a b is_a is_b epoch answers =
+    let good_a = run_good hash verdict a.name index a.items is_a.sound in
+    let good_b = run_good hash verdict b.name index b.items is_b.sound in
     ⊎_elim
-    (λ (same : entries_of a ≡ entries_of b).
-    let stands_b : slice_get (entries_of a) both_are.place_b ≡ Some at_b.0 = ap (λ l. slice_get l both_are.place_b) same ∙ entry_at b both_are.place_b at_b both_are.stands_b in
-    let one : at_a.0 ≡ at_b.0 = one_place hash verdict (entries_of a) both_are.place_a both_are.place_b at_a.0 at_b.0 good_a (entry_at a both_are.place_a at_a both_are.stands_a) stands_b both_are.epoch in
+    (λ (same : entries_of a.items ≡ entries_of b.items).
+    let stands_a : slice_get (entries_of a.items) a.place ≡ Some a.entry = entry_at a.items a.place (a.entry, a.proof) is_a.stands in
+    let stands_b : slice_get (entries_of a.items) b.place ≡ Some b.entry = ap (λ l. slice_get l b.place) same ∙ entry_at b.items b.place (b.entry, b.proof) is_b.stands in
+    let one : a.entry ≡ b.entry = one_place hash verdict (entries_of a.items) a.place b.place a.entry b.entry good_a stands_a stands_b epoch in
     inr (
       same,
-      one,
       record {
-        accepted_a = (both_are.sound_a both_are.place_a at_a both_are.stands_a).accepted;
-        accepted_b = subst (λ (e : Entry). Accepts hash e.body.nonce.0 e.body.root.0 index name_b at_b.1 (answer_of at_b.1.end)) (sym one) (both_are.sound_b both_are.place_b at_b both_are.stands_b).accepted;
-        differ = both_are.answers;
+        one = one;
+        accepted_a = (is_a.sound a.place (a.entry, a.proof) is_a.stands).accepted;
+        accepted_b = subst (λ e. IsAcceptedUnder hash index e b) (sym one) (is_b.sound b.place (b.entry, b.proof) is_b.stands).accepted;
+        differ = answers;
       },
     ))
-    (λ apart. inl (record { good_a = good_a; good_b = good_b; ends_a = both_are.ends_a; ends_b = both_are.ends_b; differ = apart }))
-    (decide_list decide_entry (entries_of a) (entries_of b))
+    (λ apart. inl (record { good_a = good_a; good_b = good_b; ends_a = is_a.ends; ends_b = is_b.ends; differ = apart }))
+    (decide_list decide_entry (entries_of a.items) (entries_of b.items))

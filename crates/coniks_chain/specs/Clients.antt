@@ -7,18 +7,31 @@ use Rattle.coniks_chain.specs.Chain.{GoodChain}
 use Rattle.coniks_chain.specs.Fork.{EndsWith}
 use Rattle.coniks_chain.specs.Watch.{IsSoundRun, entries_of}
 
--- sound runs of two fresh monitors with one last link, and two steps of one epoch with different answers
-pub record Clients (hash : List ℕ → List ℕ) (verdict : List ℕ → List ℕ → Bool) (index name_a name_b link : List ℕ) (a b : List (Entry × Proof)) (at_a at_b : Entry × Proof) : Type 0 where
-  pub sound_a : IsSoundRun hash verdict None name_a index a
-  pub sound_b : IsSoundRun hash verdict None name_b index b
-  pub ends_a : EndsWith hash (entries_of a) link
-  pub ends_b : EndsWith hash (entries_of b) link
-  pub place_a : ℕ
-  pub place_b : ℕ
-  pub stands_a : slice_get a place_a ≡ Some at_a
-  pub stands_b : slice_get b place_b ≡ Some at_b
-  pub epoch : at_a.0.body.t ≡ at_b.0.body.t
-  pub answers : answer_of at_a.1.end ≢ answer_of at_b.1.end
+-- a client: its name, the entries and proofs of its run, and one step of that run, by its place
+pub record Client : Type 0 where
+  pub name : List ℕ
+  pub items : List (Entry × Proof)
+  pub place : ℕ
+  pub entry : Entry
+  pub proof : Proof
+
+-- a client that started anew: its run is sound, its chain ends in this link, and the step stands at its place
+pub record IsClient (hash : List ℕ → List ℕ) (verdict : List ℕ → List ℕ → Bool) (index link : List ℕ) (client : Client) : Type 0 where
+  pub sound : IsSoundRun hash verdict None client.name index client.items
+  pub ends : EndsWith hash (entries_of client.items) link
+  pub stands : slice_get client.items client.place ≡ Some (client.entry, client.proof)
+
+-- the steps of both are of one epoch
+abbrev pub AreOfOneEpoch : Client → Client → Type 0
+AreOfOneEpoch a b = a.entry.body.t ≡ b.entry.body.t
+
+-- the proofs of both tell different answers
+abbrev pub TellDifferently : Client → Client → Type 0
+TellDifferently a b = answer_of a.proof.end ≢ answer_of b.proof.end
+
+-- under the root of this entry a client's proof is accepted with its answer
+abbrev pub IsAcceptedUnder : (List ℕ → List ℕ) → List ℕ → Entry → Client → Type 0
+IsAcceptedUnder hash index entry client = Accepts hash entry.body.nonce.0 entry.body.root.0 index client.name client.proof (answer_of client.proof.end)
 
 -- the two chains are good, have one last link, and differ
 pub record AreTwoHistories (hash : List ℕ → List ℕ) (verdict : List ℕ → List ℕ → Bool) (link : List ℕ) (xs ys : List Entry) : Type 0 where
@@ -28,15 +41,16 @@ pub record AreTwoHistories (hash : List ℕ → List ℕ) (verdict : List ℕ �
   pub ends_b : EndsWith hash ys link
   pub differ : xs ≢ ys
 
--- two proofs are accepted for one root, nonce and index, with different answers
-pub record AreTwoAnswers (hash : List ℕ → List ℕ) (nonce root index name_a name_b : List ℕ) (p q : Proof) : Type 0 where
-  pub accepted_a : Accepts hash nonce root index name_a p (answer_of p.end)
-  pub accepted_b : Accepts hash nonce root index name_b q (answer_of q.end)
-  pub differ : answer_of p.end ≢ answer_of q.end
+-- the steps of both have one entry, and under its root both proofs are accepted, with different answers
+pub record AreTwoAnswers (hash : List ℕ → List ℕ) (index : List ℕ) (a b : Client) : Type 0 where
+  pub one : a.entry ≡ b.entry
+  pub accepted_a : IsAcceptedUnder hash index a.entry a
+  pub accepted_b : IsAcceptedUnder hash index a.entry b
+  pub differ : TellDifferently a b
 
 -- two clients that saw different answers hold two histories, or one history and two answers under one root of it
 abbrev pub TwoClients : Type 0
-TwoClients = (hash : List ℕ → List ℕ) (verdict : List ℕ → List ℕ → Bool) (index name_a name_b link : List ℕ) (a b : List (Entry × Proof)) (at_a at_b : Entry × Proof)
-    → Clients hash verdict index name_a name_b link a b at_a at_b
-    → AreTwoHistories hash verdict link (entries_of a) (entries_of b)
-    ⊎ ((entries_of a ≡ entries_of b) × (at_a.0 ≡ at_b.0) × AreTwoAnswers hash at_a.0.body.nonce.0 at_a.0.body.root.0 index name_a name_b at_a.1 at_b.1)
+TwoClients = (hash : List ℕ → List ℕ) (verdict : List ℕ → List ℕ → Bool) (index link : List ℕ) (a b : Client)
+    → IsClient hash verdict index link a → IsClient hash verdict index link b → AreOfOneEpoch a b → TellDifferently a b
+    → AreTwoHistories hash verdict link (entries_of a.items) (entries_of b.items)
+    ⊎ ((entries_of a.items ≡ entries_of b.items) × AreTwoAnswers hash index a b)

@@ -3,7 +3,7 @@ use Rattle.std.specs.Prelude.{◌≡◌, ℕ, ◌+◌, ◌-◌, ◌<◌, ◌≤�
 use mathlib.Core.Option.{some}
 use lib.ListN.{get_elem?}
 use Rattle.atomic_table.specs.Table.{State, Step, Me}
-use Rattle.coniks_shared.specs.declared.claims.TheConstants.{MAX_NUMBERS, MAX_DRAWERS}
+use Rattle.coniks_shared.specs.Limits.{most_numbers, most_drawers}
 use Rattle.coniks_shared.specs.declared.claims_rule.DrawerView.{DrawerView}
 use Rattle.coniks_shared.specs.Draws.{times, once_below}
 use Rattle.coniks_shared.specs.Drawers.{Drawing}
@@ -25,7 +25,7 @@ pub record FitsClaims (n word : ℕ) (v : DrawerView) : Type 0 where
 
 -- The numbers below the lesser of the word and n stand in the lists, each once, and no other number does. The word is at most n, and one more for each drawer that is out. The parts are 64 in all, so who has them all has every list.
 pub record HoldsClaims (n word : ℕ) (views : List DrawerView) : Type 0 where
-  pub parts : total (λ v. v.parts) views ≡ MAX_DRAWERS
+  pub parts : total (λ v. v.parts) views ≡ most_drawers
   pub drawn : (x : ℕ) → total (λ v. times x v.list) views ≡ once_below x (min word n)
   pub count : total (λ v. length v.list) views ≡ min word n
   pub most : word ≤ n + total (λ v. v.outs) views
@@ -33,7 +33,7 @@ pub record HoldsClaims (n word : ℕ) (views : List DrawerView) : Type 0 where
 
 -- the rule of the claims of the numbers below n
 abbrev pub IsByClaims : {S : Type 0} → ℕ → State S DrawerView → Type 0
-IsByClaims n s = (n ≤ MAX_NUMBERS) × ((word : ℕ) × (s.words ≡ word ∷ []) × HoldsClaims n word s.views)
+IsByClaims n s = (n ≤ most_numbers) × ((word : ℕ) × (s.words ≡ word ∷ []) × HoldsClaims n word s.views)
 
 -- the view after a draw that found k: k joins the list where it is below n, and else the drawer is out
 abbrev pub after_draw : DrawerView → ℕ → DrawerView
@@ -58,7 +58,7 @@ outs_of false = 0
 
 -- the first drawer has all parts, less one for each split, and any other has one
 abbrev pub parts_of : Bool → ℕ → ℕ
-parts_of true splits = (MAX_DRAWERS - 1 - splits) + 1
+parts_of true splits = (most_drawers - 1 - splits) + 1
 parts_of false splits = 1
 
 -- the view of a drawer's seat

@@ -6,4 +6,5 @@ pub mod Drawers
 pub mod Draws
 pub mod Gathered
 pub mod HeadWords
+pub mod Limits
 pub mod Lists

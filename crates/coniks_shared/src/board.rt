@@ -1,5 +1,6 @@
 //! The board: one publisher puts heads on it, and watchers read the last one.
 ghost use Rattle.std.specs.Prelude.{◌≡◌, ◌≤◌, ◌<◌, ◌+◌, ◌*◌, ◌++◌, ◌∷◌, ◌-◌, [], true, length, slice_index, Some, IsOk, IfOk, OnErr, OnOk};
+ghost use Rattle.coniks_shared.specs.Limits.{most_heads};
 ghost use Rattle.coniks_shared.specs.Lists.{Begins, last_of};
 ghost use Rattle.coniks_shared.specs.Blocks.{flat, AllFive};
 ghost use Rattle.coniks_shared.specs.BoardRule.{publisher_view, watcher_view, told_view};
@@ -28,7 +29,7 @@ pub struct Board {
 
 impl Model for Board {
     ghost use Rattle.std.specs.Prelude.{◌≡◌, ◌≤◌, ◌+◌, ◌*◌};
-    ghost use Rattle.coniks_shared.specs.declared.board.TheConstants.{MAX_HEADS};
+    ghost use Rattle.coniks_shared.specs.Limits.{most_heads};
     ghost use Rattle.coniks_shared.specs.Boards.{Boarded, boarded_code};
 
     ghost Value = { Boarded };
@@ -37,7 +38,7 @@ impl Model for Board {
 
     ghost view = { λ b. record { table = b.table.shared.table_id; capacity = b.capacity } };
 
-    ghost invariant = { λ b. (b.table.shared.key ≡ b.capacity) × (b.table.shared.table_id.words ≡ 5 * b.capacity + 1) × (b.capacity ≤ MAX_HEADS) };
+    ghost invariant = { λ b. (b.table.shared.key ≡ b.capacity) × (b.table.shared.table_id.words ≡ 5 * b.capacity + 1) × (b.capacity ≤ most_heads) };
 }
 
 /// The one end of a board that publishes. Contracts see it as its board's table, and the heads that are published.
@@ -90,7 +91,7 @@ impl Board {
     /// An empty board for 1 to 65,536 heads, with its publisher. It takes 8 bytes and 40 more for each head, and as much
     /// again while it is made. It is `NoBoard` only for want of memory.
     pub fn new(alloc: Global, capacity: usize) -> Result<(Board, Publisher), NoBoard>
-        requires { (1 ≤ capacity) × (capacity ≤ MAX_HEADS) }
+        requires { (1 ≤ capacity) × (capacity ≤ most_heads) }
         ensures { IfOk result (λ r. (r.0.capacity ≡ capacity) × (r.1 ≡ board_end r.0.table [])) }
     {
         let Ok(words) = Vec::from_elem(alloc, 0, 5 * capacity + 1) else {
@@ -154,26 +155,28 @@ fn show(table: &Shared<u8, BoardView, usize, ByBoard>, seat: &mut Seat<u8, Board
     table.store::<StoreCount>(seat, 0, count as u64);
 }
 
-// Stores the five words of a block, and then the count.
+// Stores the five words of a block, and then the count, which is one more.
 fn put_block(
     table: &Shared<u8, BoardView, usize, ByBoard>,
     seat: &mut Seat<u8, BoardView>,
-    count: usize,
+    count: &mut usize,
     block: &[u64; 5],
 )
-    requires table { (seat.old.table_id ≡ table.now.table_id) × (table.now.table_id.words ≡ 5 * table.now.key + 1) × (table.now.key ≤ MAX_HEADS) }
+    requires table { (seat.old.table_id ≡ table.now.table_id) × (table.now.table_id.words ≡ 5 * table.now.key + 1) × (table.now.key ≤ most_heads) }
     requires publisher { seat.old.me.0 ≡ publisher_view seat.old.me.0.blocks seat.old.me.0.told [] seat.old.me.0.room }
-    requires count { (count ≡ length seat.old.me.0.blocks) × (count < table.now.key) }
+    requires count { (count.old ≡ length seat.old.me.0.blocks) × (count.old < table.now.key) }
     ensures same { (seat.new.table_id ≡ seat.old.table_id) × (seat.new.me.1 ≡ seat.old.me.1) }
+    ensures counted { count.new ≡ count.old + 1 }
     ensures view { seat.new.me.0 ≡ publisher_view (seat.old.me.0.blocks ++ block.now ∷ []) seat.old.me.0.told [] seat.old.me.0.room }
 {
-    let at = 5 * count + 1;
+    let at = 5 * *count + 1;
     put(table, seat, at, block[0]);
     put(table, seat, at + 1, block[1]);
     put(table, seat, at + 2, block[2]);
     put(table, seat, at + 3, block[3]);
     put(table, seat, at + 4, block[4]);
-    show(table, seat, count + 1);
+    *count += 1;
+    show(table, seat, *count);
 }
 
 // Loads the count. As many blocks are then seen.
@@ -208,7 +211,7 @@ fn read_block(
     seat: &mut Seat<u8, BoardView>,
     count: usize,
 ) -> [u64; 5]
-    requires table { (seat.old.table_id ≡ table.now.table_id) × (5 * count < table.now.table_id.words) × (count ≤ MAX_HEADS) }
+    requires table { (seat.old.table_id ≡ table.now.table_id) × (5 * count < table.now.table_id.words) × (count ≤ most_heads) }
     requires seen { (0 < count) × (length seat.old.me.0.blocks ≡ count) × AllFive seat.old.me.0.blocks }
     ensures same { (seat.new.table_id ≡ seat.old.table_id) × (seat.new.me ≡ seat.old.me) }
     ensures last { Some result ≡ last_of seat.old.me.0.blocks }
@@ -289,8 +292,7 @@ impl Publisher {
             return Err(BoardFull);
         }
         let block = head_words(&head);
-        put_block(&board.table.shared, &mut self.seat, self.count, &block);
-        self.count += 1;
+        put_block(&board.table.shared, &mut self.seat, &mut self.count, &block);
         self.last = Some(head);
         Ok(())
     }

@@ -1,5 +1,6 @@
 //! The claims: numbers below n, which the drawers on several threads draw, each once.
 ghost use Rattle.std.specs.Prelude.{◌≡◌, ◌≤◌, ◌<◌, ◌+◌, ◌-◌, ◌++◌, ◌∷◌, ◌↔◌, [], true, false, length, All, IsOk, IfOk, IfSome, IfNone, OnErr, None};
+ghost use Rattle.coniks_shared.specs.Limits.{most_numbers, most_drawers};
 ghost use Rattle.coniks_shared.specs.Draws.{Draws};
 ghost use Rattle.coniks_shared.specs.Drawers.{drawing, lists_of, HasFirst, SomeOut};
 ghost use Rattle.coniks_shared.specs.ClaimsRule.{after_draw, drawer_view, view_of};
@@ -51,7 +52,7 @@ pub struct Drawer {
 
 impl Model for Drawer {
     ghost use Rattle.std.specs.Prelude.{◌≡◌, ◌<◌, []};
-    ghost use Rattle.coniks_shared.specs.declared.claims.TheConstants.{MAX_DRAWERS};
+    ghost use Rattle.coniks_shared.specs.Limits.{most_drawers};
     ghost use Rattle.coniks_shared.specs.Drawers.{Drawing, drawing_code, drawing};
     ghost use Rattle.coniks_shared.specs.ClaimsRule.{outs_of, parts_of};
 
@@ -61,13 +62,13 @@ impl Model for Drawer {
 
     ghost view = { λ d. drawing d.seat.table_id d.limit d.seat.me.0.list d.out d.first d.splits };
 
-    ghost invariant = { λ d. (d.seat.me.1 ≡ []) × (d.seat.me.0.limit ≡ d.limit) × (d.seat.me.0.outs ≡ outs_of d.out) × (d.seat.me.0.parts ≡ parts_of d.first d.splits) × (d.splits < MAX_DRAWERS) };
+    ghost invariant = { λ d. (d.seat.me.1 ≡ []) × (d.seat.me.0.limit ≡ d.limit) × (d.seat.me.0.outs ≡ outs_of d.out) × (d.seat.me.0.parts ≡ parts_of d.first d.splits) × (d.splits < most_drawers) };
 }
 
 impl Claims {
     /// The numbers below `n`, at most 4,096, with their first drawer. It is `NoClaims` only for want of memory.
     pub fn new(alloc: Global, n: usize) -> Result<(Claims, Drawer), NoClaims>
-        requires { n ≤ MAX_NUMBERS }
+        requires { n ≤ most_numbers }
         ensures { IfOk result (λ r. (r.0.limit ≡ n) × (r.1 ≡ drawing r.0.table n [] false true 0)) }
     {
         let Ok((table, seat)) = Table::of_words(alloc, &[0], &n) else {
@@ -165,7 +166,7 @@ impl Drawer {
     #[tactic(auto, using(crate::proofs::GatherLemmas::spare_part, crate::proofs::GatherLemmas::outs_few))]
     pub fn split(&mut self, claims: &Claims) -> Result<Drawer, NoSeat>
         requires { self.old.table ≡ claims.now.table }
-        ensures few { IsOk result ↔ ((self.old.first ≡ true) × (self.old.splits + 1 < MAX_DRAWERS)) }
+        ensures few { IsOk result ↔ ((self.old.first ≡ true) × (self.old.splits + 1 < most_drawers)) }
         ensures new { IfOk result (λ d. d ≡ drawing self.old.table self.old.limit [] false false 0) }
         ensures counted { IfOk result (λ _. self.new ≡ drawing self.old.table self.old.limit self.old.list self.old.out true (self.old.splits + 1)) }
         ensures err { OnErr result (self.new ≡ self.old) }
@@ -184,8 +185,8 @@ impl Drawer {
         })
     }
 
-    /// Draws in one step. It answers a number below n, which its list gains and which no other drawer draws, or None
-    /// where none is left. After its first None it answers None, and makes no step.
+    /// Draws in one step. It answers a number below n, which its list gains and which, by the rule of the claims, no other
+    /// drawer draws, or None where none is left. After its first None it answers None, and makes no step.
     ///
     /// A loop over it ends: a number makes the list longer, which is never longer than n.
     pub fn draw(&mut self, claims: &Claims) -> Option<usize>

@@ -16,12 +16,12 @@ pub struct ByClaims;
 
 impl<S> TableRule<S, DrawerView, usize> for ByClaims {
     ghost use Rattle.std.specs.Prelude.{[]};
-    ghost use Rattle.coniks_shared.specs.declared.claims.TheConstants.{MAX_DRAWERS};
+    ghost use Rattle.coniks_shared.specs.Limits.{most_drawers};
     ghost use Rattle.coniks_shared.specs.ClaimsRule.{drawer_view, IsByClaims};
 
     ghost holds = { IsByClaims };
 
-    ghost first = { λ n. drawer_view [] MAX_DRAWERS 0 n };
+    ghost first = { λ n. drawer_view [] most_drawers 0 n };
 }
 
 /// One number is drawn, or the drawer is out.

@@ -8,6 +8,7 @@ mod claims;
 mod claims_rule;
 mod errors;
 mod head_words;
+pub mod laws;
 #[cfg(test)]
 mod tests;
 

@@ -1,4 +1,4 @@
-use Rattle.std.proofs.Common.{rules, ◌≡◌, ◌∙◌, ◌+◌, ◌++◌, ◌∷◌, [], length, length-append, ap, arith}
+use Rattle.std.proofs.Common.{rules, ◌≡◌, ◌∙◌, ◌++◌, ◌∷◌, [], length, length-append, ap, arith}
 use Rattle.coniks_shared.specs.declared.board_rule.BoardView.{BoardView}
 use Rattle.coniks_shared.specs.Boards.{BoardEnd, board_end}
 use Rattle.coniks_shared.specs.HeadWords.{heads_of}
@@ -16,9 +16,10 @@ returns-clause-ok c =
 pub invariant_of-self : goal.invariant_of-self
 invariant_of-self c =
     let grown = last_grown c.self.inside.seat.me.0.blocks _ c.head_words-block.result c.args.head (ap (λ (v : BoardView). v.blocks) c.put_block.ensures.view) c.head_words-block.ensures.back in
-    let longer : length c.put_block.new.seat.me.0.blocks ≡ c.self.inside.count + 1 =
+    let longer : length c.put_block.new.seat.me.0.blocks ≡ c.put_block.new.count =
     (let blocks = ap (λ (v : BoardView). length v.blocks) c.put_block.ensures.view in
     let more = length-append c.self.inside.seat.me.0.blocks (c.head_words-block.result ∷ []) in
     let count = c.self.invariant.2 in
+    let counted = c.put_block.ensures.counted in
     omega arith) in
     (search rules, search rules, longer, search rules, search rules, grown)
