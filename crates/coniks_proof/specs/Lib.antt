@@ -12,3 +12,4 @@ pub mod Meetings
 pub mod Registry
 pub mod Batches
 pub use Rattle.sha2.specs.Sha256
+pub mod Limits

@@ -6,6 +6,7 @@ ghost use Rattle.coniks_proof.specs.Changes.{AreApart, AreIncreasing, AreInOrder
 ghost use Rattle.coniks_proof.specs.Entries.{Entry, IsIn, backed_by};
 ghost use Rattle.coniks_proof.specs.Maps.{IsMap, SameEntries};
 ghost use Rattle.coniks_proof.specs.Faults.{Has};
+ghost use Rattle.coniks_proof.specs.Limits.{deepest_level, longest_key, longest_name, most_operations};
 ghost use Rattle.coniks_proof.specs.Proofs.{Accepts, answer_of};
 ghost use Rattle.coniks_proof.specs.declared.checker.CheckFault.{CheckFault};
 ghost use Rattle.coniks_proof.specs.Registry.{AreWithin, HaveOwnIndices, IsFree, IsLength, Registry, entries_of, has_name, key_of, root_of};
@@ -16,12 +17,12 @@ use crate::hashing::Hash32;
 use crate::paths::Proof;
 use crate::values::{Digest, Index, MAX_KEY, MAX_LEVEL, MAX_NAME, MAX_OPERATIONS, Nonce};
 
-/// The limits of the specification.
+/// The limits that callers read are those of the specification.
 pub fn limits()
-    ensures name { MAX_NAME ≡ 255 }
-    ensures key { MAX_KEY ≡ 4096 }
-    ensures level { MAX_LEVEL ≡ 256 }
-    ensures operations { MAX_OPERATIONS ≡ 4096 }
+    ensures name { MAX_NAME ≡ longest_name }
+    ensures key { MAX_KEY ≡ longest_key }
+    ensures level { MAX_LEVEL ≡ deepest_level }
+    ensures operations { MAX_OPERATIONS ≡ most_operations }
 {}
 
 /// The path to a name's index is accepted, under the root of its registry, with exactly the key that the name is bound

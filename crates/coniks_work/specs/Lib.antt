@@ -3,3 +3,4 @@ pub mod Grown
 pub mod Jobs
 pub mod Places
 pub mod Sides
+pub mod Limits

@@ -11,6 +11,7 @@ mod crew;
 mod gate;
 mod growing;
 mod jobs;
+pub mod laws;
 mod places;
 mod rise;
 mod sides;
