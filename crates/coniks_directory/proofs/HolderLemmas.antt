@@ -5,11 +5,9 @@ use Rattle.std.specs.Str.{bytes_eq}
 use Rattle.std.proofs.lemmas.Slice.Eq.{bytes_eq-Decides}
 use Rattle.coniks_proof.specs.Entries.{Entry, IsIn, backed_by}
 use Rattle.coniks_proof.specs.Maps.{IsMap}
-use Rattle.coniks_proof.specs.Paths.{end_of}
 use Rattle.coniks_proof.specs.Registry.{Registered, Registry, has_name, entry_of, entries_of, IsFree}
 use Rattle.coniks_proof.specs.Batches.{clashes}
-use Rattle.coniks_proof.proofs.LookupLemmas.{end_of-in, end_of-present}
-use Rattle.coniks_proof.proofs.MapLemmas.{IsMap-apart, new_apart}
+use Rattle.coniks_proof.proofs.MapLemmas.{new_apart}
 use Rattle.coniks_proof.proofs.RegistryLemmas.{entry_in, in_entries, named_in}
 use Rattle.coniks_tree.specs.Table.{Numbered, entry_of_record, registered_at, registered_by}
 use Rattle.coniks_tree.specs.Paths.{Finds}
@@ -40,21 +38,19 @@ same_entry {B} (x ∷ es) e f m (inr one) (inl two) same = absurd (new_apart x.i
 same_entry (x ∷ es) e f m (inr one) (inr two) same = same_entry es e f m.2 one two same
 
 module _ (hash of : List ℕ → List ℕ) (nonce : List ℕ) (nodes : List Node) (records : List Record) (root : ℕ) (registry : Registry) (s : ShowsRegistry hash of nonce nodes records root registry) where
-  pub found_none : (i : List ℕ) → Finds records i None (end_of [] i s.entries) → IsFree of registry i
+  pub found_none : (i : List ℕ) → Finds records i None s.entries → IsFree of registry i
   found_none i finds = λ name at. not_true (has_name registry name) (λ h.
       let n = named_of registry name h in
       let k = in_backed (registered_at records) s.entries (entry_of hash of n.bound) (s.mirrors.same.back (entry_of hash of n.bound) (entry_in hash of n.bound registry n.there)) in
-      let index-is : k.0.index ≡ i = ap (λ (e : Entry Registered). e.index) k.2 ∙ ap of n.named ∙ at in
-      finds k.0 (end_of-present 256 [] i s.entries k.0 refl (IsMap-apart s.entries s.mirrors.indices) index-is k.1) index-is)
+      finds k.0 k.1 (ap (λ (e : Entry Registered). e.index) k.2 ∙ ap of n.named ∙ at))
 
-  pub found_some : (i : List ℕ) (place : RecordNo) (r : Record) → Finds records i (Some place) (end_of [] i s.entries) → slice_get records place.0 ≡ Some r → IsHeld of registry i (registered_of r)
+  pub found_some : (i : List ℕ) (place : RecordNo) (r : Record) → Finds records i (Some place) s.entries → slice_get records place.0 ≡ Some r → IsHeld of registry i (registered_of r)
   found_some i place r finds at =
       let finds-at = finds.1 in
       let one : finds.0 ≡ r = cc in
       let e : Numbered = entry_of_record place.0 finds.0 in
       let f = registered_at records in
-      let there : IsIn e s.entries = end_of-in 256 [] i s.entries e refl (IsMap-apart s.entries s.mirrors.indices) finds.2 in
-      let stands : IsIn (backed_by f e) (entries_of hash of registry) = s.mirrors.same.there (backed_by f e) (backed_in f s.entries e there) in
+      let stands : IsIn (backed_by f e) (entries_of hash of registry) = s.mirrors.same.there (backed_by f e) (backed_in f s.entries e finds.2) in
       let own = in_entries hash of (backed_by f e) registry stands in
       let binds : f place.0 ≡ registered_of r = ap registered_by at in
       let b = registered_of r in

@@ -57,7 +57,7 @@ pub weight-Stands : (hash : List ℕ → List ℕ) (nonce : List ℕ) (nodes : L
 weight-Stands hash nonce nodes records Nothing p b es s = omega arith
 weight-Stands hash nonce nodes records (Entry c) p b es s = omega (arith, ap length s)
 weight-Stands hash nonce nodes records (Kept root) p b es s = s.1 (omega (arith, length-child p b))
-weight-Stands hash nonce nodes records (Made' ptr d lh rh count left right) p b es s = s.0
+weight-Stands hash nonce nodes records (Made' ptr d lh rh count left right) p b es s = s.many
 
 pub join_many : (hash : List ℕ → List ℕ) (nonce : List ℕ) (nodes : List Node) (records : List Record) (left right : Part) (p : List Bool) (es : List Numbered) → 2 ≤ weight_of left + weight_of right
     → Stands hash nonce nodes records left (child p false) (half false (length p) es) → Stands hash nonce nodes records right (child p true) (half true (length p) es) → 2 ≤ length es

@@ -1,18 +1,23 @@
 -- Paths.
-use Rattle.std.proofs.Common.{◌≡◌, ℕ, ◌+◌, ◌≤◌, List, [], ◌∷◌, ◌++◌, length, Bool, true, false, refl, sym, ap, subst, ◌∙◌, arith, Some, slice_get, map, append_assoc, append-nil}
+use Rattle.std.proofs.Common.{◌≡◌, ℕ, zero, suc, ◌+◌, ◌≤◌, List, [], ◌∷◌, ◌++◌, length, Bool, true, false, refl, sym, ap, subst, ◌∙◌, arith, Option, Some, None, slice_get, map, append_assoc, append-nil}
 use Rattle.coniks_proof.specs.Bits.{bit_at, child}
 use Rattle.coniks_proof.specs.Entries.{Entry, backed_by, half}
+use Rattle.coniks_proof.specs.Changes.{ApartWithin, AreApart}
 use Rattle.coniks_proof.specs.Registry.{Registered}
 use Rattle.coniks_proof.specs.Paths.{siblings, end_of}
 use Rattle.coniks_proof.proofs.NodeLemmas.{siblings-inner, siblings-empty, siblings-leaf, end_of-inner, end_of-empty, end_of-leaf, length-child}
+use Rattle.coniks_proof.proofs.HalfLemmas.{length-halves}
+use Rattle.coniks_proof.proofs.LookupLemmas.{end_of-in, end_of-present}
 use Rattle.coniks_proof.specs.declared.values.Digest.{Digest}
 use Rattle.coniks_tree.specs.Table.{Numbered, registered_at, registered_by, Shows, shows_empty, shows_leaf, shows_inner, hash_of_node, entry_of_record}
-use Rattle.coniks_tree.specs.Paths.{IsAt, IsStep}
+use Rattle.coniks_tree.specs.Paths.{Finds, IsAt, IsStep, StopsAt}
 use Rattle.coniks_tree.proofs.TableLemmas.{Shows-hash}
 use Rattle.coniks_tree.specs.declared.table.Node.{Node}
 use Rattle.coniks_tree.specs.declared.table.Node.TheVariants.{Leaf, Inner}
 use Rattle.coniks_tree.specs.declared.table.Record.{Record}
 use Rattle.coniks_tree.specs.declared.table.RecordNo.{RecordNo}
+use Rattle.coniks_tree.specs.declared.path.Stop.{Stop}
+use Rattle.coniks_tree.specs.declared.path.Stop.TheVariants.{Empty, Other, Here}
 
 pub step_left : (hash : List ℕ → List ℕ) (nonce : List ℕ) (nodes : List Node) (records : List Record) (b : Bool) (p : List Bool) (es : List Numbered) (n l r : ℕ) (d x : Digest) (v : Node)
     → b ≡ false → slice_get nodes n ≡ Some (Inner l r d) → slice_get nodes r ≡ Some v → x ≡ hash_of_node v → Shows hash nonce nodes records n p es → IsStep hash nonce nodes records b p es l x
@@ -105,3 +110,52 @@ here_shown records index entries place found name key at name-is key-is t =
     let is : registered_at records place.0 ≡ bound name key =
     ap registered_by at ∙ ap (λ n. bound n found.binding.key) (sym name-is) ∙ ap (bound name) (sym key-is) in
     (t.0.commitment.0, ap (map (backed_by (registered_at records))) t.2 ∙ ap (λ i. one i (registered_at records place.0)) t.3 ∙ ap (one index) is)
+
+-- ---- what is found in the whole map
+
+apart-few : (h k : ℕ) (es : List Numbered) → length es ≤ 1 → ApartWithin h k es
+unfolding ApartWithin
+apart-few zero k es few = few
+apart-few (suc h) k es few =
+    let all = length-halves k es in
+    (apart-few h (suc k) (half false k es) (omega (arith, all, few)), apart-few h (suc k) (half true k es) (omega (arith, all, few)))
+
+-- the entries that a node shows part within the bits below it
+shown_within : (hash : List ℕ → List ℕ) (nonce : List ℕ) (nodes : List Node) (records : List Record) (h n : ℕ) (p : List Bool) (es : List Numbered)
+    → length p + h ≡ 256 → Shows hash nonce nodes records n p es → ApartWithin h (length p) es
+unfolding ApartWithin
+shown_within hash nonce nodes records h _ _ _ full (shows_empty n p es d at none is) = apart-few h (length p) es (omega (arith, ap length none))
+shown_within hash nonce nodes records h _ _ _ full (shows_leaf n p es d place r at stored one is) = apart-few h (length p) es (omega (arith, ap length one))
+shown_within hash nonce nodes records zero _ _ _ full (shows_inner n p es d l r at short many is left right) = absurd (omega arith)
+shown_within hash nonce nodes records (suc h) _ _ _ full (shows_inner n p es d l r at short many is left right) =
+    let deeper : (b : Bool) → length (child p b) ≡ suc (length p) = λ b. omega (arith, length-child p b) in (
+      subst (λ k. ApartWithin h k (half false (length p) es)) (deeper false) (shown_within hash nonce nodes records h l (child p false) _ (omega (arith, deeper false)) left),
+      subst (λ k. ApartWithin h k (half true (length p) es)) (deeper true) (shown_within hash nonce nodes records h r (child p true) _ (omega (arith, deeper true)) right),
+    )
+
+-- no two of the entries that a root shows have the same bits
+pub Shows-apart : (hash : List ℕ → List ℕ) (nonce : List ℕ) (nodes : List Node) (records : List Record) (n : ℕ) (es : List Numbered)
+    → Shows hash nonce nodes records n [] es → AreApart 0 es
+unfolding AreApart
+Shows-apart hash nonce nodes records n es s = shown_within hash nonce nodes records 256 n [] es refl s
+
+-- the record that the way stops at
+abbrev pub found_at : Stop → Option RecordNo
+found_at Empty = None
+found_at (Other i c) = None
+found_at (Here place) = Some place
+
+-- what the way to an index stops at is what the whole map has there
+pub stop_found : (records : List Record) (index : List ℕ) (entries : List Numbered) (stop : Stop)
+    → AreApart 0 entries → StopsAt records index stop (end_of [] index entries) → Finds records index (found_at stop) entries
+stop_found records index entries Empty apart none = λ e there same.
+    let one = end_of-present 256 [] index entries e refl apart same there in
+    let nothing : (let xs : List Numbered = [] in xs ≡ e ∷ []) = sym none ∙ one in cc
+stop_found records index entries (Other i c) apart other = λ e there same.
+    let one = end_of-present 256 [] index entries e refl apart same there in
+    let f : Numbered = record { index = i.0; commitment = c.0; behind = other.0 } in
+    let both : (let xs : List Numbered = f ∷ [] in xs ≡ e ∷ []) = sym other.1 ∙ one in
+    let theirs : f ≡ e = cc in
+    other.2 (ap (λ (x : Numbered). x.index) theirs ∙ same)
+stop_found records index entries (Here place) apart at =
+    (at.0, at.1, end_of-in 256 [] index entries (entry_of_record place.0 at.0) refl apart at.2, at.3)

@@ -4,7 +4,7 @@ use Rattle.coniks_proof.specs.Bits.{child}
 use Rattle.coniks_proof.specs.Entries.{half}
 use Rattle.coniks_proof.specs.Tree.{node}
 use Rattle.coniks_tree.specs.Table.{Numbered, NodeFits, Shows, shows_inner, IsTable, Extends}
-use Rattle.coniks_tree.specs.Parts.{Stands, Fits, entry_of_change}
+use Rattle.coniks_tree.specs.Parts.{Stands, IsSubtree, Fits, entry_of_change}
 use Rattle.coniks_proof.specs.Bits.{turns}
 use Rattle.coniks_proof.specs.Maps.{IsMap, SameEntries}
 use Rattle.coniks_proof.proofs.MapLemmas.{node-same, same_as_none, same_as_one, IsMap-filter, SameEntries-filter}
@@ -40,7 +40,12 @@ Stands-extended hash nonce nodes nodes' records more Nothing p es s = s
 Stands-extended hash nonce nodes nodes' records more (Entry c) p es s = s
 Stands-extended hash nonce nodes nodes' records more (Kept root) p es s = (Shows-extended hash nonce nodes nodes' records records more (λ k v at. at) root.0 p es s.0, s.1)
 Stands-extended hash nonce nodes nodes' records more (Made' ptr d lh rh count l r) p es s =
-    (s.0, s.1, s.2, s.3, Stands-extended hash nonce nodes nodes' records more l (child p false) _ s.4, Stands-extended hash nonce nodes nodes' records more r (child p true) _ s.5)
+    record {
+      many = s.many;
+      is_hash = s.is_hash;
+      left = record { is_hash = s.left.is_hash; stands = Stands-extended hash nonce nodes nodes' records more l (child p false) _ s.left.stands };
+      right = record { is_hash = s.right.is_hash; stands = Stands-extended hash nonce nodes nodes' records more r (child p true) _ s.right.stands };
+    }
 
 -- what stands in a list with one more at its end
 pub get-push : {T : Type 0} (xs : List T) (x : T) (k : ℕ) (v : T) → slice_get (xs ++ x ∷ []) k ≡ Some v → (slice_get xs k ≡ Some v) ⊎ ((k ≡ length xs) × (x ≡ v))
@@ -63,10 +68,7 @@ IsTable-push nodes records new fits table = record {
 
 -- what a new subtree stands for
 abbrev pub StandsMade : (List ℕ → List ℕ) → List ℕ → List Node → List Record → Subtree → List Bool → List Numbered → Type 0
-StandsMade hash nonce nodes records m p es =
-    (2 ≤ length es) × (m.hash.0 ≡ node hash nonce p es)
-    × (m.left_hash.0 ≡ node hash nonce (child p false) (half false (length p) es)) × (m.right_hash.0 ≡ node hash nonce (child p true) (half true (length p) es))
-    × Stands hash nonce nodes records m.left (child p false) (half false (length p) es) × Stands hash nonce nodes records m.right (child p true) (half true (length p) es)
+StandsMade hash nonce nodes records m p es = IsSubtree hash nonce p es m.hash m.left_hash m.right_hash (Stands hash nonce nodes records m.left) (Stands hash nonce nodes records m.right)
 
 -- a new subtree, appended
 pub made_shown : (hash : List ℕ → List ℕ) (nonce : List ℕ) (nodes0 nodes1 nodes2 nodes3 : List Node) (records : List Record) (p : List Bool) (es : List Numbered) (m : Subtree) (left right n : ℕ)
@@ -78,12 +80,12 @@ pub made_shown : (hash : List ℕ → List ℕ) (nonce : List ℕ) (nodes0 nodes
     → Stands hash nonce nodes1 records m.right (child p true) (half true (length p) es) → Shows hash nonce nodes2 records right (child p true) (half true (length p) es))
     → Shows hash nonce nodes3 records n p es
 made_shown hash nonce nodes0 nodes1 nodes2 nodes3 records p es m left right n e01 e12 e23 at short s shown-left shown-right =
-    let l1 = shown-left s.2 s.4 in
+    let l1 = shown-left s.left.is_hash s.left.stands in
     let l3 = Shows-extended hash nonce nodes1 nodes3 records records (Extends-trans nodes1 nodes2 nodes3 e12 e23) (λ k v h. h) left (child p false) _ l1 in
-    let s1 = Stands-extended hash nonce nodes0 nodes1 records e01 m.right (child p true) _ s.5 in
-    let r2 = shown-right s.3 s1 in
+    let s1 = Stands-extended hash nonce nodes0 nodes1 records e01 m.right (child p true) _ s.right.stands in
+    let r2 = shown-right s.right.is_hash s1 in
     let r3 = Shows-extended hash nonce nodes2 nodes3 records records e23 (λ k v h. h) right (child p true) _ r2 in
-    shows_inner n p es m.hash left right at short s.0 s.1 l3 r3
+    shows_inner n p es m.hash left right at short s.many s.is_hash l3 r3
 
 -- a part stands for what it stood for once there are more records
 pub Stands-records : (hash : List ℕ → List ℕ) (nonce : List ℕ) (nodes : List Node) (records records' : List Record) → Extends records records' → (part : Part) (p : List Bool) (es : List Numbered)
@@ -92,7 +94,12 @@ Stands-records hash nonce nodes records records' more Nothing p es s = s
 Stands-records hash nonce nodes records records' more (Entry c) p es s = s
 Stands-records hash nonce nodes records records' more (Kept root) p es s = (Shows-extended hash nonce nodes nodes records records' (λ k v at. at) more root.0 p es s.0, s.1)
 Stands-records hash nonce nodes records records' more (Made' ptr d lh rh count l r) p es s =
-    (s.0, s.1, s.2, s.3, Stands-records hash nonce nodes records records' more l (child p false) _ s.4, Stands-records hash nonce nodes records records' more r (child p true) _ s.5)
+    record {
+      many = s.many;
+      is_hash = s.is_hash;
+      left = record { is_hash = s.left.is_hash; stands = Stands-records hash nonce nodes records records' more l (child p false) _ s.left.stands };
+      right = record { is_hash = s.right.is_hash; stands = Stands-records hash nonce nodes records records' more r (child p true) _ s.right.stands };
+    }
 
 half_map : (b : Bool) (k : ℕ) (es : List Numbered) → IsMap es → IsMap (half b k es)
 half_map b k es map = IsMap-filter (λ e. turns b k e.index) es map
@@ -110,11 +117,16 @@ Stands-same hash nonce nodes records (Kept root) p es fs me mf same s =
 Stands-same hash nonce nodes records (Made' ptr d lh rh count l r) p es fs me mf same s =
     let k = length p in
     let at : (b : Bool) → node hash nonce (child p b) (half b k es) ≡ node hash nonce (child p b) (half b k fs) =
-    λ b. node-same hash nonce (child p b) (half b k es) (half b k fs) (half_map b k es me) (half_map b k fs mf) (half_same b k es fs same) in (
-      many_in es fs me mf same s.0,
-      s.1 ∙ node-same hash nonce p es fs me mf same,
-      s.2 ∙ at false,
-      s.3 ∙ at true,
-      Stands-same hash nonce nodes records l (child p false) (half false k es) (half false k fs) (half_map false k es me) (half_map false k fs mf) (half_same false k es fs same) s.4,
-      Stands-same hash nonce nodes records r (child p true) (half true k es) (half true k fs) (half_map true k es me) (half_map true k fs mf) (half_same true k es fs same) s.5,
-    )
+    λ b. node-same hash nonce (child p b) (half b k es) (half b k fs) (half_map b k es me) (half_map b k fs mf) (half_same b k es fs same) in
+    record {
+      many = many_in es fs me mf same s.many;
+      is_hash = s.is_hash ∙ node-same hash nonce p es fs me mf same;
+      left = record {
+        is_hash = s.left.is_hash ∙ at false;
+        stands = Stands-same hash nonce nodes records l (child p false) (half false k es) (half false k fs) (half_map false k es me) (half_map false k fs mf) (half_same false k es fs same) s.left.stands;
+      };
+      right = record {
+        is_hash = s.right.is_hash ∙ at true;
+        stands = Stands-same hash nonce nodes records r (child p true) (half true k es) (half true k fs) (half_map true k es me) (half_map true k fs mf) (half_same true k es fs same) s.right.stands;
+      };
+    }

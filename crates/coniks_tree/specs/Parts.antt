@@ -3,6 +3,7 @@ use Rattle.std.specs.Prelude.{◌≡◌, ◌<◌, ◌≤◌, ◌+◌, ◌^◌, �
 use Rattle.coniks_proof.specs.Bits.{child}
 use Rattle.coniks_proof.specs.Entries.{half}
 use Rattle.coniks_proof.specs.Tree.{node}
+use Rattle.coniks_proof.specs.declared.values.Digest.{Digest}
 use Rattle.coniks_tree.specs.Table.{Numbered, Shows, entry_of_record}
 use Rattle.coniks_tree.specs.declared.table.Node.{Node}
 use Rattle.coniks_tree.specs.declared.table.Record.{Record}
@@ -32,17 +33,25 @@ Fits n level (Kept root) = root.0 < n
 Fits n level (Made' p hash lh rh count left right) =
     (level < 256) × (count ≡ min (node_count left + node_count right + 1) (2 ^ 64 - 1)) × Fits n (suc level) left × Fits n (suc level) right
 
+-- one side of a new subtree: its hash is that of the node there, and its part stands for the entries that go there
+pub record IsSide (hash : List ℕ → List ℕ) (nonce : List ℕ) (prefix : List Bool) (entries : List Numbered) (bit : Bool) (d : Digest) (StandsFor : List Bool → List Numbered → Type 0) : Type 0 where
+  pub is_hash : d.0 ≡ node hash nonce (child prefix bit) (half bit (length prefix) entries)
+  pub stands : StandsFor (child prefix bit) (half bit (length prefix) entries)
+
+-- a new subtree: two entries or more, with the hash of its node and its two sides
+pub record IsSubtree (hash : List ℕ → List ℕ) (nonce : List ℕ) (prefix : List Bool) (entries : List Numbered) (d lh rh : Digest) (Left Right : List Bool → List Numbered → Type 0) : Type 0 where
+  pub many : 2 ≤ length entries
+  pub is_hash : d.0 ≡ node hash nonce prefix entries
+  pub left : IsSide hash nonce prefix entries false lh Left
+  pub right : IsSide hash nonce prefix entries true rh Right
+
 -- the entries under the prefix are those of the part, and its hashes are those of its nodes
 abbrev pub Stands : (List ℕ → List ℕ) → List ℕ → List Node → List Record → Part → List Bool → List Numbered → Type 0
 Stands hash nonce nodes records Nothing prefix entries = entries ≡ []
 Stands hash nonce nodes records (Entry c) prefix entries = entries ≡ entry_of_change c ∷ []
 Stands hash nonce nodes records (Kept root) prefix entries = Shows hash nonce nodes records root.0 prefix entries × (0 < length prefix → 2 ≤ length entries)
 Stands hash nonce nodes records (Made' p d lh rh count left right) prefix entries =
-    (2 ≤ length entries) × (d.0 ≡ node hash nonce prefix entries)
-    × (lh.0 ≡ node hash nonce (child prefix false) (half false (length prefix) entries))
-    × (rh.0 ≡ node hash nonce (child prefix true) (half true (length prefix) entries))
-    × Stands hash nonce nodes records left (child prefix false) (half false (length prefix) entries)
-    × Stands hash nonce nodes records right (child prefix true) (half true (length prefix) entries)
+    IsSubtree hash nonce prefix entries d lh rh (Stands hash nonce nodes records left) (Stands hash nonce nodes records right)
 
 -- at least how many entries a part below the root has, counted up to two
 abbrev pub weight_of : Part → ℕ

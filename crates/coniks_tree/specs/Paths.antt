@@ -1,7 +1,7 @@
 -- The way to an index, from a root down to where at most one entry is left.
 use Rattle.std.specs.Prelude.{◌≡◌, ◌≢◌, ◌<◌, ◌≤◌, ℕ, List, [], ◌∷◌, length, Bool, not, Option, Some, None, slice_get}
 use Rattle.coniks_proof.specs.Bits.{child}
-use Rattle.coniks_proof.specs.Entries.{half}
+use Rattle.coniks_proof.specs.Entries.{IsIn, half}
 use Rattle.coniks_proof.specs.Tree.{node}
 use Rattle.coniks_proof.specs.declared.values.Digest.{Digest}
 use Rattle.coniks_tree.specs.Table.{Numbered, Shows, entry_of_record}
@@ -34,7 +34,7 @@ pub record IsStep (hash : List ℕ → List ℕ) (nonce : List ℕ) (nodes : Lis
   pub beside : sibling.0 ≡ node hash nonce (child prefix (not bit)) (half (not bit) (length prefix) entries)
   pub shows : Shows hash nonce nodes records number (child prefix bit) (half bit (length prefix) entries)
 
--- the record at an index, if there is one, where this is what its way ends with
+-- the record at an index: none where no entry of the map has the index, or the one whose entry is in the map and has it
 abbrev pub Finds : List Record → List ℕ → Option RecordNo → List Numbered → Type 0
-Finds records index None entries = (e : Numbered) → entries ≡ e ∷ [] → e.index ≢ index
-Finds records index (Some place) entries = IsAt records index place entries
+Finds records index None entries = (e : Numbered) → IsIn e entries → e.index ≢ index
+Finds records index (Some place) entries = (r : Record) × (slice_get records place.0 ≡ Some r) × IsIn (entry_of_record place.0 r) entries × (r.index.0 ≡ index)

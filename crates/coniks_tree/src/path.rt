@@ -154,7 +154,7 @@ pub(crate) fn find_from(
     requires known { root < length nodes.now }
     ensures known { IfSome result (λ place. place.0 < length records.now) }
     ensures finds { (hash : List ℕ → List ℕ) (nonce : List ℕ) (entries : List Numbered)
-        → Shows hash nonce nodes.now records.now root [] entries → Finds records.now index.now.0 result (end_of [] index.now.0 entries) }
+        → Shows hash nonce nodes.now records.now root [] entries → Finds records.now index.now.0 result entries }
 {
     match stop_at(
         nodes,

@@ -4,7 +4,7 @@ ghost use Rattle.std.specs.Prelude.{◌≡◌, ◌++◌, ◌∷◌, [], ◌<◌,
 ghost use Rattle.coniks_proof.specs.Bits.{child};
 ghost use Rattle.coniks_proof.specs.Entries.{backed_by, half, under};
 ghost use Rattle.coniks_proof.specs.Changes.{overwritten, AreApart, AreInOrder};
-ghost use Rattle.coniks_proof.specs.Paths.{IsPath, end_of};
+ghost use Rattle.coniks_proof.specs.Paths.{IsPath};
 ghost use Rattle.coniks_proof.specs.Tree.{node};
 ghost use Rattle.coniks_tree.specs.Table.{Extends, IsTable, Numbered, Shows, registered_at};
 ghost use Rattle.coniks_tree.specs.Parts.{Stands, Fits, Placed, AllPlaced, node_count, is_made, entries_of};
@@ -83,7 +83,7 @@ impl Tree {
         requires { root.0 < length self.now.nodes.items }
         ensures known { IfSome result (λ place. place.0 < length self.now.records.items) }
         ensures finds { (hash : List ℕ → List ℕ) (nonce : List ℕ) (entries : List Numbered)
-            → Shows hash nonce self.now.nodes.items self.now.records.items root.0 [] entries → Finds self.now.records.items index.now.0 result (end_of [] index.now.0 entries) }
+            → Shows hash nonce self.now.nodes.items self.now.records.items root.0 [] entries → Finds self.now.records.items index.now.0 result entries }
     {
         find_from(&self.nodes, &self.records, root.0, index)
     }

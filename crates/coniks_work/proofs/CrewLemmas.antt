@@ -10,7 +10,7 @@ use Rattle.coniks_work.specs.Places.{numbers, StandsAt, Places}
 use Rattle.coniks_shared.specs.Drawers.{Drawing, Claimed, HasFirst, SomeOut, lists_of}
 use Rattle.coniks_tree.specs.declared.part.Part.{Part}
 use Rattle.coniks_work.specs.declared.worker.Worker.{Worker}
-use Rattle.coniks_work.specs.Crews.{AllFresh, AllWorked, drawers_of, Finished, AllFinished, Collected}
+use Rattle.coniks_work.specs.Crews.{AllFresh, AllWorked, drawers_of, Finished, AllFinished, AreGone, ArePlaced}
 
 pub first_last : (ws : List Worker) (w : Worker) (n : ℕ) → w.drawer.first ≡ true → w.drawer.splits + 1 ≡ n → HasFirst (drawers_of (ws ++ w ∷ [])) n
 first_last [] w n f s = inl (f, s)
@@ -61,10 +61,10 @@ lists_more j [] d = omega arith
 lists_more j (e ∷ es) d = let h = lists_more j es d in omega arith
 
 -- one more worker left the crew
-pub collect_next : (claims : Claimed) (part : ℕ → Part → Type 0) (total size : ℕ) (crew before : List Worker) (w : Worker) (drawers after : List Drawing) (placed placed' : List (Option Part))
-    → before ≡ crew ++ w ∷ [] → after ≡ drawers ++ w.drawer ∷ [] → Collected claims part total size before drawers placed → w.failed ≡ false → Places part placed placed' (numbers w.done.items) [] → length placed' ≡ length placed
-    → Collected claims part total size crew after placed'
-collect_next claims part total size crew before w drawers after placed placed' was is h fine p l =
+pub gone_next : (claims : Claimed) (part : ℕ → Part → Type 0) (total : ℕ) (crew before : List Worker) (w : Worker) (drawers after : List Drawing)
+    → before ≡ crew ++ w ∷ [] → after ≡ drawers ++ w.drawer ∷ [] → AreGone claims part total before drawers → w.failed ≡ false
+    → AreGone claims part total crew after
+gone_next claims part total crew before w drawers after was is h fine =
     let f = finished_front claims part crew w (subst (AllFinished claims part) was h.rest) in
     let all = f.1.all fine in
     let nb : length before ≡ length crew + 1 = ap length was ∙ length-append crew (w ∷ []) in
@@ -77,25 +77,34 @@ collect_next claims part total size crew before w drawers after placed placed' w
           (first_front crew w total (subst (λ (ws : List Worker). HasFirst (drawers_of ws) total) was x))) h.first;
       count = (let c = h.count in omega arith);
       rest = f.0;
-      len = l ∙ h.len;
-      put = λ j some_time.
-          (let t : times_over j (lists_of after) ≡ times_over j (lists_of drawers) + times j w.drawer.list = ap (λ (ds : List Drawing). times_over j (lists_of ds)) is ∙ lists_more j drawers w.drawer in
-          let n : times j (numbers w.done.items) ≡ times j w.drawer.list = ap (times j) all.0 in
-          dite (ℕ_discrete (times j w.drawer.list) 0)
-          (λ (z : times j w.drawer.list ≡ 0). p.kept j (h.put j (omega arith)))
-          (λ (z : times j w.drawer.list ≢ 0). ⊎_elim (λ (x : StandsAt part placed' j). x) (λ (x : 0 < times j []). absurd (omega arith)) (p.put j (omega arith))));
     }
 
-pub collect_start : (claims : Claimed) (part : ℕ → Part → Type 0) (crew : List Worker) (placed : List (Option Part)) → AllFinished claims part crew → HasFirst (drawers_of crew) (length crew)
-    → Collected claims part (length crew) (length placed) crew [] placed
-collect_start claims part crew placed f h = record { own = All-nil (λ (d : Drawing). d.table ≡ claims.table); out = λ n. absurd (omega arith); first = inr h; count = omega arith; rest = f; len = refl; put = λ j n. absurd (omega arith) }
+-- its parts are put into their places
+pub placed_next : (part : ℕ → Part → Type 0) (size : ℕ) (w : Worker) (drawers after : List Drawing) (placed placed' : List (Option Part))
+    → after ≡ drawers ++ w.drawer ∷ [] → ArePlaced part size drawers placed → numbers w.done.items ≡ w.drawer.list → Places part placed placed' (numbers w.done.items) [] → length placed' ≡ length placed
+    → ArePlaced part size after placed'
+placed_next part size w drawers after placed placed' is h drawn p l = record {
+  len = l ∙ h.len;
+  put = λ j some_time.
+      (let t : times_over j (lists_of after) ≡ times_over j (lists_of drawers) + times j w.drawer.list = ap (λ (ds : List Drawing). times_over j (lists_of ds)) is ∙ lists_more j drawers w.drawer in
+      let n : times j (numbers w.done.items) ≡ times j w.drawer.list = ap (times j) drawn in
+      dite (ℕ_discrete (times j w.drawer.list) 0)
+      (λ (z : times j w.drawer.list ≡ 0). p.kept j (h.put j (omega arith)))
+      (λ (z : times j w.drawer.list ≢ 0). ⊎_elim (λ (x : StandsAt part placed' j). x) (λ (x : 0 < times j []). absurd (omega arith)) (p.put j (omega arith))));
+}
+
+pub gone_start : (claims : Claimed) (part : ℕ → Part → Type 0) (crew : List Worker) → AllFinished claims part crew → HasFirst (drawers_of crew) (length crew) → AreGone claims part (length crew) crew []
+gone_start claims part crew f h = record { own = All-nil (λ (d : Drawing). d.table ≡ claims.table); out = λ n. absurd (omega arith); first = inr h; count = omega arith; rest = f }
+
+pub placed_start : (part : ℕ → Part → Type 0) (placed : List (Option Part)) → ArePlaced part (length placed) [] placed
+placed_start part placed = record { len = refl; put = λ j n. absurd (omega arith) }
 
 -- with no worker left, the first drawer is among the drawers
-pub first_there : (claims : Claimed) (part : ℕ → Part → Type 0) (total size : ℕ) (crew : List Worker) (drawers : List Drawing) (placed : List (Option Part)) → Collected claims part total size crew drawers placed → length crew ≡ 0 → HasFirst drawers (length drawers)
-first_there claims part total size [] drawers placed h e =
+pub first_there : (claims : Claimed) (part : ℕ → Part → Type 0) (total : ℕ) (crew : List Worker) (drawers : List Drawing) → AreGone claims part total crew drawers → length crew ≡ 0 → HasFirst drawers (length drawers)
+first_there claims part total [] drawers h e =
     let n : total ≡ length drawers = (let c = h.count in omega arith) in
     ⊎_elim (λ (x : HasFirst drawers total). subst (HasFirst drawers) n x) (λ (x : ⊥). absurd x) h.first
-first_there claims part total size (w ∷ ws) drawers placed h e = absurd (omega arith)
+first_there claims part total (w ∷ ws) drawers h e = absurd (omega arith)
 
 pub once_less : (j n : ℕ) → j < n → once_below j n ≡ 1
 once_less j n less = grind (arith, nat_tests)

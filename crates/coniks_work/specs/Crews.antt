@@ -46,12 +46,15 @@ abbrev pub AllFinished : Claimed → (ℕ → Part → Type 0) → List Worker �
 AllFinished claims part [] = Unit {0}
 AllFinished claims part (w ∷ ws) = Finished claims part w × AllFinished claims part ws
 
--- so far: the drawers of the workers that left the crew, with their numbers' parts in their places
-pub record Collected (claims : Claimed) (part : ℕ → Part → Type 0) (total size : ℕ) (crew : List Worker) (drawers : List Drawing) (placed : List (Option Part)) : Type 0 where
+-- of `total` workers those with these drawers are gone, and this crew is left and has ended its work. The first drawer is with either
+pub record AreGone (claims : Claimed) (part : ℕ → Part → Type 0) (total : ℕ) (crew : List Worker) (drawers : List Drawing) : Type 0 where
   pub own : All (λ (d : Drawing). d.table ≡ claims.table) drawers
   pub out : 0 < length drawers → SomeOut drawers
   pub first : HasFirst drawers total ⊎ HasFirst (drawers_of crew) total
   pub count : length drawers + length crew ≡ total
   pub rest : AllFinished claims part crew
+
+-- there are `size` places, and each number that the drawers drew has its part in its place
+pub record ArePlaced (part : ℕ → Part → Type 0) (size : ℕ) (drawers : List Drawing) (placed : List (Option Part)) : Type 0 where
   pub len : length placed ≡ size
   pub put : (j : ℕ) → 0 < times_over j (lists_of drawers) → StandsAt part placed j

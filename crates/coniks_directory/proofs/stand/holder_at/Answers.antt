@@ -1,5 +1,4 @@
-use Rattle.std.proofs.Common.{[], subst, sym}
-use Rattle.coniks_proof.specs.Paths.{end_of}
+use Rattle.std.proofs.Common.{subst, sym}
 use Rattle.coniks_tree.specs.Paths.{Finds}
 use Rattle.coniks_directory.specs.Holders.{HolderIs, ShowsLatest}
 use Rattle.coniks_directory.specs.State.{ShowsRegistry}
@@ -10,7 +9,7 @@ pub returns-in_err-place : goal.returns-in_err-place
 returns-in_err-place c = λ hash of nonce registry shown.
     let s : ShowsRegistry hash of nonce c.args.tree.now.nodes.items c.args.tree.now.records.items c.in_ok-root.field-0.0 registry =
     subst (λ r. ShowsLatest hash of nonce c.args.tree.now.nodes.items c.args.tree.now.records.items r registry) c.in_ok-root.was shown in
-    let finds = subst (λ r. Finds c.args.tree.now.records.items c.args.index.now.0 r (end_of [] c.args.index.now.0 s.entries)) c.in_err-place.was (c.find.ensures.finds hash nonce s.entries s.shows) in
+    let finds = subst (λ r. Finds c.args.tree.now.records.items c.args.index.now.0 r s.entries) c.in_err-place.was (c.find.ensures.finds hash nonce s.entries s.shows) in
     subst (λ r. HolderIs of registry c.args.index.now.0 r) (sym c.from_residual-in_err-place.ensures)
     (found_none hash of nonce c.args.tree.now.nodes.items c.args.tree.now.records.items c.in_ok-root.field-0.0 registry s c.args.index.now.0 finds)
 
@@ -18,5 +17,5 @@ pub returns : goal.returns
 returns c = λ hash of nonce registry shown.
     let s : ShowsRegistry hash of nonce c.args.tree.now.nodes.items c.args.tree.now.records.items c.in_ok-root.field-0.0 registry =
     subst (λ r. ShowsLatest hash of nonce c.args.tree.now.nodes.items c.args.tree.now.records.items r registry) c.in_ok-root.was shown in
-    let finds = subst (λ r. Finds c.args.tree.now.records.items c.args.index.now.0 r (end_of [] c.args.index.now.0 s.entries)) c.in_ok-place.was (c.find.ensures.finds hash nonce s.entries s.shows) in
+    let finds = subst (λ r. Finds c.args.tree.now.records.items c.args.index.now.0 r s.entries) c.in_ok-place.was (c.find.ensures.finds hash nonce s.entries s.shows) in
     found_some hash of nonce c.args.tree.now.nodes.items c.args.tree.now.records.items c.in_ok-root.field-0.0 registry s c.args.index.now.0 c.in_ok-place.place c.record.result.now finds c.record.ensures

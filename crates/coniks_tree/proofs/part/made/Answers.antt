@@ -19,4 +19,9 @@ returns-clause-stands g c = λ records entries many sl sr.
     let left-at : c.hash_at-left_hash.result.0 ≡ node hash nonce (child p false) (half false (length p) entries) = left ∙ ap (λ q. node hash nonce q (half false (length p) entries)) c.child.ensures in
     let right-at : c.hash_at-right_hash.result.0 ≡ node hash nonce (child p true) (half true (length p) entries) = right ∙ ap (λ q. node hash nonce q (half true (length p) entries)) c.child-2.ensures in
     rw c.in_ok-new.ensures.ok
-    (many, hash_made hash nonce p c.child.result c.child-2.result entries _ _ _ c.requires.short many c.child.ensures c.child-2.ensures c.inner_hash-hash.ensures left right, left-at, right-at, sl, sr)
+    (record {
+      many = many;
+      is_hash = hash_made hash nonce p c.child.result c.child-2.result entries _ _ _ c.requires.short many c.child.ensures c.child-2.ensures c.inner_hash-hash.ensures left right;
+      left = record { is_hash = left-at; stands = sl };
+      right = record { is_hash = right-at; stands = sr };
+    })
