@@ -243,6 +243,7 @@ impl<'a, H: Hash32 + Sync> Clerk<'a, H> {
         ensures hash { self.new.directory.0 ≡ self.old.directory.0 }
         ensures grows { Grows self.old.directory.2 self.new.directory.2 }
         ensures back { IfErr result (λ r. r.1 ≡ update) }
+        ensures still { IfErr result (λ r. IsUpdateOf (H.digest_of self.new.directory.0) index_of_letter self.new.directory.2 r.1) }
     {
         if !self.may_sign() {
             return Err((InstallFault::SignerRefused, update));
