@@ -28,7 +28,8 @@ IsKnown n (Other i c) = Unit {0}
 IsKnown n (Here place) = place.0 < n
 
 -- one level down the way to an index
-pub record IsStep (hash : List ℕ → List ℕ) (nonce : List ℕ) (nodes : List Node) (records : List Record) (bit : Bool) (prefix : List Bool) (entries : List Numbered) (number : ℕ) (sibling : Digest) : Type 0 where
+pub record IsStep (hash : List ℕ → List ℕ) (nonce : List ℕ) (nodes : List Node) (records : List Record)
+    (bit : Bool) (prefix : List Bool) (entries : List Numbered) (number : ℕ) (sibling : Digest) : Type 0 where
   pub many : 2 ≤ length entries
   pub short : length prefix < 256
   pub beside : sibling.0 ≡ node hash nonce (child prefix (not bit)) (half (not bit) (length prefix) entries)
