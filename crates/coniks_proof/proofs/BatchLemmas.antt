@@ -188,16 +188,17 @@ module _ (of : List ℕ → List ℕ) (registry : Registry) where
       λ x has. has_name-append (registry ++ earlier) (map bound_by (op ∷ ops)) x ∙ or_left (has_name (registry ++ earlier) x) (has_name (map bound_by (op ∷ ops)) x) has in
       let here : has_name ((registry ++ earlier) ++ map bound_by (op ∷ ops)) op.name ≡ true =
       has_name-append (registry ++ earlier) (map bound_by (op ∷ ops)) op.name ∙ or_right (has_name (registry ++ earlier) op.name) (has_name (map bound_by (op ∷ ops)) op.name)
-      (or_left (bytes_eq op.name op.name) (has_name (map bound_by ops) op.name) (eq_same op.name op.name refl)) in
-      (record {
-        named = fits_of MAX_NAME op.name within.0;
-        keyed = fits_of MAX_KEY op.key within.1;
-        once = new op (inl refl);
-        kind = suited op.kind (has_name registry op.name) (kinds op (inl refl));
-        apart = apart_of (registry ++ earlier) op.name (λ x has at. own' x op.name (old x has) here at);
-      },
-      clear_all (earlier ++ b ∷ []) ops within.2 once.1 (λ o there. kinds o (inr there)) (later_new op ops once.0 new)
-      (subst (λ bs. HaveOwnIndices of (registry ++ bs)) (sym (append_assoc earlier (b ∷ []) (map bound_by ops))) own))
+      (or_left (bytes_eq op.name op.name) (has_name (map bound_by ops) op.name) (eq_same op.name op.name refl)) in (
+        record {
+          named = fits_of MAX_NAME op.name within.0;
+          keyed = fits_of MAX_KEY op.key within.1;
+          once = new op (inl refl);
+          kind = suited op.kind (has_name registry op.name) (kinds op (inl refl));
+          apart = apart_of (registry ++ earlier) op.name (λ x has at. own' x op.name (old x has) here at);
+        },
+        clear_all (earlier ++ b ∷ []) ops within.2 once.1 (λ o there. kinds o (inr there)) (later_new op ops once.0 new)
+            (subst (λ bs. HaveOwnIndices of (registry ++ bs)) (sym (append_assoc earlier (b ∷ []) (map bound_by ops))) own),
+      )
     where
       bound_there : (o : Operation) (os : List Operation) → IsIn o os → IsIn (bound_by o) (map bound_by os)
       bound_there o [] there = absurd there
