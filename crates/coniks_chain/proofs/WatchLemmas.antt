@@ -6,7 +6,7 @@ use Rattle.std.proofs.lemmas.Bool.{cases_lt}
 use Rattle.std.proofs.lemmas.List.Sums.{count_by_more_yes, count_by_more_no}
 use Rattle.coniks_proof.specs.declared.paths.Proof.{Proof}
 use Rattle.coniks_proof.specs.Proofs.{answer_of}
-use Rattle.coniks_proof.proofs.FaultLemmas.{accepts-no_fault}
+use Rattle.coniks_proof.proofs.Lemmas.{accepts-no_fault}
 use Rattle.coniks_chain.specs.declared.entry.Entry.{Entry}
 use Rattle.coniks_chain.specs.declared.auditor.Before.{Before}
 use Rattle.coniks_chain.specs.declared.seen.Seen.{Seen}

@@ -6,9 +6,7 @@ use Rattle.coniks_proof.specs.Changes.{AreApart, AreInOrder, has_index, overwrit
 use Rattle.coniks_proof.specs.Registry.{Registered, Registry, IsLength, has_name, overlaid, entry_of, entries_of}
 use Rattle.coniks_proof.specs.Batches.{Operation, bound_by, first_fault}
 use Rattle.coniks_proof.specs.declared.values.TheConstants.{MAX_KEY, MAX_NAME}
-use Rattle.coniks_proof.proofs.MapLemmas.{IsMap-apart}
-use Rattle.coniks_proof.proofs.OrderLemmas.{AreIncreasing-in_order}
-use Rattle.coniks_proof.proofs.RegistryLemmas.{entry_in, in_entries}
+use Rattle.coniks_proof.proofs.Lemmas.{AreIncreasing-in_order, IsMap-apart, entry_in, has_of, in_entries, in_overlaid, increasing_map, named_of, not_true}
 use Rattle.coniks_tree.specs.Table.{Extends, Numbered, entry_of_record, registered_at, registered_by}
 use Rattle.coniks_tree.specs.Parts.{AllPlaced, Placed, Stands, entries_of as entries_of_changes, entry_of_change}
 use Rattle.coniks_tree.specs.declared.part.Change.{Change}
@@ -16,16 +14,14 @@ use Rattle.coniks_tree.specs.declared.part.Part.{Part}
 use Rattle.coniks_tree.specs.declared.table.Node.{Node}
 use Rattle.coniks_tree.specs.declared.table.Record.{Record}
 use Rattle.coniks_tree.specs.declared.table.Root.{Root}
-use Rattle.coniks_tree.proofs.PushLemmas.{Extends-append}
+use Rattle.coniks_tree.proofs.Lemmas.{Extends-append}
 use Rattle.coniks_work.specs.Grown.{IsOldMap}
 use Rattle.coniks_directory.specs.State.{IsStored, Mirrors, registered_of}
 use Rattle.coniks_directory.specs.Holders.{ShowsLatest}
 use Rattle.coniks_directory.specs.Judged.{AreChangesOf, AreSeen}
 use Rattle.coniks_directory.specs.Built.{IsBuilt}
 use Rattle.coniks_directory.proofs.MirrorLemmas.{registered_at-extended}
-use Rattle.coniks_proof.proofs.NameLemmas.{not_true, has_of, in_overlaid, named_of}
 use Rattle.coniks_directory.proofs.HolderLemmas.{backed_in, in_backed}
-use Rattle.coniks_proof.proofs.OrderLemmas.{increasing_map}
 use Rattle.coniks_directory.proofs.OverlaidLemmas.{ArePart, IsMap-overlaid, IsMap-overwritten, in_overwritten, index_there, once, overlaid_new, overlaid_old, overwritten_new, overwritten_old, part, there_index, within-overlaid}
 use Rattle.coniks_directory.proofs.SeenLemmas.{in_records, record_in}
 

@@ -8,7 +8,7 @@ use Rattle.coniks_chain.specs.Entries.{body_bytes}
 use Rattle.coniks_chain.specs.declared.auditor.Before.{Before}
 use Rattle.coniks_chain.specs.declared.entry.Body.{Body}
 use Rattle.coniks_chain.specs.declared.entry.Entry.{Entry}
-use Rattle.coniks_tree.proofs.PushLemmas.{get-push}
+use Rattle.coniks_tree.proofs.Lemmas.{get-push}
 use Rattle.coniks_directory.specs.Chain.{IsChainOf, body_of, head_at, heads_of}
 use Rattle.coniks_directory.specs.History.{AreRising, Shown, last_number, latest_epoch, numbers_of}
 

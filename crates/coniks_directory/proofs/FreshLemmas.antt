@@ -1,7 +1,7 @@
 -- An update that isn't stale is one of the directory as it is.
 use Rattle.std.proofs.Common.{◌≡◌, ℕ, List, [], ◌∷◌, ◌++◌, length, map, refl, sym, ap, subst, ◌∙◌, arith, length-append, append_assoc}
 use Rattle.std.proofs.lemmas.List.{append-nil}
-use Rattle.coniks_tree.proofs.PushLemmas.{Extends-trans, Fits-more, Stands-extended}
+use Rattle.coniks_tree.proofs.Lemmas.{Extends-trans, Fits-more, Stands-extended}
 use Rattle.coniks_tree.specs.declared.table.Record.{Record}
 use Rattle.coniks_directory.specs.State.{State, history_of, registry_at, shown_of}
 use Rattle.coniks_directory.specs.Updates.{Grows, IsUpdate, IsUpdateOf, registry_after}

@@ -7,8 +7,7 @@ use Rattle.coniks_proof.specs.Entries.{Entry, IsIn, backed_by}
 use Rattle.coniks_proof.specs.Maps.{IsMap}
 use Rattle.coniks_proof.specs.Registry.{Registered, Registry, has_name, entry_of, entries_of, IsFree}
 use Rattle.coniks_proof.specs.Batches.{clashes}
-use Rattle.coniks_proof.proofs.MapLemmas.{new_apart}
-use Rattle.coniks_proof.proofs.RegistryLemmas.{entry_in, in_entries, named_in}
+use Rattle.coniks_proof.proofs.Lemmas.{clash_found, clash_made, entry_in, eq_same, in_entries, named_in, named_of, new_apart, not_true, same_bool}
 use Rattle.coniks_tree.specs.Table.{Numbered, entry_of_record, registered_at, registered_by}
 use Rattle.coniks_tree.specs.Paths.{Finds}
 use Rattle.coniks_tree.specs.declared.table.Node.{Node}
@@ -16,7 +15,6 @@ use Rattle.coniks_tree.specs.declared.table.Record.{Record}
 use Rattle.coniks_tree.specs.declared.table.RecordNo.{RecordNo}
 use Rattle.coniks_directory.specs.State.{ShowsRegistry, registered_of}
 use Rattle.coniks_directory.specs.Holders.{HolderIs, IsHeld}
-use Rattle.coniks_proof.proofs.NameLemmas.{not_true, eq_same, named_of, same_bool, clash_found, clash_made}
 
 -- an entry with something else behind it was one before
 pub in_backed : {B C : Type 0} (f : B → C) (es : List (Entry B)) (e : Entry C) → IsIn e (map (backed_by f) es) → (x : Entry B) × IsIn x es × (backed_by f x ≡ e)

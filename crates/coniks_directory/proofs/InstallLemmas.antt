@@ -8,14 +8,13 @@ use Rattle.coniks_chain.specs.Chain.{GoodChain, before_at, epoch_before, link_be
 use Rattle.coniks_chain.specs.Entries.{body_bytes}
 use Rattle.coniks_chain.specs.declared.entry.Body.{Body}
 use Rattle.coniks_chain.specs.declared.entry.Entry.{Entry}
-use Rattle.coniks_chain.proofs.ChainLemmas.{good_push, good_same_verdict}
+use Rattle.coniks_chain.proofs.Lemmas.{good_push, good_same_verdict}
 use Rattle.coniks_tree.specs.Parts.{Stands}
 use Rattle.coniks_tree.specs.Table.{Extends, Numbered, Shows}
 use Rattle.coniks_tree.specs.declared.table.Node.{Node}
 use Rattle.coniks_tree.specs.declared.table.Record.{Record}
 use Rattle.coniks_tree.specs.declared.table.Root.{Root}
-use Rattle.coniks_tree.proofs.PushLemmas.{Extends-append, get-push}
-use Rattle.coniks_tree.proofs.TableLemmas.{Shows-extended}
+use Rattle.coniks_tree.proofs.Lemmas.{Extends-append, Shows-extended, get-push}
 use Rattle.coniks_directory.specs.Chain.{IsChainOf, body_of}
 use Rattle.coniks_directory.specs.History.{AllUnder, Shown, AreRising, latest_epoch, latest_nonce, numbers_of, root_at}
 use Rattle.coniks_directory.specs.State.{HoldsEpoch, Mirrors, State, Whole, history_of, last_count, registry_at, shown_of}

@@ -4,9 +4,8 @@ use Rattle.coniks_proof.specs.Registry.{Registered, Registry, has_name}
 use Rattle.coniks_proof.specs.Batches.{Operation, Fault, clashes, fault_of, fault_from, first_fault, placed, kind_fault, fits, bound_by, name_twice, index_clash}
 use Rattle.coniks_proof.specs.declared.values.TheConstants.{MAX_KEY, MAX_NAME}
 use Rattle.std.proofs.lemmas.List.{append-nil, map-append}
-use Rattle.coniks_proof.proofs.BatchLemmas.{placed_none}
+use Rattle.coniks_proof.proofs.Lemmas.{clashes-append, placed_none}
 use Rattle.coniks_directory.specs.Judged.{IsJudged}
-use Rattle.coniks_proof.proofs.NameLemmas.{clashes-append}
 
 pub or_true : (a b : Bool) → b ≡ true → a || b ≡ true
 or_true true b on = refl

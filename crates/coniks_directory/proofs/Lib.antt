@@ -1,17 +1,18 @@
-pub mod StateLemmas
-pub mod MirrorLemmas
-pub mod HolderLemmas
-pub mod JudgeLemmas
-pub mod SeenLemmas
-pub mod OrderLemmas
-pub mod OverlaidLemmas
-pub mod BuiltLemmas
-pub mod NumberLemmas
-pub mod EpochLemmas
-pub mod LookupLemmas
-pub mod FreshLemmas
-pub mod ChainLemmas
-pub mod InstallLemmas
-pub mod HeadLemmas
-pub mod PrepareLemmas
-pub mod RunLemmas
+mod StateLemmas
+mod MirrorLemmas
+mod HolderLemmas
+mod JudgeLemmas
+mod SeenLemmas
+mod OrderLemmas
+mod OverlaidLemmas
+mod BuiltLemmas
+mod NumberLemmas
+mod EpochLemmas
+mod LookupLemmas
+mod FreshLemmas
+mod ChainLemmas
+mod InstallLemmas
+mod HeadLemmas
+mod PrepareLemmas
+mod RunLemmas
+pub mod Lemmas

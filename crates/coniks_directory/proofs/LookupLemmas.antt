@@ -9,8 +9,7 @@ use Rattle.coniks_proof.specs.Registry.{HaveOwnIndices, IsFree, IsLength, entrie
 use Rattle.coniks_proof.specs.Tree.{node}
 use Rattle.coniks_proof.specs.declared.paths.Proof.{Proof}
 use Rattle.coniks_proof.specs.declared.values.TheConstants.{MAX_NAME}
-use Rattle.coniks_proof.proofs.BatchLemmas.{own_of_map}
-use Rattle.coniks_proof.proofs.LookupLemmas.{path_accepted}
+use Rattle.coniks_proof.proofs.Lemmas.{own_of_map, path_accepted}
 use Rattle.coniks_tree.specs.Table.{Numbered, Shows, registered_at}
 use Rattle.coniks_tree.specs.declared.table.Record.{Record}
 use Rattle.coniks_directory.specs.History.{AllHaveOwnIndices, Shown, numbers_of, root_at, shown_at}

@@ -6,8 +6,7 @@ use Rattle.coniks_proof.specs.Paths.{EndIs, IsPath}
 use Rattle.coniks_proof.specs.Registry.{Registered, Registry, entries_of, root_of}
 use Rattle.coniks_proof.specs.Tree.{node}
 use Rattle.coniks_proof.specs.declared.paths.Proof.{Proof}
-use Rattle.coniks_proof.proofs.BackedLemmas.{node-backed}
-use Rattle.coniks_proof.proofs.MapLemmas.{node-same, siblings-same, end_of-same}
+use Rattle.coniks_proof.proofs.Lemmas.{end_of-same, node-backed, node-same, siblings-same}
 use Rattle.coniks_tree.specs.Table.{Numbered, Extends, registered_at, registered_by}
 use Rattle.coniks_tree.specs.declared.table.Record.{Record}
 use Rattle.coniks_directory.specs.State.{IsStored, Mirrors}

@@ -9,10 +9,7 @@ use Rattle.coniks_proof.specs.Changes.{has_index, overwritten}
 use Rattle.coniks_proof.specs.Registry.{Registered, Registry, AreWithin, IsLength, has_name, rebound, overlaid, entry_of, entries_of}
 use Rattle.coniks_proof.specs.Batches.{AreOnce, Operation, bound_by, clashes, fault_from, fault_of, first_fault}
 use Rattle.coniks_proof.specs.declared.values.TheConstants.{MAX_KEY, MAX_NAME}
-use Rattle.coniks_proof.proofs.MapLemmas.{IsIn-filter, IsMap-filter, of_filter, passes}
-use Rattle.coniks_proof.proofs.RegistryLemmas.{entry_in, within}
-use Rattle.coniks_proof.proofs.BatchLemmas.{clear_of, neither, placed_none}
-use Rattle.coniks_proof.proofs.NameLemmas.{eq_same, eq_apart, in_overlaid, in_rebound, rebound_new, rebound_old, IsMap-rebound, clash_of, clashes-append, or_cases}
+use Rattle.coniks_proof.proofs.Lemmas.{IsIn-filter, IsMap-filter, IsMap-rebound, clash_of, clashes-append, clear_of, entry_in, eq_apart, eq_same, in_overlaid, in_rebound, neither, of_filter, or_cases, passes, placed_none, rebound_new, rebound_old, within}
 use Rattle.coniks_directory.proofs.HolderLemmas.{same_entry}
 
 -- ---- lists

@@ -21,7 +21,7 @@ use Rattle.coniks_directory.specs.declared.batch.BatchFault.{BatchFault}
 use Rattle.coniks_directory.specs.declared.batch.BatchFault.TheVariants.{Workers, Depth, BatchTooLong, At, OutOfMemory}
 use Rattle.coniks_directory.specs.declared.epochs.Epoch.{Epoch}
 use Rattle.coniks_directory.specs.declared.update.Prepared.{Prepared}
-use Rattle.coniks_proof.proofs.NameLemmas.{overlaid-append}
+use Rattle.coniks_proof.proofs.Lemmas.{overlaid-append}
 use Rattle.coniks_directory.proofs.StateLemmas.{latest-is, latest-last, nonce-last, registry_at-all}
 
 some_at : {T : Type 0} (xs : List T) (n : ℕ) → n < length xs → slice_get xs n ≡ None → ⊥

@@ -3,7 +3,7 @@ use Rattle.std.proofs.Common.{◌≡◌, ℕ, List, [], ◌∷◌, ◌++◌, ◌
 use Rattle.coniks_proof.specs.Batches.{MayFollow, after, first_fault}
 use Rattle.coniks_proof.specs.Registry.{HaveOwnIndices, Registry}
 use Rattle.coniks_proof.specs.declared.values.TheConstants.{MAX_OPERATIONS}
-use Rattle.coniks_proof.proofs.BatchLemmas.{may_follow, own_after}
+use Rattle.coniks_proof.proofs.Lemmas.{may_follow, own_after}
 use Rattle.coniks_directory.specs.Batches.{IsAccepted}
 use Rattle.coniks_directory.specs.History.{Shown, last_number, latest_epoch, latest_nonce, latest_registry, numbers_of}
 use Rattle.coniks_directory.specs.Runs.{AreAccepted, AreAcceptedFrom, Batch, Run, opened, stayed, committed, installed, defined, epochs_from}

@@ -10,12 +10,12 @@ use Rattle.std.proofs.lemmas.Map.Text.{is_eq-slice_cmp}
 use Rattle.coniks_proof.specs.Entries.{IsIn}
 use Rattle.coniks_proof.specs.Maps.{IsIndex}
 use Rattle.coniks_proof.specs.Registry.{Registered, has_name, IsFree}
-use Rattle.coniks_tree.proofs.PushLemmas.{Extends-append, get-last, get-push}
+use Rattle.coniks_tree.proofs.Lemmas.{Extends-append, get-last, get-push}
 use Rattle.coniks_tree.specs.declared.table.Record.{Record}
 use Rattle.coniks_directory.specs.State.{registered_of}
 use Rattle.coniks_directory.specs.Holders.{IsHeld}
 use Rattle.coniks_directory.specs.Judged.{AreSeen, IsSealed, number_at}
-use Rattle.coniks_proof.proofs.NameLemmas.{not_true, eq_same, eq_apart, has_of, named_of, IsMap-one_more}
+use Rattle.coniks_proof.proofs.Lemmas.{IsMap-one_more, eq_apart, eq_same, has_of, named_of, not_true}
 
 -- a binding of the records is that of one of them
 pub in_records : (records : List Record) (b : Registered) → IsIn b (map registered_of records) → (n : ℕ) × (r : Record) × (slice_get records n ≡ Some r) × (registered_of r ≡ b)

@@ -1,17 +1,18 @@
-pub mod NodeLemmas
-pub mod HalfLemmas
-pub mod ChangeLemmas
-pub mod ClimbLemmas
-pub mod MapLemmas
-pub mod UnderLemmas
-pub mod OrderLemmas
-pub mod PrefixLemmas
-pub mod FaultLemmas
-pub mod LookupLemmas
-pub mod RegistryLemmas
-pub mod BackedLemmas
-pub mod PreimageLemmas
-pub mod CollisionLemmas
-pub mod MeetingLemmas
-pub mod NameLemmas
-pub mod BatchLemmas
+mod NodeLemmas
+mod HalfLemmas
+mod ChangeLemmas
+mod ClimbLemmas
+mod MapLemmas
+mod UnderLemmas
+mod OrderLemmas
+mod PrefixLemmas
+mod FaultLemmas
+mod LookupLemmas
+mod RegistryLemmas
+mod BackedLemmas
+mod PreimageLemmas
+mod CollisionLemmas
+mod MeetingLemmas
+mod NameLemmas
+mod BatchLemmas
+pub mod Lemmas

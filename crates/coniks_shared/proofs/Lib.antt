@@ -1,7 +1,8 @@
-pub mod BlockLemmas
-pub mod BoardSteps
-pub mod ByteLemmas
-pub mod ClaimsSteps
-pub mod GatherLemmas
-pub mod HeadLemmas
-pub mod TotalLemmas
+mod BlockLemmas
+mod BoardSteps
+mod ByteLemmas
+mod ClaimsSteps
+mod GatherLemmas
+mod HeadLemmas
+mod TotalLemmas
+pub mod Lemmas

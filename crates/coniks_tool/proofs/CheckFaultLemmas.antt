@@ -7,7 +7,7 @@ use Rattle.std.proofs.lemmas.Bool.Decides.{Decides-eqb, Decides-ltb, Decides-not
 use Rattle.std.proofs.lemmas.Slice.Eq.{bytes_eq-Decides}
 use Rattle.coniks_proof.specs.Bits.{first_bits}
 use Rattle.coniks_proof.specs.Proofs.{Accepts, answer_of, preimage}
-use Rattle.coniks_proof.proofs.FaultLemmas.{accepts-no_fault, no_fault-accepts}
+use Rattle.coniks_proof.proofs.Lemmas.{accepts-no_fault, no_fault-accepts}
 use Rattle.coniks_proof.specs.Faults.{EndHas, Has, IsFirst, number}
 use Rattle.coniks_proof.specs.declared.paths.Proof.{Proof}
 use Rattle.coniks_proof.specs.declared.paths.End.{End}

@@ -6,7 +6,7 @@ use Rattle.std.proofs.lemmas.Nat.{from_be_bytes-to_be_bytes_8}
 use Rattle.coniks_chain.specs.declared.entry.Body.{Body}
 use Rattle.coniks_chain.specs.declared.entry.Entry.{Entry}
 use Rattle.coniks_chain.specs.Entries.{body_bytes, IsBody, IsEntry}
-use Rattle.coniks_chain.proofs.BodyLemmas.{parted}
+use Rattle.coniks_chain.proofs.Lemmas.{parted}
 use Rattle.coniks_tool.specs.EntryBytes.{body_from, entry_bytes, entry_from, part_at}
 
 -- two parts of 32 bytes, one behind the other

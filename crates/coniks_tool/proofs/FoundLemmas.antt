@@ -5,7 +5,7 @@ use Rattle.std.proofs.lemmas.Bool.{false≢true}
 use Rattle.coniks_chain.specs.declared.entry.Entry.{Entry}
 use Rattle.coniks_directory.specs.Chain.{IsChainOf}
 use Rattle.coniks_directory.specs.History.{AreRising, Shown, numbers_of, shown_at}
-use Rattle.coniks_directory.proofs.HeadLemmas.{chain-rises}
+use Rattle.coniks_directory.proofs.Lemmas.{chain-rises}
 use Rattle.coniks_directory.specs.Lookups.{IsFound, IsMissed}
 use Rattle.coniks_directory.specs.declared.lookup.LookupFault.{LookupFault}
 use Rattle.coniks_directory.specs.declared.lookup.LookupFault.TheVariants.{NameLength}

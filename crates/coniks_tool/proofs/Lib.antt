@@ -1,16 +1,16 @@
-pub mod AuditChainLemmas
-pub mod AuditFaultLemmas
-pub mod CheckFaultLemmas
-pub mod CheckLemmas
-pub mod CommandLemmas
-pub mod EntryLemmas
-pub mod FoundLemmas
-pub mod MonitorLemmas
-pub mod OperationsLemmas
-pub mod PathLemmas
-pub mod ProgramLemmas
-pub mod ProofObjectLemmas
-pub mod ReplyLemmas
-pub mod SealedLemmas
-pub mod StoreLemmas
-pub mod TellingLemmas
+mod AuditChainLemmas
+mod AuditFaultLemmas
+mod CheckFaultLemmas
+mod CheckLemmas
+mod CommandLemmas
+mod EntryLemmas
+mod FoundLemmas
+mod MonitorLemmas
+mod OperationsLemmas
+mod PathLemmas
+mod ProgramLemmas
+mod ProofObjectLemmas
+mod ReplyLemmas
+mod SealedLemmas
+mod StoreLemmas
+mod TellingLemmas

@@ -1,4 +1,5 @@
-pub mod TableLemmas
-pub mod PartLemmas
-pub mod PushLemmas
-pub mod PathLemmas
+mod TableLemmas
+mod PartLemmas
+mod PushLemmas
+mod PathLemmas
+pub mod Lemmas

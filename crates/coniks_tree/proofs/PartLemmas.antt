@@ -4,16 +4,13 @@ use Rattle.coniks_proof.specs.Bits.{child}
 use Rattle.coniks_proof.specs.Entries.{half, under}
 use Rattle.coniks_proof.specs.Preimages.{empty_preimage, leaf_preimage, inner_preimage}
 use Rattle.coniks_proof.specs.Tree.{node}
-use Rattle.coniks_proof.proofs.NodeLemmas.{node-empty, node-leaf, node-inner, length-child}
-use Rattle.coniks_proof.proofs.HalfLemmas.{length-halves, all_left, all_right}
+use Rattle.coniks_proof.proofs.Lemmas.{IsSplit, all_left, all_right, apart-halves, apart-last, half-overwritten, in_order-split, length-child, length-halves, node-empty, node-inner, node-leaf, overwritten-empty, overwritten-one, overwritten-same, under-child}
 use Rattle.std.specs.Str.{bytes_eq}
 use Rattle.std.specs.List.{take-map, drop-map}
 use Rattle.std.proofs.Math.Seq.{take-append_seam, drop-append_seam}
 use Rattle.std.proofs.lemmas.List.{nil_from_length, take_more}
 use Rattle.std.proofs.lemmas.Option.{slice_get_within, get_or_from_slice_get}
-use Rattle.coniks_proof.proofs.UnderLemmas.{under-child}
 use Rattle.coniks_proof.specs.Changes.{overwritten, AreInOrder, AreApart}
-use Rattle.coniks_proof.proofs.ChangeLemmas.{overwritten-empty, overwritten-same, overwritten-one, half-overwritten, apart-last, apart-halves, IsSplit, in_order-split}
 use Rattle.coniks_tree.specs.Table.{Numbered, hash_of_node}
 use Rattle.coniks_tree.specs.Parts.{Stands, Fits, node_count, entry_of_change, weight_of, entries_of, is_made, Placed, AllPlaced}
 use Rattle.coniks_tree.proofs.TableLemmas.{Shows-hash}

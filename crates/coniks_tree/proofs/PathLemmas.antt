@@ -5,9 +5,7 @@ use Rattle.coniks_proof.specs.Entries.{Entry, backed_by, half}
 use Rattle.coniks_proof.specs.Changes.{ApartWithin, AreApart}
 use Rattle.coniks_proof.specs.Registry.{Registered}
 use Rattle.coniks_proof.specs.Paths.{siblings, end_of}
-use Rattle.coniks_proof.proofs.NodeLemmas.{siblings-inner, siblings-empty, siblings-leaf, end_of-inner, end_of-empty, end_of-leaf, length-child}
-use Rattle.coniks_proof.proofs.HalfLemmas.{length-halves}
-use Rattle.coniks_proof.proofs.LookupLemmas.{end_of-in, end_of-present}
+use Rattle.coniks_proof.proofs.Lemmas.{end_of-empty, end_of-in, end_of-inner, end_of-leaf, end_of-present, length-child, length-halves, siblings-empty, siblings-inner, siblings-leaf}
 use Rattle.coniks_proof.specs.declared.values.Digest.{Digest}
 use Rattle.coniks_tree.specs.Table.{Numbered, registered_at, registered_by, Shows, shows_empty, shows_leaf, shows_inner, hash_of_node, entry_of_record}
 use Rattle.coniks_tree.specs.Paths.{Finds, IsAt, IsStep, StopsAt}

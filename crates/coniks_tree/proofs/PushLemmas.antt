@@ -7,7 +7,7 @@ use Rattle.coniks_tree.specs.Table.{Numbered, NodeFits, Shows, shows_inner, IsTa
 use Rattle.coniks_tree.specs.Parts.{Stands, IsSubtree, Fits, entry_of_change}
 use Rattle.coniks_proof.specs.Bits.{turns}
 use Rattle.coniks_proof.specs.Maps.{IsMap, SameEntries}
-use Rattle.coniks_proof.proofs.MapLemmas.{node-same, same_as_none, same_as_one, IsMap-filter, SameEntries-filter}
+use Rattle.coniks_proof.proofs.Lemmas.{IsMap-filter, SameEntries-filter, node-same, same_as_none, same_as_one}
 use Rattle.coniks_tree.proofs.TableLemmas.{Shows-extended, Shows-same, many_in}
 use Rattle.coniks_tree.specs.declared.table.Node.{Node}
 use Rattle.coniks_tree.specs.declared.table.Node.TheVariants.{Leaf, Inner}

@@ -4,7 +4,7 @@ use Rattle.coniks_proof.specs.Entries.{half}
 use Rattle.coniks_proof.specs.Tree.{node}
 use Rattle.coniks_proof.specs.Bits.{turns}
 use Rattle.coniks_proof.specs.Maps.{IsMap, SameEntries}
-use Rattle.coniks_proof.proofs.MapLemmas.{node-same, same_as_none, same_as_one, IsMap-filter, SameEntries-filter, SameEntries-sym}
+use Rattle.coniks_proof.proofs.Lemmas.{IsMap-filter, SameEntries-filter, SameEntries-sym, node-same, same_as_none, same_as_one}
 use Rattle.coniks_tree.specs.Table.{Numbered, Shows, shows_empty, shows_leaf, shows_inner, hash_of_node, entry_of_record, Extends}
 use Rattle.coniks_tree.specs.declared.table.Node.{Node}
 use Rattle.coniks_tree.specs.declared.table.Node.TheVariants.{Empty, Leaf, Inner}

@@ -5,9 +5,7 @@ use Rattle.std.specs.List.{take-map, drop-map}
 use Rattle.coniks_proof.specs.Bits.{child}
 use Rattle.coniks_proof.specs.Entries.{half, under}
 use Rattle.coniks_proof.specs.Changes.{overwritten, AreApart, AreInOrder}
-use Rattle.coniks_proof.proofs.NodeLemmas.{length-child}
-use Rattle.coniks_proof.proofs.UnderLemmas.{under-child}
-use Rattle.coniks_proof.proofs.ChangeLemmas.{overwritten-nothing, half-overwritten, apart-halves}
+use Rattle.coniks_proof.proofs.Lemmas.{apart-halves, half-overwritten, length-child, overwritten-nothing, under-child}
 use Rattle.coniks_tree.specs.Table.{Numbered, Extends}
 use Rattle.coniks_tree.specs.Parts.{Stands, Fits, Placed, AllPlaced, node_count, is_made, entries_of, entry_of_change}
 use Rattle.coniks_tree.specs.declared.table.Node.{Node}

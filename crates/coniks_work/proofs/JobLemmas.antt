@@ -6,7 +6,7 @@ use Rattle.std.proofs.lemmas.List.Elements.{All-nil, All-cons, All-append, All-w
 use Rattle.coniks_proof.specs.Bits.{child}
 use Rattle.coniks_proof.specs.Entries.{under}
 use Rattle.coniks_proof.specs.Changes.{AreInOrder}
-use Rattle.coniks_proof.proofs.NodeLemmas.{length-child}
+use Rattle.coniks_proof.proofs.Lemmas.{length-child}
 use Rattle.coniks_tree.specs.Table.{Numbered}
 use Rattle.coniks_work.specs.Sides.{lefts, side}
 use Rattle.coniks_work.specs.Jobs.{in_range, Cover, IsLeftOf, AreRising, TakeTheirs, LieWithin, job_of, jobs_below}

@@ -1,5 +1,5 @@
-pub mod CrewLemmas
-pub mod GrownLemmas
-pub mod JobLemmas
-pub mod PlaceLemmas
-pub mod SideLemmas
+mod CrewLemmas
+mod GrownLemmas
+mod JobLemmas
+mod PlaceLemmas
+mod SideLemmas

@@ -5,7 +5,7 @@ use Rattle.std.proofs.lemmas.Bool.Decides.{nat_tests}
 use mathlib.Core.Logic.{dite}
 use native.Mathlib.Decide.{ℕ_discrete}
 use Rattle.coniks_shared.specs.Draws.{times}
-use Rattle.coniks_shared.proofs.TotalLemmas.{times_append}
+use Rattle.coniks_shared.proofs.Lemmas.{times_append}
 use Rattle.coniks_tree.specs.declared.part.Part.{Part}
 use Rattle.coniks_work.specs.Places.{numbers, AreParts, AllFrom, StandsAt, Places}
 

@@ -4,10 +4,7 @@ use Rattle.std.proofs.Math.Seq.{take-append_seam, drop-append_seam}
 use Rattle.coniks_proof.specs.Bits.{child}
 use Rattle.coniks_proof.specs.Entries.{half, under}
 use Rattle.coniks_proof.specs.Changes.{AreInOrder}
-use Rattle.coniks_proof.proofs.HalfLemmas.{length-halves}
-use Rattle.coniks_proof.proofs.NodeLemmas.{length-child}
-use Rattle.coniks_proof.proofs.UnderLemmas.{under-child}
-use Rattle.coniks_proof.proofs.ChangeLemmas.{IsSplit, in_order-split}
+use Rattle.coniks_proof.proofs.Lemmas.{IsSplit, in_order-split, length-child, length-halves, under-child}
 use Rattle.coniks_tree.specs.Table.{Numbered}
 use Rattle.coniks_work.specs.Sides.{lefts, side}
 

@@ -1,7 +1,7 @@
 use Rattle.std.proofs.Common.{rules, ltb, sym}
 use Rattle.std.proofs.lemmas.List.Sorted.{IsPartitionPoint-from_clause, IsPartitionedBy-ltb}
 use Rattle.coniks_chain.specs.declared.entry.Entry.{Entry}
-use Rattle.coniks_directory.proofs.NumberLemmas.{found_none, found_other, found_same, parted, rising-sorted}
+use Rattle.coniks_directory.proofs.Lemmas.{found_none, found_other, found_same, parted, rising-sorted}
 use Rattle.coniks_tool.proofs.store.entry_of_epoch.Goals as goal
 
 pub returns-in-Some : goal.returns-in-Some

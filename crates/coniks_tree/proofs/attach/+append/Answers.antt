@@ -1,6 +1,6 @@
 use Rattle.std.proofs.Common.{ap, sym, subst, ◌∙◌, ◌≡◌, ◌∷◌, [], rules, arith, length, suc, true, false, ◌≤◌, ◌<◌, ◌-◌, ◌+◌}
 use Rattle.coniks_proof.specs.Bits.{child}
-use Rattle.coniks_proof.proofs.NodeLemmas.{length-child}
+use Rattle.coniks_proof.proofs.Lemmas.{length-child}
 use Rattle.coniks_tree.specs.Table.{shows_empty, shows_leaf}
 use Rattle.coniks_tree.specs.Parts.{Fits, Stands, Placed, node_count}
 use Rattle.std.proofs.lemmas.Option.{slice_get_within}

@@ -3,9 +3,8 @@ use Rattle.std.proofs.lemmas.Bool.Decides.{nat_tests}
 use Rattle.std.proofs.lemmas.List.{nil_from_length}
 use Rattle.coniks_proof.specs.Bits.{child}
 use Rattle.coniks_proof.specs.Entries.{half}
-use Rattle.coniks_proof.proofs.NodeLemmas.{length-child}
+use Rattle.coniks_proof.proofs.Lemmas.{length-child, overwritten-nothing}
 use Rattle.coniks_proof.specs.Changes.{overwritten, AreInOrder}
-use Rattle.coniks_proof.proofs.ChangeLemmas.{overwritten-nothing}
 use Rattle.coniks_tree.specs.Parts.{Stands, entries_of, node_count}
 use Rattle.coniks_tree.proofs.PartLemmas.{grown_side, count_grown}
 use Rattle.coniks_tree.proofs.growth.+grow_part.Goals as goal

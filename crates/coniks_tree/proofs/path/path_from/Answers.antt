@@ -2,7 +2,7 @@ use Rattle.coniks_tree.proofs.PathLemmas.{OnWay, way_goes_on, way_told, way_ends
 use Rattle.coniks_tree.specs.Paths.{StopsAt}
 use Rattle.coniks_tree.specs.Table.{registered_at}
 use Rattle.coniks_proof.specs.Paths.{EndIs, digests, end_of}
-use Rattle.coniks_proof.proofs.BackedLemmas.{siblings-backed, end_of-backed}
+use Rattle.coniks_proof.proofs.Lemmas.{end_of-backed, siblings-backed}
 use Rattle.std.proofs.Common.{sym, ap, subst, ◌∙◌, map, ◌+◌, ◌∷◌, []}
 use Rattle.std.proofs.lemmas.List.{map-append}
 use Rattle.coniks_tree.proofs.path.path_from.Goals as goal

@@ -1,7 +1,7 @@
 use Rattle.std.proofs.Common.{◌≡◌, ◌<◌, ◌-◌, ◌++◌, [], length, ap, sym, subst, ◌∙◌, append_assoc, arith, true, false}
 use Rattle.std.proofs.lemmas.Bool.Decides.{nat_tests}
 use Rattle.std.proofs.lemmas.List.{nil_from_length, length-map}
-use Rattle.coniks_proof.proofs.NodeLemmas.{length-child}
+use Rattle.coniks_proof.proofs.Lemmas.{length-child}
 use Rattle.coniks_tree.specs.Parts.{entries_of, entry_of_change}
 use Rattle.coniks_work.specs.Grown.{IsGrown}
 use Rattle.coniks_work.proofs.GrownLemmas.{old_grown, grown_one, joined_grown, last_same, rise_sides, side_of}

@@ -1,5 +1,5 @@
 use Rattle.coniks_directory_tests.specs.Letters.{index_of_letter}
-use Rattle.coniks_directory.proofs.FreshLemmas.{prepared_of}
+use Rattle.coniks_directory.proofs.Lemmas.{prepared_of}
 use Rattle.coniks_directory_tests.proofs.tests.clerk.prepared.Goals as goal
 
 pub returns-in-Ok-prepare : goal.returns-in-Ok-prepare

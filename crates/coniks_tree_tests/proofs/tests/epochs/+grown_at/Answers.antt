@@ -1,6 +1,6 @@
 use Rattle.std.proofs.Common.{sym, subst}
 use Rattle.coniks_tree.specs.Parts.{AllPlaced}
-use Rattle.coniks_tree.proofs.PartLemmas.{AllPlaced-take, AllPlaced-drop}
+use Rattle.coniks_tree.proofs.Lemmas.{AllPlaced-drop, AllPlaced-take}
 use Rattle.coniks_tree_tests.proofs.tests.epochs.+grown_at.Goals as goal
 
 pub returns-clause-placed : goal.returns-clause-placed

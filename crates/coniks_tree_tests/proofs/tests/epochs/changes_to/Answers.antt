@@ -1,7 +1,7 @@
 use Rattle.std.proofs.Common.{rules, refl, sym, subst, ◌≡◌, ◌++◌, ◌+◌, ◌∷◌, [], Some, slice_get, arith}
 use Rattle.std.proofs.lemmas.Option.{slice_get_read}
 use Rattle.coniks_tree.specs.Parts.{AllPlaced}
-use Rattle.coniks_tree.proofs.PartLemmas.{AllPlaced-next}
+use Rattle.coniks_tree.proofs.Lemmas.{AllPlaced-next}
 use Rattle.coniks_tree_tests.proofs.tests.epochs.changes_to.Goals as goal
 
 pub loop-position-preserved : goal.loop-position-preserved

@@ -2,7 +2,7 @@ use Rattle.std.proofs.Common.{subst, sym}
 use Rattle.coniks_directory_tests.specs.Letters.{index_of_letter}
 use Rattle.coniks_directory.specs.Updates.{IsUpdateOf}
 use Rattle.coniks_directory.specs.declared.update.Prepared.{Prepared}
-use Rattle.coniks_directory.proofs.FreshLemmas.{stays_held}
+use Rattle.coniks_directory.proofs.Lemmas.{stays_held}
 use Rattle.coniks_directory_tests.proofs.tests.clerk.Clerk.install_both.Goals as goal
 
 pub install-requires-2-after_bounds : goal.install-requires-2-after_bounds

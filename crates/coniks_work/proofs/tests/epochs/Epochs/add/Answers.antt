@@ -1,6 +1,6 @@
 use Rattle.std.proofs.Common.{sym, subst, ◌++◌}
 use Rattle.coniks_tree.specs.Parts.{AllPlaced, Placed}
-use Rattle.coniks_tree.proofs.PushLemmas.{Extends-append}
+use Rattle.coniks_tree.proofs.Lemmas.{Extends-append}
 use Rattle.coniks_work.proofs.tests.epochs.Epochs.add.Goals as goal
 
 pub attach-root-requires-clause-placed : goal.attach-root-requires-clause-placed
