@@ -10,6 +10,7 @@ mod OperationsLemmas
 mod PathLemmas
 mod ProgramLemmas
 mod ProofObjectLemmas
+mod RefusedLemmas
 mod ReplyLemmas
 mod SealedLemmas
 mod StoreLemmas

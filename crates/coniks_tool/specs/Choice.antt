@@ -1,5 +1,5 @@
 -- What the words choose, and why they may choose nothing.
-use Rattle.std.specs.Prelude.{◌≤◌, max, min, List, [], ℕ, codes, ◌&&◌, Option, Some, None, is_none, is_some, option_map, unwrap_or, Bool, false, if◌then◌else◌}
+use Rattle.std.specs.Prelude.{◌≡◌, ◌⊎◌, ◌≤◌, max, min, List, [], ℕ, codes, ◌&&◌, Option, Some, None, is_none, is_some, option_map, unwrap_or, Bool, true, false, if◌then◌else◌}
 use Rattle.std.specs.Option.{option_map_or}
 use Rattle.std.specs.Result.{result_ok}
 use Rattle.std.specs.Str.{bytes_eq}
@@ -82,6 +82,10 @@ lacks_expectation (Some (audit key)) = false
 lacks_expectation (Some (run workers depth)) = false
 lacks_expectation (Some check) = false
 lacks_expectation None = false
+
+-- a key or an expectation is asked for, and its text isn't one
+abbrev pub Lacks : Option Choice → Type 0
+Lacks choice = (lacks_key choice ≡ true) ⊎ (lacks_expectation choice ≡ true)
 
 -- memory ran out, or it is an error of `clap` of one of these kinds
 abbrev pub IsRefusal : Kinds → WordsFault → Type 0

@@ -1,5 +1,5 @@
 -- What the program does about its words, and what it tells.
-use Rattle.std.specs.Prelude.{◌≡◌, ◌⊎◌, ℕ, List, [], Bool, true, false, codes, Option, Some, None, Result, Ok, Err}
+use Rattle.std.specs.Prelude.{◌≡◌, ◌≢◌, ◌⊎◌, ℕ, List, [], Bool, true, false, codes, Option, Some, None, Result, Ok, Err}
 use Rattle.std.specs.String.{string_bytes}
 use Rattle.clap.specs.Words.{Kinds, IsAmong, fault_of, subcommand_of}
 use Rattle.clap.specs.declared.error.kind.ErrorKind.{ErrorKind}
@@ -122,6 +122,14 @@ pub record HasBadKey (words : List (List ℕ)) : Type 0 where
 pub record HasBadExpectation (words : List (List ℕ)) : Type 0 where
   pub faultless : fault_of keydir words ≡ []
   pub no_expectation : lacks_expectation (chosen (subcommand_of keydir words)) ≡ true
+
+-- the key or the expectation that the words give is none
+abbrev pub HasBadText : List (List ℕ) → Type 0
+HasBadText words = HasBadKey words ⊎ HasBadExpectation words
+
+-- the words choose no run: `clap` finds a fault in them, help that is asked for among them, or they give a bad text
+abbrev pub ChooseNoRun : List (List ℕ) → Type 0
+ChooseNoRun words = (fault_of keydir words ≢ []) ⊎ HasBadText words
 
 -- the program may end in this way for the words
 abbrev pub EndsFor : List (List ℕ) → Source → Source → Sink → Sink → Ending → Type 0

@@ -1,12 +1,12 @@
 //! Laws of what `audit` answers, each the contract of a function that only reads.
 
-ghost use Rattle.std.specs.Prelude.{◌≡◌, ◌↔◌, ℕ, List, Bool, Option, None, Some};
+ghost use Rattle.std.specs.Prelude.{◌≡◌, ◌↔◌, ℕ, List, Bool, false, Option, None, Some};
 ghost use Rattle.coniks_proof.specs.Sha256.{sha256};
 ghost use Rattle.coniks_chain.specs.Chain.{Follows, GoodChain, IsFirstFault};
 ghost use Rattle.coniks_chain.specs.declared.auditor.AuditFault.{AuditFault};
 ghost use Rattle.coniks_chain.specs.declared.auditor.Before.{Before};
 ghost use Rattle.coniks_chain.specs.declared.entry.Entry.{Entry};
-ghost use Rattle.coniks_tool.specs.Audit.{none_audited};
+ghost use Rattle.coniks_tool.specs.Audit.{AuditState, audit_answer, none_audited};
 ghost use Rattle.coniks_tool.specs.AuditChain.{accepted_entries};
 ghost use Rattle.coniks_tool.specs.AuditFaults.{audit_fault};
 ghost use Rattle.coniks_tool.specs.Seal.{is_seal};
@@ -22,4 +22,9 @@ pub fn told_fault_is_the_first()
 /// The entries of the lines that are accepted are a good chain, whatever lines stand between them.
 pub fn accepted_lines_are_a_chain()
     ensures { (key : List ℕ) (lines : List (List ℕ)) → GoodChain sha256 (is_seal key) (accepted_entries (none_audited key) lines) }
+{}
+
+/// A refused line leaves what the next entry is compared with.
+pub fn refused_line_changes_no_auditor()
+    ensures { (s : AuditState) (line : List ℕ) → (audit_answer s line).accepted ≡ false → (audit_answer s line).state ≡ s }
 {}

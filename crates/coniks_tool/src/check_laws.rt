@@ -5,6 +5,7 @@ ghost use Rattle.coniks_proof.specs.Faults.{Has, IsFirst};
 ghost use Rattle.coniks_proof.specs.Proofs.{Accepts, answer_of};
 ghost use Rattle.coniks_proof.specs.declared.checker.CheckFault.{CheckFault};
 ghost use Rattle.coniks_proof.specs.declared.paths.Proof.{Proof};
+ghost use Rattle.coniks_tool.specs.Check.{Stateless, check_answer};
 ghost use Rattle.coniks_tool.specs.CheckFaults.{check_fault};
 
 /// A proof has no fault exactly where it is accepted with what its end says, and the fault that is told is its first one.
@@ -13,4 +14,9 @@ pub fn told_fault_of_a_proof_is_the_first()
         → (check_fault hash nonce root index name proof ≡ None) ↔ (Accepts hash nonce root index name proof (answer_of proof.end)) }
     ensures some { (hash : List ℕ → List ℕ) (nonce root index name : List ℕ) (proof : Proof) (fault : CheckFault)
         → (check_fault hash nonce root index name proof ≡ Some fault) ↔ (IsFirst (Has hash nonce root index name proof) fault) }
+{}
+
+/// No line changes how the next one is answered.
+pub fn lines_are_checked_apart()
+    ensures { (s : Stateless) (line : List ℕ) → (check_answer s line).state ≡ s }
 {}

@@ -27,6 +27,7 @@ mod question;
 mod reply;
 mod running;
 mod script;
+pub mod script_laws;
 mod seal;
 mod statuses;
 mod store;

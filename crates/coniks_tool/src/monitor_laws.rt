@@ -1,6 +1,6 @@
 //! Laws of what `monitor` answers, each the contract of a function that only reads.
 
-ghost use Rattle.std.specs.Prelude.{◌≡◌, ◌↔◌};
+ghost use Rattle.std.specs.Prelude.{◌≡◌, ◌↔◌, ◌⊎◌, ℕ, List};
 ghost use Rattle.coniks_proof.specs.Proofs.{answer_of};
 ghost use Rattle.coniks_proof.specs.Sha256.{sha256};
 ghost use Rattle.coniks_proof.specs.declared.paths.Proof.{Proof};
@@ -8,8 +8,9 @@ ghost use Rattle.coniks_chain.specs.Seen.{seen_of};
 ghost use Rattle.coniks_chain.specs.Watch.{IsFirstStepFault, IsSoundStep};
 ghost use Rattle.coniks_chain.specs.declared.entry.Entry.{Entry};
 ghost use Rattle.coniks_chain.specs.declared.seen.MonitorFault.{MonitorFault};
-ghost use Rattle.coniks_tool.specs.Monitor.{MonitorState, step_turn};
-ghost use Rattle.coniks_tool.specs.MonitorReplies.{at_fault, watched};
+ghost use Rattle.coniks_chain.specs.declared.seen.Seen.{Seen};
+ghost use Rattle.coniks_tool.specs.Monitor.{MonitorState, monitor_turn, step_turn};
+ghost use Rattle.coniks_tool.specs.MonitorReplies.{at_fault, expecting, watched};
 ghost use Rattle.coniks_tool.specs.Seal.{is_seal};
 
 /// Entry and proof are accepted exactly where the step is sound: the entry follows, and the proof is accepted under its
@@ -21,4 +22,12 @@ pub fn told_fault_of_a_step_is_the_first()
     ensures refused { (s : MonitorState) (entry : Entry) (proof : Proof) (fault : MonitorFault)
         → ((step_turn s entry proof).outcome ≡ at_fault fault)
         ↔ (IsFirstStepFault sha256 (is_seal s.key) s.before s.name s.index entry proof fault) }
+{}
+
+/// Only a line that sets the expectation, or whose entry and proof are accepted, changes the monitor.
+pub fn refused_line_changes_no_monitor()
+    ensures { (s : MonitorState) (line : List ℕ)
+        → (monitor_turn s line).state ≡ s
+        ⊎ (monitor_turn s line).outcome ≡ expecting
+        ⊎ (epoch : ℕ) × ((seen : Seen) × ((monitor_turn s line).outcome ≡ watched epoch seen)) }
 {}

@@ -1,7 +1,7 @@
 //! Runs what the words chose.
 
-ghost use Rattle.std.specs.Prelude.{◌≡◌, ◌<◌, ◌≤◌, ◌+◌, ◌^◌, IfOk, List, Some, option_map, ℕ};
-ghost use Rattle.coniks_tool.specs.Choice.{audit, check, choice_of, key_in, monitor, run, IsWithin};
+ghost use Rattle.std.specs.Prelude.{◌≡◌, ◌<◌, ◌≤◌, ◌+◌, ◌^◌, IfOk, List, None, Some, option_map, ℕ};
+ghost use Rattle.coniks_tool.specs.Choice.{audit, check, choice_of, key_in, monitor, run, IsWithin, Lacks};
 ghost use Rattle.coniks_tool.specs.Expectations.{expectation_in};
 ghost use Rattle.coniks_tool.specs.Program.{EndsBy, IfIdle};
 ghost use Rattle.coniks_directory.specs.Batches.{AreWorkers};
@@ -34,6 +34,8 @@ pub(crate) fn run_settings<T: Threads + Sync, R: ByteIn, W: ByteOut>(
     ensures ends { IfOk result (EndsBy (Some (choice_of settings.entry)) (R.source reader.old) (R.source reader.new) (W.sink writer.old) (W.sink writer.new)) }
     ensures unread { IfOk result (λ ending. IfIdle ending (R.source reader.new ≡ R.source reader.old)) }
     ensures unwritten { IfOk result (λ ending. IfIdle ending (W.sink writer.new ≡ W.sink writer.old)) }
+    ensures idle_reader { Lacks (Some (choice_of settings.entry)) → R.source reader.new ≡ R.source reader.old }
+    ensures idle_writer { Lacks (Some (choice_of settings.entry)) → W.sink writer.new ≡ W.sink writer.old }
 {
     match settings {
         Settings::Run { workers, depth } => {
@@ -95,6 +97,8 @@ fn audit_under<R: ByteIn, W: ByteOut>(
     ensures ends { IfOk result (EndsBy (Some (audit key.now)) (R.source reader.old) (R.source reader.new) (W.sink writer.old) (W.sink writer.new)) }
     ensures unread { IfOk result (λ ending. IfIdle ending (R.source reader.new ≡ R.source reader.old)) }
     ensures unwritten { IfOk result (λ ending. IfIdle ending (W.sink writer.new ≡ W.sink writer.old)) }
+    ensures idle_reader { Lacks (Some (audit key.now)) → R.source reader.new ≡ R.source reader.old }
+    ensures idle_writer { Lacks (Some (audit key.now)) → W.sink writer.new ≡ W.sink writer.old }
 {
     let Some(key) = bytes_of_digits(key) else {
         return Ok(Ending::BadKey);
@@ -116,6 +120,8 @@ fn watch_under<R: ByteIn, W: ByteOut>(
     ensures ends { IfOk result (EndsBy (Some (monitor key.now name.now (option_map (λ text. text.now) expect.entry))) (R.source reader.old) (R.source reader.new) (W.sink writer.old) (W.sink writer.new)) }
     ensures unread { IfOk result (λ ending. IfIdle ending (R.source reader.new ≡ R.source reader.old)) }
     ensures unwritten { IfOk result (λ ending. IfIdle ending (W.sink writer.new ≡ W.sink writer.old)) }
+    ensures idle_reader { Lacks (Some (monitor key.now name.now (option_map (λ text. text.now) expect.entry))) → R.source reader.new ≡ R.source reader.old }
+    ensures idle_writer { Lacks (Some (monitor key.now name.now (option_map (λ text. text.now) expect.entry))) → W.sink writer.new ≡ W.sink writer.old }
 {
     match bytes_of_digits(key) {
         Some(key) => watch(alloc, key, name, expect, reader, writer),
@@ -137,6 +143,8 @@ fn watch<R: ByteIn, W: ByteOut>(
     ensures ends { (digits : List ℕ) → key_in digits ≡ Some key → IfOk result (EndsBy (Some (monitor digits name.now (option_map (λ text. text.now) expect.entry))) (R.source reader.old) (R.source reader.new) (W.sink writer.old) (W.sink writer.new)) }
     ensures unread { IfOk result (λ ending. IfIdle ending (R.source reader.new ≡ R.source reader.old)) }
     ensures unwritten { IfOk result (λ ending. IfIdle ending (W.sink writer.new ≡ W.sink writer.old)) }
+    ensures idle_reader { expectation_in (option_map (λ text. text.now) expect.entry) ≡ None → R.source reader.new ≡ R.source reader.old }
+    ensures idle_writer { expectation_in (option_map (λ text. text.now) expect.entry) ≡ None → W.sink writer.new ≡ W.sink writer.old }
 {
     let Some(expected) = expectation_of(alloc, expect)? else {
         return Ok(Ending::BadExpectation);

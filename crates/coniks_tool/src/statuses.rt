@@ -4,7 +4,7 @@ ghost use Rattle.std.specs.Prelude.{◌≡◌, ◌≢◌, ◌⊎◌, ◌<◌, �
 ghost use Rattle.clap.specs.Words.{fault_of, kind_of, takes};
 ghost use Rattle.coniks_lines.specs.declared.fault.RunFault.{RunFault as Fault};
 ghost use Rattle.coniks_tool.specs.Keydir.{keydir};
-ghost use Rattle.coniks_tool.specs.Program.{bad_expectation_line, bad_key_line, fault_line, status_of, told_of, unread_line, unread_status, AsksForHelp, EndsFor, HasBadExpectation, HasBadKey, HasMistake, IfIdle, IfRefused, IsExplained, RunsFor, Tells, TellsIf};
+ghost use Rattle.coniks_tool.specs.Program.{bad_expectation_line, bad_key_line, fault_line, status_of, told_of, unread_line, unread_status, AsksForHelp, EndsFor, HasBadExpectation, HasBadKey, ChooseNoRun, HasBadText, HasMistake, IfIdle, IfRefused, IsExplained, RunsFor, Tells, TellsIf};
 
 use crate::choice::{Unread, WordsFault};
 use crate::ending::{Ending, fault_text, status, told};
@@ -41,15 +41,18 @@ pub fn program<T: Threads + Sync, S: AsStr, R: ByteIn, W: ByteOut, E: ByteOut>(
     // the key and the expectation that they give, and the status is 0 or 1 as it accepted every line or not.
     ensures done { result ≡ 0 → RunsFor (map S.text words.entry.now) (R.source reader.old) (R.source reader.new) (W.sink writer.old) (W.sink writer.new) true ⊎ AsksForHelp (fault_of keydir (map S.text words.entry.now)) }
     ensures ran { result ≡ 1 → RunsFor (map S.text words.entry.now) (R.source reader.old) (R.source reader.new) (W.sink writer.old) (W.sink writer.new) false }
-    ensures refused { result ≡ 2 → HasMistake (fault_of keydir (map S.text words.entry.now)) ⊎ HasBadKey (map S.text words.entry.now) ⊎ HasBadExpectation (map S.text words.entry.now) }
-    ensures taken { takes keydir (map S.text words.entry.now) ≡ true → result ≡ 2 → HasBadKey (map S.text words.entry.now) ⊎ HasBadExpectation (map S.text words.entry.now) }
+    ensures refused { result ≡ 2 → HasMistake (fault_of keydir (map S.text words.entry.now)) ⊎ HasBadText (map S.text words.entry.now) }
+    ensures taken { takes keydir (map S.text words.entry.now) ≡ true → result ≡ 2 → HasBadText (map S.text words.entry.now) }
     ensures bad_key { HasBadKey (map S.text words.entry.now) → 2 ≤ result }
     ensures bad_expectation { HasBadExpectation (map S.text words.entry.now) → 2 ≤ result }
 
-    // Nothing is told where the run ends well. Refused words leave input and output alone.
+    // Nothing is told where the run ends well. Words that choose no run leave the input alone, whatever the status: those of which
+    // `clap` refuses some or that ask for help, and those with a bad key or expectation. Refused words leave the output alone too.
     ensures quiet { result ≤ 1 → E.sink errors.new ≡ E.sink errors.old }
     ensures unread { result ≡ 2 → R.source reader.new ≡ R.source reader.old }
     ensures unwritten { result ≡ 2 → W.sink writer.new ≡ W.sink writer.old }
+    ensures idle_reader { ChooseNoRun (map S.text words.entry.now) → R.source reader.new ≡ R.source reader.old }
+    ensures idle_writer { HasBadText (map S.text words.entry.now) → W.sink writer.new ≡ W.sink writer.old }
     ensures bad_key_told { HasBadKey (map S.text words.entry.now) → result ≡ 2 → Tells (E.sink errors.old) bad_key_line (E.sink errors.new) }
     ensures bad_expectation_told { HasBadExpectation (map S.text words.entry.now) → result ≡ 2 → Tells (E.sink errors.old) bad_expectation_line (E.sink errors.new) }
     ensures told { result ≡ 3 → (fault : Fault) × Tells (E.sink errors.old) (fault_line fault) (E.sink errors.new) }
@@ -106,6 +109,8 @@ fn obey<T: Threads + Sync, S: AsStr, R: ByteIn, W: ByteOut>(
     ensures taken { IfOk result (λ ending. IfRefused ending (takes keydir (map S.text words.entry.now) ≢ true)) }
     ensures unread { IfOk result (λ ending. IfIdle ending (R.source reader.new ≡ R.source reader.old)) }
     ensures unwritten { IfOk result (λ ending. IfIdle ending (W.sink writer.new ≡ W.sink writer.old)) }
+    ensures idle_reader { ChooseNoRun (map S.text words.entry.now) → R.source reader.new ≡ R.source reader.old }
+    ensures idle_writer { HasBadText (map S.text words.entry.now) → W.sink writer.new ≡ W.sink writer.old }
 {
     match settings(alloc, words) {
         Ok(settings) => run_settings(rt, alloc, settings, reader, writer),
