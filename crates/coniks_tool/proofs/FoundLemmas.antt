@@ -1,58 +1,109 @@
 -- Lookups on an opened directory.
-use Rattle.std.proofs.Common.{◌≡◌, ℕ, List, map, true, false, sym, ap, subst, ◌∙◌, Option, Some, None, if◌then◌else◌}
-use Rattle.std.specs.Prelude.{is_some}
+use Rattle.std.proofs.Common.{◌≡◌, ℕ, List, [], ◌∷◌, map, true, false, refl, sym, ap, subst, ◌∙◌, Option, Some, None, if◌then◌else◌}
+use Rattle.std.specs.Prelude.{◌==◌, cond, find, is_some, zip}
 use Rattle.std.proofs.lemmas.Bool.{false≢true}
+use Rattle.coniks_chain.specs.Chain.{before_of}
+use Rattle.coniks_chain.specs.declared.auditor.Before.{Before}
 use Rattle.coniks_chain.specs.declared.entry.Entry.{Entry}
 use Rattle.coniks_directory.specs.Chain.{IsChainOf}
 use Rattle.coniks_directory.specs.History.{AreRising, Shown, numbers_of, shown_at}
 use Rattle.coniks_directory.proofs.Lemmas.{chain-rises}
 use Rattle.coniks_directory.specs.Lookups.{IsFound, IsMissed}
 use Rattle.coniks_directory.specs.declared.lookup.LookupFault.{LookupFault}
-use Rattle.coniks_directory.specs.declared.lookup.LookupFault.TheVariants.{NameLength}
+use Rattle.coniks_directory.specs.declared.lookup.LookupFault.TheVariants.{NameLength, UnknownEpoch}
 use Rattle.coniks_proof.specs.Batches.{fits}
 use Rattle.coniks_proof.specs.Registry.{entries_of}
 use Rattle.coniks_proof.specs.Sha256.{sha256}
 use Rattle.coniks_proof.specs.declared.paths.Proof.{Proof}
 use Rattle.coniks_proof.specs.declared.values.TheConstants.{MAX_NAME}
-use Rattle.coniks_tool.specs.Chains.{chain_of, entry_at}
+use Rattle.coniks_tool.specs.Chains.{chain_after, chain_of, entry_after}
 use Rattle.coniks_tool.specs.Demo.{demo_index}
 use Rattle.coniks_tool.specs.Paths.{Path, path_of, path_to}
 use Rattle.coniks_tool.specs.Replies.{bad_name_length, looked_up, unknown_epoch}
-use Rattle.coniks_tool.specs.Script.{Opened, lookup_at, lookup_in, lookup_on}
+use Rattle.coniks_tool.specs.Script.{Chained, Opened, epoch_at, epochs_of, lookup_at, lookup_with}
 use Rattle.coniks_tool.proofs.PathLemmas.{path_is}
 
 -- the epochs of a directory's chain rise
 pub rises : (o : Opened) (same chain : List Entry) → same ≡ chain → IsChainOf sha256 (demo_index o.key) o.policy o.history chain → AreRising 0 (numbers_of o.history) → AreRising 0 (map (λ (e : Entry). e.body.t) same)
 rises o same chain is of_history up = subst (λ (es : List Entry). AreRising 0 (map (λ (e : Entry). e.body.t) es)) (sym is) (chain-rises sha256 (demo_index o.key) o.policy o.history chain of_history up)
 
--- at an epoch that is there, with a name of a name's length
-into : (o : Opened) (name : List ℕ) (s : Option Shown) (e : Option Entry) (shown : Shown) → s ≡ Some shown → fits MAX_NAME name ≡ true → lookup_in o name s e ≡ lookup_at o name shown e
-into o name s e shown at on = ap (λ (x : Option Shown). lookup_in o name x e) at ∙ ap (λ b. if b then lookup_at o name shown e else bad_name_length) on
+-- the entry of exactly this epoch
+abbrev pub entry_at : List Entry → ℕ → Option Entry
+entry_at chain epoch = find (λ (e : Entry). e.body.t == epoch) chain
+
+-- epochs with their entries
+abbrev paired : List Shown → List Entry → List Chained
+paired history chain = map (λ pair. record { shown = pair.0; entry = pair.1 }) (zip history chain)
+
+-- an epoch with its entry, where both are there
+abbrev pair_up : Option Shown → Option Entry → Option Chained
+pair_up None e = None
+pair_up (Some s) None = None
+pair_up (Some s) (Some e) = Some (record { shown = s; entry = e })
+
+no_entry : (s : Option Shown) → pair_up s None ≡ None
+no_entry None = refl
+no_entry (Some s) = refl
+
+module _ (key policy : List ℕ) (number : ℕ) where
+  -- the search among epochs with their entries finds what the searches among both find
+  both : (before : Option Before) (history : List Shown)
+      → epoch_at (paired history (chain_after key policy before history)) number ≡ pair_up (shown_at history number) (entry_at (chain_after key policy before history) number)
+  both before [] = refl
+  both before (shown ∷ history) =
+      let entry = entry_after key policy before shown in
+      let later = chain_after key policy (Some (before_of sha256 entry)) history in
+      elim (shown.t == number) as (λ b. cond b (Some (record { shown = shown; entry = entry })) (epoch_at (paired history later) number)
+      ≡ pair_up (cond b (Some shown) (shown_at history number)) (cond b (Some entry) (entry_at later number))) [
+        | true ↦ refl
+        | false ↦ both (Some (before_of sha256 entry)) history
+      ]
+
+  -- and it finds one where there is such an epoch
+  there : (before : Option Before) (history : List Shown) → is_some (epoch_at (paired history (chain_after key policy before history)) number) ≡ is_some (shown_at history number)
+  there before [] = refl
+  there before (shown ∷ history) =
+      let entry = entry_after key policy before shown in
+      let later = chain_after key policy (Some (before_of sha256 entry)) history in
+      elim (shown.t == number) as (λ b. is_some (cond b (Some (record { shown = shown; entry = entry })) (epoch_at (paired history later) number)) ≡ is_some (cond b (Some shown) (shown_at history number))) [
+        | true ↦ refl
+        | false ↦ there (Some (before_of sha256 entry)) history
+      ]
 
 -- a name that isn't of a name's length
-off : (o : Opened) (name : List ℕ) (s : Option Shown) (e : Option Entry) → is_some s ≡ true → fits MAX_NAME name ≡ false → bad_name_length ≡ lookup_in o name s e
-off o name None e there long = absurd (false≢true there)
-off o name (Some s) e there long = ap (λ b. if b then lookup_at o name s e else bad_name_length) (sym long)
+off : (of : List ℕ → List ℕ) (name : List ℕ) (e : Option Chained) → is_some e ≡ true → fits MAX_NAME name ≡ false → bad_name_length ≡ lookup_at of name e
+off of name None is long = absurd (false≢true is)
+off of name (Some e) is long = ap (λ b. if b then looked_up e.entry (of name) name (path_to sha256 of e.shown.nonce e.shown.registry (of name)) else bad_name_length) (sym long)
+
+-- a name of a name's length
+into : (of : List ℕ → List ℕ) (name : List ℕ) (shown : Shown) (entry : Entry) → fits MAX_NAME name ≡ true
+    → lookup_at of name (Some (record { shown = shown; entry = entry })) ≡ looked_up entry (of name) name (path_to sha256 of shown.nonce shown.registry (of name))
+into of name shown entry on = ap (λ b. if b then looked_up entry (of name) name (path_to sha256 of shown.nonce shown.registry (of name)) else bad_name_length) on
 
 module _ (o : Opened) (epoch : ℕ) (name bytes : List ℕ) (same : bytes ≡ name) where
-  pub missed_length : (fault : LookupFault) → fault ≡ NameLength → IsMissed o.history epoch bytes fault → bad_name_length ≡ lookup_on o epoch name
+  pub missed_length : (fault : LookupFault) → fault ≡ NameLength → IsMissed o.history epoch bytes fault → bad_name_length ≡ lookup_with (Some o) epoch name
   missed_length fault is missed =
       let m : (is_some (shown_at o.history epoch) ≡ true) × (fits MAX_NAME bytes ≡ false) = subst (λ (f : LookupFault). IsMissed o.history epoch bytes f) is missed in
-      off o name (shown_at o.history epoch) (entry_at (chain_of o.key o.policy o.history) epoch) m.0 (ap (fits MAX_NAME) (sym same) ∙ m.1)
+      off (demo_index o.key) name (epoch_at (epochs_of o) epoch) (there o.key o.policy epoch None o.history ∙ m.0) (ap (fits MAX_NAME) (sym same) ∙ m.1)
+
+  pub missed_epoch : (fault : LookupFault) → fault ≡ UnknownEpoch → IsMissed o.history epoch bytes fault → unknown_epoch ≡ lookup_with (Some o) epoch name
+  missed_epoch fault is missed =
+      let none : shown_at o.history epoch ≡ None = subst (λ (f : LookupFault). IsMissed o.history epoch bytes f) is missed in
+      sym (ap (lookup_at (demo_index o.key) name) (both o.key o.policy epoch None o.history ∙ ap (λ (s : Option Shown). pair_up s (entry_at (chain_of o.key o.policy o.history) epoch)) none))
 
   module _ (proof : Proof) (found : IsFound sha256 (demo_index o.key) o.history epoch bytes proof) (chain : List Entry) (is : chain ≡ chain_of o.key o.policy o.history) where
-    here : (e : Option Entry) → e ≡ entry_at chain epoch → lookup_on o epoch name ≡ lookup_at o name found.shown e
+    here : (e : Option Entry) → e ≡ entry_at chain epoch → lookup_with (Some o) epoch name ≡ lookup_at (demo_index o.key) name (pair_up (shown_at o.history epoch) e)
     here e at =
-        into o name (shown_at o.history epoch) (entry_at (chain_of o.key o.policy o.history) epoch) found.shown found.installed (ap (fits MAX_NAME) (sym same) ∙ found.sized)
-        ∙ ap (lookup_at o name found.shown) (sym (at ∙ ap (λ (es : List Entry). entry_at es epoch) is))
+        ap (lookup_at (demo_index o.key) name) (both o.key o.policy epoch None o.history
+        ∙ ap (pair_up (shown_at o.history epoch)) (sym (at ∙ ap (λ (es : List Entry). entry_at es epoch) is)))
 
-    pub none_there : None ≡ entry_at chain epoch → unknown_epoch ≡ lookup_on o epoch name
-    none_there none = sym (here None none)
+    pub none_there : None ≡ entry_at chain epoch → unknown_epoch ≡ lookup_with (Some o) epoch name
+    none_there none = sym (here None none ∙ ap (lookup_at (demo_index o.key) name) (no_entry (shown_at o.history epoch)))
 
-    pub found_there : (entry : Entry) (text index : List ℕ) → Some entry ≡ entry_at chain epoch → text ≡ name → index ≡ demo_index o.key name → looked_up entry index text (path_of proof) ≡ lookup_on o epoch name
+    pub found_there : (entry : Entry) (text index : List ℕ) → Some entry ≡ entry_at chain epoch → text ≡ name → index ≡ demo_index o.key name → looked_up entry index text (path_of proof) ≡ lookup_with (Some o) epoch name
     found_there entry text index at text_is index_is =
         let path = path_is sha256 found.shown.nonce (entries_of sha256 (demo_index o.key) found.shown.registry) (demo_index o.key bytes) proof found.path in
         ap (λ (t : List ℕ). looked_up entry index t (path_of proof)) text_is
         ∙ ap (λ (i : List ℕ). looked_up entry i name (path_of proof)) index_is
         ∙ ap (λ (p : Path). looked_up entry (demo_index o.key name) name p) (path ∙ ap (λ (x : List ℕ). path_to sha256 (demo_index o.key) found.shown.nonce found.shown.registry (demo_index o.key x)) same)
-        ∙ sym (here (Some entry) at)
+        ∙ sym (here (Some entry) at ∙ ap (λ (s : Option Shown). lookup_at (demo_index o.key) name (pair_up s (Some entry))) found.installed ∙ into (demo_index o.key) name found.shown entry (ap (fits MAX_NAME) (sym same) ∙ found.sized))

@@ -10,26 +10,19 @@ use Rattle.coniks_lines.specs.Known.{Source, Sink}
 use Rattle.coniks_tool.specs.Choice.{Choice, run, check, audit, monitor, chosen, key_in, lacks_key, lacks_expectation}
 use Rattle.coniks_tool.specs.Expectations.{expectation_in}
 use Rattle.coniks_tool.specs.Keydir.{keydir}
-use Rattle.coniks_tool.specs.Program.{AsksForHelp, EndsBy, EndsFor, HasBadExpectation, HasBadKey, HasMistake, IfIdle, IfRefused, IsExplained, Runs, RunsFor, Tells, TellsIf, bad_expectation_line, bad_key_line, fault_line, status_of, told_of}
+use Rattle.coniks_tool.specs.Program.{AsksForHelp, ChooseNoRun, EndsBy, EndsFor, HasBadExpectation, HasBadKey, HasBadText, HasMistake, IfRefused, IsExplained, Runs, RunsFor, Tells, TellsIf, bad_expectation_line, bad_key_line, fault_line, status_of, told_of}
 use Rattle.coniks_tool.specs.declared.choice.WordsFault.{WordsFault}
 use Rattle.coniks_tool.specs.declared.choice.WordsFault.TheVariants.{Clap, OutOfMemory}
 use Rattle.coniks_tool.specs.declared.ending.Ending.{Ending}
 use Rattle.coniks_tool.specs.declared.ending.Ending.TheVariants.{Done, Refused, BadKey, BadExpectation}
 
--- a fact that always holds also holds where the words are refused, and where nothing was run or shown
+-- a fact that always holds also holds where the words are refused
 pub holds_if_refused : {P : Type 0} (r : Result Ending RunFault) → P → IfOk r (λ ending. IfRefused ending P)
 holds_if_refused (Ok (Done all)) p = tt
 holds_if_refused (Ok (Refused text)) p = p
 holds_if_refused (Ok BadKey) p = tt
 holds_if_refused (Ok BadExpectation) p = tt
 holds_if_refused (Err fault) p = tt
-
-pub holds_if_idle : {P : Type 0} (r : Result Ending RunFault) → P → IfOk r (λ ending. IfIdle ending P)
-holds_if_idle (Ok (Done all)) p = tt
-holds_if_idle (Ok (Refused text)) p = p
-holds_if_idle (Ok BadKey) p = p
-holds_if_idle (Ok BadExpectation) p = p
-holds_if_idle (Err fault) p = tt
 
 is_of_clap : WordsFault → Bool
 is_of_clap (Clap error) = true
@@ -64,8 +57,8 @@ runs-key : (choice : Option Choice) (from from' : Source) (to to' : Sink) (all :
 runs-key None from from' to to' all ran bad = ran
 runs-key (Some (run workers depth)) from from' to to' all ran bad = false≢true bad
 runs-key (Some check) from from' to to' all ran bad = false≢true bad
-runs-key (Some (audit text)) from from' to to' all ran bad = there (key_in text) ran.0 ran.1.0 bad
-runs-key (Some (monitor text name expect)) from from' to to' all ran bad = there (key_in text) ran.0 ran.1.0 bad
+runs-key (Some (audit text)) from from' to to' all ran bad = there (key_in text) ran.key ran.key_is bad
+runs-key (Some (monitor text name expect)) from from' to to' all ran bad = there (key_in text) ran.key ran.key_is bad
 
 -- nor one whose expectation is bad
 runs-expectation : (choice : Option Choice) (from from' : Source) (to to' : Sink) (all : Bool) → Runs choice from from' to to' all → lacks_expectation choice ≡ true → ⊥
@@ -73,7 +66,7 @@ runs-expectation None from from' to to' all ran bad = ran
 runs-expectation (Some (run workers depth)) from from' to to' all ran bad = false≢true bad
 runs-expectation (Some check) from from' to to' all ran bad = false≢true bad
 runs-expectation (Some (audit text)) from from' to to' all ran bad = false≢true bad
-runs-expectation (Some (monitor text name expect)) from from' to to' all ran bad = none_there (key_in text) (expectation_in expect) ran.1.1.0 ran.1.1.1.0 bad
+runs-expectation (Some (monitor text name expect)) from from' to to' all ran bad = none_there (key_in text) (expectation_in expect) ran.expected ran.expected_is bad
 
 -- an error has a kind, so there are kinds
 no_kind : (kinds : Kinds) (kind : ErrorKind) → kinds ≡ [] → IsAmong kind kinds → ⊥
@@ -104,15 +97,6 @@ told-at_3 (Ok (Refused text)) old new told is = absurd (omega (arith, is))
 told-at_3 (Ok BadKey) old new told is = absurd (omega (arith, is))
 told-at_3 (Ok BadExpectation) old new told is = absurd (omega (arith, is))
 told-at_3 (Err fault) old new told is = (fault, told)
-
--- what holds of an idle ending holds at 2
-pub idle-at_2 : {P : Type 0} (outcome : Result Ending RunFault) → IfOk outcome (λ ending. IfIdle ending P) → status_of outcome ≡ 2 → P
-idle-at_2 (Ok (Done true)) idle is = absurd (omega (arith, is))
-idle-at_2 (Ok (Done false)) idle is = absurd (omega (arith, is))
-idle-at_2 (Ok (Refused text)) idle is = idle
-idle-at_2 (Ok BadKey) idle is = idle
-idle-at_2 (Ok BadExpectation) idle is = idle
-idle-at_2 (Err fault) idle is = absurd (omega (arith, is))
 
 module _ (words : List (List ℕ)) (from from' : Source) (to to' : Sink) where
   -- the ending of the run that the words choose is one for the words
@@ -175,6 +159,22 @@ module _ (words : List (List ℕ)) (from from' : Source) (to to' : Sink) where
   taken-at_2 (Ok BadKey) ends refused taken is = inl ends
   taken-at_2 (Ok BadExpectation) ends refused taken is = inr ends
   taken-at_2 (Err fault) ends refused taken is = absurd (omega (arith, is))
+
+  -- at 2 the words choose no run
+  pub none-at_2 : (outcome : Result Ending RunFault) → IfOk outcome (EndsFor words from from' to to') → status_of outcome ≡ 2 → ChooseNoRun words
+  none-at_2 outcome ends is = elim (refused-at_2 outcome ends is) [
+    | inl mistake ↦ inl (λ none. no_kind (fault_of keydir words) mistake.0 none mistake.1.0)
+    | inr bad ↦ inr bad
+  ]
+
+  -- and nothing was written
+  pub unwritten-at_2 : (outcome : Result Ending RunFault) → IfOk outcome (EndsFor words from from' to to') → IfOk outcome (λ ending. IfRefused ending (to' ≡ to)) → (HasBadText words → to' ≡ to) → status_of outcome ≡ 2 → to' ≡ to
+  unwritten-at_2 (Ok (Done true)) ends refused bad is = absurd (omega (arith, is))
+  unwritten-at_2 (Ok (Done false)) ends refused bad is = absurd (omega (arith, is))
+  unwritten-at_2 (Ok (Refused text)) ends refused bad is = refused
+  unwritten-at_2 (Ok BadKey) ends refused bad is = bad (inl ends)
+  unwritten-at_2 (Ok BadExpectation) ends refused bad is = bad (inr ends)
+  unwritten-at_2 (Err fault) ends refused bad is = absurd (omega (arith, is))
 
   -- neither a run nor help comes of a bad key
   pub bad_key-from_2 : (outcome : Result Ending RunFault) → IfOk outcome (EndsFor words from from' to to') → HasBadKey words → 2 ≤ status_of outcome

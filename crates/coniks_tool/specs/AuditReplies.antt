@@ -59,6 +59,4 @@ audit_text outcome = compact_text (audit_data outcome)
 -- the line was accepted
 abbrev pub is_audited : AuditOutcome → Bool
 is_audited (audited epoch link) = true
-is_audited not_json = false
-is_audited no_entry = false
-is_audited (at_fault fault) = false
+is_audited _ = false

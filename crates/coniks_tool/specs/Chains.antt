@@ -1,6 +1,5 @@
 -- The chain of a history under the demonstration seal.
-use Rattle.std.specs.Prelude.{◌==◌, ℕ, List, [], ◌∷◌, length, Option, Some, None}
-use Rattle.std.specs.List.{find}
+use Rattle.std.specs.Prelude.{ℕ, List, [], ◌∷◌, length, Option, Some, None}
 use Rattle.coniks_proof.specs.Sha256.{sha256}
 use Rattle.coniks_chain.specs.Chain.{before_at, before_of}
 use Rattle.coniks_chain.specs.Entries.{body_bytes, signed}
@@ -33,7 +32,3 @@ abbrev pub next_entry : List ℕ → List ℕ → List Shown → Shown → Entry
 next_entry key policy history shown =
     let chain = chain_of key policy history in
     entry_after key policy (before_at sha256 None chain (length chain)) shown
-
--- the entry of exactly this epoch
-abbrev pub entry_at : List Entry → ℕ → Option Entry
-entry_at chain epoch = find (λ (e : Entry). e.body.t == epoch) chain

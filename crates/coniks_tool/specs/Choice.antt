@@ -1,5 +1,5 @@
 -- What the words choose, and why they may choose nothing.
-use Rattle.std.specs.Prelude.{◌≡◌, ◌⊎◌, ◌≤◌, max, min, List, [], ℕ, codes, ◌&&◌, Option, Some, None, is_none, is_some, option_map, unwrap_or, Bool, true, false, if◌then◌else◌}
+use Rattle.std.specs.Prelude.{◌≡◌, ◌⊎◌, ◌≤◌, max, min, List, [], ℕ, codes, ◌&&◌, Option, Some, is_none, is_some, option_map, unwrap_or, Bool, true, false, if◌then◌else◌}
 use Rattle.std.specs.Option.{option_map_or}
 use Rattle.std.specs.Result.{result_ok}
 use Rattle.std.specs.Str.{bytes_eq}
@@ -47,9 +47,7 @@ depth_of rows = min (number_of (codes "depth") 0 rows) MAX_DEPTH
 -- the numbers of a run are within their limits
 abbrev pub IsWithin : Settings → Type 0
 IsWithin (Run workers depth) = AreWorkers workers × (depth ≤ MAX_DEPTH)
-IsWithin Check = Unit {0}
-IsWithin (Audit key) = Unit {0}
-IsWithin (Monitor key name expect) = Unit {0}
+IsWithin _ = Unit {0}
 
 -- what a subcommand chooses, by its name and the options that were found
 abbrev pub choice_by : List ℕ → List Row → Choice
@@ -71,17 +69,12 @@ key_in text = result_ok (decode_sized text 32)
 abbrev pub lacks_key : Option Choice → Bool
 lacks_key (Some (audit key)) = is_none (key_in key)
 lacks_key (Some (monitor key name expect)) = is_none (key_in key)
-lacks_key (Some (run workers depth)) = false
-lacks_key (Some check) = false
-lacks_key None = false
+lacks_key _ = false
 
 -- a key is asked for and given, and the text of the expectation isn't base64
 abbrev pub lacks_expectation : Option Choice → Bool
 lacks_expectation (Some (monitor key name expect)) = is_some (key_in key) && is_none (expectation_in expect)
-lacks_expectation (Some (audit key)) = false
-lacks_expectation (Some (run workers depth)) = false
-lacks_expectation (Some check) = false
-lacks_expectation None = false
+lacks_expectation _ = false
 
 -- a key or an expectation is asked for, and its text isn't one
 abbrev pub Lacks : Option Choice → Type 0

@@ -9,6 +9,11 @@ use Rattle.hex.specs.Hex.{decode_sized}
 use Rattle.base64.specs.GeneralPurpose.{decode_of}
 use Rattle.base64.specs.Engines.{standard}
 
+-- what comes next where there is a value, and nothing where there is none
+abbrev pub given : {A B : Type 0} → Option A → (A → Option B) → Option B
+given None next = None
+given (Some a) next = next a
+
 -- a value, where it is an object
 abbrev pub if_object : Data → Option Data
 if_object value = if is_some (as_object value) then Some value else None

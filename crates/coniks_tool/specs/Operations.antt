@@ -1,12 +1,12 @@
 -- The operations of a batch line.
-use Rattle.std.specs.Prelude.{ℕ, ◌+◌, List, [], ◌∷◌, codes, map, Option, Some, None, option_map, option_and_then, Result, Ok, Err, Vec, if◌then◌else◌}
+use Rattle.std.specs.Prelude.{ℕ, ◌+◌, List, [], ◌∷◌, codes, map, Option, Some, None, option_and_then, Result, Ok, Err, Vec, if◌then◌else◌}
 use Rattle.std.specs.Str.{bytes_eq}
 use Rattle.std.specs.declared.alloc.Global.{Global}
 use Rattle.serde_json.specs.Data.{Data, Items, no_items, item}
 use Rattle.coniks_proof.specs.Batches.{Kind, register, change, Operation}
 use Rattle.coniks_directory.specs.Batches.{operation_of}
 use Rattle.coniks_directory.specs.declared.batch.Op.{Op}
-use Rattle.coniks_tool.specs.Members.{text_in, digits_in, base64_in}
+use Rattle.coniks_tool.specs.Members.{given, text_in, digits_in, base64_in}
 
 -- the kind that a text names
 abbrev pub kind_named : List ℕ → Option Kind
@@ -16,15 +16,14 @@ kind_named text = if bytes_eq text (codes "register") then Some register else (i
 abbrev pub kind_in : Data → Option Kind
 kind_in element = option_and_then kind_named (text_in (codes "op") element)
 
--- the operation of these parts
-abbrev pub operation_with : List ℕ → List ℕ → Kind → List ℕ → Operation
-operation_with key name kind opening = record { kind = kind; name = name; key = key; opening = opening }
-
 -- the operation that an element is: `key` in base64, `name`, `op`, and `opening` in 64 digits
 abbrev pub operation_in : Data → Option Operation
 operation_in element =
-    option_and_then (λ key. option_and_then (λ name. option_and_then (λ kind. option_map (operation_with key name kind)
-    (digits_in 32 (codes "opening") element)) (kind_in element)) (text_in (codes "name") element)) (base64_in (codes "key") element)
+    given (base64_in (codes "key") element) (λ key.
+    given (text_in (codes "name") element) (λ name.
+    given (kind_in element) (λ kind.
+    given (digits_in 32 (codes "opening") element) (λ opening.
+    Some (record { kind = kind; name = name; key = key; opening = opening })))))
 
 -- an operation before others
 abbrev pub with_first : Operation → Result (List Operation) ℕ → Result (List Operation) ℕ

@@ -98,15 +98,29 @@ AsksForHelp kinds = (kind : ErrorKind) × (IsAmong kind kinds × (is_asked_for k
 abbrev pub HasMistake : Kinds → Type 0
 HasMistake kinds = (kind : ErrorKind) × (IsAmong kind kinds × (is_asked_for kind ≡ false))
 
+-- `audit` ran under the key that this text is
+pub record Audits (text : List ℕ) (from from' : Source) (to to' : Sink) (all : Bool) : Type 0 where
+  pub key : List ℕ
+  pub key_is : key_in text ≡ Some key
+  pub state : AuditState
+  pub ends : EndsWell audit_answer (none_audited key) from from' to to' state all
+
+-- `monitor` ran for this name, under the key and with the expectation that these texts are
+pub record Monitors (text name : List ℕ) (expect : Option (List ℕ)) (from from' : Source) (to to' : Sink) (all : Bool) : Type 0 where
+  pub key : List ℕ
+  pub key_is : key_in text ≡ Some key
+  pub expected : Option (List ℕ)
+  pub expected_is : expectation_in expect ≡ Some expected
+  pub state : MonitorState
+  pub ends : EndsWell monitor_answer (none_watched key name expected) from from' to to' state all
+
 -- the run that was chosen came to its source's end, and this says whether each line was accepted
 abbrev pub Runs : Option Choice → Source → Source → Sink → Sink → Bool → Type 0
 Runs None from from' to to' all = ⊥
 Runs (Some (run workers depth)) from from' to to' all = (state : State) × EndsWell script_answer None from from' to to' state all
 Runs (Some check) from from' to to' all = (state : Stateless) × EndsWell check_answer stateless from from' to to' state all
-Runs (Some (audit text)) from from' to to' all = (key : List ℕ) × ((key_in text ≡ Some key) × ((state : AuditState) × EndsWell audit_answer (none_audited key) from from' to to' state all))
-Runs (Some (monitor text name expect)) from from' to to' all =
-    (key : List ℕ) × ((key_in text ≡ Some key) × ((expected : Option (List ℕ)) × ((expectation_in expect ≡ Some expected)
-    × ((state : MonitorState) × EndsWell monitor_answer (none_watched key name expected) from from' to to' state all))))
+Runs (Some (audit text)) from from' to to' all = Audits text from from' to to' all
+Runs (Some (monitor text name expect)) from from' to to' all = Monitors text name expect from from' to to' all
 
 -- `clap` finds no fault in the words, and what they choose was run
 pub record RunsFor (words : List (List ℕ)) (from from' : Source) (to to' : Sink) (all : Bool) : Type 0 where
@@ -149,21 +163,10 @@ EndsBy choice from from' to to' BadExpectation = lacks_expectation choice ≡ tr
 -- an error of this kind is explained in this way
 abbrev pub IsExplained : ErrorKind → Ending → Type 0
 IsExplained kind (Done true) = is_asked_for kind ≡ true
-IsExplained kind (Done false) = ⊥
 IsExplained kind (Refused text) = is_asked_for kind ≡ false
-IsExplained kind BadKey = ⊥
-IsExplained kind BadExpectation = ⊥
+IsExplained kind _ = ⊥
 
 -- the fact holds where `clap` refused the words
 abbrev pub IfRefused : Ending → Type 0 → Type 0
-IfRefused (Done accepted) fact = Unit {0}
 IfRefused (Refused text) fact = fact
-IfRefused BadKey fact = Unit {0}
-IfRefused BadExpectation fact = Unit {0}
-
--- the fact holds where nothing was run or shown
-abbrev pub IfIdle : Ending → Type 0 → Type 0
-IfIdle (Done accepted) fact = Unit {0}
-IfIdle (Refused text) fact = fact
-IfIdle BadKey fact = fact
-IfIdle BadExpectation fact = fact
+IfRefused _ fact = Unit {0}

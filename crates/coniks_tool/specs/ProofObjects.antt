@@ -9,7 +9,7 @@ use Rattle.coniks_proof.specs.declared.values.Digest.{Digest}
 use Rattle.coniks_proof.specs.declared.paths.Proof.{Proof}
 use Rattle.coniks_proof.specs.declared.paths.End.{End}
 use Rattle.coniks_proof.specs.declared.paths.End.TheVariants.{Empty, Other, Here}
-use Rattle.coniks_tool.specs.Members.{text_in, array_in, digits_in, base64_in}
+use Rattle.coniks_tool.specs.Members.{given, text_in, array_in, digits_in, base64_in}
 
 -- the digest that a value is: 64 hexadecimal digits of either case
 abbrev pub digest_in : Data → Option Digest
@@ -27,14 +27,17 @@ digests_in (item element others) = with_digest (digest_in element) (digests_in o
 -- a leaf of another index: `commitment` and `index`, each of 64 digits
 abbrev pub other_in : Data → Option End
 other_in d =
-    option_and_then (λ commitment. option_map (λ index. Other (record { 0 = index }) (record { 0 = commitment }))
-    (digits_in 32 (codes "index") d)) (digits_in 32 (codes "commitment") d)
+    given (digits_in 32 (codes "commitment") d) (λ commitment.
+    given (digits_in 32 (codes "index") d) (λ index.
+    Some (Other (record { 0 = index }) (record { 0 = commitment }))))
 
 -- the leaf of the asked index: `key` in base64, `name`, and `opening` in 64 digits
 abbrev pub here_in : Data → Option End
 here_in d =
-    option_and_then (λ key. option_and_then (λ name. option_map (λ opening. Here name key (record { 0 = opening }))
-    (digits_in 32 (codes "opening") d)) (text_in (codes "name") d)) (base64_in (codes "key") d)
+    given (base64_in (codes "key") d) (λ key.
+    given (text_in (codes "name") d) (λ name.
+    given (digits_in 32 (codes "opening") d) (λ opening.
+    Some (Here name key (record { 0 = opening })))))
 
 -- the end of this kind, by the members of that kind alone
 abbrev pub end_of_kind : Data → List ℕ → Option End
@@ -51,8 +54,9 @@ end_in d = option_and_then (end_of_kind d) (text_in (codes "kind") d)
 -- the proof that a value is: its end, and its siblings from the root down, however many
 abbrev pub proof_of : Data → Option Proof
 proof_of d =
-    option_and_then (λ end. option_map (λ siblings. record { siblings = siblings; end = end })
-    (option_and_then digests_in (array_in (codes "siblings") d))) (option_and_then end_in (get (codes "end") d))
+    given (option_and_then end_in (get (codes "end") d)) (λ end.
+    given (option_and_then digests_in (array_in (codes "siblings") d)) (λ siblings.
+    Some (record { siblings = siblings; end = end })))
 
 -- the proof of a line
 abbrev pub proof_in : Data → Option Proof

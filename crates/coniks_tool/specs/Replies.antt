@@ -174,15 +174,4 @@ abbrev pub is_accepted : Outcome → Bool
 is_accepted opened = true
 is_accepted (installed entry link) = true
 is_accepted (looked_up entry index name path) = true
-is_accepted not_json = false
-is_accepted no_command = false
-is_accepted (bad_member m) = false
-is_accepted (bad_operation place) = false
-is_accepted not_open = false
-is_accepted already_open = false
-is_accepted batch_too_long = false
-is_accepted (bad_batch place fault) = false
-is_accepted (epoch_not_later latest) = false
-is_accepted board_full = false
-is_accepted unknown_epoch = false
-is_accepted bad_name_length = false
+is_accepted _ = false

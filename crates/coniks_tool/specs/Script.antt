@@ -1,5 +1,5 @@
 -- What `run` answers to a line.
-use Rattle.std.specs.Prelude.{◌≡◌, ℕ, List, [], ◌∷◌, ◌++◌, codes, Option, Some, None, Result, Ok, Err, if◌then◌else◌}
+use Rattle.std.specs.Prelude.{◌≡◌, ◌==◌, ℕ, List, [], ◌∷◌, ◌++◌, codes, find, map, zip, Option, Some, None, Result, Ok, Err, if◌then◌else◌}
 use Rattle.std.specs.Str.{bytes_eq}
 use Rattle.serde_json.specs.Data.{Data, Items}
 use Rattle.coniks_lines.specs.Known.{Source, Sink}
@@ -12,8 +12,8 @@ use Rattle.coniks_proof.specs.Batches.{Operation, after, fits}
 use Rattle.coniks_proof.specs.declared.values.TheConstants.{MAX_NAME}
 use Rattle.coniks_chain.specs.Entries.{link_preimage}
 use Rattle.coniks_chain.specs.declared.entry.Entry.{Entry}
-use Rattle.coniks_directory.specs.History.{Shown, latest_nonce, latest_registry, shown_at}
-use Rattle.coniks_tool.specs.Chains.{chain_of, entry_at, next_entry}
+use Rattle.coniks_directory.specs.History.{Shown, latest_nonce, latest_registry}
+use Rattle.coniks_tool.specs.Chains.{chain_of, next_entry}
 use Rattle.coniks_tool.specs.Demo.{demo_index}
 use Rattle.coniks_tool.specs.Members.{object_in, text_in, number_in, array_in, digits_in}
 use Rattle.coniks_tool.specs.Operations.{operations_in}
@@ -107,28 +107,29 @@ batch_turn s None items = refused s (bad_member Epoch)
 batch_turn s (Some epoch) None = refused s (bad_member Ops)
 batch_turn s (Some epoch) (Some items) = batch_read s epoch (operations_in items)
 
--- the path to a name's index in the tree of an epoch, with the epoch's entry
-abbrev pub path_at : (List ℕ → List ℕ) → List ℕ → Shown → Entry → Outcome
-path_at of name shown entry = looked_up entry (of name) name (path_to sha256 of shown.nonce shown.registry (of name))
+-- an epoch with its entry in the chain
+pub record Chained : Type 0 where
+  pub shown : Shown
+  pub entry : Entry
 
--- a lookup of a name of a name's length, at an epoch with this entry
-abbrev pub lookup_at : Opened → List ℕ → Shown → Option Entry → Outcome
-lookup_at o name shown None = unknown_epoch
-lookup_at o name shown (Some entry) = path_at (demo_index o.key) name shown entry
+-- the epochs of an opened directory, each with its entry
+abbrev pub epochs_of : Opened → List Chained
+epochs_of o = map (λ pair. record { shown = pair.0; entry = pair.1 }) (zip o.history (chain_of o.key o.policy o.history))
 
--- a lookup on an opened directory, where these are the epoch asked and its entry
-abbrev pub lookup_in : Opened → List ℕ → Option Shown → Option Entry → Outcome
-lookup_in o name None entry = unknown_epoch
-lookup_in o name (Some shown) entry = if fits MAX_NAME name then lookup_at o name shown entry else bad_name_length
+-- the epoch of exactly this number
+abbrev pub epoch_at : List Chained → ℕ → Option Chained
+epoch_at epochs number = find (λ (e : Chained). e.shown.t == number) epochs
 
--- a lookup at an epoch of an opened directory
-abbrev pub lookup_on : Opened → ℕ → List ℕ → Outcome
-lookup_on o epoch name = lookup_in o name (shown_at o.history epoch) (entry_at (chain_of o.key o.policy o.history) epoch)
+-- what a lookup at an epoch is answered by: its entry, with the path to the name's index in its tree
+abbrev pub lookup_at : (List ℕ → List ℕ) → List ℕ → Option Chained → Outcome
+lookup_at of name None = unknown_epoch
+lookup_at of name (Some e) =
+    if fits MAX_NAME name then looked_up e.entry (of name) name (path_to sha256 of e.shown.nonce e.shown.registry (of name)) else bad_name_length
 
 -- a lookup that was read
 abbrev pub lookup_with : State → ℕ → List ℕ → Outcome
-lookup_with None epoch name = not_open
-lookup_with (Some o) epoch name = lookup_on o epoch name
+lookup_with None number name = not_open
+lookup_with (Some o) number name = lookup_at (demo_index o.key) name (epoch_at (epochs_of o) number)
 
 -- `lookup`, by its members in the order of reading
 abbrev pub lookup_outcome : State → Option ℕ → Option (List ℕ) → Outcome

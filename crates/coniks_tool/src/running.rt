@@ -3,7 +3,7 @@
 ghost use Rattle.std.specs.Prelude.{◌≡◌, ◌<◌, ◌≤◌, ◌+◌, ◌^◌, IfOk, List, None, Some, option_map, ℕ};
 ghost use Rattle.coniks_tool.specs.Choice.{audit, check, choice_of, key_in, monitor, run, IsWithin, Lacks};
 ghost use Rattle.coniks_tool.specs.Expectations.{expectation_in};
-ghost use Rattle.coniks_tool.specs.Program.{EndsBy, IfIdle};
+ghost use Rattle.coniks_tool.specs.Program.{EndsBy};
 ghost use Rattle.coniks_directory.specs.Batches.{AreWorkers};
 ghost use Rattle.coniks_work.specs.declared.jobs.TheConstants.{MAX_DEPTH};
 
@@ -32,8 +32,6 @@ pub(crate) fn run_settings<T: Threads + Sync, R: ByteIn, W: ByteOut>(
     requires reads { (R.source reader.old).failed + 1 < 2 ^ 64 }
     requires writes { (W.sink writer.old).failed + 1 < 2 ^ 64 }
     ensures ends { IfOk result (EndsBy (Some (choice_of settings.entry)) (R.source reader.old) (R.source reader.new) (W.sink writer.old) (W.sink writer.new)) }
-    ensures unread { IfOk result (λ ending. IfIdle ending (R.source reader.new ≡ R.source reader.old)) }
-    ensures unwritten { IfOk result (λ ending. IfIdle ending (W.sink writer.new ≡ W.sink writer.old)) }
     ensures idle_reader { Lacks (Some (choice_of settings.entry)) → R.source reader.new ≡ R.source reader.old }
     ensures idle_writer { Lacks (Some (choice_of settings.entry)) → W.sink writer.new ≡ W.sink writer.old }
 {
@@ -63,8 +61,6 @@ fn answer_lines<T: Threads + Sync, R: ByteIn, W: ByteOut>(
     requires reads { (R.source reader.old).failed + 1 < 2 ^ 64 }
     requires writes { (W.sink writer.old).failed + 1 < 2 ^ 64 }
     ensures ends { IfOk result (EndsBy (Some (run workers depth)) (R.source reader.old) (R.source reader.new) (W.sink writer.old) (W.sink writer.new)) }
-    ensures unread { IfOk result (λ ending. IfIdle ending (R.source reader.new ≡ R.source reader.old)) }
-    ensures unwritten { IfOk result (λ ending. IfIdle ending (W.sink writer.new ≡ W.sink writer.old)) }
 {
     let all = run_script(rt, alloc, reader, writer, workers, depth)?;
     Ok(Ending::Done(all))
@@ -79,8 +75,6 @@ fn check_lines<R: ByteIn, W: ByteOut>(
     requires reads { (R.source reader.old).failed + 1 < 2 ^ 64 }
     requires writes { (W.sink writer.old).failed + 1 < 2 ^ 64 }
     ensures ends { IfOk result (EndsBy (Some check) (R.source reader.old) (R.source reader.new) (W.sink writer.old) (W.sink writer.new)) }
-    ensures unread { IfOk result (λ ending. IfIdle ending (R.source reader.new ≡ R.source reader.old)) }
-    ensures unwritten { IfOk result (λ ending. IfIdle ending (W.sink writer.new ≡ W.sink writer.old)) }
 {
     Ok(Ending::Done(run_check(alloc, reader, writer)?))
 }
@@ -95,8 +89,6 @@ fn audit_under<R: ByteIn, W: ByteOut>(
     requires reads { (R.source reader.old).failed + 1 < 2 ^ 64 }
     requires writes { (W.sink writer.old).failed + 1 < 2 ^ 64 }
     ensures ends { IfOk result (EndsBy (Some (audit key.now)) (R.source reader.old) (R.source reader.new) (W.sink writer.old) (W.sink writer.new)) }
-    ensures unread { IfOk result (λ ending. IfIdle ending (R.source reader.new ≡ R.source reader.old)) }
-    ensures unwritten { IfOk result (λ ending. IfIdle ending (W.sink writer.new ≡ W.sink writer.old)) }
     ensures idle_reader { Lacks (Some (audit key.now)) → R.source reader.new ≡ R.source reader.old }
     ensures idle_writer { Lacks (Some (audit key.now)) → W.sink writer.new ≡ W.sink writer.old }
 {
@@ -118,8 +110,6 @@ fn watch_under<R: ByteIn, W: ByteOut>(
     requires reads { (R.source reader.old).failed + 1 < 2 ^ 64 }
     requires writes { (W.sink writer.old).failed + 1 < 2 ^ 64 }
     ensures ends { IfOk result (EndsBy (Some (monitor key.now name.now (option_map (λ text. text.now) expect.entry))) (R.source reader.old) (R.source reader.new) (W.sink writer.old) (W.sink writer.new)) }
-    ensures unread { IfOk result (λ ending. IfIdle ending (R.source reader.new ≡ R.source reader.old)) }
-    ensures unwritten { IfOk result (λ ending. IfIdle ending (W.sink writer.new ≡ W.sink writer.old)) }
     ensures idle_reader { Lacks (Some (monitor key.now name.now (option_map (λ text. text.now) expect.entry))) → R.source reader.new ≡ R.source reader.old }
     ensures idle_writer { Lacks (Some (monitor key.now name.now (option_map (λ text. text.now) expect.entry))) → W.sink writer.new ≡ W.sink writer.old }
 {
@@ -141,8 +131,6 @@ fn watch<R: ByteIn, W: ByteOut>(
     requires reads { (R.source reader.old).failed + 1 < 2 ^ 64 }
     requires writes { (W.sink writer.old).failed + 1 < 2 ^ 64 }
     ensures ends { (digits : List ℕ) → key_in digits ≡ Some key → IfOk result (EndsBy (Some (monitor digits name.now (option_map (λ text. text.now) expect.entry))) (R.source reader.old) (R.source reader.new) (W.sink writer.old) (W.sink writer.new)) }
-    ensures unread { IfOk result (λ ending. IfIdle ending (R.source reader.new ≡ R.source reader.old)) }
-    ensures unwritten { IfOk result (λ ending. IfIdle ending (W.sink writer.new ≡ W.sink writer.old)) }
     ensures idle_reader { expectation_in (option_map (λ text. text.now) expect.entry) ≡ None → R.source reader.new ≡ R.source reader.old }
     ensures idle_writer { expectation_in (option_map (λ text. text.now) expect.entry) ≡ None → W.sink writer.new ≡ W.sink writer.old }
 {

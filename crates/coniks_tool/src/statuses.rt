@@ -4,7 +4,7 @@ ghost use Rattle.std.specs.Prelude.{◌≡◌, ◌≢◌, ◌⊎◌, ◌<◌, �
 ghost use Rattle.clap.specs.Words.{fault_of, kind_of, takes};
 ghost use Rattle.coniks_lines.specs.declared.fault.RunFault.{RunFault as Fault};
 ghost use Rattle.coniks_tool.specs.Keydir.{keydir};
-ghost use Rattle.coniks_tool.specs.Program.{bad_expectation_line, bad_key_line, fault_line, status_of, told_of, unread_line, unread_status, AsksForHelp, EndsFor, HasBadExpectation, HasBadKey, ChooseNoRun, HasBadText, HasMistake, IfIdle, IfRefused, IsExplained, RunsFor, Tells, TellsIf};
+ghost use Rattle.coniks_tool.specs.Program.{bad_expectation_line, bad_key_line, fault_line, status_of, told_of, unread_line, unread_status, AsksForHelp, ChooseNoRun, EndsFor, HasBadExpectation, HasBadKey, HasBadText, HasMistake, IfRefused, IsExplained, RunsFor, Tells, TellsIf};
 
 use crate::choice::{Unread, WordsFault};
 use crate::ending::{Ending, fault_text, status, told};
@@ -107,8 +107,7 @@ fn obey<T: Threads + Sync, S: AsStr, R: ByteIn, W: ByteOut>(
     requires writes { (W.sink writer.old).failed + 1 < 2 ^ 64 }
     ensures found { IfOk result (EndsFor (map S.text words.entry.now) (R.source reader.old) (R.source reader.new) (W.sink writer.old) (W.sink writer.new)) }
     ensures taken { IfOk result (λ ending. IfRefused ending (takes keydir (map S.text words.entry.now) ≢ true)) }
-    ensures unread { IfOk result (λ ending. IfIdle ending (R.source reader.new ≡ R.source reader.old)) }
-    ensures unwritten { IfOk result (λ ending. IfIdle ending (W.sink writer.new ≡ W.sink writer.old)) }
+    ensures unwritten { IfOk result (λ ending. IfRefused ending (W.sink writer.new ≡ W.sink writer.old)) }
     ensures idle_reader { ChooseNoRun (map S.text words.entry.now) → R.source reader.new ≡ R.source reader.old }
     ensures idle_writer { HasBadText (map S.text words.entry.now) → W.sink writer.new ≡ W.sink writer.old }
 {
@@ -123,7 +122,7 @@ fn obey<T: Threads + Sync, S: AsStr, R: ByteIn, W: ByteOut>(
 fn explain<W: ByteOut>(alloc: Global, error: Error, writer: &mut W) -> Result<Ending, RunFault>
     requires { (W.sink writer.old).failed + 1 < 2 ^ 64 }
     ensures kind { IfOk result (IsExplained (kind_of error)) }
-    ensures unwritten { IfOk result (λ ending. IfIdle ending (W.sink writer.new ≡ W.sink writer.old)) }
+    ensures unwritten { IfOk result (λ ending. IfRefused ending (W.sink writer.new ≡ W.sink writer.old)) }
 {
     let Ok(text) = error.to_string(alloc) else {
         return Err(RunFault::OutOfMemory);

@@ -1,6 +1,6 @@
 //! The directory that a script opens, who signs its entries, and the board on which its heads are published.
 
-ghost use Rattle.std.specs.Prelude.{◌≡◌, [], map, Option, None, Some, IfErr, IfOk, OnErr, OnOk, option_map, slice_get};
+ghost use Rattle.std.specs.Prelude.{◌≡◌, ◌==◌, [], find, map, Option, None, Some, IfErr, IfOk, OnErr, OnOk, option_map, slice_get};
 ghost use Rattle.coniks_chain.specs.Entries.{link_preimage};
 ghost use Rattle.coniks_directory.specs.Batches.{fault_is, operations};
 ghost use Rattle.coniks_directory.specs.History.{AreRising};
@@ -9,11 +9,10 @@ ghost use Rattle.coniks_directory.specs.Chain.{head_at};
 ghost use Rattle.coniks_shared.specs.Boards.{BoardEnd};
 ghost use Rattle.coniks_shared.specs.Lists.{last_of};
 ghost use Rattle.coniks_lines.specs.declared.fault.RunFault.TheVariants.{NoBoard};
-ghost use Rattle.coniks_tool.specs.Chains.{entry_at};
 ghost use Rattle.coniks_tool.specs.Demo.{demo_index};
 ghost use Rattle.coniks_tool.specs.Refusals.{Refusal, IsRefusedBy, refusal};
 ghost use Rattle.coniks_tool.specs.Replies.{already_open, installed, not_open, outcome_of};
-ghost use Rattle.coniks_tool.specs.Script.{batch_with, lookup_on, lookup_with, open_with, refusal_outcome, Installs};
+ghost use Rattle.coniks_tool.specs.Script.{batch_with, lookup_with, open_with, refusal_outcome, Installs};
 ghost use Rattle.coniks_tool.specs.Stores.{opened_of, IsServed};
 
 use crate::crew::Crew;
@@ -52,7 +51,7 @@ fn entry_in(chain: &[Entry], place: usize) -> Option<Entry>
 
 /// The entry of exactly this epoch, in a chain whose epochs rise. It halves the chain until one entry is left.
 fn entry_of_epoch(chain: &[Entry], epoch: u64) -> Option<Entry>
-    ensures { AreRising 0 (map (λ (e : Entry). e.body.t) chain.now) → result ≡ entry_at chain.now epoch }
+    ensures { AreRising 0 (map (λ (e : Entry). e.body.t) chain.now) → result ≡ find (λ (e : Entry). e.body.t == epoch) chain.now }
 {
     let place = chain.partition_point(|entry| entry.body.t < epoch);
     match entry_in(chain, place) {
@@ -115,7 +114,7 @@ impl Service {
     /// Looks a name up at an epoch.
     fn look_up(&self, alloc: Global, epoch: u64, name: &str) -> Result<Reply, AllocError>
         requires { (published : BoardEnd) × IsServed published self.now }
-        ensures { IfOk result (λ reply. outcome_of reply ≡ lookup_on (opened_of self.now) epoch name.now) }
+        ensures { IfOk result (λ reply. outcome_of reply ≡ lookup_with (Some (opened_of self.now)) epoch name.now) }
     {
         let proof = match self.directory.lookup(epoch, name.as_bytes()) {
             Ok(proof) => proof,

@@ -1,8 +1,8 @@
-use Rattle.std.proofs.Common.{◌∙◌, map, refl, sym}
+use Rattle.std.proofs.Common.{◌∙◌, map, sym}
 use Rattle.clap.specs.Words.{kind_of}
 use Rattle.coniks_tool.specs.Choice.{choice_of}
 use Rattle.std.specs.Prelude.{Some}
-use Rattle.coniks_tool.proofs.ProgramLemmas.{holds_if_refused, holds_if_idle, explained-ends_for, run-ends_for, run-isnt_refused, Clap-isnt-OutOfMemory}
+use Rattle.coniks_tool.proofs.ProgramLemmas.{holds_if_refused, explained-ends_for, run-ends_for, run-isnt_refused, Clap-isnt-OutOfMemory}
 use Rattle.coniks_tool.proofs.statuses.obey.Goals as goal
 
 pub returns-in-Ok-clause-found : goal.returns-in-Ok-clause-found
@@ -21,5 +21,6 @@ pub returns-in-Err-Clap-clause-taken : goal.returns-in-Err-Clap-clause-taken
 returns-in-Err-Clap-clause-taken g c =
     holds_if_refused c.explain.result (λ taken. Clap-isnt-OutOfMemory c.in-Err-Clap.error (sym c.in-Err-Clap.field-0-is ∙ c.in-Err-Clap.ensures.passes taken))
 
-pub returns-in-Err-Clap-clause-unread : goal.returns-in-Err-Clap-clause-unread
-returns-in-Err-Clap-clause-unread g c = holds_if_idle c.explain.result refl
+pub returns-in-Ok-clause-unwritten : goal.returns-in-Ok-clause-unwritten
+returns-in-Ok-clause-unwritten g c =
+    run-isnt_refused (map g.S.AsStr.text c.args.words.now) _ _ _ _ _ (Some (choice_of c.in-Ok.settings)) c.run_settings.result c.run_settings.ensures.ends

@@ -1,5 +1,5 @@
 use Rattle.std.proofs.Common.{◌≤◌, ◌∙◌, map, subst, sym}
-use Rattle.coniks_tool.proofs.ProgramLemmas.{status_within, quiet-below_2, told-at_3, idle-at_2, done-at_0, ran-at_1, refused-at_2, taken-at_2, bad_key-from_2, bad_expectation-from_2, bad_key-at_2, bad_expectation-at_2}
+use Rattle.coniks_tool.proofs.ProgramLemmas.{status_within, quiet-below_2, told-at_3, done-at_0, ran-at_1, refused-at_2, taken-at_2, none-at_2, unwritten-at_2, bad_key-from_2, bad_expectation-from_2, bad_key-at_2, bad_expectation-at_2}
 use Rattle.coniks_tool.proofs.statuses.program.Goals as goal
 
 pub returns-clause-status : goal.returns-clause-status
@@ -34,10 +34,12 @@ returns-clause-quiet g c = λ low.
     quiet-below_2 c.obey-outcome.result _ _ c.conclude.ensures.told (subst (λ n. n ≤ 1) c.conclude.ensures.status low)
 
 pub returns-clause-unread : goal.returns-clause-unread
-returns-clause-unread g c = λ is. idle-at_2 c.obey-outcome.result c.obey-outcome.ensures.unread (sym c.conclude.ensures.status ∙ is)
+returns-clause-unread g c = λ is.
+    c.obey-outcome.ensures.idle_reader (none-at_2 (map g.S.AsStr.text c.args.words.now) _ _ _ _ c.obey-outcome.result c.obey-outcome.ensures.found (sym c.conclude.ensures.status ∙ is))
 
 pub returns-clause-unwritten : goal.returns-clause-unwritten
-returns-clause-unwritten g c = λ is. idle-at_2 c.obey-outcome.result c.obey-outcome.ensures.unwritten (sym c.conclude.ensures.status ∙ is)
+returns-clause-unwritten g c = λ is.
+    unwritten-at_2 (map g.S.AsStr.text c.args.words.now) _ _ _ _ c.obey-outcome.result c.obey-outcome.ensures.found c.obey-outcome.ensures.unwritten c.obey-outcome.ensures.idle_writer (sym c.conclude.ensures.status ∙ is)
 
 pub returns-clause-bad_key_told : goal.returns-clause-bad_key_told
 returns-clause-bad_key_told g c = λ bad is.

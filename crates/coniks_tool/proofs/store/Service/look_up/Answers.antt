@@ -1,12 +1,16 @@
 use Rattle.std.proofs.Common.{◌≡◌, ℕ, List, ap, ◌∙◌}
 use Rattle.coniks_chain.specs.declared.entry.Entry.{Entry}
-use Rattle.coniks_tool.specs.Chains.{chain_of, entry_at}
+use Rattle.coniks_tool.specs.Chains.{chain_of}
 use Rattle.coniks_tool.specs.Demo.{demo_index}
 use Rattle.coniks_tool.specs.Seal.{is_seal}
 use Rattle.coniks_tool.specs.Stores.{opened_of}
-use Rattle.coniks_tool.proofs.FoundLemmas.{missed_length, none_there, found_there, rises}
+use Rattle.coniks_tool.proofs.FoundLemmas.{entry_at, missed_epoch, missed_length, none_there, found_there, rises}
 use Rattle.coniks_tool.proofs.SealedLemmas.{chain_is}
 use Rattle.coniks_tool.proofs.store.Service.look_up.Goals as goal
+
+pub returns-in-Err-UnknownEpoch : goal.returns-in-Err-UnknownEpoch
+returns-in-Err-UnknownEpoch c =
+    missed_epoch (opened_of c.args.self.now) c.args.epoch c.args.name.now c.as_bytes.result.now c.as_bytes.ensures.value c.in-Err-UnknownEpoch.field-0 c.in-Err-UnknownEpoch.field-0-is c.in-Err-UnknownEpoch.ensures.missed
 
 pub returns-in-Err-NameLength : goal.returns-in-Err-NameLength
 returns-in-Err-NameLength c =
