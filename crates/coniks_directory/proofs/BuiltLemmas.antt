@@ -1,12 +1,13 @@
 -- What a part and the records of a batch leave.
 use Rattle.std.proofs.Common.{◌≡◌, ℕ, suc, ◌+◌, List, [], ◌∷◌, ◌++◌, length, map, arith, false, refl, sym, ap, subst, ◌∙◌, inl, inr, Option, Some, None, slice_get}
+use Rattle.std.proofs.lemmas.Bool.{false_from_ne_true}
 use Rattle.std.specs.BTreeMap.{BTreeMap}
 use Rattle.coniks_proof.specs.Entries.{Entry, IsIn, backed_by}
 use Rattle.coniks_proof.specs.Changes.{AreApart, AreInOrder, has_index, overwritten}
 use Rattle.coniks_proof.specs.Registry.{Registered, Registry, IsLength, has_name, overlaid, entry_of, entries_of}
 use Rattle.coniks_proof.specs.Batches.{Operation, bound_by, first_fault}
 use Rattle.coniks_proof.specs.declared.values.TheConstants.{MAX_KEY, MAX_NAME}
-use Rattle.coniks_proof.proofs.Lemmas.{AreIncreasing-in_order, IsMap-apart, entry_in, has_of, in_entries, in_overlaid, increasing_map, named_of, not_true}
+use Rattle.coniks_proof.proofs.Lemmas.{AreIncreasing-in_order, IsMap-apart, entry_in, has_of, in_entries, in_overlaid, increasing_map, named_of}
 use Rattle.coniks_tree.specs.Table.{Extends, Numbered, entry_of_record, registered_at, registered_by}
 use Rattle.coniks_tree.specs.Parts.{AllPlaced, Placed, Stands, entries_of as entries_of_changes, entry_of_change}
 use Rattle.coniks_tree.specs.declared.part.Change.{Change}
@@ -87,7 +88,7 @@ module _ (hash of : List ℕ → List ℕ) (old : List Record) (es : List Number
             let own = in_entries hash of (backed_by f k.0) registry (m.same.there (backed_by f k.0) (backed_in f es k.0 kept)) in
             let b = f k.0.behind in
             let at : of b.name ≡ k.0.index = ap (λ (x : Entry Registered). x.index) own.0 in
-            let gone : has_name bs b.name ≡ false = not_true (has_name bs b.name) (λ h.
+            let gone : has_name bs b.name ≡ false = false_from_ne_true (has_name bs b.name) (λ h.
             let n = named_of bs b.name h in
             let r = record_of n.bound n.there in
             let index-is : r.1.index.0 ≡ k.0.index = (s.sealed r.0 r.1 r.2).indexed ∙ ap (λ (x : Registered). of x.name) r.3 ∙ ap of n.named ∙ at in
@@ -109,7 +110,7 @@ module _ (hash of : List ℕ → List ℕ) (old : List Record) (es : List Number
             let f = registered_at old in
             let k = in_backed f es e (m.same.back e (subst (λ (x : Entry Registered). IsIn x (entries_of hash of registry)) own.0 (entry_in hash of e.behind registry kept))) in
             let at : k.0.index ≡ of e.behind.name = ap (λ (x : Entry Registered). x.index) (k.2 ∙ sym own.0) in
-            let off : has_index cs k.0.index ≡ false = not_true (has_index cs k.0.index) (λ h.
+            let off : has_index cs k.0.index ≡ false = false_from_ne_true (has_index cs k.0.index) (λ h.
             let x = there_index cs k.0.index h in
             let r = c.only x.0 x.1 in
             let b = registered_of r.1 in

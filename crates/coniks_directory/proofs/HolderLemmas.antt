@@ -1,13 +1,13 @@
 -- Who has an index, and what that says of a name at it.
 use Rattle.std.proofs.Common.{◌≡◌, ℕ, List, [], ◌∷◌, map, true, false, refl, sym, ap, subst, ◌∙◌, not, inl, inr, Option, Some, None, is_some, slice_get}
+use Rattle.std.proofs.lemmas.Bool.{false_from_ne_true}
 use Rattle.std.specs.Borrow.{Bor}
 use Rattle.std.specs.Str.{bytes_eq}
 use Rattle.std.proofs.lemmas.Slice.Eq.{bytes_eq-Decides}
 use Rattle.coniks_proof.specs.Entries.{Entry, IsIn, backed_by}
-use Rattle.coniks_proof.specs.Maps.{IsMap}
 use Rattle.coniks_proof.specs.Registry.{Registered, Registry, has_name, entry_of, entries_of, IsFree}
 use Rattle.coniks_proof.specs.Batches.{clashes}
-use Rattle.coniks_proof.proofs.Lemmas.{clash_found, clash_made, entry_in, eq_same, in_entries, named_in, named_of, new_apart, not_true, same_bool}
+use Rattle.coniks_proof.proofs.Lemmas.{clash_found, clash_made, entry_in, eq_same, in_entries, named_in, named_of, same_bool, same_entry}
 use Rattle.coniks_tree.specs.Table.{Numbered, entry_of_record, registered_at, registered_by}
 use Rattle.coniks_tree.specs.Paths.{Finds}
 use Rattle.coniks_tree.specs.declared.table.Node.{Node}
@@ -27,17 +27,9 @@ backed_in f [] x there = absurd there
 backed_in f (y ∷ es) x (inl here) = inl (ap (backed_by f) here)
 backed_in f (y ∷ es) x (inr later) = inr (backed_in f es x later)
 
--- two entries of a map that have one index are one
-pub same_entry : {B : Type 0} (es : List (Entry B)) (e f : Entry B) → IsMap es → IsIn e es → IsIn f es → e.index ≡ f.index → e ≡ f
-same_entry [] e f m one two same = absurd one
-same_entry (x ∷ es) e f m (inl one) (inl two) same = sym one ∙ two
-same_entry {B} (x ∷ es) e f m (inl one) (inr two) same = absurd (new_apart x.index f es m.1 two (ap (λ (y : Entry B). y.index) one ∙ same))
-same_entry {B} (x ∷ es) e f m (inr one) (inl two) same = absurd (new_apart x.index e es m.1 one (ap (λ (y : Entry B). y.index) two ∙ sym same))
-same_entry (x ∷ es) e f m (inr one) (inr two) same = same_entry es e f m.2 one two same
-
 module _ (hash of : List ℕ → List ℕ) (nonce : List ℕ) (nodes : List Node) (records : List Record) (root : ℕ) (registry : Registry) (s : ShowsRegistry hash of nonce nodes records root registry) where
   pub found_none : (i : List ℕ) → Finds records i None s.entries → IsFree of registry i
-  found_none i finds = λ name at. not_true (has_name registry name) (λ h.
+  found_none i finds = λ name at. false_from_ne_true (has_name registry name) (λ h.
       let n = named_of registry name h in
       let k = in_backed (registered_at records) s.entries (entry_of hash of n.bound) (s.mirrors.same.back (entry_of hash of n.bound) (entry_in hash of n.bound registry n.there)) in
       finds k.0 k.1 (ap (λ (e : Entry Registered). e.index) k.2 ∙ ap of n.named ∙ at))
@@ -65,11 +57,11 @@ module _ (hash of : List ℕ → List ℕ) (nonce : List ℕ) (nodes : List Node
       }
 
 pub clash_free : (of : List ℕ → List ℕ) (registry : Registry) (name : List ℕ) → IsFree of registry (of name) → clashes of registry name ≡ false
-clash_free of registry name none = not_true (clashes of registry name) (λ h. let c = clash_found of registry name h in let there = c.there in let gone = none c.other c.at in cc)
+clash_free of registry name none = false_from_ne_true (clashes of registry name) (λ h. let c = clash_found of registry name h in let there = c.there in let gone = none c.other c.at in cc)
 
 pub clash_held : (of : List ℕ → List ℕ) (registry : Registry) (name : List ℕ) (b : Registered) → IsHeld of registry (of name) b → clashes of registry name ≡ not (bytes_eq b.name name)
 clash_held of registry name b held = (elim (bytes_eq b.name name) as (λ v. bytes_eq b.name name ≡ v → clashes of registry name ≡ not v) [
-  | true ↦ λ is. not_true (clashes of registry name) (λ h. let c = clash_found of registry name h in c.apart (held.only c.other c.at c.there ∙ (bytes_eq-Decides b.name name).0 is))
+  | true ↦ λ is. false_from_ne_true (clashes of registry name) (λ h. let c = clash_found of registry name h in c.apart (held.only c.other c.at c.there ∙ (bytes_eq-Decides b.name name).0 is))
   | false ↦ λ is. clash_made of registry name (record { other = b.name; at = held.at; there = held.has; apart = λ same. let on = eq_same b.name name same in cc })
 ]) refl
 

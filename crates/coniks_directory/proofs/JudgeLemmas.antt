@@ -7,10 +7,6 @@ use Rattle.std.proofs.lemmas.List.{append-nil, map-append}
 use Rattle.coniks_proof.proofs.Lemmas.{clashes-append, placed_none}
 use Rattle.coniks_directory.specs.Judged.{IsJudged}
 
-pub or_true : (a b : Bool) → b ≡ true → a || b ≡ true
-or_true true b on = refl
-or_true false b on = on
-
 -- ---- the first fault that applies to an operation
 
 module _ (of : List ℕ → List ℕ) (registry : Registry) (before : List Registered) (op : Operation) (named : fits MAX_NAME op.name ≡ true) (keyed : fits MAX_KEY op.key ≡ true) where

@@ -1,5 +1,6 @@
 -- A registry that a batch's bindings are laid over, and entries that changes are laid over.
 use Rattle.std.proofs.Common.{◌≡◌, ◌≢◌, ℕ, ◌+◌, List, [], ◌∷◌, ◌++◌, map, Bool, true, false, refl, sym, ap, subst, ◌∙◌, not, ◌||◌, ◌⊎◌, inl, inr, None}
+use Rattle.std.proofs.lemmas.Bool.{not-true, or_cases, or_parts, or_right}
 use Rattle.std.specs.List.{filter}
 use Rattle.std.specs.Str.{bytes_eq}
 use Rattle.std.proofs.lemmas.Slice.Eq.{bytes_eq-Decides}
@@ -9,8 +10,7 @@ use Rattle.coniks_proof.specs.Changes.{has_index, overwritten}
 use Rattle.coniks_proof.specs.Registry.{Registered, Registry, AreWithin, IsLength, has_name, rebound, overlaid, entry_of, entries_of}
 use Rattle.coniks_proof.specs.Batches.{AreOnce, Operation, bound_by, clashes, fault_from, fault_of, first_fault}
 use Rattle.coniks_proof.specs.declared.values.TheConstants.{MAX_KEY, MAX_NAME}
-use Rattle.coniks_proof.proofs.Lemmas.{IsIn-filter, IsMap-filter, IsMap-rebound, clash_of, clashes-append, clear_of, entry_in, eq_apart, eq_same, in_overlaid, in_rebound, neither, of_filter, or_cases, passes, placed_none, rebound_new, rebound_old, within}
-use Rattle.coniks_directory.proofs.HolderLemmas.{same_entry}
+use Rattle.coniks_proof.proofs.Lemmas.{IsIn-filter, IsMap-filter, IsMap-rebound, clash_of, clashes-append, clear_of, entry_in, eq_apart, eq_same, in_overlaid, in_rebound, of_filter, passes, placed_none, rebound_new, rebound_old, within, same_entry}
 
 -- ---- lists
 
@@ -34,7 +34,7 @@ append_right x (y ∷ xs) ys there = inr (append_right x xs ys there)
 pub overlaid_old : (registry : Registry) (bs : List Registered) (b : Registered) → IsIn b registry → has_name bs b.name ≡ false → IsIn b (overlaid registry bs)
 overlaid_old registry [] b there gone = there
 overlaid_old registry (x ∷ xs) b there gone =
-    let both = neither (bytes_eq x.name b.name) (has_name xs b.name) gone in
+    let both = or_parts (bytes_eq x.name b.name) (has_name xs b.name) gone in
     overlaid_old (rebound registry x) xs b (rebound_old registry x b there (λ same. let on = eq_same x.name b.name (sym same) in let off = both.0 in cc)) both.1
 
 pub overlaid_new : (registry : Registry) (bs : List Registered) (b : Registered) → AreOnce bs → IsIn b bs → IsIn b (overlaid registry bs)
@@ -88,11 +88,7 @@ within-overlaid registry bs limits new = within_all (overlaid registry bs) (λ b
 pub index_there : {B : Type 0} (cs : List (Entry B)) (e : Entry B) (index : List ℕ) → IsIn e cs → e.index ≡ index → has_index cs index ≡ true
 index_there [] e index there at = absurd there
 index_there {B} (c ∷ cs) e index (inl here) at = ap (λ v. v || has_index cs index) (eq_same c.index index (ap (λ (x : Entry B). x.index) here ∙ at))
-index_there (c ∷ cs) e index (inr later) at = or_true (bytes_eq c.index index) (has_index cs index) (index_there cs e index later at)
-  where
-    or_true : (a b : Bool) → b ≡ true → a || b ≡ true
-    or_true true b on = refl
-    or_true false b on = on
+index_there (c ∷ cs) e index (inr later) at = or_right (bytes_eq c.index index) (has_index cs index) (index_there cs e index later at)
 
 pub there_index : {B : Type 0} (cs : List (Entry B)) (index : List ℕ) → has_index cs index ≡ true → (e : Entry B) × IsIn e cs × (e.index ≡ index)
 there_index [] index h = absurd (let never = h in cc)
@@ -101,15 +97,11 @@ there_index (c ∷ cs) index h = elim (or_cases (bytes_eq c.index index) (has_in
   | inr later ↦ let k = there_index cs index later in (k.0, inr k.1, k.2)
 ]
 
-was_off : (b : Bool) → not b ≡ true → b ≡ false
-was_off true h = absurd (let never = h in cc)
-was_off false h = refl
-
 pub in_overwritten : {B : Type 0} (es cs : List (Entry B)) (e : Entry B) → IsIn e (overwritten es cs) → IsIn e cs ⊎ (IsIn e es × (has_index cs e.index ≡ false))
 unfolding overwritten
 in_overwritten {B} es cs e there = elim (in_append e cs (filter (λ (x : Entry B). not (has_index cs x.index)) es) there) [
   | inl new ↦ inl new
-  | inr old ↦ inr (of_filter e (λ (x : Entry B). not (has_index cs x.index)) es old, was_off (has_index cs e.index) (passes e (λ (x : Entry B). not (has_index cs x.index)) es old))
+  | inr old ↦ inr (of_filter e (λ (x : Entry B). not (has_index cs x.index)) es old, not-true (has_index cs e.index) (passes e (λ (x : Entry B). not (has_index cs x.index)) es old))
 ]
 
 pub overwritten_new : {B : Type 0} (es cs : List (Entry B)) (e : Entry B) → IsIn e cs → IsIn e (overwritten es cs)
@@ -141,7 +133,7 @@ IsMap-overwritten {B} es cs old new =
     let kept : Entry B → Bool = λ x. not (has_index cs x.index) in
     map_append cs (filter kept es) new (IsMap-filter kept es old) (λ c e in_c in_e same.
     let on = index_there cs c e.index in_c same in
-    let off = was_off (has_index cs e.index) (passes e kept es in_e) in cc)
+    let off = not-true (has_index cs e.index) (passes e kept es in_e) in cc)
 
 -- ---- a batch without fault
 
@@ -150,7 +142,7 @@ part_from of registry earlier place [] none c d there later apart same = absurd 
 part_from of registry earlier place (op ∷ ops) none c d there (inl here) apart same =
     let both = placed_none place (fault_of of registry earlier op) (fault_from of registry (earlier ++ bound_by op ∷ []) (place + 1) ops) none in
     let named : op.name ≡ d.name = ap (λ (x : Registered). x.name) here in
-    let quiet = neither (clashes of registry op.name) (clashes of earlier op.name) (sym (clashes-append of registry earlier op.name) ∙ (clear_of of registry earlier op both.0).apart) in
+    let quiet = or_parts (clashes of registry op.name) (clashes of earlier op.name) (sym (clashes-append of registry earlier op.name) ∙ (clear_of of registry earlier op both.0).apart) in
     let loud = clash_of of registry op.name c there (same ∙ ap of (sym named)) (λ e. apart (e ∙ named)) in
     let off = quiet.0 in
     cc

@@ -1,5 +1,6 @@
 -- The records of the operations that were judged, and one more.
 use Rattle.std.proofs.Common.{◌≡◌, ◌≢◌, ℕ, zero, suc, ◌+◌, ◌<◌, List, [], ◌∷◌, ◌++◌, length, map, get_or, arith, length-append, true, false, refl, sym, ap, subst, ◌∙◌, cond, ◌⊎◌, inl, inr, Some, None, slice_get}
+use Rattle.std.proofs.lemmas.Bool.{false_from_ne_true}
 use Rattle.std.specs.Str.{bytes_eq}
 use Rattle.std.specs.Ordering.{nat_cmp, is_eq}
 use Rattle.std.specs.Cmp.Lexicographic.{slice_cmp}
@@ -15,7 +16,7 @@ use Rattle.coniks_tree.specs.declared.table.Record.{Record}
 use Rattle.coniks_directory.specs.State.{registered_of}
 use Rattle.coniks_directory.specs.Holders.{IsHeld}
 use Rattle.coniks_directory.specs.Judged.{AreSeen, IsSealed, number_at}
-use Rattle.coniks_proof.proofs.Lemmas.{IsMap-one_more, eq_apart, eq_same, has_of, named_of, not_true}
+use Rattle.coniks_proof.proofs.Lemmas.{IsMap-one_more, eq_apart, eq_same, has_of, named_of}
 
 -- a binding of the records is that of one of them
 pub in_records : (records : List Record) (b : Registered) → IsIn b (map registered_of records) → (n : ℕ) × (r : Record) × (slice_get records n ≡ Some r) × (registered_of r ≡ b)
@@ -50,7 +51,7 @@ module _ (hash of : List ℕ → List ℕ) (bound : List Registered) (records : 
   has_record n r at = has_of bound r.binding.name (registered_of r) (subst (λ (bs : List Registered). IsIn (registered_of r) bs) s.binds (record_in records n r at)) refl
 
   pub seen_free : (i : List ℕ) → number_at numbers i ≡ None → IsFree of bound i
-  seen_free i none = λ name at. not_true (has_name bound name) (λ h.
+  seen_free i none = λ name at. false_from_ne_true (has_name bound name) (λ h.
       let k = bound_record name h in
       let index-is : k.1.index.0 ≡ i = (s.sealed k.0 k.1 k.2).indexed ∙ ap of k.3 ∙ at in
       let some : number_at numbers i ≡ Some k.0 = subst (λ x. number_at numbers x ≡ Some k.0) index-is (s.all k.0 k.1 k.2) in

@@ -10,6 +10,7 @@ mod epochs;
 mod gates;
 mod installs;
 mod refused;
+mod runs;
 mod together;
 mod updates;
 mod watchers;

@@ -1,17 +1,17 @@
 -- Batches without fault, operation by operation and as a whole.
 use Rattle.std.proofs.Common.{◌≡◌, ℕ, ◌+◌, List, [], ◌∷◌, ◌++◌, length, map, Bool, true, false, refl, sym, ap, subst, ◌∙◌, not, ◌||◌, ◌&&◌, ◌⊎◌, nat_lt, nat_le, inl, inr, Option, Some, None, if◌then◌else◌, append_assoc}
-use Rattle.std.proofs.lemmas.Bool.{le-leb, leb-true, lt-ltb, ltb-true}
+use Rattle.std.proofs.lemmas.Bool.{and_parts, false_from_ne_true, le-leb, leb-true, lt-ltb, ltb-true, not-false, or_cases, or_left, or_right}
 use Rattle.std.proofs.lemmas.List.{append-nil}
 use Rattle.std.specs.Str.{bytes_eq}
 use Rattle.std.proofs.lemmas.Slice.Eq.{bytes_eq-Decides}
 use Rattle.coniks_proof.specs.Batches.{AreOnce, Fault, Kind, MayFollow, Operation, Suits, after, bound_by, change, clashes, fault_from, fault_of, first_fault, fits, index_clash, key_length, kind_fault, name_length, name_twice, or_else, placed, register}
-use Rattle.coniks_proof.specs.Entries.{IsIn}
+use Rattle.coniks_proof.specs.Entries.{Entry, IsIn}
 use Rattle.coniks_proof.specs.Maps.{IsMap}
 use Rattle.coniks_proof.specs.Registry.{AreWithin, HaveOwnIndices, IsLength, Registered, Registry, entries_of, entry_of, has_name}
 use Rattle.coniks_proof.specs.declared.values.TheConstants.{MAX_KEY, MAX_NAME}
-use Rattle.coniks_proof.proofs.MapLemmas.{new_apart}
+use Rattle.coniks_proof.proofs.MapLemmas.{same_entry}
 use Rattle.coniks_proof.proofs.RegistryLemmas.{entry_in}
-use Rattle.coniks_proof.proofs.NameLemmas.{clash_found, clash_made, eq_apart, eq_same, has_name-append, has_of, in_overlaid, named_of, not_true, or_cases}
+use Rattle.coniks_proof.proofs.NameLemmas.{clash_found, clash_made, eq_apart, eq_same, has_name-append, has_of, in_overlaid, named_of}
 
 -- ---- an operation without fault
 
@@ -31,10 +31,6 @@ else_none : (o p : Option Fault) → or_else o p ≡ None → (o ≡ None) × (p
 else_none (Some x) p h = absurd (let never = h in cc)
 else_none None p h = (refl, h)
 
-was_on : (b : Bool) → not b ≡ false → b ≡ true
-was_on true h = refl
-was_on false h = absurd (let never = h in cc)
-
 pub clear_of : (of : List ℕ → List ℕ) (registry : Registry) (earlier : List Registered) (op : Operation) → fault_of of registry earlier op ≡ None → IsClear of registry earlier op
 clear_of of registry earlier op none =
     let a = if_none (not (fits MAX_NAME op.name)) name_length _ none in
@@ -42,7 +38,7 @@ clear_of of registry earlier op none =
     let c = if_none (has_name earlier op.name) name_twice _ b.1 in
     let d = else_none (kind_fault op.kind (has_name registry op.name)) _ c.1 in
     let e = if_none (clashes of (registry ++ earlier) op.name) index_clash None d.1 in
-    record { named = was_on (fits MAX_NAME op.name) a.0; keyed = was_on (fits MAX_KEY op.key) b.0; once = c.0; kind = d.0; apart = e.0 }
+    record { named = not-false (fits MAX_NAME op.name) a.0; keyed = not-false (fits MAX_KEY op.key) b.0; once = c.0; kind = d.0; apart = e.0 }
 
 none_of : (of : List ℕ → List ℕ) (registry : Registry) (earlier : List Registered) (op : Operation) → IsClear of registry earlier op → fault_of of registry earlier op ≡ None
 none_of of registry earlier op c = rw (c.named, c.keyed, c.once, c.kind, c.apart) refl
@@ -53,12 +49,8 @@ placed_none place None later h = (refl, h)
 
 -- ---- lengths, kinds and names
 
-and_both : (a b : Bool) → a && b ≡ true → (a ≡ true) × (b ≡ true)
-and_both true b h = (refl, h)
-and_both false b h = absurd (let never = h in cc)
-
 length_of : (most : ℕ) (bytes : List ℕ) → fits most bytes ≡ true → IsLength most bytes
-length_of most bytes on = let both = and_both (nat_lt 0 (length bytes)) (nat_le (length bytes) most) on in (ltb-true 0 (length bytes) both.0, leb-true (length bytes) most both.1)
+length_of most bytes on = let both = and_parts (nat_lt 0 (length bytes)) (nat_le (length bytes) most) on in (ltb-true 0 (length bytes) both.0, leb-true (length bytes) most both.1)
 
 fits_of : (most : ℕ) (bytes : List ℕ) → IsLength most bytes → fits most bytes ≡ true
 fits_of most bytes is = ap (λ v. v && nat_le (length bytes) most) (lt-ltb 0 (length bytes) is.0) ∙ le-leb (length bytes) most is.1
@@ -74,17 +66,6 @@ suited register true h = absurd (let never = h in cc)
 suited register false h = refl
 suited change true h = refl
 suited change false h = absurd (let never = h in cc)
-
-pub neither : (a b : Bool) → a || b ≡ false → (a ≡ false) × (b ≡ false)
-neither true b h = absurd (let never = h in cc)
-neither false b h = (refl, h)
-
-or_right : (a b : Bool) → b ≡ true → a || b ≡ true
-or_right true b on = refl
-or_right false b on = on
-
-or_left : (a b : Bool) → a ≡ true → a || b ≡ true
-or_left a b on = rw on refl
 
 -- a name that the later ones don't have isn't that of one of them
 other_name : (x y : List ℕ) → bytes_eq x y ≡ false → bytes_eq y x ≡ false
@@ -175,7 +156,7 @@ module _ (of : List ℕ → List ℕ) (registry : Registry) where
   -- ---- from all to each
 
   apart_of : (names : Registry) (name : List ℕ) → ((x : List ℕ) → has_name names x ≡ true → of x ≡ of name → x ≡ name) → clashes of names name ≡ false
-  apart_of names name own = not_true (clashes of names name) (λ on. let c = clash_found of names name on in c.apart (own c.other c.there c.at))
+  apart_of names name own = false_from_ne_true (clashes of names name) (λ on. let c = clash_found of names name on in c.apart (own c.other c.there c.at))
 
   clear_all : (earlier : List Registered) (ops : List Operation) → AreWithin (map bound_by ops) → AreOnce (map bound_by ops) → ((op : Operation) → IsIn op ops → Suits op.kind (has_name registry op.name))
       → ((op : Operation) → IsIn op ops → has_name earlier op.name ≡ false) → HaveOwnIndices of (registry ++ (earlier ++ map bound_by ops)) → AreClear earlier ops
@@ -207,7 +188,7 @@ module _ (of : List ℕ → List ℕ) (registry : Registry) where
 
       later_new : (op : Operation) (ops : List Operation) → has_name (map bound_by ops) op.name ≡ false → ((o : Operation) → IsIn o (op ∷ ops) → has_name earlier o.name ≡ false)
           → (o : Operation) → IsIn o ops → has_name (earlier ++ bound_by op ∷ []) o.name ≡ false
-      later_new op ops once new o there = not_true (has_name (earlier ++ bound_by op ∷ []) o.name) (λ has.
+      later_new op ops once new o there = false_from_ne_true (has_name (earlier ++ bound_by op ∷ []) o.name) (λ has.
           elim (of_last of earlier (bound_by op) o.name has) [
             | inl old ↦ let off = new o (inr there) in cc
             | inr same ↦ let has_op : has_name (map bound_by ops) op.name ≡ true = has_of (map bound_by ops) op.name (bound_by o) (bound_there o ops there) (sym same) in cc
@@ -245,13 +226,4 @@ pub own_of_map : (hash of : List ℕ → List ℕ) (registry : Registry) → IsM
 own_of_map hash of registry map x y has_x has_y at =
     let m = named_of registry x has_x in
     let n = named_of registry y has_y in
-    sym m.named ∙ ap (λ (b : Registered). b.name) (one_there registry map m.bound n.bound m.there n.there (ap of m.named ∙ at ∙ ap of (sym n.named))) ∙ n.named
-  where
-    one_there : (bs : Registry) → IsMap (entries_of hash of bs) → (b c : Registered) → IsIn b bs → IsIn c bs → of b.name ≡ of c.name → b ≡ c
-    one_there [] m b c there_b there_c same = absurd there_b
-    one_there (x ∷ xs) m b c (inl here_b) (inl here_c) same = sym here_b ∙ here_c
-    one_there (x ∷ xs) m b c (inl here_b) (inr later_c) same =
-        absurd (new_apart (of x.name) (entry_of hash of c) (entries_of hash of xs) m.1 (entry_in hash of c xs later_c) (ap (λ (r : Registered). of r.name) here_b ∙ same))
-    one_there (x ∷ xs) m b c (inr later_b) (inl here_c) same =
-        absurd (new_apart (of x.name) (entry_of hash of b) (entries_of hash of xs) m.1 (entry_in hash of b xs later_b) (ap (λ (r : Registered). of r.name) here_c ∙ sym same))
-    one_there (x ∷ xs) m b c (inr later_b) (inr later_c) same = one_there xs m.2 b c later_b later_c same
+    sym m.named ∙ ap (λ (e : Entry Registered). e.behind.name) (same_entry (entries_of hash of registry) (entry_of hash of m.bound) (entry_of hash of n.bound) map (entry_in hash of m.bound registry m.there) (entry_in hash of n.bound registry n.there) (ap of m.named ∙ at ∙ ap of (sym n.named))) ∙ n.named

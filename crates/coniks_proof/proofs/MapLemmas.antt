@@ -148,6 +148,14 @@ new_apart i e [] new there = absurd there
 new_apart {B} i e (x ∷ es) new (inl here) = λ same. new.0 (same ∙ ap (λ (y : Entry B). y.index) (sym here))
 new_apart i e (x ∷ es) new (inr there) = new_apart i e es new.1 there
 
+-- two entries of a map that have one index are one
+pub same_entry : {B : Type 0} (es : List (Entry B)) (e f : Entry B) → IsMap es → IsIn e es → IsIn f es → e.index ≡ f.index → e ≡ f
+same_entry [] e f m one two same = absurd one
+same_entry (x ∷ es) e f m (inl one) (inl two) same = sym one ∙ two
+same_entry {B} (x ∷ es) e f m (inl one) (inr two) same = absurd (new_apart x.index f es m.1 two (ap (λ (y : Entry B). y.index) one ∙ same))
+same_entry {B} (x ∷ es) e f m (inr one) (inl two) same = absurd (new_apart x.index e es m.1 one (ap (λ (y : Entry B). y.index) two ∙ sym same))
+same_entry (x ∷ es) e f m (inr one) (inr two) same = same_entry es e f m.2 one two same
+
 pub same_as_none : {B : Type 0} (fs : List (Entry B)) → SameEntries [] fs → fs ≡ []
 same_as_none [] same = refl
 same_as_none (f ∷ fs) same = absurd (same.back f (inl refl))

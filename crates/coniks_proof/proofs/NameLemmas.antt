@@ -1,5 +1,6 @@
 -- The names of a registry that is rebound or overlaid, and clashes of their indices.
 use Rattle.std.proofs.Common.{◌≡◌, ◌≢◌, ℕ, List, [], ◌∷◌, ◌++◌, Bool, true, false, refl, sym, ap, subst, ◌∙◌, cond, not, ◌||◌, ◌&&◌, ◌⊎◌, inl, inr}
+use Rattle.std.proofs.lemmas.Bool.{false_from_ne_true, or_cases}
 use Rattle.std.specs.List.{filter}
 use Rattle.std.specs.Str.{bytes_eq}
 use Rattle.std.proofs.lemmas.Slice.Eq.{bytes_eq-Decides}
@@ -10,15 +11,11 @@ use Rattle.coniks_proof.specs.Batches.{clashes}
 use Rattle.coniks_proof.proofs.MapLemmas.{IsIn-filter, of_filter, passes}
 use Rattle.coniks_proof.proofs.RegistryLemmas.{named_in}
 
-pub not_true : (b : Bool) → (b ≡ true → ⊥) → b ≡ false
-not_true true h = absurd (h refl)
-not_true false h = refl
-
 pub eq_same : (x y : List ℕ) → x ≡ y → bytes_eq x y ≡ true
 eq_same x y same = (bytes_eq-Decides x y).1 same
 
 pub eq_apart : (x y : List ℕ) → x ≢ y → bytes_eq x y ≡ false
-eq_apart x y apart = not_true (bytes_eq x y) (λ on. apart ((bytes_eq-Decides x y).0 on))
+eq_apart x y apart = false_from_ne_true (bytes_eq x y) (λ on. apart ((bytes_eq-Decides x y).0 on))
 
 -- a binding of this name
 pub record Named (registry : Registry) (name : List ℕ) : Type 0 where
@@ -97,10 +94,6 @@ pub same_bool : (a b : Bool) → (a ≡ true → b ≡ true) → (b ≡ true →
 same_bool true b f g = sym (f refl)
 same_bool false true f g = g refl
 same_bool false false f g = refl
-
-pub or_cases : (a b : Bool) → a || b ≡ true → (a ≡ true) ⊎ (b ≡ true)
-or_cases true b h = inl refl
-or_cases false b h = inr h
 
 pub has_name-append : (xs ys : List Registered) (name : List ℕ) → has_name (xs ++ ys) name ≡ has_name xs name || has_name ys name
 has_name-append [] ys name = refl

@@ -1,5 +1,6 @@
 -- Registries: names, bindings and their entries.
-use Rattle.std.proofs.Common.{◌≡◌, ℕ, List, [], ◌∷◌, Bool, true, false, refl, sym, ap, subst, ◌∙◌, cond, ◌||◌, inl, inr, Some, None}
+use Rattle.std.proofs.Common.{◌≡◌, ℕ, List, [], ◌∷◌, true, false, refl, sym, ap, subst, ◌∙◌, cond, ◌||◌, inl, inr, Some, None}
+use Rattle.std.proofs.lemmas.Bool.{or_right}
 use Rattle.std.specs.Str.{bytes_eq}
 use Rattle.std.proofs.lemmas.Slice.Eq.{bytes_eq-Decides}
 use Rattle.coniks_proof.specs.Entries.{Entry, IsIn}
@@ -29,14 +30,10 @@ bound_in (x ∷ xs) name b found = (elim (bytes_eq x.name name) as (λ v. bytes_
 self_named : (b : Registered) → bytes_eq b.name b.name ≡ true
 self_named b = (bytes_eq-Decides b.name b.name).1 refl
 
-or_true : (v w : Bool) → w ≡ true → v || w ≡ true
-or_true true w h = refl
-or_true false w h = h
-
 pub named_in : (b : Registered) (registry : Registry) → IsIn b registry → has_name registry b.name ≡ true
 named_in b [] there = absurd there
 named_in b (x ∷ xs) (inl here) = let on : bytes_eq x.name b.name ≡ true = subst (λ (y : Registered). bytes_eq y.name b.name ≡ true) (sym here) (self_named b) in rw on refl
-named_in b (x ∷ xs) (inr later) = or_true (bytes_eq x.name b.name) (has_name xs b.name) (named_in b xs later)
+named_in b (x ∷ xs) (inr later) = or_right (bytes_eq x.name b.name) (has_name xs b.name) (named_in b xs later)
 
 -- a name that is bound to nothing isn't registered
 pub unnamed : (registry : Registry) (name : List ℕ) → bound_to registry name ≡ None → has_name registry name ≡ false

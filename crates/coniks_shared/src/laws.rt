@@ -1,4 +1,4 @@
-//! Laws of the definitions, each the contract of a function that only reads.
+//! Laws of the definitions, each the contract of a function that does nothing.
 ghost use Rattle.std.specs.Prelude.{◌≡◌};
 ghost use Rattle.coniks_shared.specs.Limits.{most_heads, most_numbers, most_drawers};
 

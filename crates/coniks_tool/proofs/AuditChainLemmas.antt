@@ -2,7 +2,7 @@
 use Rattle.std.proofs.Common.{◌≡◌, ℕ, zero, suc, List, [], ◌∷◌, ◌++◌, map, Bool, true, false, Option, Some, None, refl, sym, ap, subst, ◌∙◌}
 use Rattle.std.specs.Prelude.{◌↔◌, ◌&&◌, is_some, slice_get, option_and_then, Result, Ok, Err, IfOk}
 use Rattle.std.proofs.lemmas.Option.{same_Some}
-use Rattle.std.proofs.lemmas.Bool.{false≢true}
+use Rattle.std.proofs.lemmas.Bool.{and_parts, false≢true}
 use Rattle.serde_json.specs.Data.{Data}
 use Rattle.coniks_lines.specs.Known.{Sink}
 use Rattle.coniks_lines.specs.Lines.{lines_of}
@@ -103,15 +103,11 @@ record HoldsOn (s : AuditState) (lines : List (List ℕ)) : Type 0 where
   pub held : map entry_on lines ≡ map Some entries
   pub good : GoesOn s entries
 
-both : (a b : Bool) → (a && b) ≡ true → (a ≡ true) × (b ≡ true)
-both true b is = (refl, is)
-both false b is = absurd (false≢true is)
-
 all-holds : (s : AuditState) (lines : List (List ℕ)) → all_accepted audit_answer s lines ≡ true → HoldsOn s lines
 all-holds s [] all = record { entries = []; held = refl; good = λ k e at. absurd (false≢true (ap is_some at)) }
 all-holds s (line ∷ lines) all =
     let t = audit_turn s line in
-    let two = both (is_audited t.outcome) (all_accepted audit_answer t.state lines) all in
+    let two = and_parts (is_audited t.outcome) (all_accepted audit_answer t.state lines) all in
     let taken = (line_says s line).0 two.0 in
     let rest = all-holds t.state lines two.1 in
     let held : entry_on line ∷ map entry_on lines ≡ Some taken.entry ∷ map Some rest.entries = rw (taken.there, rest.held) refl in

@@ -6,6 +6,7 @@ ghost use Rattle.coniks_directory_tests.specs.Letters.{high as high_of, index_of
 ghost use Rattle.coniks_directory.specs.Updates.{Grows, IsUpdateOf};
 
 use coniks_chain::{Body, Entry, Sign, Signature, Verify};
+use coniks_directory::laws::updates_stay;
 use coniks_directory::{
     BatchFault, CommitFault, Directory, IndexSource, InstallFault, Op, OpKind, Prepared,
 };
@@ -204,7 +205,7 @@ impl<'a, H: Hash32 + Sync> Clerk<'a, H> {
     }
 
     /// Whether the signer may be asked once more.
-    fn may_sign(&self) -> bool
+    pub fn may_sign(&self) -> bool
         ensures { result ≡ true → (self.now.signer.made < 2 ^ 64 - 1) × (self.now.signer.refused < 2 ^ 64 - 1) }
     {
         self.signer.made() < u64::MAX && self.signer.refused() < u64::MAX
@@ -294,6 +295,7 @@ impl<'a, H: Hash32 + Sync> Clerk<'a, H> {
         requires first { IsUpdateOf (H.digest_of self.old.directory.0) index_of_letter self.old.directory.2 first }
         requires second { IsUpdateOf (H.digest_of self.old.directory.0) index_of_letter self.old.directory.2 second }
     {
+        updates_stay();
         if self.install(first, t).is_err() {
             return None;
         }
@@ -316,6 +318,7 @@ pub fn prepared<H: Hash32 + Sync, R: Threads + Sync>(
 ) -> Option<Prepared>
     ensures { IfSome result (IsUpdateOf (H.digest_of directory.now.0) index_of_letter directory.now.2) }
 {
+    updates_stay();
     let Ok(ops) = ops_of(alloc, written) else {
         return None;
     };

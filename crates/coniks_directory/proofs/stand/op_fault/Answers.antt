@@ -4,7 +4,8 @@ use Rattle.coniks_proof.specs.Batches.{clashes, kind_fault}
 use Rattle.coniks_directory.specs.Batches.{fault_is, kind_of, operation_of}
 use Rattle.coniks_directory.specs.Holders.{HolderIs}
 use Rattle.coniks_directory.proofs.HolderLemmas.{clash_some}
-use Rattle.coniks_directory.proofs.JudgeLemmas.{at_twice, at_kind, at_clash, at_none, or_true}
+use Rattle.std.proofs.lemmas.Bool.{or_right}
+use Rattle.coniks_directory.proofs.JudgeLemmas.{at_twice, at_kind, at_clash, at_none}
 use Rattle.coniks_directory.proofs.stand.op_fault.Goals as goal
 use Rattle.coniks_directory.proofs.stand.op_fault.Goals.{then-is_other-via-then-is_other, then-is_other-via-else-is_other+then-is_some}
 
@@ -39,7 +40,7 @@ returns-then-is_other-clause-fault c = λ of registry before p e.
     let held : clashes of before op.name ≡ is_some c.args.earlier = clash_some of before op.name c.args.earlier e once in
     let either : c.is_other.result || is_some c.args.earlier ≡ true = elim c.then-is_other.branch [
       | then-is_other-via-then-is_other w ↦ ap (λ v. v || is_some c.args.earlier) w.if-is_other.true
-      | then-is_other-via-else-is_other+then-is_some w ↦ or_true c.is_other.result (is_some c.args.earlier) (sym w.is_some.ensures ∙ w.if-is_some.true)
+      | then-is_other-via-else-is_other+then-is_some w ↦ or_right c.is_other.result (is_some c.args.earlier) (sym w.is_some.ensures ∙ w.if-is_some.true)
     ] in
     sym (at_clash of registry before (operation_of op) c.requires.named c.requires.keyed c.is_other.result (is_some c.args.earlier) once
     (ap (kind_fault (kind_of op.kind)) present ∙ sym c.fault_of_kind.ensures ∙ ap (option_map fault_is) c.in_default.is) other held either)

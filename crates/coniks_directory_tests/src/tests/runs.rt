@@ -1,0 +1,167 @@
+//! Calls on a directory as steps of a run, each from its public clauses alone, and what the directory theorem says of them.
+
+ghost use Rattle.std.specs.Prelude.{◌≡◌, ◌<◌, ◌-◌, ◌^◌, ◌++◌, [], ◌∷◌, ℕ, List, IfOk, OnOk, option_map};
+ghost use Rattle.coniks_directory.specs.Batches.{operations};
+ghost use Rattle.coniks_directory.specs.Chain.{heads_of};
+ghost use Rattle.coniks_directory.specs.History.{root_at, shown_at};
+ghost use Rattle.coniks_directory.specs.Lookups.{IsAcceptedAt};
+ghost use Rattle.coniks_directory.specs.Runs.{Batch, IsPreparedOf, Run, defined};
+ghost use Rattle.coniks_directory.specs.State.{State};
+ghost use Rattle.coniks_directory.specs.Updates.{Grows, IsUpdateOf};
+ghost use Rattle.coniks_proof.specs.Batches.{Operation};
+
+use crate::tests::answers::digest;
+use crate::tests::clerk::{Clerk, ops_of, with_clerk};
+use coniks_chain::{Entry, Sign};
+use coniks_directory::OpKind::{Change, Register};
+use coniks_directory::laws::{directory_theorem, updates_stay};
+use coniks_directory::{
+    BatchFault, CommitFault, Directory, IndexSource, InstallFault, LookupFault, Op, Prepared,
+};
+use coniks_proof::{Digest, Hash32, Proof, Sha256Hash};
+use coniks_shared::{Board, Publisher};
+use coniks_work::Open;
+use std::process::Abort;
+use std::thread::Threads;
+
+/// `prepare`, whose update any run may install later.
+fn prepare_next<H: Hash32 + Sync, X: IndexSource, R: Threads + Sync>(
+    rt: &R,
+    directory: &Directory<H, X>,
+    ops: &[Op],
+) -> Result<Prepared, BatchFault>
+    ensures { IfOk result (IsPreparedOf (H.digest_of directory.now.0) (X.index_of directory.now.1) directory.now.2 (operations ops.now) 1 2) }
+{
+    directory.prepare(rt, ops, 1, 2, &Open)
+}
+
+/// `install`, which makes a run one batch longer, whatever was called since the update was prepared.
+fn install_next<H: Hash32, X: IndexSource, S: Sign>(
+    directory: &mut Directory<H, X>,
+    update: Prepared,
+    t: u64,
+    signer: &mut S,
+    publisher: &mut Publisher,
+    board: &Board,
+) -> Result<Entry, (InstallFault, Prepared)>
+    requires update { IsUpdateOf (H.digest_of directory.old.0) (X.index_of directory.old.1) directory.old.2 update }
+    requires made { S.made_of signer.old < 2 ^ 64 - 1 }
+    requires refused { S.refused_of signer.old < 2 ^ 64 - 1 }
+    requires table { publisher.old.table ≡ board.now.table }
+    requires published { publisher.old.heads ≡ heads_of (H.digest_of directory.old.0) directory.old.2.chain }
+    ensures run { OnOk result ((nonce policy : List ℕ) (batches : List Batch) (earlier : State) (ops : List Operation) (depth workers : ℕ)
+        → Run (H.digest_of directory.old.0) (X.index_of directory.old.1) nonce policy batches directory.old.2
+        → IsPreparedOf (H.digest_of directory.old.0) (X.index_of directory.old.1) earlier ops depth workers update → Grows earlier directory.old.2
+        → Run (H.digest_of directory.new.0) (X.index_of directory.new.1) nonce policy (batches ++ record { t = t; ops = ops } ∷ []) directory.new.2) }
+    ensures heads { publisher.new.heads ≡ heads_of (H.digest_of directory.new.0) directory.new.2.chain }
+    ensures table { publisher.new.table ≡ publisher.old.table }
+{
+    directory.install(update, t, signer, publisher, board)
+}
+
+/// `commit`, which makes a run one batch longer.
+fn commit_next<H: Hash32 + Sync, X: IndexSource, S: Sign, R: Threads + Sync>(
+    rt: &R,
+    directory: &mut Directory<H, X>,
+    ops: &[Op],
+    t: u64,
+    signer: &mut S,
+    publisher: &mut Publisher,
+    board: &Board,
+) -> Result<Entry, CommitFault>
+    requires made { S.made_of signer.old < 2 ^ 64 - 1 }
+    requires refused { S.refused_of signer.old < 2 ^ 64 - 1 }
+    requires table { publisher.old.table ≡ board.now.table }
+    requires published { publisher.old.heads ≡ heads_of (H.digest_of directory.old.0) directory.old.2.chain }
+    ensures run { OnOk result ((nonce policy : List ℕ) (batches : List Batch)
+        → Run (H.digest_of directory.old.0) (X.index_of directory.old.1) nonce policy batches directory.old.2
+        → Run (H.digest_of directory.new.0) (X.index_of directory.new.1) nonce policy (batches ++ record { t = t; ops = operations ops.now } ∷ []) directory.new.2) }
+    ensures heads { publisher.new.heads ≡ heads_of (H.digest_of directory.new.0) directory.new.2.chain }
+    ensures table { publisher.new.table ≡ publisher.old.table }
+{
+    directory.commit(rt, ops, 1, 2, &Open, t, signer, publisher, board)
+}
+
+/// `root_at`: after a run the root is that of the directory which the run's batches define.
+fn root_of<H: Hash32, X: IndexSource>(directory: &Directory<H, X>, t: u64) -> Option<Digest>
+    ensures { (nonce policy : List ℕ) (batches : List Batch)
+        → Run (H.digest_of directory.now.0) (X.index_of directory.now.1) nonce policy batches directory.now.2
+        → option_map (λ root. root.0) result ≡ option_map (root_at (H.digest_of directory.now.0) (X.index_of directory.now.1)) (shown_at (defined nonce batches) t) }
+{
+    directory_theorem();
+    directory.root_at(t)
+}
+
+/// `lookup`: after a run its proof is accepted as the directory says which the run's batches define.
+fn path_of<H: Hash32, X: IndexSource>(
+    directory: &Directory<H, X>,
+    t: u64,
+    name: &[u8],
+) -> Result<Proof, LookupFault>
+    ensures { (nonce policy : List ℕ) (batches : List Batch)
+        → Run (H.digest_of directory.now.0) (X.index_of directory.now.1) nonce policy batches directory.now.2
+        → IfOk result (IsAcceptedAt (H.digest_of directory.now.0) (X.index_of directory.now.1) (defined nonce batches) t name.now) }
+{
+    directory_theorem();
+    directory.lookup(t, name)
+}
+
+/// Registers three names at epoch 3.
+fn register_three<R: Threads + Sync + Abort>(rt: &R, clerk: &mut Clerk<Sha256Hash>) {
+    let three = [
+        (Register, b'a', b'k'),
+        (Register, b'b', b'k'),
+        (Register, b'c', b'k'),
+    ];
+    let ops = ops_of(clerk.alloc, &three).expect(rt, "operations");
+    assert!(rt; clerk.may_sign());
+    let committed = commit_next(
+        rt,
+        &mut clerk.directory,
+        &ops,
+        3,
+        &mut clerk.signer,
+        &mut clerk.publisher,
+        clerk.board,
+    );
+    assert!(rt; committed.is_ok());
+}
+
+/// Prepares a change of a name and installs it at epoch 4.
+fn change_one<R: Threads + Sync + Abort>(rt: &R, clerk: &mut Clerk<Sha256Hash>) {
+    updates_stay();
+    let ops = ops_of(clerk.alloc, &[(Change, b'b', b'l')]).expect(rt, "operations");
+    let update = prepare_next(rt, &clerk.directory, &ops)
+        .ok()
+        .expect(rt, "an update");
+    assert!(rt; clerk.may_sign());
+    let installed = install_next(
+        &mut clerk.directory,
+        update,
+        4,
+        &mut clerk.signer,
+        &mut clerk.publisher,
+        clerk.board,
+    );
+    assert!(rt; installed.is_ok());
+}
+
+/// Commits a batch, prepares one after it and installs it, and asks for roots and a path.
+fn run_and_ask<R: Threads + Sync + Abort>(rt: &R, clerk: &mut Clerk<Sha256Hash>) {
+    register_three(rt, clerk);
+    change_one(rt, clerk);
+    let three = "9f0f0e3455b88ce5747710c5195756230f5f5a6810b4f76899e2d7d1293fd6ac";
+    assert!(rt; root_of(&clerk.directory, 3) == Some(digest(rt, three)));
+    let changed = "3561a57a963e7a5b825887fc338f85e89b699fc6361bcb0f383fa49ae4b04042";
+    assert!(rt; root_of(&clerk.directory, 4) == Some(digest(rt, changed)));
+    let path = path_of(&clerk.directory, 4, b"b").ok().expect(rt, "a path");
+    assert!(rt; path.siblings.as_slice().len() == 1);
+}
+
+/// Calls that make a run of two batches, with roots that were computed by another program.
+#[test]
+fn steps_of_a_run(rt: HostRuntime) {
+    with_clerk(&rt, rt.alloc(), 4, u64::MAX, |clerk| {
+        run_and_ask(&rt, clerk);
+    });
+}
