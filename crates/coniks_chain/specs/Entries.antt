@@ -1,6 +1,6 @@
 -- Signed entries, their bytes and what is hashed to their links (CONIKS, section 3).
-use Rattle.std.specs.Prelude.{◌≡◌, ◌<◌, ◌^◌, ℕ, List, ◌∷◌, ◌++◌, length}
-use Rattle.std.specs.Int.{w64, to_be_bytes}
+use Rattle.std.specs.Prelude.{◌≡◌, ◌<◌, ◌^◌, ℕ, List, ◌∷◌, ◌++◌, drop, length, slice_index, take}
+use Rattle.std.specs.Int.{w64, from_be_bytes, to_be_bytes}
 use Rattle.coniks_chain.specs.declared.entry.Body.{Body}
 use Rattle.coniks_chain.specs.declared.entry.Signature.{Signature}
 use Rattle.coniks_chain.specs.declared.entry.Entry.{Entry}
@@ -11,9 +11,34 @@ body_bytes body =
     body.version ∷ to_be_bytes w64 body.t ++ to_be_bytes w64 body.t_prev
     ++ body.root.0 ++ body.previous.0 ++ body.nonce.0 ++ body.policy
 
+-- the 209 bytes of an entry: its body's 145 and the signature's 64
+abbrev pub entry_bytes : Entry → List ℕ
+entry_bytes entry = body_bytes entry.body ++ entry.signature.0
+
+-- n bytes from a place on
+abbrev pub part_at : ℕ → ℕ → List ℕ → List ℕ
+part_at place n bytes = take n (drop place bytes)
+
+-- the body that 145 bytes are
+unfoldable pub body_from : List ℕ → Body
+body_from bytes =
+    record {
+      version = slice_index bytes 0;
+      t = from_be_bytes w64 (part_at 1 8 bytes);
+      t_prev = from_be_bytes w64 (part_at 9 8 bytes);
+      root = record { 0 = part_at 17 32 bytes };
+      previous = record { 0 = part_at 49 32 bytes };
+      nonce = record { 0 = part_at 81 32 bytes };
+      policy = part_at 113 32 bytes;
+    }
+
+-- the entry that 209 bytes are
+abbrev pub entry_from : List ℕ → Entry
+entry_from bytes = record { body = body_from (take 145 bytes); signature = record { 0 = drop 145 bytes } }
+
 -- the 210 bytes that are hashed to the link of an entry
 abbrev pub link_preimage : Entry → List ℕ
-link_preimage entry = 0x53 ∷ body_bytes entry.body ++ entry.signature.0
+link_preimage entry = 0x53 ∷ entry_bytes entry
 
 -- numbers of eight bytes and arrays of 32, as a body in hand has them
 pub record IsBody (body : Body) : Type 0 where

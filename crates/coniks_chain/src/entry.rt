@@ -1,7 +1,7 @@
 //! A signed entry, its bytes and its link.
 
 ghost use Rattle.std.specs.Prelude.{◌≡◌, ◌++◌, ◌≤◌, ◌+◌, length, take};
-ghost use Rattle.coniks_chain.specs.Entries.{IsBody, IsEntry, body_bytes, link_preimage};
+ghost use Rattle.coniks_chain.specs.Entries.{IsBody, IsEntry, body_bytes, entry_bytes, entry_from, link_preimage};
 
 use coniks_proof::{Digest, Hash32, Nonce};
 
@@ -63,6 +63,28 @@ fn part<const N: usize>(bytes: &[u8]) -> [u8; N]
     array
 }
 
+/// A body's bytes, and a signature's behind them.
+fn joined(body: &[u8; 145], signature: &[u8; 64]) -> [u8; 209]
+    ensures { result ≡ body.now ++ signature.now }
+{
+    let mut bytes = [0; 209];
+    put(&mut bytes, 0, body);
+    put(&mut bytes, 145, signature);
+    bytes
+}
+
+impl Signature {
+    /// The signature of two halves, one behind the other, as the R and the S of Ed25519 (RFC 8032, section 5.1.6).
+    pub fn of_halves(first: &[u8; 32], second: &[u8; 32]) -> Signature
+        ensures { result.0 ≡ first.now ++ second.now }
+    {
+        let mut bytes = [0; 64];
+        put(&mut bytes, 0, first);
+        put(&mut bytes, 32, second);
+        Signature(bytes)
+    }
+}
+
 impl Body {
     /// The 145 bytes that are signed: version, epoch, epoch before, root, link before, nonce and policy, the numbers
     /// with their most significant byte first.
@@ -111,6 +133,25 @@ impl Body {
 }
 
 impl Entry {
+    /// The 209 bytes of an entry: its body's 145, and its signature's 64.
+    pub fn bytes(&self) -> [u8; 209]
+        ensures { result ≡ entry_bytes self.now }
+    {
+        joined(&self.body.bytes(), &self.signature.0)
+    }
+
+    /// The one entry that has these bytes. Any 209 bytes are an entry's.
+    pub fn read(bytes: &[u8; 209]) -> Entry
+        ensures from { result ≡ entry_from bytes.now }
+        ensures bytes { entry_bytes result ≡ bytes.now }
+        ensures same { (entry : Entry) → IsEntry entry → entry_bytes entry ≡ bytes.now → result ≡ entry }
+    {
+        let body = Body::read(&part(&bytes[..145]));
+        body.known();
+        let signature = Signature(part(&bytes[145..]));
+        Entry { body, signature }
+    }
+
     /// Promises that the numbers and arrays have the sizes of their types.
     pub fn known(&self)
         ensures { IsEntry self.now }

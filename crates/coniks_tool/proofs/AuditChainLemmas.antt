@@ -16,7 +16,7 @@ use Rattle.coniks_chain.specs.declared.auditor.AuditFault.{AuditFault}
 use Rattle.coniks_chain.specs.Chain.{Continues, Follows, before_at, before_of}
 use Rattle.coniks_tool.specs.Members.{object_in}
 use Rattle.coniks_tool.specs.Seal.{is_seal}
-use Rattle.coniks_tool.specs.EntryBytes.{entry_in, entry_on}
+use Rattle.coniks_tool.specs.EntryLines.{entry_in, entry_on}
 use Rattle.coniks_tool.specs.AuditFaults.{audit_fault}
 use Rattle.coniks_tool.specs.AuditReplies.{is_audited}
 use Rattle.coniks_tool.specs.Audit.{AuditState, AuditTurn, none_audited, judged_turn, entry_turn, audit_object_turn, audit_turn, audit_answer}

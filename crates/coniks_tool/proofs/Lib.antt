@@ -3,7 +3,6 @@ mod AuditFaultLemmas
 mod CheckFaultLemmas
 mod CheckLemmas
 mod CommandLemmas
-mod EntryLemmas
 mod FoundLemmas
 mod MonitorLemmas
 mod OperationsLemmas

@@ -18,7 +18,7 @@ use Rattle.coniks_tool.specs.AuditFaults.{audit_fault}
 use Rattle.coniks_tool.specs.AuditReplies.{is_audited}
 use Rattle.coniks_tool.specs.CheckFaults.{check_fault}
 use Rattle.coniks_tool.specs.Demo.{demo_index}
-use Rattle.coniks_tool.specs.EntryBytes.{entry_in}
+use Rattle.coniks_tool.specs.EntryLines.{entry_in}
 use Rattle.coniks_tool.specs.Expectations.{expected_in}
 use Rattle.coniks_tool.specs.Members.{object_in, text_in, number_in, array_in, digits_in}
 use Rattle.coniks_tool.specs.Monitor.{MonitorState, MonitorTurn, audited_turn, checked_turn, expect_turn, is_expect, monitor_object_turn, monitor_turn, watch_turn}

@@ -10,7 +10,7 @@ use Rattle.coniks_chain.specs.Chain.{before_of}
 use Rattle.coniks_chain.specs.Entries.{link_preimage}
 use Rattle.coniks_tool.specs.Members.{object_in}
 use Rattle.coniks_tool.specs.Seal.{is_seal}
-use Rattle.coniks_tool.specs.EntryBytes.{entry_in}
+use Rattle.coniks_tool.specs.EntryLines.{entry_in}
 use Rattle.coniks_tool.specs.AuditFaults.{audit_fault}
 use Rattle.coniks_tool.specs.AuditReplies.{AuditOutcome, audited, not_json, no_entry, at_fault, audit_text, is_audited}
 

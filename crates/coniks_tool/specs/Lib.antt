@@ -8,7 +8,7 @@ pub mod CheckFaults
 pub mod CheckReplies
 pub mod Choice
 pub mod Demo
-pub mod EntryBytes
+pub mod EntryLines
 pub mod Expectations
 pub mod Keydir
 pub mod Members

@@ -18,7 +18,7 @@ use Rattle.coniks_chain.specs.declared.seen.MonitorFault.TheVariants.{Audit, Che
 use Rattle.coniks_tool.specs.AuditFaults.{audit_fault}
 use Rattle.coniks_tool.specs.CheckFaults.{check_fault}
 use Rattle.coniks_tool.specs.Demo.{demo_index}
-use Rattle.coniks_tool.specs.EntryBytes.{entry_in}
+use Rattle.coniks_tool.specs.EntryLines.{entry_in}
 use Rattle.coniks_tool.specs.Expectations.{expected_in}
 use Rattle.coniks_tool.specs.Members.{object_in, text_in}
 use Rattle.coniks_tool.specs.MonitorReplies.{MonitorOutcome, watched, expecting, not_json, no_member, at_fault, monitor_text, is_as_expected}

@@ -6,7 +6,7 @@ use Rattle.serde_json.specs.Written.{compact_text}
 use Rattle.coniks_proof.specs.Batches.{Fault, name_length, key_length, name_twice, name_taken, name_unknown, index_clash}
 use Rattle.coniks_chain.specs.declared.entry.Entry.{Entry}
 use Rattle.coniks_directory.specs.Batches.{fault_is}
-use Rattle.coniks_tool.specs.EntryBytes.{entry_bytes}
+use Rattle.coniks_chain.specs.Entries.{entry_bytes}
 use Rattle.coniks_tool.specs.Paths.{Path, path_of}
 use Rattle.coniks_tool.specs.ProofTexts.{digits, proof_data}
 use Rattle.coniks_tool.specs.declared.reply.Member.{Member}

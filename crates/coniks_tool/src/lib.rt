@@ -20,7 +20,6 @@ pub mod monitor_laws;
 mod monitor_reply;
 mod monitoring;
 mod operations;
-mod parts;
 mod proof_object;
 mod proof_text;
 mod question;

@@ -4,7 +4,7 @@ ghost use Rattle.std.specs.Prelude.{◌≡◌, ◌<◌, ◌+◌, ◌^◌, ℕ, L
 ghost use Rattle.serde_json.specs.View.{view};
 ghost use Rattle.coniks_lines.specs.Lines.{lines_of};
 ghost use Rattle.coniks_lines.specs.Runs.{AnswersAll, EndsBadly, EndsWell, WritesPart};
-ghost use Rattle.coniks_tool.specs.EntryBytes.{entry_in};
+ghost use Rattle.coniks_tool.specs.EntryLines.{entry_in};
 ghost use Rattle.coniks_tool.specs.Expectations.{expected_in};
 ghost use Rattle.coniks_tool.specs.Members.{text_in};
 ghost use Rattle.coniks_tool.specs.Monitor.{MonitorState, expect_turn, is_expect, monitor_answer, monitor_turn, none_watched, object_turn, step_turn, watch_turn, watching};

@@ -7,7 +7,6 @@ ghost use Rattle.coniks_directory.specs.Batches.{fault_is};
 ghost use Rattle.coniks_tool.specs.Paths.{path_of};
 ghost use Rattle.coniks_tool.specs.Replies.{outcome_of, reply_data, reply_text, member_name, fault_name, fault_data, placed_fault_data, looked_up_data, bad_member_data, bad_operation_data, epoch_not_later_data, opened_data, installed_data};
 
-use crate::entries::bytes_of;
 use crate::proof_text::proof_value;
 use coniks_chain::Entry;
 use coniks_directory::OpFault;
@@ -189,7 +188,7 @@ fn installed(alloc: Global, entry: &Entry, link: &Digest) -> Result<Value, Alloc
     ensures { IfOk result (λ value. view value ≡ installed_data entry.now link.now.0) }
 {
     json!(in alloc; {
-        "entry": hex::encode(alloc, &bytes_of(entry))?,
+        "entry": hex::encode(alloc, &entry.bytes())?,
         "epoch": entry.body.t,
         "link": hex::encode(alloc, &link.0)?,
         "ok": "batch",
@@ -207,7 +206,7 @@ fn looked_up(
     ensures { IfOk result (λ value. view value ≡ looked_up_data entry.now index.now.0 name.now (path_of proof.now)) }
 {
     json!(in alloc; {
-        "entry": hex::encode(alloc, &bytes_of(entry))?,
+        "entry": hex::encode(alloc, &entry.bytes())?,
         "epoch": entry.body.t,
         "index": hex::encode(alloc, &index.0)?,
         "name": name,

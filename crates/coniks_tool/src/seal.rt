@@ -5,7 +5,6 @@ ghost use Rattle.coniks_proof.specs.Sha256.{sha256};
 ghost use Rattle.coniks_chain.specs.Entries.{IsBody, body_bytes, signed};
 ghost use Rattle.coniks_tool.specs.Seal.{is_seal, seal_of};
 
-use crate::parts::put;
 use coniks_chain::{Body, Entry, Sign, Signature, Verify};
 use coniks_proof::{Digest, Hash32, Sha256Hash};
 use std::marker::Model;
@@ -58,18 +57,8 @@ impl DemoSeal {
     {
         let low = self.half(LOW_TAG, body);
         let high = self.half(HIGH_TAG, body);
-        Signature(joined(&low.0, &high.0))
+        Signature::of_halves(&low.0, &high.0)
     }
-}
-
-/// Two halves, one behind the other.
-fn joined(low: &[u8; 32], high: &[u8; 32]) -> [u8; 64]
-    ensures { result ≡ low.now ++ high.now }
-{
-    let mut bytes = [0; 64];
-    put(&mut bytes, 0, low);
-    put(&mut bytes, 32, high);
-    bytes
 }
 
 impl Verify for DemoSeal {

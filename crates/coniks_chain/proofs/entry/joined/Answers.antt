@@ -1,6 +1,6 @@
 use Rattle.std.proofs.Common.{rules, ◌≡◌, ◌∙◌, ap, length, take, zero-add, sym}
-use Rattle.coniks_tool.proofs.EntryLemmas.{body_and_signature}
-use Rattle.coniks_tool.proofs.entries.joined.Goals as goal
+use Rattle.coniks_chain.proofs.EntryLemmas.{body_and_signature}
+use Rattle.coniks_chain.proofs.entry.joined.Goals as goal
 
 pub returns : goal.returns
 returns c =

@@ -5,9 +5,8 @@ use Rattle.std.proofs.Math.Seq.{take-append_seam, drop-append_seam}
 use Rattle.std.proofs.lemmas.Nat.{from_be_bytes-to_be_bytes_8}
 use Rattle.coniks_chain.specs.declared.entry.Body.{Body}
 use Rattle.coniks_chain.specs.declared.entry.Entry.{Entry}
-use Rattle.coniks_chain.specs.Entries.{body_bytes, IsBody, IsEntry}
-use Rattle.coniks_chain.proofs.Lemmas.{parted}
-use Rattle.coniks_tool.specs.EntryBytes.{body_from, entry_bytes, entry_from, part_at}
+use Rattle.coniks_chain.specs.Entries.{IsBody, IsEntry, body_bytes, body_from, entry_bytes, entry_from, part_at}
+use Rattle.coniks_chain.proofs.BodyLemmas.{parted}
 
 -- two parts of 32 bytes, one behind the other
 pub two_parts : (one two low high : List ℕ) → length low ≡ 32 → length high ≡ 32 → length two ≡ 64 → take (length low) one ≡ low → take (32 + length high) two ≡ take 32 one ++ high → two ≡ low ++ high
