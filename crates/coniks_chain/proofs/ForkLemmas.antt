@@ -125,6 +125,56 @@ no_fork hash xs ys e f fork same =
     let place : fork.i ≡ fork.j = omega (arith, length-drop (suc fork.i) xs, length-drop (suc fork.j) ys, ap length same) in
     fork.differ (same_Some e f (sym fork.stand.left ∙ ap (λ l. slice_get l fork.i) same ∙ ap (slice_get ys) place ∙ fork.stand.right))
 
+-- an entry of a rest
+later : (es : List Entry) (n i : ℕ) → slice_get (drop n es) i ≡ slice_get es (n + i)
+later es zero i = let at : i ≡ zero + i = omega arith in ap (slice_get es) at
+later [] (suc n) i = refl
+later (e ∷ es) (suc n) i = let at : suc (n + i) ≡ suc n + i = omega arith in later es n i ∙ ap (slice_get (e ∷ es)) at
+
+-- two entries that have the same after them are as far from the ends
+as_far : (xs ys : List Entry) (i j : ℕ) (e f : Entry) → Stand xs ys i j e f → length xs + j ≡ length ys + i
+as_far xs ys i j e f stand =
+    let left = slice_get_within xs i e stand.left in
+    let right = slice_get_within ys j f stand.right in
+    omega (arith, length-drop (suc i) xs, length-drop (suc j) ys, ap length stand.rest)
+
+-- what stands after two such entries is the same
+same_after : (xs ys : List Entry) (i j k l : ℕ) (e f d g : Entry) → Stand xs ys i j e f → Stand xs ys k l d g → i < k → d ≡ g
+same_after xs ys i j k l e f d g near far less =
+    let at_x : suc i + (k - suc i) ≡ k = omega arith in
+    let at_y : suc j + (k - suc i) ≡ l = omega (arith, as_far xs ys i j e f near, as_far xs ys k l d g far) in
+    same_Some d g (sym far.left ∙ ap (slice_get xs) (sym at_x) ∙ sym (later xs (suc i) (k - suc i)) ∙ ap (λ es. slice_get es (k - suc i)) near.rest
+    ∙ later ys (suc j) (k - suc i) ∙ ap (slice_get ys) at_y ∙ far.right)
+
+-- lists that fork at one place have no other place, at which the walk stops
+no_other_place : (hash : List ℕ → List ℕ) (xs ys : List Entry) (e f : Entry) (k l : ℕ) (d g : Entry) → IsFork hash xs ys e f → Stand xs ys k l d g → hash (link_preimage d) ≡ hash (link_preimage g)
+no_other_place hash xs ys e f k l d g fork stand = ⊎_elim
+    (λ less. ap (λ x. hash (link_preimage x)) (same_after xs ys fork.i fork.j k l e f d g fork.stand stand less))
+    (λ le. ⊎_elim
+    (λ more. absurd (fork.differ (same_after xs ys k l fork.i fork.j d g e f stand fork.stand more)))
+    (λ ge.
+    let at_x : k ≡ fork.i = omega arith in
+    let at_y : l ≡ fork.j = omega (arith, as_far xs ys fork.i fork.j e f fork.stand, as_far xs ys k l d g stand) in
+    let left : d ≡ e = same_Some d e (sym stand.left ∙ ap (slice_get xs) at_x ∙ fork.stand.left) in
+    let right : g ≡ f = same_Some g f (sym stand.right ∙ ap (slice_get ys) at_y ∙ fork.stand.right) in
+    ap (λ x. hash (link_preimage x)) left ∙ fork.linked ∙ ap (λ x. hash (link_preimage x)) (sym right))
+    (cases_lt k fork.i))
+    (cases_lt fork.i k)
+
+-- where lists fork the walk doesn't stop
+pub no_stop : (hash : List ℕ → List ℕ) (xs ys : List Entry) (e f : Entry) → IsFork hash xs ys e f → Stops hash xs ys → ⊥
+no_stop hash xs ys e f fork (left_used_up n is) =
+    let left = slice_get_within xs fork.i e fork.stand.left in
+    let all : length xs ≡ length ys - n = ap length is ∙ length-drop n ys in
+    let at : n + fork.i ≡ fork.j = omega (arith, as_far xs ys fork.i fork.j e f fork.stand) in
+    fork.differ (same_Some e f (sym fork.stand.left ∙ ap (λ es. slice_get es fork.i) is ∙ later ys n fork.i ∙ ap (slice_get ys) at ∙ fork.stand.right))
+no_stop hash xs ys e f fork (right_used_up n is) =
+    let right = slice_get_within ys fork.j f fork.stand.right in
+    let all : length ys ≡ length xs - n = ap length (sym is) ∙ length-drop n xs in
+    let at : fork.i ≡ n + fork.j = omega (arith, as_far xs ys fork.i fork.j e f fork.stand) in
+    fork.differ (same_Some e f (sym fork.stand.left ∙ ap (slice_get xs) at ∙ sym (later xs n fork.j) ∙ ap (λ es. slice_get es fork.j) is ∙ fork.stand.right))
+no_stop hash xs ys e f fork (links_differ k l d g stand differ) = differ (no_other_place hash xs ys e f k l d g fork stand)
+
 signed_same : (a b : Body) (s t : List ℕ) → a ≡ b → s ≡ t → ◌≡◌ {A = Entry} (record { body = a; signature = record { 0 = s } }) (record { body = b; signature = record { 0 = t } })
 signed_same a b s t eb es = cc
 

@@ -1,6 +1,6 @@
 //! A collision from two histories that part.
 
-ghost use Rattle.std.specs.Prelude.{◌≡◌, ◌↔◌, List, ℕ, Bool, IfOk, IfSome, IfNone, IsNone};
+ghost use Rattle.std.specs.Prelude.{◌≡◌, ◌↔◌, List, ℕ, Bool, IfOk, IfSome, IfNone, IsNone, IsOk};
 ghost use Rattle.coniks_proof.specs.Collisions.{IsCollision};
 ghost use Rattle.coniks_chain.specs.Chain.{GoodChain};
 ghost use Rattle.coniks_chain.specs.Entries.{link_preimage};
@@ -64,8 +64,11 @@ fn preimage(alloc: Global, entry: &Entry) -> Result<Bytes, AllocError>
 /// Walks two lists of entries from their ends. At the first two that differ under one link it gives what is hashed to
 /// their links, `x` from `a` and `y` from `b`; at two of different links, or where a list has no entry left, it gives
 /// None. Whatever it gives is a collision. Where both lists are good chains that end in one link, None says that they
-/// are the same: a link binds the directory to one history (CONIKS, section 3). The one error is that a growth was
-/// refused.
+/// are the same: a link binds the directory to one history (CONIKS, section 3).
+///
+/// # Errors
+///
+/// A growth was refused. Where nothing is found no memory is asked for.
 pub fn extract_history<H: Hash32>(
     alloc: Global,
     h: &H,
@@ -75,6 +78,7 @@ pub fn extract_history<H: Hash32>(
     ensures none { IfOk result (λ found. IfNone found (Stops (H.digest_of h.now) a.now b.now)) }
     ensures preimages { IfOk result (λ found. IfSome found (λ c. (e f : Entry) × IsFork (H.digest_of h.now) a.now b.now e f × (c.x ≡ link_preimage e) × (c.y ≡ link_preimage f))) }
     ensures collision { IfOk result (λ found. IfSome found (λ c. IsCollision (H.digest_of h.now) c.x c.y)) }
+    ensures calm { Stops (H.digest_of h.now) a.now b.now → IsOk result }
 
     // For two good chains that end in one link there is a collision, unless the chains are the same.
     ensures good { IfOk result (λ found. (verdict : List ℕ → List ℕ → Bool) (link : List ℕ) → GoodChain (H.digest_of h.now) verdict a.now → GoodChain (H.digest_of h.now) verdict b.now

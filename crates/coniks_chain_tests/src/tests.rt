@@ -594,3 +594,24 @@ fn histories_without_a_collision(rt: HostRuntime) {
     assert!(rt; give_nothing(&rt, alloc, &Sha256Hash, &good, &good));
     assert!(rt; give_nothing(&rt, alloc, &Sha256Hash, &good, &good[..2]));
 }
+
+/// A first entry, and those of the epochs after it up to the 65,536th, as many as a board has heads.
+fn long(rt: &impl Abort, alloc: Global, first: Entry) -> Vec<Entry> {
+    let mut entries = Vec::new(alloc);
+    entries.push(first).expect(rt, "memory");
+    for t in 2..=65_536 {
+        entries.push(flat_entry(t, t - 1, 0)).expect(rt, "memory");
+    }
+    entries
+}
+
+/// Histories as long as can be that differ in their first entries alone.
+#[test]
+fn long_histories(rt: HostRuntime) {
+    let alloc = rt.alloc();
+    let a = long(&rt, alloc, flat_entry(1, 0, 0));
+    let b = long(&rt, alloc, flat_entry(1, 0, 1));
+    let [of_one, of_other, _] = PREIMAGES;
+    assert!(rt; give(&rt, alloc, &a, &b, of_one, of_other));
+    assert!(rt; give_nothing(&rt, alloc, &Flat, &a, &a));
+}

@@ -1,6 +1,7 @@
 mod deep;
 mod epochs;
 mod examples;
+mod large;
 mod refused;
 mod scattered;
 mod shared;

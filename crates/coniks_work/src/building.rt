@@ -16,7 +16,6 @@ use crate::rise::rise;
 use coniks_proof::{Hash32, Nonce, Prefix};
 use coniks_tree::{Change, OutOfMemory, Part, Root, Tree};
 use std::alloc::Global;
-use std::cmp::min;
 use std::thread::Threads;
 
 /// The most workers that one build has.
@@ -95,18 +94,8 @@ fn changed_part<H: Hash32 + Sync, G: Gate + Sync, R: Threads + Sync>(
     ensures { IfOk result (λ part. IsGrown (H.digest_of h.now) nonce.now.0 tree.now.nodes.items tree.now.records.items root [] (entries_of changes.now) part) }
 {
     let jobs = all_jobs(alloc, changes, depth)?;
-    let count = jobs.len();
     let mut parts = jobs_done(
-        rt,
-        alloc,
-        h,
-        nonce,
-        tree,
-        root,
-        changes,
-        &jobs,
-        min(workers, count),
-        gate,
+        rt, alloc, h, nonce, tree, root, changes, &jobs, workers, gate,
     )?;
     Ok(rise(
         tree,
@@ -120,7 +109,7 @@ fn changed_part<H: Hash32 + Sync, G: Gate + Sync, R: Threads + Sync>(
     )?)
 }
 
-/// The parts of the jobs, of which there is one at least, in their order.
+/// The parts of the jobs, in their order.
 fn jobs_done<H: Hash32 + Sync, G: Gate + Sync, R: Threads + Sync>(
     rt: &R,
     alloc: Global,

@@ -12,6 +12,7 @@ use crate::worker::{Worker, labour_all};
 use coniks_shared::{Claims, Drawer};
 use coniks_tree::{OutOfMemory, Part};
 use std::alloc::{AllocError, Global};
+use std::cmp::min;
 use std::thread::Threads;
 
 /// A crew of as many workers as can be had, the first drawer's among them, at the last place.
@@ -23,10 +24,11 @@ fn hire(
 ) -> Result<Vec<Worker>, AllocError>
     requires { (1 ≤ workers) × (workers ≤ 64) × (first ≡ drawing claims.now.table claims.now.limit [] false true 0) }
     ensures fresh { IfOk result (λ v. (0 < length v.items) × AllFresh claims.now claims.now.limit v.items) }
+    ensures few { IfOk result (λ v. length v.items ≤ workers) }
     ensures first { IfOk result (λ v. HasFirst (drawers_of v.items) (length v.items)) }
 {
     let mut crew = Vec::with_capacity(alloc, workers)?;
-    for _ in 1..workers {
+    for _hired in 1..workers {
         let Ok(drawer) = first.split(claims) else {
             break;
         };
@@ -96,8 +98,8 @@ pub(crate) fn alone<W: Work, G: Gate>(
     Ok(parts)
 }
 
-/// What all jobs make, in the order of their numbers, by at most so many workers. Where the claims, a drawer, the
-/// crew or a thread can't be had there are fewer. A lone worker draws nothing.
+/// What all jobs make, in the order of their numbers, by at most so many workers, and no more than there are jobs. Where
+/// the claims, a drawer, the crew or a thread can't be had there are fewer. A lone worker draws nothing.
 pub(crate) fn all_parts<W: Work + Sync, G: Gate + Sync, R: Threads + Sync>(
     rt: &R,
     alloc: Global,
@@ -110,7 +112,8 @@ pub(crate) fn all_parts<W: Work + Sync, G: Gate + Sync, R: Threads + Sync>(
     requires count { (count ≡ W.count work.now) × (count ≤ 4096) }
     ensures { IfOk result (λ v. AllFrom (W.part work.now) 0 v.items × (length v.items ≡ count)) }
 {
-    if workers == 1 {
+    let workers = min(workers, count);
+    if workers <= 1 {
         return Ok(alone(alloc, count, work, gate)?);
     }
     let Ok((claims, first)) = Claims::new(alloc, count) else {

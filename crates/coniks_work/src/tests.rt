@@ -1,6 +1,7 @@
 //! Batches built by several workers.
 
 mod batches;
+mod before;
 mod crews;
 mod epochs;
 mod gates;

@@ -1,6 +1,6 @@
 //! Workers, each of which draws jobs and does them.
 
-ghost use Rattle.std.specs.Prelude.{◌≡◌, ◌<◌, length};
+ghost use Rattle.std.specs.Prelude.{◌≡◌, ◌<◌, ◌≤◌, length};
 ghost use Rattle.std.specs.Thread.{IsSync};
 ghost use Rattle.coniks_work.specs.Crews.{IsFresh, Worked, AllFresh, AllWorked};
 
@@ -37,9 +37,9 @@ fn labour<W: Work, G: Gate>(worker: &mut Worker, claims: &Claims, work: &W, gate
     }
 }
 
-/// All workers at once, each on a thread of its own but the last, which is on the caller's. The caller starts one thread
-/// after another: threads that start each other at once are often put on one processor while another is idle. Where a
-/// thread can't be had, its worker comes later, on the caller's.
+/// All workers at once, of whom there are no more than jobs, each on a thread of its own but the last, which is on the
+/// caller's. The caller starts one thread after another: threads that start each other at once are often put on one
+/// processor while another is idle. Where a thread can't be had, its worker comes later, on the caller's.
 #[cycle(crew)]
 pub(crate) fn labour_all<W: Work + Sync, G: Gate + Sync, R: Threads + Sync>(
     rt: &R,
@@ -49,6 +49,7 @@ pub(crate) fn labour_all<W: Work + Sync, G: Gate + Sync, R: Threads + Sync>(
     crew: &mut [Worker],
 )
     requires some { 0 < length crew.old }
+    requires few { length crew.old ≤ W.count work.now }
     requires fresh { AllFresh claims.now (W.count work.now) crew.old }
     ensures len { length crew.new ≡ length crew.old }
     ensures all { AllWorked (W.part work.now) crew.old crew.new }
@@ -72,6 +73,7 @@ fn labour_apart<W: Work + Sync, G: Gate + Sync, R: Threads + Sync>(
     others: &mut [Worker],
 )
     requires some { 0 < length others.old }
+    requires few { length others.old < W.count work.now }
     requires first { IsFresh claims.now (W.count work.now) first.old }
     requires others { AllFresh claims.now (W.count work.now) others.old }
     ensures first { Worked (W.part work.now) first.old first.new }
@@ -83,7 +85,7 @@ fn labour_apart<W: Work + Sync, G: Gate + Sync, R: Threads + Sync>(
         ensures { Worked (W.part work.entry.now) first.entry.now first.exit.now }
     { labour(first, claims, work, gate) };
     let mut here = ||
-        requires { IsSync R.row × IsSync W.row × IsSync G.row × (0 < length others.now) × AllFresh claims.now (W.count work.now) others.now }
+        requires { IsSync R.row × IsSync W.row × IsSync G.row × (0 < length others.now) × (length others.now < W.count work.now) × AllFresh claims.now (W.count work.now) others.now }
         ensures { (length others.exit.now ≡ length others.entry.now) × AllWorked (W.part work.entry.now) others.entry.now others.exit.now }
     { labour_all(rt, claims, work, gate, others) };
     thread::join_mut(rt, &mut apart, &mut here);

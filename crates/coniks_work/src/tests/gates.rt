@@ -69,6 +69,11 @@ impl Counts {
         }
         self.others.load(Ordering::SeqCst) == 0
     }
+
+    /// Whether a job, one of the four, has come.
+    pub fn has_come(&self, job: usize) -> bool {
+        job < 4 && self.each[job].load(Ordering::SeqCst) > 0
+    }
 }
 
 impl Gate for Counts {

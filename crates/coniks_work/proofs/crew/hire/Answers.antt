@@ -3,12 +3,12 @@ use Rattle.coniks_shared.specs.Drawers.{drawing, Drawing, HasFirst}
 use Rattle.coniks_work.specs.declared.worker.Worker.{Worker}
 use Rattle.coniks_work.specs.Crews.{drawers_of}
 use Rattle.coniks_work.proofs.CrewLemmas.{first_last}
-use Rattle.coniks_work.proofs.crew.hire.Goals.{else-loop-test, then-loop-test+in_default}
+use Rattle.coniks_work.proofs.crew.hire.Goals.{else-loop-hired-test, then-loop-hired-test+in_default}
 use Rattle.coniks_work.proofs.crew.hire.Goals as goal
 
 pub returns-clause-first : goal.returns-clause-first
 returns-clause-first c =
-    let f : c.loop-test.first ≡ drawing c.args.claims.now.table c.args.claims.now.limit [] false true (length c.loop.crew.items) = elim c.loop-test.branch [ else-loop-test w ↦ search rules | then-loop-test+in_default w ↦ search rules ] in
+    let f : c.loop-hired-test.first ≡ drawing c.args.claims.now.table c.args.claims.now.limit [] false true (length c.loop-hired.crew.items) = elim c.loop-hired-test.branch [ else-loop-hired-test w ↦ search rules | then-loop-hired-test+in_default w ↦ search rules ] in
     let items = c.in_ok-push-2.ensures.items in
     let n = c.in_ok-push-2.ensures.len in
-    subst (λ (ws : List Worker). HasFirst (drawers_of ws) (length c.push-2.new.self.items)) (sym items) (first_last c.loop.crew.items _ _ (ap (λ (d : Drawing). d.first) f) (let e = ap (λ (d : Drawing). d.splits) f in omega arith))
+    subst (λ (ws : List Worker). HasFirst (drawers_of ws) (length c.push-2.new.self.items)) (sym items) (first_last c.loop-hired.crew.items _ _ (ap (λ (d : Drawing). d.first) f) (let e = ap (λ (d : Drawing). d.splits) f in omega arith))

@@ -1,0 +1,44 @@
+//! A tree of more nodes than one batch makes.
+
+use crate::tests::epochs::{Bound, Epochs};
+use coniks_proof::{Flat, Index};
+use std::alloc::{AllocError, Global};
+
+/// The index that begins with the two bytes of a number, and has zeros after them.
+fn index_of_number(number: u16) -> Index {
+    let [high, low] = number.to_be_bytes();
+    let mut bytes = [0; 32];
+    bytes[0] = high;
+    bytes[1] = low;
+    Index(bytes)
+}
+
+/// A name for each two bytes, in the order of their indices.
+fn one_for_each(alloc: Global) -> Result<Vec<Bound>, AllocError> {
+    let mut names = Vec::new(alloc);
+    for number in 0..=u16::MAX {
+        names.push((index_of_number(number), b'n', b'k'))?;
+    }
+    Ok(names)
+}
+
+/// A full tree of 65,536 leaves, under a hash that costs nothing, and one more epoch, in which the last of them has
+/// another key: that takes the 16 nodes above it, its own and that of the leaf beside it.
+#[test]
+fn full_tree(rt: HostRuntime) {
+    let names = one_for_each(rt.alloc()).expect(&rt, "memory");
+    let mut epochs = Epochs::new(rt.alloc(), Flat);
+    let first = epochs.add(None, 8, &names).expect(&rt, "memory");
+    assert_eq!(rt; (first.nodes, epochs.sizes()), (131_071, (131_071, 65_536)));
+    let last = index_of_number(u16::MAX);
+    let changed = [(last, b'n', b'l')];
+    let second = epochs
+        .add(Some(first.root), 0, &changed)
+        .expect(&rt, "memory");
+    assert_eq!(rt; (second.nodes, epochs.sizes()), (18, (131_089, 65_537)));
+    for (root, record) in [(first.root, 65_535), (second.root, 65_536)] {
+        assert_eq!(rt; epochs.find(root, &last), Some(record));
+        let path = epochs.path(root, &last).expect(&rt, "memory");
+        assert_eq!(rt; path.siblings.as_slice().len(), 16);
+    }
+}
