@@ -14,4 +14,5 @@ mod RefusedLemmas
 mod ReplyLemmas
 mod SealedLemmas
 mod StoreLemmas
+mod SubcommandLemmas
 mod TellingLemmas
