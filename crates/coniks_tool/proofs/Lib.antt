@@ -13,4 +13,5 @@ mod RefusedLemmas
 mod ReplyLemmas
 mod SealedLemmas
 mod StoreLemmas
+mod SubcommandLemmas
 mod TellingLemmas

@@ -1,5 +1,5 @@
 -- What the words choose, and why they may choose nothing.
-use Rattle.std.specs.Prelude.{◌≡◌, ◌⊎◌, ◌≤◌, max, min, List, [], ℕ, codes, ◌&&◌, Option, Some, is_none, is_some, option_map, unwrap_or, Bool, true, false, if◌then◌else◌}
+use Rattle.std.specs.Prelude.{◌≡◌, ◌⊎◌, ◌≤◌, max, min, List, [], ℕ, codes, ◌&&◌, Option, Some, None, is_none, is_some, option_and_then, option_map, unwrap_or, Bool, true, false, if◌then◌else◌}
 use Rattle.std.specs.Option.{option_map_or}
 use Rattle.std.specs.Result.{result_ok}
 use Rattle.std.specs.Str.{bytes_eq}
@@ -49,17 +49,18 @@ abbrev pub IsWithin : Settings → Type 0
 IsWithin (Run workers depth) = AreWorkers workers × (depth ≤ MAX_DEPTH)
 IsWithin _ = Unit {0}
 
--- what a subcommand chooses, by its name and the options that were found
-abbrev pub choice_by : List ℕ → List Row → Choice
+-- what a subcommand chooses, by its name and the options that were found; there are four
+abbrev pub choice_by : List ℕ → List Row → Option Choice
 choice_by name rows =
-    if bytes_eq name (codes "run") then run (workers_of rows) (depth_of rows)
-    else (if bytes_eq name (codes "check") then check
-    else (if bytes_eq name (codes "audit") then audit (text_of (codes "key") rows)
-    else monitor (text_of (codes "key") rows) (text_of (codes "name") rows) (first_of (codes "expect") rows)))
+    if bytes_eq name (codes "run") then Some (run (workers_of rows) (depth_of rows))
+    else (if bytes_eq name (codes "check") then Some check
+    else (if bytes_eq name (codes "audit") then Some (audit (text_of (codes "key") rows))
+    else (if bytes_eq name (codes "monitor") then Some (monitor (text_of (codes "key") rows) (text_of (codes "name") rows) (first_of (codes "expect") rows))
+    else None)))
 
 -- what the subcommand that the words name chooses
 abbrev pub chosen : Option (List ℕ × List Row) → Option Choice
-chosen = option_map (λ met. choice_by met.0 met.1)
+chosen = option_and_then (λ met. choice_by met.0 met.1)
 
 -- the bytes of a key, in 64 hexadecimal digits of either case
 abbrev pub key_in : List ℕ → Option (List ℕ)

@@ -1,6 +1,6 @@
 //! Reads the program's words.
 
-ghost use Rattle.std.specs.Prelude.{◌≡◌, IfOk, IfErr, OnOk, Some, [], map, option_map, true};
+ghost use Rattle.std.specs.Prelude.{◌≡◌, IfOk, IfErr, OnOk, Some, [], is_some, map, option_map, true};
 ghost use Rattle.clap.specs.Walk.{byte_or_zero};
 ghost use Rattle.clap.specs.Words.{Kinds, HasKind, fault_of, first_of, found_of, kind_of, rows_of, subcommand_of, takes};
 ghost use Rattle.coniks_tool.specs.Keydir.{keydir};
@@ -69,9 +69,10 @@ fn run_by<'a>(found: &ArgMatches<'a>) -> Settings<'a>
     }
 }
 
-/// What a subcommand asks for, by its name and the options that were found.
+/// What a subcommand asks for, by its name and the options that were found. There is no fifth one.
 fn settings_by<'a>(name: &'a str, found: &ArgMatches<'a>) -> Settings<'a>
-    ensures choice { choice_of result ≡ choice_by name.entry.now (rows_of (found_of found.now)) }
+    requires { is_some (choice_by name.now (rows_of (found_of found.now))) ≡ true }
+    ensures choice { choice_by name.entry.now (rows_of (found_of found.now)) ≡ Some (choice_of result) }
     ensures within { IsWithin result }
 {
     if name == "run" {

@@ -1,6 +1,9 @@
-use Rattle.std.proofs.Common.{◌≡◌, ◌∙◌, ap, sym, map, true}
-use Rattle.clap.specs.Words.{App, takes, fault_of, is_simple_and_free, app_of}
+use Rattle.std.proofs.Common.{◌≡◌, ◌∙◌, ℕ, List, [], Option, Some, ap, sym, subst, map, true, rules}
+use Rattle.std.specs.Prelude.{IfSome}
+use Rattle.clap.specs.Words.{App, Row, takes, fault_of, found_of, is_simple_and_free, app_of, rows_of, subcommand_of}
+use Rattle.coniks_tool.specs.Keydir.{keydir}
 use Rattle.coniks_tool.proofs.CommandLemmas.{keydir-is_simple}
+use Rattle.coniks_tool.proofs.SubcommandLemmas.{IsChosen, faultless-chosen}
 use Rattle.coniks_tool.proofs.words.settings.Goals as goal
 
 pub returns-in-Err-clause-passes : goal.returns-in-Err-clause-passes
@@ -11,3 +14,11 @@ pub returns-clause-faultless : goal.returns-clause-faultless
 returns-clause-faultless g c =
     let simple : is_simple_and_free (app_of c.in-Ok.command) ≡ true = ap is_simple_and_free c.in-Ok.ensures.app ∙ keydir-is_simple in
     ap (λ (a : App). fault_of a (map g.S.AsStr.text c.args.words.now)) (sym c.in-Ok.ensures.app) ∙ c.in-Ok-try_get_matches_from.ensures.kinds simple
+
+pub settings_by-requires : goal.settings_by-requires
+settings_by-requires g c =
+    let words = map g.S.AsStr.text c.args.words.now in
+    let simple : is_simple_and_free (app_of c.in-Ok.command) ≡ true = ap is_simple_and_free c.in-Ok.ensures.app ∙ keydir-is_simple in
+    let none : fault_of keydir words ≡ [] = ap (λ (a : App). fault_of a words) (sym c.in-Ok.ensures.app) ∙ c.in-Ok-try_get_matches_from.ensures.kinds simple in
+    let met : subcommand_of keydir words ≡ Some (c.in-Some.name.now, rows_of (found_of c.in-Some.found.now)) = search rules in
+    subst (λ (o : Option (List ℕ × List Row)). IfSome o IsChosen) met (faultless-chosen words none)
