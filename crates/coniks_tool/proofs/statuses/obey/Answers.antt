@@ -1,8 +1,9 @@
 use Rattle.std.proofs.Common.{◌∙◌, map, refl, sym}
 use Rattle.clap.specs.Words.{kind_of}
 use Rattle.coniks_tool.specs.Choice.{choice_of}
+use Rattle.coniks_tool.specs.Program.{AsksForBoard}
 use Rattle.std.specs.Prelude.{Some}
-use Rattle.coniks_tool.proofs.ProgramLemmas.{holds_if_refused, holds_if_idle, explained-ends_for, run-ends_for, run-isnt_refused, Clap-isnt-OutOfMemory}
+use Rattle.coniks_tool.proofs.ProgramLemmas.{holds_if_refused, holds_if_idle, explained-ends_for, run-ends_for, run-isnt_refused, fails_with_no_board, Clap-isnt-OutOfMemory}
 use Rattle.coniks_tool.proofs.statuses.obey.Goals as goal
 
 pub returns-in-Ok-clause-found : goal.returns-in-Ok-clause-found
@@ -23,3 +24,8 @@ returns-in-Err-Clap-clause-taken g c =
 
 pub returns-in-Err-Clap-clause-unread : goal.returns-in-Err-Clap-clause-unread
 returns-in-Err-Clap-clause-unread g c = holds_if_idle c.explain.result refl
+
+pub returns-in-Err-Clap-clause-fails : goal.returns-in-Err-Clap-clause-fails
+returns-in-Err-Clap-clause-fails g c =
+    let from = g.R.ByteIn.source c.args.reader.now in
+    fails_with_no_board (AsksForBoard (map g.S.AsStr.text c.args.words.now)) from from _ _ c.explain.result (c.explain.ensures.fails from)
