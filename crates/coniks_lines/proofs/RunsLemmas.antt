@@ -1,13 +1,14 @@
 -- Steps of a run.
-use Rattle.std.proofs.Common.{◌≡◌, ℕ, List, [], ◌∷◌, ◌++◌, Option, Some, None, refl, ap, sym, ◌∙◌, append_assoc, Bool, true, false, ◌&&◌, subst, take, drop, inl, inr, ◌+◌, ◌≢◌, length, option_map}
+use Rattle.std.proofs.Common.{◌≡◌, ◌<◌, ◌⊎◌, ℕ, List, [], ◌∷◌, ◌++◌, Some, refl, ap, sym, ◌∙◌, append_assoc, Bool, true, false, ◌&&◌, subst, take, drop, inl, inr, ◌+◌, ◌%◌, ◌^◌, ◌≢◌, length, arith}
 use Rattle.std.proofs.lemmas.List.{take-append-drop, append-nil}
-use Rattle.coniks_lines.specs.Known.{Source, Sink, Appends, HasNoneLeft, next_count}
+use Rattle.std.specs.Io.KnownBytes.{Keeps}
+use Rattle.coniks_lines.specs.Known.{Source, Sink, Takes, Appends, HasNoneLeft, next_count}
 use Rattle.coniks_lines.specs.Lines.{whole_after, rest_after, last_line, lines_of, whole_lines}
-use Rattle.coniks_lines.specs.Machine.{Answer, replies, state_after, all_accepted}
-use Rattle.coniks_lines.specs.Runs.{IsBeginning, WritesOn, count_after, ComesToEnd, CannotWrite, AnswersLine, AnswersWhole, AnswersAll, WritesPart, FailsToWrite, StopsBetween, FailsAt, FailsAmong, RunFails, EndsWell, EndsBadly}
+use Rattle.coniks_lines.specs.Machine.{Answer, replies, state_after, all_accepted, output}
+use Rattle.coniks_lines.specs.Runs.{IsBeginning, WritesOn, count_after, ComesToEnd, CannotWrite, CannotRead, AnswersLine, AnswersWhole, AnswersAll, WritesPart, Stops, Because, StopsFor, AreRead, EndsWell, EndsBadly}
 use Rattle.coniks_lines.specs.declared.fault.RunFault.{RunFault}
 use Rattle.coniks_lines.specs.declared.fault.RunFault.TheVariants.{Read, Write, OutOfMemory, NoBoard}
-use Rattle.coniks_lines.proofs.KnownLemmas.{Appends-then, Appends-none, Appends-same}
+use Rattle.coniks_lines.proofs.KnownLemmas.{Appends-then, Appends-none, Appends-same, Takes-none, taken_front, none_left-is}
 use Rattle.coniks_lines.proofs.LinesLemmas.{NoNewlineBefore, whole_after-append, rest_after-append, line_ended, lines_around, no_lines}
 use Rattle.coniks_lines.proofs.MachineLemmas.{replies-append, state_after-append, all_accepted-append}
 
@@ -15,6 +16,19 @@ use Rattle.coniks_lines.proofs.MachineLemmas.{replies-append, state_after-append
 pub record ReadsOn (old new : Source) : Type 0 where
   pub none_failed : new.failed ≡ old.failed
   pub not_ended : new.ends ≡ old.ends
+
+-- so many reads there were
+abbrev pub Counted : ℕ → ℕ → ℕ → Type 0
+Counted k old new = ((k ≡ 0) × (new ≡ old)) ⊎ (new ≡ (old + k) % 2 ^ 64)
+
+pub Counted-next : (k old mid new : ℕ) → Counted k old mid → new ≡ next_count mid → Counted (k + 1) old new
+Counted-next k old mid new (inl same) is = inr (omega (arith, same.0, same.1, is))
+Counted-next k old mid new (inr counted) is = inr (omega (arith, counted, is))
+
+-- there were reads
+pub Counted-some : (k old new : ℕ) → 0 < k → Counted k old new → new ≡ (old + k) % 2 ^ 64
+Counted-some k old new some (inl same) = absurd (omega (arith, same.0, some))
+Counted-some k old new some (inr counted) = counted
 
 pub WritesOn-none : (old : Sink) → WritesOn old old
 WritesOn-none old = record { none_failed = refl; not_stalled = refl }
@@ -102,135 +116,211 @@ module _ {S : Type 0} (answer : S → List ℕ → Answer S) where
         writes_on = WritesOn-none old;
       }
 
-  -- more was written after these lines were answered
-  WritesPart-then : (s : S) (xs ys : List (List ℕ)) (old mid new : Sink)
-      → Appends old (replies answer s xs) mid → WritesPart answer (state_after answer s xs) ys mid new → WritesPart answer s (xs ++ ys) old new
-  WritesPart-then s xs ys old mid new w h = record {
-    part = replies answer s xs ++ h.part;
-    begins = subst (IsBeginning (replies answer s xs ++ h.part)) (sym (replies-append answer s xs ys)) (begins-then (replies answer s xs) h.part (replies answer (state_after answer s xs) ys) h.begins);
-    written = Appends-then old mid new (replies answer s xs) h.part w h.written;
-  }
+  -- the part of the next answer where more lines are left
+  begins-left : (t : S) (part : List ℕ) (xs ys : List (List ℕ)) → IsBeginning part (replies answer t (take 1 xs)) → IsBeginning part (replies answer t (take 1 (xs ++ ys)))
+  begins-left t part [] ys h = none part h.more h.whole where
+    none : (part more : List ℕ) → part ++ more ≡ [] → IsBeginning part (replies answer t (take 1 ys))
+    none [] more is = record { more = replies answer t (take 1 ys); whole = refl }
+    none (b ∷ part) more is = absurd (cc)
+  begins-left t part (x ∷ xs) ys h = h
 
   -- the same with more lines after them
-  WritesPart-longer : (s : S) (xs ys : List (List ℕ)) (old new : Sink) → WritesPart answer s xs old new → WritesPart answer s (xs ++ ys) old new
-  WritesPart-longer s xs ys old new h = record {
+  pub Stops-longer : (s : S) (xs ys : List (List ℕ)) (old new : Sink) → Stops answer s xs old new → Stops answer s (xs ++ ys) old new
+  Stops-longer s xs ys old new h = record {
+    done = h.done;
+    left = h.left ++ ys;
     part = h.part;
-    begins = subst (IsBeginning h.part) (sym (replies-append answer s xs ys)) (begins-longer h.part (replies answer s xs) (replies answer (state_after answer s xs) ys) h.begins);
+    lines_are = sym (append_assoc h.done h.left ys) ∙ ap (λ ls. ls ++ ys) h.lines_are;
+    begins = begins-left (state_after answer s h.done) h.part h.left ys h.begins;
     written = h.written;
+    flushes_is = h.flushes_is;
   }
 
-  -- lines that were answered, and more lines
-  WritesPart-whole : (s : S) (xs ys : List (List ℕ)) (old new : Sink) → Appends old (replies answer s xs) new → WritesPart answer s (xs ++ ys) old new
-  WritesPart-whole s xs ys old new w = record {
-    part = replies answer s xs;
-    begins = record { more = replies answer (state_after answer s xs) ys; whole = sym (replies-append answer s xs ys) };
-    written = w;
+  -- after these lines were answered
+  pub Stops-then : (s : S) (xs ys : List (List ℕ)) (old mid new : Sink) → Appends old (replies answer s xs) mid → mid.flushes ≡ count_after old.flushes xs
+      → Stops answer (state_after answer s xs) ys mid new → Stops answer s (xs ++ ys) old new
+  Stops-then s xs ys old mid new wrote flushed h =
+      let from = state_after answer s xs in
+      let all : replies answer s xs ++ (replies answer from h.done ++ h.part) ≡ replies answer s (xs ++ h.done) ++ h.part =
+      sym (append_assoc (replies answer s xs) (replies answer from h.done) h.part) ∙ ap (λ r. r ++ h.part) (sym (replies-append answer s xs h.done)) in
+      record {
+        done = xs ++ h.done;
+        left = h.left;
+        part = h.part;
+        lines_are = append_assoc xs h.done h.left ∙ ap (λ ls. xs ++ ls) h.lines_are;
+        begins = subst (λ (z : S). IsBeginning h.part (replies answer z (take 1 h.left))) (sym (state_after-append answer s xs h.done)) h.begins;
+        written = subst (λ (r : List ℕ). Appends old r new) all (Appends-then old mid new (replies answer s xs) (replies answer from h.done ++ h.part) wrote h.written);
+        flushes_is = h.flushes_is ∙ (ap (λ (n : ℕ). count_after n h.done) flushed ∙ sym (count_after-append old.flushes xs h.done));
+      }
+
+  -- these lines were answered, and no more was written
+  pub Stops-between : (s : S) (xs ys lines : List (List ℕ)) (old new : Sink) → xs ++ ys ≡ lines → Appends old (replies answer s xs) new → new.flushes ≡ count_after old.flushes xs
+      → Stops answer s lines old new
+  Stops-between s xs ys lines old new are wrote flushed = record {
+    done = xs;
+    left = ys;
+    part = [];
+    lines_are = are;
+    begins = record { more = replies answer (state_after answer s xs) (take 1 ys); whole = refl };
+    written = subst (λ (r : List ℕ). Appends old r new) (sym (append-nil (replies answer s xs))) wrote;
+    flushes_is = flushed;
   }
 
-  FailsToWrite-then : (s : S) (xs ys : List (List ℕ)) (old mid new : Sink) → WritesOn old mid
-      → Appends old (replies answer s xs) mid → FailsToWrite answer (state_after answer s xs) ys mid new → FailsToWrite answer s (xs ++ ys) old new
-  FailsToWrite-then s xs ys old mid new on w h = record {
-    writes = WritesPart-then s xs ys old mid new w h.writes;
-    because = CannotWrite-then old mid new on h.because;
-  }
+  -- a fault of the sink in the answer to a line
+  pub stops_in_text : (t : S) (line bytes : List ℕ) (old new : Sink) (n : ℕ) (still : Source)
+      → bytes ≡ (answer t line).text ++ 10 ∷ [] → Appends old (take n bytes) new → new.flushes ≡ old.flushes → CannotWrite old new → StopsFor answer t (line ∷ []) still still old new Write
+  stops_in_text t line bytes old new n still is wrote flushed why = (
+    record {
+      done = [];
+      left = line ∷ [];
+      part = take n bytes;
+      lines_are = refl;
+      begins = record { more = drop n bytes; whole = take-append-drop n bytes ∙ is };
+      written = wrote;
+      flushes_is = flushed;
+    },
+    (refl, why),
+  )
 
-  FailsToWrite-longer : (s : S) (xs ys : List (List ℕ)) (old new : Sink) → FailsToWrite answer s xs old new → FailsToWrite answer s (xs ++ ys) old new
-  FailsToWrite-longer s xs ys old new h = record { writes = WritesPart-longer s xs ys old new h.writes; because = h.because }
+  -- a flush that failed after the answer to a line
+  pub stops_at_flush : (t : S) (line bytes : List ℕ) (old mid new : Sink) (still : Source)
+      → bytes ≡ (answer t line).text ++ 10 ∷ [] → Appends old bytes mid → mid.flushes ≡ old.flushes → WritesOn old mid → Keeps mid.written new.written → new.flushes ≡ mid.flushes → new.failed ≡ mid.failed + 1
+      → StopsFor answer t (line ∷ []) still still old new Write
+  stops_at_flush t line bytes old mid new still is wrote before on kept flushed failed = (
+    record {
+      done = [];
+      left = line ∷ [];
+      part = bytes;
+      lines_are = refl;
+      begins = record { more = []; whole = append-nil bytes ∙ is };
+      written = Appends-same old mid new bytes wrote kept;
+      flushes_is = flushed ∙ before;
+    },
+    (refl, CannotWrite-then old mid new on (inl failed)),
+  )
 
-  -- a write that failed in the text of a line
-  pub fails_in_text : (t : S) (line bytes : List ℕ) (old new : Sink) (n : ℕ)
-      → bytes ≡ (answer t line).text ++ 10 ∷ [] → Appends old (take n bytes) new → CannotWrite old new → FailsToWrite answer t (line ∷ []) old new
-  fails_in_text t line bytes old new n is wrote why = record {
-    writes = record { part = take n bytes; begins = record { more = drop n bytes; whole = take-append-drop n bytes ∙ is }; written = wrote };
-    because = why;
-  }
+  -- want of memory before a line is answered
+  pub stops_before : (t : S) (line : List ℕ) (sink : Sink) (still : Source) → StopsFor answer t (line ∷ []) still still sink sink OutOfMemory
+  unfolding Stops-between
+  stops_before t line sink still = (Stops-between t [] (line ∷ []) (line ∷ []) sink sink refl (Appends-none sink) refl, (refl, (WritesOn-none sink, refl)))
+
+  -- no read is 2^63 reads, and none that is still has failed
+  not_still : (still : Source) → CannotRead still still → ⊥
+  not_still still (ends, inl failed) = absurd (omega (arith, failed))
+  not_still still (ends, inr reads) = absurd (omega (arith, reads))
+
+  -- what a fault says, after other lines were answered, and with more lines after them
+  because-then : (e : RunFault) (still : Source) (old mid new : Sink) (left left' : List (List ℕ)) (part : List ℕ) → WritesOn old mid → Because e still still mid new left part → Because e still still old new left' part
+  because-then Read still old mid new left left' part on h = absurd (not_still still h.0)
+  because-then Write still old mid new left left' part on h = (refl, CannotWrite-then old mid new on h.1)
+  because-then OutOfMemory still old mid new left left' part on h = (refl, (WritesOn-then old mid new on h.1.0, h.1.1))
+  because-then NoBoard still old mid new left left' part on h = h
+
+  -- what a fault says where the source went on before
+  because-read : (e : RunFault) (from from' : Source) (old new : Sink) (left : List (List ℕ)) (part : List ℕ) → from'.failed ≡ from.failed → Because e from from old new left part → Because e from from' old new left part
+  because-read Read from from' old new left part on h = absurd (not_still from h.0)
+  because-read Write from from' old new left part on h = (on, h.1)
+  because-read OutOfMemory from from' old new left part on h = (on, h.1)
+  because-read NoBoard from from' old new left part on h = h
 
   -- a fault among later lines, after the first ones were answered
-  FailsAmong-then : (s : S) (xs ys : List (List ℕ)) (old mid new : Sink) (e : RunFault) → WritesOn old mid
-      → Appends old (replies answer s xs) mid → FailsAmong answer (state_after answer s xs) ys mid new e → FailsAmong answer s (xs ++ ys) old new e
-  FailsAmong-then s xs ys old mid new Read on w h = h
-  FailsAmong-then s xs ys old mid new Write on w h = FailsToWrite-then s xs ys old mid new on w h
-  FailsAmong-then s xs ys old mid new OutOfMemory on w h = record {
-    done = xs ++ h.done;
-    begins = begins-then xs h.done ys h.begins;
-    written = subst (λ (r : List ℕ). Appends old r new) (sym (replies-append answer s xs h.done)) (Appends-then old mid new (replies answer s xs) (replies answer (state_after answer s xs) h.done) w h.written);
-  }
-  FailsAmong-then s xs ys old mid new NoBoard on w h = h
+  pub StopsFor-then : (s : S) (xs ys : List (List ℕ)) (still : Source) (old mid new : Sink) (e : RunFault) → WritesOn old mid
+      → Appends old (replies answer s xs) mid → mid.flushes ≡ count_after old.flushes xs → StopsFor answer (state_after answer s xs) ys still still mid new e → StopsFor answer s (xs ++ ys) still still old new e
+  unfolding Stops-then
+  StopsFor-then s xs ys still old mid new e on wrote flushed h =
+      (Stops-then s xs ys old mid new wrote flushed h.0, because-then e still old mid new h.0.left h.0.left h.0.part on h.1)
 
   -- a fault at the first of these lines
-  FailsAt-first : (t : S) (line : List ℕ) (lines : List (List ℕ)) (old new : Sink) (e : RunFault) → FailsAt answer t line old new e → FailsAmong answer t (line ∷ lines) old new e
-  FailsAt-first t line lines old new Read h = h
-  FailsAt-first t line lines old new Write h = FailsToWrite-longer t (line ∷ []) lines old new h
-  FailsAt-first t line lines old new OutOfMemory h = record { done = []; begins = record { more = line ∷ lines; whole = refl }; written = Appends-same old old new [] (Appends-none old) h }
-  FailsAt-first t line lines old new NoBoard h = h
+  StopsFor-longer : (s : S) (xs ys : List (List ℕ)) (still : Source) (old new : Sink) (e : RunFault) → StopsFor answer s xs still still old new e → StopsFor answer s (xs ++ ys) still still old new e
+  unfolding Stops-longer
+  StopsFor-longer s xs ys still old new e h = (Stops-longer s xs ys old new h.0, because-then e still old old new h.0.left (h.0.left ++ ys) h.0.part (WritesOn-none old) h.1)
 
   -- a fault at a line that ends in the chunk
-  pub fails_at_line : (s t : S) (held line chunk front xs ys : List ℕ) (old mid new : Sink) (a : Bool) (e : RunFault)
-      → chunk ≡ front ++ (xs ++ 10 ∷ ys) → NoNewlineBefore xs (length xs) → AnswersWhole answer s held front old mid t line a → FailsAt answer t (line ++ xs) mid new e
-      → FailsAmong answer s (whole_after held chunk) old new e
-  fails_at_line s t held line chunk front xs ys old mid new a e parts none p h =
+  pub stops_at_line : (s t : S) (held line chunk front xs ys : List ℕ) (still : Source) (old mid new : Sink) (a : Bool) (e : RunFault)
+      → chunk ≡ front ++ (xs ++ 10 ∷ ys) → NoNewlineBefore xs (length xs) → AnswersWhole answer s held front old mid t line a → StopsFor answer t ((line ++ xs) ∷ []) still still mid new e
+      → StopsFor answer s (whole_after held chunk) still still old new e
+  stops_at_line s t held line chunk front xs ys still old mid new a e parts none p h =
       let first = whole_after held front in
       let from = state_after answer s first in
-      let at_line : FailsAt answer from (rest_after held front ++ xs) mid new e =
-      subst (λ (z : S). FailsAt answer z (rest_after held front ++ xs) mid new e) p.state_is (subst (λ (z : List ℕ). FailsAt answer t (z ++ xs) mid new e) p.rest_is h) in
-      let later = (rest_after held front ++ xs) ∷ whole_after [] ys in
-      let lines : first ++ later ≡ whole_after held chunk = sym (lines_around held front xs ys none) ∙ ap (whole_after held) (sym parts) in
-      subst (λ (ls : List (List ℕ)). FailsAmong answer s ls old new e) lines
-      (FailsAmong-then s first later old mid new e p.writes_on p.written (FailsAt-first from (rest_after held front ++ xs) (whole_after [] ys) mid new e at_line))
+      let it = (rest_after held front ++ xs) ∷ [] in
+      let at_line : StopsFor answer from it still still mid new e =
+      subst (λ (z : S). StopsFor answer z it still still mid new e) p.state_is (subst (λ (z : List ℕ). StopsFor answer t ((z ++ xs) ∷ []) still still mid new e) p.rest_is h) in
+      let later = whole_after [] ys in
+      let lines : first ++ (it ++ later) ≡ whole_after held chunk = sym (lines_around held front xs ys none) ∙ ap (whole_after held) (sym parts) in
+      subst (λ (ls : List (List ℕ)). StopsFor answer s ls still still old new e) lines
+      (StopsFor-then s first (it ++ later) still old mid new e p.writes_on p.written p.flushes_is (StopsFor-longer from it later still mid new e at_line))
 
-  -- memory that was refused between two lines
-  pub stops_between : (s t : S) (held line front rest chunk : List ℕ) (old new : Sink) (a : Bool)
-      → front ++ rest ≡ chunk → AnswersWhole answer s held front old new t line a → StopsBetween answer s (whole_after held chunk) old new
-  stops_between s t held line front rest chunk old new a parts p = record {
-    done = whole_after held front;
-    begins = record {
-      more = whole_after (rest_after held front) rest;
-      whole = sym (whole_after-append held front rest) ∙ ap (whole_after held) parts;
-    };
-    written = p.written;
-  }
+  -- memory that was refused after the lines of a front
+  pub stops_after : (s t : S) (held line front rest chunk : List ℕ) (still : Source) (old new : Sink) (a : Bool)
+      → front ++ rest ≡ chunk → AnswersWhole answer s held front old new t line a → StopsFor answer s (whole_after held chunk) still still old new OutOfMemory
+  unfolding Stops-between
+  stops_after s t held line front rest chunk still old new a parts p = (
+    Stops-between s (whole_after held front) (whole_after (rest_after held front) rest) (whole_after held chunk) old new
+        (sym (whole_after-append held front rest) ∙ ap (whole_after held) parts) p.written p.flushes_is,
+    (refl, (p.writes_on, refl)),
+  )
 
   -- a fault in a later chunk
-  pub fails_in_chunk : (s t : S) (line bytes chunk : List ℕ) (from from' : Source) (old mid new : Sink) (a : Bool) (e : RunFault)
-      → AnswersWhole answer s [] bytes old mid t line a → FailsAmong answer t (whole_after line chunk) mid new e
-      → RunFails answer s (bytes ++ chunk) from from' old new e
-  fails_in_chunk s t line bytes chunk from from' old mid new a e p h =
+  pub ends_in_chunk : (s t : S) (line bytes chunk : List ℕ) (from from' : Source) (old mid new : Sink) (a : Bool) (e : RunFault)
+      → Takes from (bytes ++ chunk) from' → from'.failed ≡ from.failed
+      → AnswersWhole answer s [] bytes old mid t line a → StopsFor answer t (whole_after line chunk) from from mid new e
+      → EndsBadly answer s from from' old new e
+  ends_in_chunk s t line bytes chunk from from' old mid new a e took on p h =
       let first = whole_after [] bytes in
       let later = whole_after (rest_after [] bytes) chunk in
-      let moved : FailsAmong answer (state_after answer s first) later mid new e =
-      subst (λ (z : S). FailsAmong answer z later mid new e) p.state_is (subst (λ (z : List ℕ). FailsAmong answer t (whole_after z chunk) mid new e) p.rest_is h) in
-      let all : FailsAmong answer s (whole_after [] (bytes ++ chunk)) old new e =
-      subst (λ (ls : List (List ℕ)). FailsAmong answer s ls old new e) (sym (whole_after-append [] bytes chunk))
-      (FailsAmong-then s first later old mid new e p.writes_on p.written moved) in
-      of_cases e all where
-        of_cases : (e : RunFault) → FailsAmong answer s (whole_after [] (bytes ++ chunk)) old new e → RunFails answer s (bytes ++ chunk) from from' old new e
-        of_cases Read h = absurd h
-        of_cases Write h = inl h
-        of_cases OutOfMemory h = h
-        of_cases NoBoard h = h
+      let moved : StopsFor answer (state_after answer s first) later from from mid new e =
+      subst (λ (z : S). StopsFor answer z later from from mid new e) p.state_is (subst (λ (z : List ℕ). StopsFor answer t (whole_after z chunk) from from mid new e) p.rest_is h) in
+      let all = StopsFor-then s first later from old mid new e p.writes_on p.written p.flushes_is moved in
+      record {
+        bytes = bytes ++ chunk;
+        lines = first ++ later;
+        read = took;
+        lines_are = inl (sym (whole_after-append [] bytes chunk));
+        stops = (all.0, because-read e from from' old new all.0.left all.0.part on all.1);
+      }
 
   -- the lines of bytes after whose last newline this line stands
   lines_of-last : (line bytes : List ℕ) → line ≢ [] → line ≡ rest_after [] bytes → lines_of bytes ≡ whole_after [] bytes ++ line ∷ []
   lines_of-last line bytes some is = ap (λ (ls : List (List ℕ)). whole_after [] bytes ++ ls) (ap last_line (sym is) ∙ last_line-some line some)
 
   -- a fault at the last line
-  pub fails_at_last : (s t : S) (line bytes : List ℕ) (from from' : Source) (old mid new : Sink) (a : Bool) (e : RunFault)
-      → line ≢ [] → ComesToEnd from from' → AnswersWhole answer s [] bytes old mid t line a → FailsAt answer t line mid new e
-      → RunFails answer s bytes from from' old new e
-  fails_at_last s t line bytes from from' old mid new a Read some ended p h = absurd h
-  fails_at_last s t line bytes from from' old mid new a Write some ended p h =
+  pub ends_at_last : (s t : S) (line bytes : List ℕ) (from from' : Source) (old mid new : Sink) (a : Bool) (e : RunFault)
+      → line ≢ [] → Takes from bytes from' → from'.failed ≡ from.failed → ComesToEnd from from' → AnswersWhole answer s [] bytes old mid t line a → StopsFor answer t (line ∷ []) from from mid new e
+      → EndsBadly answer s from from' old new e
+  ends_at_last s t line bytes from from' old mid new a e some took on ended p h =
       let first = whole_after [] bytes in
-      let at_state : FailsToWrite answer (state_after answer s first) (line ∷ []) mid new = subst (λ (z : S). FailsToWrite answer z (line ∷ []) mid new) p.state_is h in
-      inr (
-        ended,
-        subst (λ (ls : List (List ℕ)). FailsToWrite answer s ls old new) (sym (lines_of-last line bytes some p.rest_is)) (FailsToWrite-then s first (line ∷ []) old mid new p.writes_on p.written at_state),
-      )
-  fails_at_last s t line bytes from from' old mid new a OutOfMemory some ended p h = record {
-    done = whole_after [] bytes;
-    begins = record { more = []; whole = append-nil (whole_after [] bytes) };
-    written = Appends-same old mid new (replies answer s (whole_after [] bytes)) p.written h;
+      let moved : StopsFor answer (state_after answer s first) (line ∷ []) from from mid new e = subst (λ (z : S). StopsFor answer z (line ∷ []) from from mid new e) p.state_is h in
+      let all = StopsFor-then s first (line ∷ []) from old mid new e p.writes_on p.written p.flushes_is moved in
+      record {
+        bytes = bytes;
+        lines = first ++ line ∷ [];
+        read = took;
+        lines_are = inr (ended, sym (lines_of-last line bytes some p.rest_is));
+        stops = (all.0, because-read e from from' old new all.0.left all.0.part on all.1);
+      }
+
+  -- reads that failed, or met no end, after the whole lines were answered
+  pub ends_unread : (s t : S) (line bytes : List ℕ) (from from' : Source) (old new : Sink) (a : Bool)
+      → Takes from bytes from' → CannotRead from from' → AnswersWhole answer s [] bytes old new t line a → EndsBadly answer s from from' old new Read
+  unfolding Stops-between
+  ends_unread s t line bytes from from' old new a took why p = record {
+    bytes = bytes;
+    lines = whole_lines bytes;
+    read = took;
+    lines_are = inl refl;
+    stops = (Stops-between s (whole_lines bytes) [] (whole_lines bytes) old new (append-nil (whole_lines bytes)) p.written p.flushes_is, (why, (p.writes_on, (refl, refl))));
   }
-  fails_at_last s t line bytes from from' old mid new a NoBoard some ended p h = h
+
+  -- want of memory before the first read
+  pub ends_unbegun : (s : S) (from : Source) (to : Sink) → EndsBadly answer s from from to to OutOfMemory
+  unfolding Stops-between
+  ends_unbegun s from to = record {
+    bytes = [];
+    lines = [];
+    read = Takes-none from;
+    lines_are = inl refl;
+    stops = (Stops-between s [] [] [] to to refl (Appends-none to) refl, (refl, (WritesOn-none to, refl)));
+  }
 
   -- the end, where nothing is held
   pub ends_empty : (s t : S) (line bytes : List ℕ) (old new : Sink) (all : Bool)
@@ -281,49 +371,57 @@ module _ {S : Type 0} (answer : S → List ℕ → Answer S) where
   pub whole_input : (s t : S) (input : List ℕ) (from from' : Source) (to to' : Sink) (all : Bool)
       → from.left ≡ Some input → EndsWell answer s from from' to to' t all → AnswersAll answer s input to to' t all
   whole_input s t input from from' to to' all told h =
-      let same : h.bytes ≡ input = all_taken input h.bytes from'.left (sym told ∙ h.read) h.at_end.none_left in
-      subst (λ (bytes : List ℕ). AnswersAll answer s bytes to to' t all) same h.answers where
-        all_taken : (input bytes : List ℕ) (left : Option (List ℕ)) → Some input ≡ option_map (λ rest. bytes ++ rest) left → ((rest : List ℕ) → left ≡ Some rest → rest ≡ []) → bytes ≡ input
-        all_taken input bytes None e none = absurd (cc)
-        all_taken input bytes (Some rest) e none =
-            let is : input ≡ bytes ++ rest = cc in
-            sym (is ∙ ap (λ (r : List ℕ). bytes ++ r) (none rest refl) ∙ append-nil bytes)
+      let took = taken_front input from from' h.bytes told h.read in
+      let same : h.bytes ≡ input = sym (took.1.1 ∙ ap (λ (r : List ℕ). h.bytes ++ r) (none_left-is took.0 from' took.1.0 h.at_end.none_left) ∙ append-nil h.bytes) in
+      subst (λ (bytes : List ℕ). AnswersAll answer s bytes to to' t all) same h.answers
 
-  -- the lines of an input whose first part was read
+  -- what a beginning of bytes was written of begins longer bytes
+  WritesPart-longer : (xs ys : List ℕ) (to to' : Sink) → WritesPart xs to to' → WritesPart (xs ++ ys) to to'
+  WritesPart-longer xs ys to to' h = record { part = h.part; begins = begins-longer h.part xs ys h.begins; written = h.written }
+
+  -- the whole lines of a first part begin the lines of the bytes
   lines_of-split : (bytes rest : List ℕ) → whole_after [] bytes ++ (whole_after (rest_after [] bytes) rest ++ last_line (rest_after [] (bytes ++ rest))) ≡ lines_of (bytes ++ rest)
   lines_of-split bytes rest =
       let later = whole_after (rest_after [] bytes) rest in
       let last = last_line (rest_after [] (bytes ++ rest)) in
       sym (ap (λ (ls : List (List ℕ)). ls ++ last) (whole_after-append [] bytes rest) ∙ append_assoc (whole_after [] bytes) later last)
 
-  -- where the whole lines that were read are begun
-  begins_input : (s : S) (bytes rest : List ℕ) (to to' : Sink) → WritesPart answer s (whole_lines bytes) to to' → WritesPart answer s (lines_of (bytes ++ rest)) to to'
-  begins_input s bytes rest to to' h =
-      subst (λ (ls : List (List ℕ)). WritesPart answer s ls to to') (lines_of-split bytes rest)
-      (WritesPart-longer s (whole_lines bytes) (whole_after (rest_after [] bytes) rest ++ last_line (rest_after [] (bytes ++ rest))) to to' h)
+  -- what was written of the next answer begins the answers to the lines that are left
+  begins-one : (t : S) (part : List ℕ) (left : List (List ℕ)) → IsBeginning part (replies answer t (take 1 left)) → IsBeginning part (replies answer t left)
+  begins-one t part [] h = h
+  begins-one t part (line ∷ left) h =
+      subst (IsBeginning part) (sym (replies-append answer t (line ∷ []) left)) (begins-longer part (replies answer t (line ∷ [])) (replies answer (answer t line).state left) h)
 
-  StopsBetween-part : (s : S) (lines : List (List ℕ)) (to to' : Sink) → StopsBetween answer s lines to to' → WritesPart answer s lines to to'
-  StopsBetween-part s lines to to' h = subst (λ (ls : List (List ℕ)). WritesPart answer s ls to to') h.begins.whole (WritesPart-whole s h.done h.begins.more to to' h.written)
+  -- a beginning of the answers to its lines was written
+  Stops-part : (s : S) (lines : List (List ℕ)) (to to' : Sink) → Stops answer s lines to to' → WritesPart (replies answer s lines) to to'
+  Stops-part s lines to to' h =
+      let from = state_after answer s h.done in
+      let all : replies answer s h.done ++ replies answer from h.left ≡ replies answer s lines = sym (replies-append answer s h.done h.left) ∙ ap (replies answer s) h.lines_are in
+      record {
+        part = replies answer s h.done ++ h.part;
+        begins = subst (IsBeginning (replies answer s h.done ++ h.part)) all (begins-then (replies answer s h.done) h.part (replies answer from h.left) (begins-one from h.part h.left h.begins));
+        written = h.written;
+      }
 
   -- after a fault what was written begins the output of the whole input
   pub part_of_input : (s : S) (input : List ℕ) (from from' : Source) (to to' : Sink) (e : RunFault)
-      → from.left ≡ Some input → EndsBadly answer s from from' to to' e → WritesPart answer s (lines_of input) to to'
+      → from.left ≡ Some input → EndsBadly answer s from from' to to' e → WritesPart (output answer s input) to to'
   part_of_input s input from from' to to' e told h =
-      by_left from'.left refl where
-        by_fault : (rest : List ℕ) → from'.left ≡ Some rest → (e : RunFault) → RunFails answer s h.bytes from from' to to' e → WritesPart answer s (lines_of (h.bytes ++ rest)) to to'
-        by_fault rest is Read f = begins_input s h.bytes rest to to' (subst (λ (ls : List (List ℕ)). WritesPart answer s ls to to') (append-nil (whole_lines h.bytes)) (WritesPart-whole s (whole_lines h.bytes) [] to to' f.0))
-        by_fault rest is Write (inl f) = begins_input s h.bytes rest to to' f.writes
-        by_fault rest is Write (inr f) =
-            let none : [] ≡ rest = sym (f.0.none_left rest is) in
-            subst (λ (bytes : List ℕ). WritesPart answer s (lines_of bytes) to to') (sym (append-nil h.bytes) ∙ ap (λ (r : List ℕ). h.bytes ++ r) none) f.1.writes
-        by_fault rest is OutOfMemory f = begins_input s h.bytes rest to to' (StopsBetween-part s (whole_lines h.bytes) to to' f)
-        by_fault rest is NoBoard f = absurd f
+      let took = taken_front input from from' h.bytes told h.read in
+      subst (λ (bytes : List ℕ). WritesPart (output answer s bytes) to to') (sym took.1.1) (by_lines h.lines_are) where
+        wrote : WritesPart (replies answer s h.lines) to to'
+        wrote = Stops-part s h.lines to to' h.stops.0
 
-        by_left : (left : Option (List ℕ)) → from'.left ≡ left → WritesPart answer s (lines_of input) to to'
-        by_left None is =
-            let e : Some input ≡ option_map (λ rest. h.bytes ++ rest) None = subst (λ (l : Option (List ℕ)). Some input ≡ option_map (λ rest. h.bytes ++ rest) l) is (sym told ∙ h.read) in
-            absurd (cc)
-        by_left (Some rest) is =
-            let taken : Some input ≡ option_map (λ rest. h.bytes ++ rest) (Some rest) = subst (λ (l : Option (List ℕ)). Some input ≡ option_map (λ rest. h.bytes ++ rest) l) is (sym told ∙ h.read) in
-            let whole : h.bytes ++ rest ≡ input = cc in
-            subst (λ (bytes : List ℕ). WritesPart answer s (lines_of bytes) to to') whole (by_fault rest is e h.fails)
+        rest : List ℕ
+        rest = (taken_front input from from' h.bytes told h.read).0
+
+        by_lines : AreRead from from' h.bytes h.lines → WritesPart (output answer s (h.bytes ++ rest)) to to'
+        by_lines (inl are) =
+            let more = whole_after (rest_after [] h.bytes) rest ++ last_line (rest_after [] (h.bytes ++ rest)) in
+            let lines : h.lines ++ more ≡ lines_of (h.bytes ++ rest) = ap (λ (ls : List (List ℕ)). ls ++ more) are ∙ lines_of-split h.bytes rest in
+            subst (λ (ls : List (List ℕ)). WritesPart (replies answer s ls) to to') lines
+            (subst (λ (r : List ℕ). WritesPart r to to') (sym (replies-append answer s h.lines more)) (WritesPart-longer (replies answer s h.lines) (replies answer (state_after answer s h.lines) more) to to' wrote))
+        by_lines (inr ended) =
+            let is = (taken_front input from from' h.bytes told h.read).1.0 in
+            let none : h.bytes ≡ h.bytes ++ rest = sym (ap (λ (r : List ℕ). h.bytes ++ r) (none_left-is rest from' is ended.0.none_left) ∙ append-nil h.bytes) in
+            subst (λ (bytes : List ℕ). WritesPart (output answer s bytes) to to') none (subst (λ (ls : List (List ℕ)). WritesPart (replies answer s ls) to to') ended.1 wrote)

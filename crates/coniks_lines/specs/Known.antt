@@ -1,11 +1,12 @@
 -- What contracts see of a stream of bytes. Bytes that are `None` are not told.
-use Rattle.std.specs.Prelude.{◌≡◌, ℕ, ◌+◌, ◌%◌, ◌^◌, ◌++◌, ◌==◌, List, [], Bool, false, Option, option_map, Result, Ok, Err}
-use Rattle.std.specs.Option.{ForSome}
+use Rattle.std.specs.Prelude.{ℕ, ◌+◌, ◌%◌, ◌^◌, ◌==◌, List, Bool, false, Option, Result, Ok, Err}
+use Rattle.std.specs.Io.KnownBytes.{Consumes, IsAtEnd, Appends as Grows}
 use Rattle.coniks_lines.specs.declared.bytes.Failed.{Failed}
 
--- a source of bytes: those that are left, the reads that failed, and the reads that answered 0
+-- a source of bytes: those that are left, the reads, those that failed, and those that answered 0
 pub record Source : Type 0 where
   pub left : Option (List ℕ)
+  pub reads : ℕ
   pub failed : ℕ
   pub ends : ℕ
 
@@ -16,17 +17,17 @@ pub record Sink : Type 0 where
   pub stalls : ℕ
   pub flushes : ℕ
 
--- these bytes were taken from the front of what was left
+-- these bytes were taken from the front of what was left, where that is told
 abbrev pub Takes : Source → List ℕ → Source → Type 0
-Takes old bytes new = old.left ≡ option_map (λ rest. bytes ++ rest) new.left
+Takes old bytes new = Consumes old.left new.left bytes
 
--- these bytes were written after what was there
+-- these bytes were written after what was there, where that is told
 abbrev pub Appends : Sink → List ℕ → Sink → Type 0
-Appends old bytes new = new.written ≡ option_map (λ before. before ++ bytes) old.written
+Appends old bytes new = Grows old.written new.written bytes
 
 -- no byte is left, where that is told
 abbrev pub HasNoneLeft : Source → Type 0
-HasNoneLeft source = ForSome source.left (λ rest. rest ≡ [])
+HasNoneLeft source = IsAtEnd source.left
 
 -- one more than a count of 64 bits that wraps
 abbrev pub next_count : ℕ → ℕ

@@ -1,5 +1,5 @@
 -- What stands after a run of a machine over the lines of a source.
-use Rattle.std.specs.Prelude.{◌≡◌, ◌⊎◌, ℕ, ◌+◌, ◌≤◌, ◌^◌, ◌++◌, List, [], ◌∷◌, length, Bool}
+use Rattle.std.specs.Prelude.{◌≡◌, ◌⊎◌, ℕ, ◌+◌, ◌%◌, ◌^◌, ◌++◌, List, [], ◌∷◌, take, Bool}
 use Rattle.coniks_lines.specs.Known.{Source, Sink, Takes, Appends, HasNoneLeft, next_count}
 use Rattle.coniks_lines.specs.Lines.{whole_after, rest_after, whole_lines, lines_of}
 use Rattle.coniks_lines.specs.Machine.{Answer, replies, state_after, all_accepted, output}
@@ -10,6 +10,12 @@ use Rattle.coniks_lines.specs.declared.fault.RunFault.TheVariants.{Read, Write, 
 pub record IsBeginning {X : Type 0} (xs ys : List X) : Type 0 where
   pub more : List X
   pub whole : xs ++ more ≡ ys
+
+-- a beginning of these bytes was written
+pub record WritesPart (bytes : List ℕ) (old new : Sink) : Type 0 where
+  pub part : List ℕ
+  pub begins : IsBeginning part bytes
+  pub written : Appends old part new
 
 -- no write or flush failed, and no write took 0 bytes
 pub record WritesOn (old new : Sink) : Type 0 where
@@ -24,6 +30,10 @@ pub record ComesToEnd (old new : Source) : Type 0 where
 -- one write or flush failed, or one write took 0 bytes
 abbrev pub CannotWrite : Sink → Sink → Type 0
 CannotWrite old new = (new.failed ≡ old.failed + 1) ⊎ (new.stalls ≡ next_count old.stalls)
+
+-- no read answered 0, and one failed, or there were 2^63
+abbrev pub CannotRead : Source → Source → Type 0
+CannotRead old new = (new.ends ≡ old.ends) × ((new.failed ≡ old.failed + 1) ⊎ (new.reads ≡ (old.reads + 2 ^ 63) % 2 ^ 64))
 
 -- a count of 64 bits that wraps, after one more for each of these lines
 abbrev pub count_after : ℕ → List (List ℕ) → ℕ
@@ -55,50 +65,26 @@ pub record AnswersAll {S : Type 0} (answer : S → List ℕ → Answer S) (start
   pub flushes_is : new.flushes ≡ count_after old.flushes (lines_of bytes)
   pub writes_on : WritesOn old new
 
--- a beginning of what answers these lines was written
-pub record WritesPart {S : Type 0} (answer : S → List ℕ → Answer S) (start : S) (lines : List (List ℕ)) (old new : Sink) : Type 0 where
-  pub part : List ℕ
-  pub begins : IsBeginning part (replies answer start lines)
-  pub written : Appends old part new
-
--- the first of these lines were answered, and no more was written
-pub record StopsBetween {S : Type 0} (answer : S → List ℕ → Answer S) (start : S) (lines : List (List ℕ)) (old new : Sink) : Type 0 where
+-- how far a run came over these lines: those that it answered, each with a flush, those that it did not, and what was written of the next answer
+pub record Stops {S : Type 0} (answer : S → List ℕ → Answer S) (start : S) (lines : List (List ℕ)) (old new : Sink) : Type 0 where
   pub done : List (List ℕ)
-  pub begins : IsBeginning done lines
-  pub written : Appends old (replies answer start done) new
+  pub left : List (List ℕ)
+  pub part : List ℕ
+  pub lines_are : done ++ left ≡ lines
+  pub begins : IsBeginning part (replies answer (state_after answer start done) (take 1 left))
+  pub written : Appends old (replies answer start done ++ part) new
+  pub flushes_is : new.flushes ≡ count_after old.flushes done
 
--- a beginning of what answers these lines was written, and then a write or a flush did not go on
-pub record FailsToWrite {S : Type 0} (answer : S → List ℕ → Answer S) (start : S) (lines : List (List ℕ)) (old new : Sink) : Type 0 where
-  pub writes : WritesPart answer start lines old new
-  pub because : CannotWrite old new
+-- what each fault says of the streams, of the lines that were not answered, and of what was written of the next answer
+abbrev pub Because : RunFault → Source → Source → Sink → Sink → List (List ℕ) → List ℕ → Type 0
+Because Read from from' to to' left part = CannotRead from from' × (WritesOn to to' × ((left ≡ []) × (part ≡ [])))
+Because Write from from' to to' left part = (from'.failed ≡ from.failed) × CannotWrite to to'
+Because OutOfMemory from from' to to' left part = (from'.failed ≡ from.failed) × (WritesOn to to' × (part ≡ []))
+Because NoBoard from from' to to' left part = ⊥
 
--- what stands after a fault at one line
-abbrev pub FailsAt : {S : Type 0} → (S → List ℕ → Answer S) → S → List ℕ → Sink → Sink → RunFault → Type 0
-FailsAt answer start line old new Read = ⊥
-FailsAt answer start line old new Write = FailsToWrite answer start (line ∷ []) old new
-FailsAt answer start line old new OutOfMemory = new.written ≡ old.written
-FailsAt answer start line old new NoBoard = ⊥
-
--- what stands after a fault among these lines
-abbrev pub FailsAmong : {S : Type 0} → (S → List ℕ → Answer S) → S → List (List ℕ) → Sink → Sink → RunFault → Type 0
-FailsAmong answer start lines old new Read = ⊥
-FailsAmong answer start lines old new Write = FailsToWrite answer start lines old new
-FailsAmong answer start lines old new OutOfMemory = StopsBetween answer start lines old new
-FailsAmong answer start lines old new NoBoard = ⊥
-
--- a read failed, or 2^63 reads, each of at least one byte, met no end
-abbrev pub CannotRead : Source → Source → List ℕ → Type 0
-CannotRead old new bytes = (new.failed ≡ old.failed + 1) ⊎ (2 ^ 63 ≤ length bytes)
-
--- what stands after a fault of a run that read these bytes
-abbrev pub RunFails : {S : Type 0} → (S → List ℕ → Answer S) → S → List ℕ → Source → Source → Sink → Sink → RunFault → Type 0
-RunFails answer start bytes from from' to to' Read =
-    Appends to (replies answer start (whole_lines bytes)) to' × CannotRead from from' bytes
-RunFails answer start bytes from from' to to' Write =
-    FailsToWrite answer start (whole_lines bytes) to to'
-    ⊎ (ComesToEnd from from' × FailsToWrite answer start (lines_of bytes) to to')
-RunFails answer start bytes from from' to to' OutOfMemory = StopsBetween answer start (whole_lines bytes) to to'
-RunFails answer start bytes from from' to to' NoBoard = ⊥
+-- a fault stopped the run at these lines
+abbrev pub StopsFor : {S : Type 0} → (S → List ℕ → Answer S) → S → List (List ℕ) → Source → Source → Sink → Sink → RunFault → Type 0
+StopsFor answer start lines from from' to to' fault = (run : Stops answer start lines to to') × Because fault from from' to to' run.left run.part
 
 -- a run that came to its source's end: each line of all that was read is answered
 pub record EndsWell {S : Type 0} (answer : S → List ℕ → Answer S) (start : S) (from from' : Source) (to to' : Sink) (state : S) (all : Bool) : Type 0 where
@@ -108,8 +94,14 @@ pub record EndsWell {S : Type 0} (answer : S → List ℕ → Answer S) (start :
   pub none_failed : from'.failed ≡ from.failed
   pub answers : AnswersAll answer start bytes to to' state all
 
--- a run that a fault ended, and the bytes that it had read
+-- the lines of the bytes that were read: those that a newline ends, and at the source's end the last one too
+abbrev pub AreRead : Source → Source → List ℕ → List (List ℕ) → Type 0
+AreRead from from' bytes lines = (lines ≡ whole_lines bytes) ⊎ (ComesToEnd from from' × (lines ≡ lines_of bytes))
+
+-- a run that a fault ended: the bytes that it read, their lines, and how far it came over these
 pub record EndsBadly {S : Type 0} (answer : S → List ℕ → Answer S) (start : S) (from from' : Source) (to to' : Sink) (fault : RunFault) : Type 0 where
   pub bytes : List ℕ
+  pub lines : List (List ℕ)
   pub read : Takes from bytes from'
-  pub fails : RunFails answer start bytes from from' to to' fault
+  pub lines_are : AreRead from from' bytes lines
+  pub stops : StopsFor answer start lines from from' to to' fault

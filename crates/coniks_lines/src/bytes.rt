@@ -1,5 +1,6 @@
 //! Where bytes come from and where they go.
 ghost use Rattle.std.specs.Prelude.{◌≡◌, ◌+◌, ◌<◌, ◌≤◌, ◌^◌, length, take, is_ok, IfOk, OnErr, if◌then◌else◌};
+ghost use Rattle.std.specs.Io.KnownBytes.{Keeps};
 ghost use Rattle.coniks_lines.specs.Known.{Source, Sink, Takes, Appends, HasNoneLeft, next_count, is_zero};
 
 /// A read, a write or a flush failed. It says no more; the stream counts it.
@@ -9,7 +10,8 @@ pub struct Failed;
 /// A source of bytes.
 ///
 /// Contracts see it as a `Source`: the bytes that are left, where the implementation tells them, how
-/// many reads have failed, and how many have answered 0 (a count of 64 bits that wraps).
+/// many reads there were, how many have failed, and how many have answered 0. The counts of reads
+/// and of those that answered 0 have 64 bits and wrap.
 pub trait ByteIn {
     /// What contracts see of it.
     ghost source: { Self → Source };
@@ -30,7 +32,8 @@ pub trait ByteIn {
         ensures count { IfOk result (λ n. n ≤ length buffer.old) }
         ensures taken { IfOk result (λ n. Takes (source self.old) (take n buffer.new) (source self.new)) }
         ensures none_left { IfOk result (λ n. n ≡ 0 → HasNoneLeft (source self.new)) }
-        ensures err { OnErr result ((source self.new).left ≡ (source self.old).left) }
+        ensures err { OnErr result (Keeps (source self.old).left (source self.new).left) }
+        ensures reads { (source self.new).reads ≡ next_count (source self.old).reads }
         ensures failed { (source self.new).failed ≡ (if is_ok result then (source self.old).failed else (source self.old).failed + 1) }
         ensures ends { (source self.new).ends ≡ (if is_zero result then next_count (source self.old).ends else (source self.old).ends) };
 
@@ -62,7 +65,7 @@ pub trait ByteOut {
         requires countable { (sink self.old).failed + 1 < 2 ^ 64 }
         ensures count { IfOk result (λ n. n ≤ length bytes.now) }
         ensures ok { IfOk result (λ n. Appends (sink self.old) (take n bytes.now) (sink self.new)) }
-        ensures err { OnErr result ((sink self.new).written ≡ (sink self.old).written) }
+        ensures err { OnErr result (Keeps (sink self.old).written (sink self.new).written) }
         ensures failed { (sink self.new).failed ≡ (if is_ok result then (sink self.old).failed else (sink self.old).failed + 1) }
         ensures stalls { (sink self.new).stalls ≡ (if is_zero result then next_count (sink self.old).stalls else (sink self.old).stalls) }
         ensures flushes { (sink self.new).flushes ≡ (sink self.old).flushes };
@@ -75,7 +78,7 @@ pub trait ByteOut {
     /// `Failed` where that can't be done: `failures` rises by one.
     fn flush(&mut self) -> Result<(), Failed>
         requires { (sink self.old).failed + 1 < 2 ^ 64 }
-        ensures written { (sink self.new).written ≡ (sink self.old).written }
+        ensures written { Keeps (sink self.old).written (sink self.new).written }
         ensures failed { (sink self.new).failed ≡ (if is_ok result then (sink self.old).failed else (sink self.old).failed + 1) }
         ensures stalls { (sink self.new).stalls ≡ (sink self.old).stalls }
         ensures flushes { (sink self.new).flushes ≡ (if is_ok result then next_count (sink self.old).flushes else (sink self.old).flushes) };

@@ -1,9 +1,9 @@
 //! The engine: a machine that answers lines, and the loop that feeds it.
-ghost use Rattle.std.specs.Prelude.{◌≡◌, ℕ, ◌+◌, ◌<◌, ◌^◌, ◌++◌, [], List, length, take, IfOk, OnOk, OnErr, IfErr, Some};
-ghost use Rattle.coniks_lines.specs.Known.{Appends};
-ghost use Rattle.coniks_lines.specs.Lines.{whole_after, lines_of};
-ghost use Rattle.coniks_lines.specs.Machine.{Answer};
-ghost use Rattle.coniks_lines.specs.Runs.{WritesOn, CannotWrite, AnswersLine, AnswersWhole, AnswersAll, WritesPart, FailsAt, FailsAmong, EndsWell, EndsBadly};
+ghost use Rattle.std.specs.Prelude.{◌≡◌, ℕ, ◌+◌, ◌<◌, ◌^◌, ◌++◌, ◌∷◌, [], List, length, take, IfOk, OnOk, OnErr, IfErr, Some};
+ghost use Rattle.coniks_lines.specs.Known.{Source, Appends};
+ghost use Rattle.coniks_lines.specs.Lines.{whole_after};
+ghost use Rattle.coniks_lines.specs.Machine.{Answer, output};
+ghost use Rattle.coniks_lines.specs.Runs.{WritesOn, CannotWrite, AnswersLine, AnswersWhole, AnswersAll, WritesPart, StopsFor, EndsWell, EndsBadly};
 ghost use Rattle.coniks_lines.specs.declared.fault.RunFault.TheVariants.{Write};
 
 use crate::bytes::{ByteIn, ByteOut};
@@ -62,13 +62,13 @@ pub trait LineMachine {
 ///
 /// # Errors
 ///
-/// The run ends at the first fault.
+/// The run ends at the first fault, which is told for no other reason.
 ///
 /// - `Read` where a read failed, or 2^63 reads met no end: each line read with its newline is answered.
-/// - `Write` where a write or a flush failed or a write took 0 bytes: a beginning of the answers was
-///   written.
-/// - `OutOfMemory` where memory was refused: of the lines read with their newline the first ones are
-///   answered, and no more was written.
+/// - `Write` where a write or a flush failed or a write took 0 bytes: of the lines read the first ones are
+///   answered, and a beginning of the next answer was written.
+/// - `OutOfMemory` where memory was refused: of the lines read the first ones are answered, and no more
+///   was written.
 pub fn run_lines<M: LineMachine, R: ByteIn, W: ByteOut>(
     alloc: Global,
     machine: &mut M,
@@ -93,7 +93,7 @@ pub fn run_lines<M: LineMachine, R: ByteIn, W: ByteOut>(
         (W.sink writer.old) (W.sink writer.new)
         (M.state machine.new)) }
     ensures part_of { (input : List ℕ) → (R.source reader.old).left ≡ Some input
-        → OnErr result (WritesPart M.answer (M.state machine.old) (lines_of input)
+        → OnErr result (WritesPart (output M.answer (M.state machine.old) input)
         (W.sink writer.old) (W.sink writer.new)) }
 {
     let Ok(mut buffer) = vec![in alloc; 0; CHUNK] else {
@@ -155,8 +155,8 @@ fn take_chunk<M: LineMachine, W: ByteOut>(
     ensures ok { IfOk result (AnswersWhole M.answer (M.state machine.old) held.old.items chunk.now
         (W.sink writer.old) (W.sink writer.new)
         (M.state machine.new) held.new.items) }
-    ensures err { IfErr result (FailsAmong M.answer (M.state machine.old) (whole_after held.old.items chunk.now)
-        (W.sink writer.old) (W.sink writer.new)) }
+    ensures err { (still : Source) → IfErr result (StopsFor M.answer (M.state machine.old) (whole_after held.old.items chunk.now)
+        still still (W.sink writer.old) (W.sink writer.new)) }
 {
     let mut all = true;
     let mut start = 0;
@@ -186,8 +186,8 @@ fn end_line<M: LineMachine, W: ByteOut>(
         (W.sink writer.old) (W.sink writer.new)
         (M.state machine.new)) }
     ensures none_held { OnOk result (held.new.items ≡ []) }
-    ensures err { IfErr result (FailsAt M.answer (M.state machine.old) (held.old.items ++ part.now)
-        (W.sink writer.old) (W.sink writer.new)) }
+    ensures err { (still : Source) → IfErr result (StopsFor M.answer (M.state machine.old) ((held.old.items ++ part.now) ∷ [])
+        still still (W.sink writer.old) (W.sink writer.new)) }
 {
     if held.is_empty() {
         return answer_line(machine, part, out, writer);
@@ -212,8 +212,8 @@ fn answer_line<M: LineMachine, W: ByteOut>(
     ensures ok { IfOk result (AnswersLine M.answer (M.state machine.old) line.now
         (W.sink writer.old) (W.sink writer.new)
         (M.state machine.new)) }
-    ensures err { IfErr result (FailsAt M.answer (M.state machine.old) line.now
-        (W.sink writer.old) (W.sink writer.new)) }
+    ensures err { (still : Source) → IfErr result (StopsFor M.answer (M.state machine.old) (line.now ∷ [])
+        still still (W.sink writer.old) (W.sink writer.new)) }
 {
     out.clear();
     let Ok(accepted) = machine.step(line, out) else {
@@ -240,7 +240,7 @@ pub fn write_all<W: ByteOut>(writer: &mut W, bytes: &[u8]) -> Result<(), RunFaul
     requires { (W.sink writer.old).failed + 1 < 2 ^ 64 }
     ensures ok { OnOk result (Appends (W.sink writer.old) bytes.now (W.sink writer.new)) }
     ensures writes_on { OnOk result (WritesOn (W.sink writer.old) (W.sink writer.new)) }
-    ensures flushes { OnOk result ((W.sink writer.new).flushes ≡ (W.sink writer.old).flushes) }
+    ensures flushes { (W.sink writer.new).flushes ≡ (W.sink writer.old).flushes }
     ensures err { IfErr result (λ e. e ≡ Write) }
     ensures part { OnErr result ((n : ℕ) × Appends (W.sink writer.old) (take n bytes.now) (W.sink writer.new)) }
     ensures because { OnErr result (CannotWrite (W.sink writer.old) (W.sink writer.new)) }

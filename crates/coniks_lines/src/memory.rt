@@ -10,6 +10,7 @@ use std::alloc::Global;
 pub struct MemoryIn {
     bytes: Vec<u8>,
     at: usize,
+    reads: u64,
     ends: u64,
     ghost within: { at ≤ vec_len bytes },
 }
@@ -23,6 +24,7 @@ impl MemoryIn {
         MemoryIn {
             bytes,
             at: 0,
+            reads: 0,
             ends: 0,
         }
     }
@@ -31,13 +33,14 @@ impl MemoryIn {
 impl ByteIn for MemoryIn {
     ghost use Rattle.coniks_lines.specs.Known.{Source};
 
-    ghost source = { λ s. record { left = Some (drop s.at s.bytes.items); failed = 0; ends = s.ends } };
+    ghost source = { λ s. record { left = Some (drop s.at s.bytes.items); reads = s.reads; failed = 0; ends = s.ends } };
 
     fn read(&mut self, buffer: &mut [u8]) -> Result<usize, Failed> {
         let rest = &self.bytes[self.at..];
         let count = rest.len().min(buffer.len());
         buffer[..count].copy_from_slice(&rest[..count]);
         self.at += count;
+        self.reads = self.reads.wrapping_add(1);
         if count == 0 {
             self.ends = self.ends.wrapping_add(1);
         }

@@ -1,4 +1,4 @@
-//! Streams of the system, of whose bytes contracts know nothing.
+//! Streams over readers and writers of std. Contracts know of their bytes what these tell.
 ghost use Rattle.std.specs.Prelude.{◌≡◌};
 
 use crate::bytes::{ByteIn, ByteOut, Failed};
@@ -9,17 +9,20 @@ use std::io::{Read, Write};
 #[derive(Drop)]
 pub struct SystemIn<R> {
     reader: R,
+    reads: u64,
     failures: u64,
     ends: u64,
 }
 
 impl<R: Read + Drop> SystemIn<R> {
-    /// A source of the reader's bytes, of which no read has failed yet.
+    /// A source of the reader's bytes, told where the reader tells them, of which no read has failed yet.
     pub fn new(reader: R) -> Self
-        ensures { (⟦<SystemIn<R> as ByteIn>⟧.source result).failed ≡ 0 }
+        ensures left { (⟦<SystemIn<R> as ByteIn>⟧.source result).left ≡ R.remaining reader }
+        ensures failed { (⟦<SystemIn<R> as ByteIn>⟧.source result).failed ≡ 0 }
     {
         SystemIn {
             reader,
+            reads: 0,
             failures: 0,
             ends: 0,
         }
@@ -27,12 +30,12 @@ impl<R: Read + Drop> SystemIn<R> {
 }
 
 impl<R: Read + Drop> ByteIn for SystemIn<R> {
-    ghost use Rattle.std.specs.Prelude.{None};
     ghost use Rattle.coniks_lines.specs.Known.{Source};
 
-    ghost source = { λ s. record { left = None; failed = s.failures; ends = s.ends } };
+    ghost source = { λ s. record { left = R.remaining s.reader; reads = s.reads; failed = s.failures; ends = s.ends } };
 
     fn read(&mut self, buffer: &mut [u8]) -> Result<usize, Failed> {
+        self.reads = self.reads.wrapping_add(1);
         let Ok(count) = self.reader.read(buffer) else {
             self.failures += 1;
             return Err(Failed);
@@ -59,9 +62,10 @@ pub struct SystemOut<W> {
 }
 
 impl<W: Write + Drop> SystemOut<W> {
-    /// A sink for the writer, of which no write or flush has failed yet.
+    /// A sink for the writer, with the bytes that it tells, of which no write or flush has failed yet.
     pub fn new(writer: W) -> Self
-        ensures { (⟦<SystemOut<W> as ByteOut>⟧.sink result).failed ≡ 0 }
+        ensures written { (⟦<SystemOut<W> as ByteOut>⟧.sink result).written ≡ W.contents writer }
+        ensures failed { (⟦<SystemOut<W> as ByteOut>⟧.sink result).failed ≡ 0 }
     {
         SystemOut {
             writer,
@@ -73,10 +77,9 @@ impl<W: Write + Drop> SystemOut<W> {
 }
 
 impl<W: Write + Drop> ByteOut for SystemOut<W> {
-    ghost use Rattle.std.specs.Prelude.{None};
     ghost use Rattle.coniks_lines.specs.Known.{Sink};
 
-    ghost sink = { λ s. record { written = None; failed = s.failures; stalls = s.stalls; flushes = s.flushes } };
+    ghost sink = { λ s. record { written = W.contents s.writer; failed = s.failures; stalls = s.stalls; flushes = s.flushes } };
 
     fn write(&mut self, bytes: &[u8]) -> Result<usize, Failed> {
         let Ok(count) = self.writer.write(bytes) else {

@@ -1,16 +1,18 @@
 -- What comes of the program's words.
 use Rattle.std.proofs.Common.{◌≡◌, ◌≢◌, ◌≤◌, ◌⊎◌, inl, inr, ℕ, List, [], Bool, true, false, Option, Some, None, ap, arith, sym, subst, ◌∙◌}
-use Rattle.std.specs.Prelude.{◌&&◌, Result, Ok, Err, IfOk, is_none, is_some}
+use Rattle.std.specs.Prelude.{◌&&◌, Result, Ok, Err, IfErr, IfOk, is_none, is_some}
 use Rattle.std.proofs.lemmas.Bool.{false≢true}
+use Rattle.std.proofs.lemmas.Result.{IfErr-weaker}
 use Rattle.clap.specs.Words.{Kinds, IsAmong, fault_of, subcommand_of, takes}
 use Rattle.clap.specs.declared.error.Error.{Error}
 use Rattle.clap.specs.declared.error.kind.ErrorKind.{ErrorKind}
 use Rattle.coniks_lines.specs.declared.fault.RunFault.{RunFault}
+use Rattle.coniks_lines.specs.declared.fault.RunFault.TheVariants.{Read, Write, OutOfMemory as RunOutOfMemory, NoBoard}
 use Rattle.coniks_lines.specs.Known.{Source, Sink}
 use Rattle.coniks_tool.specs.Choice.{Choice, run, check, audit, monitor, chosen, key_in, lacks_key, lacks_expectation}
 use Rattle.coniks_tool.specs.Expectations.{expectation_in}
 use Rattle.coniks_tool.specs.Keydir.{keydir}
-use Rattle.coniks_tool.specs.Program.{AsksForHelp, ChooseNoRun, EndsBy, EndsFor, HasBadExpectation, HasBadKey, HasBadText, HasMistake, IfRefused, IsExplained, Runs, RunsFor, Tells, TellsIf, bad_expectation_line, bad_key_line, fault_line, status_of, told_of}
+use Rattle.coniks_tool.specs.Program.{AsksForHelp, ChooseNoRun, EndsBy, EndsFor, HasBadExpectation, HasBadKey, HasBadText, HasMistake, IfRefused, IsExplained, Runs, RunsFor, Tells, TellsIf, bad_expectation_line, bad_key_line, fault_line, status_of, told_of, Fails}
 use Rattle.coniks_tool.specs.declared.choice.WordsFault.{WordsFault}
 use Rattle.coniks_tool.specs.declared.choice.WordsFault.TheVariants.{Clap, OutOfMemory}
 use Rattle.coniks_tool.specs.declared.ending.Ending.{Ending}
@@ -89,14 +91,24 @@ quiet-below_2 (Ok BadKey) old new told low = absurd (omega (arith, low))
 quiet-below_2 (Ok BadExpectation) old new told low = absurd (omega (arith, low))
 quiet-below_2 (Err fault) old new told low = absurd (omega (arith, low))
 
--- at 3 a fault is told
-pub told-at_3 : (outcome : Result Ending RunFault) (old new : Sink) → TellsIf (told_of outcome) old new → status_of outcome ≡ 3 → (fault : RunFault) × Tells old (fault_line fault) new
-told-at_3 (Ok (Done true)) old new told is = absurd (omega (arith, is))
-told-at_3 (Ok (Done false)) old new told is = absurd (omega (arith, is))
-told-at_3 (Ok (Refused text)) old new told is = absurd (omega (arith, is))
-told-at_3 (Ok BadKey) old new told is = absurd (omega (arith, is))
-told-at_3 (Ok BadExpectation) old new told is = absurd (omega (arith, is))
-told-at_3 (Err fault) old new told is = (fault, told)
+-- at 3 the fault that ended it is told
+pub told-at_3 : {F : RunFault → Type 0} (outcome : Result Ending RunFault) (old new : Sink) → TellsIf (told_of outcome) old new → IfErr outcome F → status_of outcome ≡ 3 → (fault : RunFault) × (Tells old (fault_line fault) new × F fault)
+told-at_3 (Ok (Done true)) old new told fails is = absurd (omega (arith, is))
+told-at_3 (Ok (Done false)) old new told fails is = absurd (omega (arith, is))
+told-at_3 (Ok (Refused text)) old new told fails is = absurd (omega (arith, is))
+told-at_3 (Ok BadKey) old new told fails is = absurd (omega (arith, is))
+told-at_3 (Ok BadExpectation) old new told fails is = absurd (omega (arith, is))
+told-at_3 (Err fault) old new told fails is = (fault, (told, fails))
+
+-- what is never for want of a board
+fails_so : (wanted : Type 0) (from from' : Source) (to to' : Sink) (fault : RunFault) → Fails ⊥ from from' to to' fault → Fails wanted from from' to to' fault
+fails_so wanted from from' to to' Read fails = fails
+fails_so wanted from from' to to' Write fails = fails
+fails_so wanted from from' to to' RunOutOfMemory fails = fails
+fails_so wanted from from' to to' NoBoard fails = absurd fails.0
+
+pub fails_with_no_board : (wanted : Type 0) (from from' : Source) (to to' : Sink) (outcome : Result Ending RunFault) → IfErr outcome (Fails ⊥ from from' to to') → IfErr outcome (Fails wanted from from' to to')
+fails_with_no_board wanted from from' to to' outcome fails = IfErr-weaker outcome (Fails ⊥ from from' to to') (Fails wanted from from' to to') (fails_so wanted from from' to to') fails
 
 module _ (words : List (List ℕ)) (from from' : Source) (to to' : Sink) where
   -- the ending of the run that the words choose is one for the words

@@ -5,7 +5,7 @@ use Rattle.clap.specs.Words.{Kinds, IsAmong, fault_of, subcommand_of}
 use Rattle.clap.specs.declared.error.kind.ErrorKind.{ErrorKind}
 use Rattle.clap.specs.declared.error.kind.ErrorKind.TheVariants.{DisplayHelp, DisplayVersion}
 use Rattle.coniks_lines.specs.Known.{Source, Sink, Appends, next_count}
-use Rattle.coniks_lines.specs.Runs.{IsBeginning, WritesOn, CannotWrite, EndsWell}
+use Rattle.coniks_lines.specs.Runs.{IsBeginning, WritesOn, CannotRead, CannotWrite, EndsWell}
 use Rattle.coniks_lines.specs.declared.fault.RunFault.{RunFault}
 use Rattle.coniks_lines.specs.declared.fault.RunFault.TheVariants.{Read, Write, OutOfMemory, NoBoard}
 use Rattle.coniks_tool.specs.Audit.{AuditState, audit_answer, none_audited}
@@ -165,6 +165,26 @@ abbrev pub IsExplained : ErrorKind → Ending → Type 0
 IsExplained kind (Done true) = is_asked_for kind ≡ true
 IsExplained kind (Refused text) = is_asked_for kind ≡ false
 IsExplained kind _ = ⊥
+
+-- a run of this choice has a board
+abbrev pub HasBoard : Option Choice → Type 0
+HasBoard None = ⊥
+HasBoard (Some (run workers depth)) = Unit {0}
+HasBoard (Some check) = ⊥
+HasBoard (Some (audit text)) = ⊥
+HasBoard (Some (monitor text name expect)) = ⊥
+
+-- `clap` finds no fault in the words, and the run that they choose has a board
+pub record AsksForBoard (words : List (List ℕ)) : Type 0 where
+  pub faultless : fault_of keydir words ≡ []
+  pub has_board : HasBoard (chosen (subcommand_of keydir words))
+
+-- what each fault says: which stream did not go on, if one did not; without a board, that one was wanted, and that nothing was read or written
+abbrev pub Fails : Type 0 → Source → Source → Sink → Sink → RunFault → Type 0
+Fails wanted from from' to to' Read = CannotRead from from' × WritesOn to to'
+Fails wanted from from' to to' Write = (from'.failed ≡ from.failed) × CannotWrite to to'
+Fails wanted from from' to to' OutOfMemory = (from'.failed ≡ from.failed) × WritesOn to to'
+Fails wanted from from' to to' NoBoard = wanted × ((from' ≡ from) × (to' ≡ to))
 
 -- the fact holds where `clap` refused the words
 abbrev pub IfRefused : Ending → Type 0 → Type 0

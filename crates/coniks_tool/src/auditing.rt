@@ -2,6 +2,7 @@
 
 ghost use Rattle.std.specs.Prelude.{◌≡◌, ◌<◌, ◌+◌, ◌^◌, ◌↔◌, ℕ, List, IfOk, IfErr, OnOk, OnErr, Some, true};
 ghost use Rattle.coniks_lines.specs.Lines.{lines_of};
+ghost use Rattle.coniks_lines.specs.Machine.{output};
 ghost use Rattle.coniks_lines.specs.Runs.{AnswersAll, EndsBadly, EndsWell, WritesPart};
 ghost use Rattle.coniks_tool.specs.Audit.{AuditState, audit_answer, audit_turn, entry_turn, none_audited};
 ghost use Rattle.coniks_tool.specs.AuditChain.{HoldsGoodChain};
@@ -102,7 +103,7 @@ pub fn run_audit<R: ByteIn, W: ByteOut>(
         (W.sink writer.old) (W.sink writer.new)
         state all) }
     ensures part_of { (input : List ℕ) → (R.source reader.old).left ≡ Some input
-        → OnErr result (WritesPart audit_answer (none_audited key) (lines_of input)
+        → OnErr result (WritesPart (output audit_answer (none_audited key) input)
         (W.sink writer.old) (W.sink writer.new)) }
     ensures chain { (input : List ℕ) → (R.source reader.old).left ≡ Some input
         → IfOk result (λ all. (all ≡ true) ↔ HoldsGoodChain key (lines_of input)) }

@@ -2,7 +2,7 @@
 
 ghost use Rattle.std.specs.Prelude.{◌≡◌, ◌<◌, ◌+◌, ◌^◌, ◌++◌, ℕ, List, Ok, IfOk, IfErr, OnOk, OnErr, Some};
 ghost use Rattle.serde_json.specs.View.{view};
-ghost use Rattle.coniks_lines.specs.Lines.{lines_of};
+ghost use Rattle.coniks_lines.specs.Machine.{output};
 ghost use Rattle.coniks_lines.specs.Runs.{AnswersAll, EndsBadly, EndsWell, WritesPart};
 ghost use Rattle.coniks_tool.specs.Check.{Stateless, asked_by, asked_in, check_answer, question_outcome, stateless};
 ghost use Rattle.coniks_tool.specs.CheckReplies.{check_outcome, check_text, is_answered};
@@ -105,7 +105,7 @@ pub fn run_check<R: ByteIn, W: ByteOut>(
         (W.sink writer.old) (W.sink writer.new)
         state all) }
     ensures part_of { (input : List ℕ) → (R.source reader.old).left ≡ Some input
-        → OnErr result (WritesPart check_answer stateless (lines_of input)
+        → OnErr result (WritesPart (output check_answer stateless input)
         (W.sink writer.old) (W.sink writer.new)) }
 {
     let mut checking = Checking { alloc };

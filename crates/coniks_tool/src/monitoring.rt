@@ -2,7 +2,7 @@
 
 ghost use Rattle.std.specs.Prelude.{◌≡◌, ◌<◌, ◌+◌, ◌^◌, ℕ, List, codes, IfOk, IfErr, OnOk, OnErr, Some};
 ghost use Rattle.serde_json.specs.View.{view};
-ghost use Rattle.coniks_lines.specs.Lines.{lines_of};
+ghost use Rattle.coniks_lines.specs.Machine.{output};
 ghost use Rattle.coniks_lines.specs.Runs.{AnswersAll, EndsBadly, EndsWell, WritesPart};
 ghost use Rattle.coniks_tool.specs.EntryLines.{entry_in};
 ghost use Rattle.coniks_tool.specs.Expectations.{expected_in};
@@ -161,7 +161,7 @@ pub fn run_monitor<R: ByteIn, W: ByteOut>(
         (W.sink writer.old) (W.sink writer.new)
         state all) }
     ensures part_of { (input : List ℕ) → (R.source reader.old).left ≡ Some input
-        → OnErr result (WritesPart monitor_answer (none_watched key name expected) (lines_of input)
+        → OnErr result (WritesPart (output monitor_answer (none_watched key name expected) input)
         (W.sink writer.old) (W.sink writer.new)) }
 {
     let index = DemoIndex::new(key).index(name.as_slice());

@@ -1,10 +1,11 @@
 //! Runs what the words chose.
 
-ghost use Rattle.std.specs.Prelude.{◌≡◌, ◌<◌, ◌≤◌, ◌+◌, ◌^◌, IfOk, List, None, Some, option_map, ℕ};
+ghost use Rattle.std.specs.Prelude.{◌≡◌, ◌<◌, ◌≤◌, ◌+◌, ◌^◌, IfOk, List, None, Some, option_map, ℕ, IfErr};
 ghost use Rattle.coniks_tool.specs.Choice.{audit, check, choice_of, key_in, monitor, run, IsWithin, Lacks};
 ghost use Rattle.coniks_tool.specs.Expectations.{expectation_in};
-ghost use Rattle.coniks_tool.specs.Program.{EndsBy};
+ghost use Rattle.coniks_tool.specs.Program.{EndsBy, Fails, HasBoard};
 ghost use Rattle.coniks_directory.specs.Batches.{AreWorkers};
+ghost use Rattle.coniks_lines.specs.declared.fault.RunFault.TheVariants.{OutOfMemory};
 ghost use Rattle.coniks_work.specs.declared.jobs.TheConstants.{MAX_DEPTH};
 
 use crate::auditing::run_audit;
@@ -34,6 +35,7 @@ pub(crate) fn run_settings<T: Threads + Sync, R: ByteIn, W: ByteOut>(
     ensures ends { IfOk result (EndsBy (Some (choice_of settings.entry)) (R.source reader.old) (R.source reader.new) (W.sink writer.old) (W.sink writer.new)) }
     ensures idle_reader { Lacks (Some (choice_of settings.entry)) → R.source reader.new ≡ R.source reader.old }
     ensures idle_writer { Lacks (Some (choice_of settings.entry)) → W.sink writer.new ≡ W.sink writer.old }
+    ensures fails { IfErr result (Fails (HasBoard (Some (choice_of settings.entry))) (R.source reader.old) (R.source reader.new) (W.sink writer.old) (W.sink writer.new)) }
 {
     match settings {
         Settings::Run { workers, depth } => {
@@ -61,6 +63,7 @@ fn answer_lines<T: Threads + Sync, R: ByteIn, W: ByteOut>(
     requires reads { (R.source reader.old).failed + 1 < 2 ^ 64 }
     requires writes { (W.sink writer.old).failed + 1 < 2 ^ 64 }
     ensures ends { IfOk result (EndsBy (Some (run workers depth)) (R.source reader.old) (R.source reader.new) (W.sink writer.old) (W.sink writer.new)) }
+    ensures fails { IfErr result (Fails (Unit {0}) (R.source reader.old) (R.source reader.new) (W.sink writer.old) (W.sink writer.new)) }
 {
     let all = run_script(rt, alloc, reader, writer, workers, depth)?;
     Ok(Ending::Done(all))
@@ -75,6 +78,7 @@ fn check_lines<R: ByteIn, W: ByteOut>(
     requires reads { (R.source reader.old).failed + 1 < 2 ^ 64 }
     requires writes { (W.sink writer.old).failed + 1 < 2 ^ 64 }
     ensures ends { IfOk result (EndsBy (Some check) (R.source reader.old) (R.source reader.new) (W.sink writer.old) (W.sink writer.new)) }
+    ensures fails { IfErr result (Fails ⊥ (R.source reader.old) (R.source reader.new) (W.sink writer.old) (W.sink writer.new)) }
 {
     Ok(Ending::Done(run_check(alloc, reader, writer)?))
 }
@@ -91,6 +95,7 @@ fn audit_under<R: ByteIn, W: ByteOut>(
     ensures ends { IfOk result (EndsBy (Some (audit key.now)) (R.source reader.old) (R.source reader.new) (W.sink writer.old) (W.sink writer.new)) }
     ensures idle_reader { Lacks (Some (audit key.now)) → R.source reader.new ≡ R.source reader.old }
     ensures idle_writer { Lacks (Some (audit key.now)) → W.sink writer.new ≡ W.sink writer.old }
+    ensures fails { IfErr result (Fails ⊥ (R.source reader.old) (R.source reader.new) (W.sink writer.old) (W.sink writer.new)) }
 {
     let Some(key) = bytes_of_digits(key) else {
         return Ok(Ending::BadKey);
@@ -112,6 +117,7 @@ fn watch_under<R: ByteIn, W: ByteOut>(
     ensures ends { IfOk result (EndsBy (Some (monitor key.now name.now (option_map (λ text. text.now) expect.entry))) (R.source reader.old) (R.source reader.new) (W.sink writer.old) (W.sink writer.new)) }
     ensures idle_reader { Lacks (Some (monitor key.now name.now (option_map (λ text. text.now) expect.entry))) → R.source reader.new ≡ R.source reader.old }
     ensures idle_writer { Lacks (Some (monitor key.now name.now (option_map (λ text. text.now) expect.entry))) → W.sink writer.new ≡ W.sink writer.old }
+    ensures fails { IfErr result (Fails ⊥ (R.source reader.old) (R.source reader.new) (W.sink writer.old) (W.sink writer.new)) }
 {
     match bytes_of_digits(key) {
         Some(key) => watch(alloc, key, name, expect, reader, writer),
@@ -133,6 +139,7 @@ fn watch<R: ByteIn, W: ByteOut>(
     ensures ends { (digits : List ℕ) → key_in digits ≡ Some key → IfOk result (EndsBy (Some (monitor digits name.now (option_map (λ text. text.now) expect.entry))) (R.source reader.old) (R.source reader.new) (W.sink writer.old) (W.sink writer.new)) }
     ensures idle_reader { expectation_in (option_map (λ text. text.now) expect.entry) ≡ None → R.source reader.new ≡ R.source reader.old }
     ensures idle_writer { expectation_in (option_map (λ text. text.now) expect.entry) ≡ None → W.sink writer.new ≡ W.sink writer.old }
+    ensures fails { IfErr result (Fails ⊥ (R.source reader.old) (R.source reader.new) (W.sink writer.old) (W.sink writer.new)) }
 {
     let Some(expected) = expectation_of(alloc, expect)? else {
         return Ok(Ending::BadExpectation);
@@ -144,7 +151,8 @@ fn watch<R: ByteIn, W: ByteOut>(
 
 /// What the text of an expectation says, `None` where it isn't base64.
 fn expectation_of(alloc: Global, text: Option<&str>) -> Result<Option<Option<Bytes>>, RunFault>
-    ensures { IfOk result (λ expected. expected ≡ expectation_in (option_map (λ t. t.now) text.entry)) }
+    ensures ok { IfOk result (λ expected. expected ≡ expectation_in (option_map (λ t. t.now) text.entry)) }
+    ensures fault { IfErr result (λ fault. fault ≡ OutOfMemory) }
 {
     match expectation(alloc, text) {
         Ok(expected) => Ok(expected),
@@ -154,7 +162,8 @@ fn expectation_of(alloc: Global, text: Option<&str>) -> Result<Option<Option<Byt
 
 /// The bytes of a text.
 fn copy_of(alloc: Global, text: &str) -> Result<Bytes, RunFault>
-    ensures { IfOk result (λ copy. copy ≡ text.now) }
+    ensures ok { IfOk result (λ copy. copy ≡ text.now) }
+    ensures fault { IfErr result (λ fault. fault ≡ OutOfMemory) }
 {
     match Bytes::copy_of(alloc, text.as_bytes()) {
         Ok(copy) => Ok(copy),

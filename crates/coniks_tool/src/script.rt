@@ -3,7 +3,7 @@
 ghost use Rattle.std.specs.Prelude.{◌≡◌, ◌<◌, ◌≤◌, ◌+◌, ◌^◌, ℕ, List, None, Some, IfOk, IfErr, OnOk, OnErr, codes};
 ghost use Rattle.serde_json.specs.View.{view};
 ghost use Rattle.coniks_directory.specs.Batches.{AreWorkers};
-ghost use Rattle.coniks_lines.specs.Lines.{lines_of};
+ghost use Rattle.coniks_lines.specs.Machine.{output};
 ghost use Rattle.coniks_lines.specs.Runs.{AnswersAll, EndsWell, WritesPart};
 ghost use Rattle.coniks_work.specs.declared.jobs.TheConstants.{MAX_DEPTH};
 ghost use Rattle.coniks_tool.specs.Members.{array_in, digits_in, number_in, text_in};
@@ -158,7 +158,7 @@ pub fn run_script<T: Threads + Sync, R: ByteIn, W: ByteOut>(
         (W.sink writer.old) (W.sink writer.new)
         state all) }
     ensures part_of { (input : List ℕ) → (R.source reader.old).left ≡ Some input
-        → OnErr result (WritesPart script_answer None (lines_of input)
+        → OnErr result (WritesPart (output script_answer None input)
         (W.sink writer.old) (W.sink writer.new)) }
 {
     let store = match Store::new(alloc) {

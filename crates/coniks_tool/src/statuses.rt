@@ -1,10 +1,11 @@
 //! The whole program over its streams.
 
-ghost use Rattle.std.specs.Prelude.{◌≡◌, ◌≢◌, ◌⊎◌, ◌<◌, ◌≤◌, ◌+◌, ◌^◌, IfOk, false, map, true};
+ghost use Rattle.std.specs.Prelude.{◌≡◌, ◌≢◌, ◌⊎◌, ◌<◌, ◌≤◌, ◌+◌, ◌^◌, IfErr, IfOk, false, map, true};
 ghost use Rattle.clap.specs.Words.{fault_of, kind_of, takes};
+ghost use Rattle.coniks_lines.specs.Known.{Source};
 ghost use Rattle.coniks_lines.specs.declared.fault.RunFault.{RunFault as Fault};
 ghost use Rattle.coniks_tool.specs.Keydir.{keydir};
-ghost use Rattle.coniks_tool.specs.Program.{bad_expectation_line, bad_key_line, fault_line, status_of, told_of, unread_line, unread_status, AsksForHelp, ChooseNoRun, EndsFor, HasBadExpectation, HasBadKey, HasBadText, HasMistake, IfRefused, IsExplained, RunsFor, Tells, TellsIf};
+ghost use Rattle.coniks_tool.specs.Program.{bad_expectation_line, bad_key_line, fault_line, status_of, told_of, unread_line, unread_status, AsksForHelp, ChooseNoRun, EndsFor, HasBadExpectation, HasBadKey, HasBadText, HasMistake, IfRefused, IsExplained, RunsFor, Tells, TellsIf, AsksForBoard, Fails};
 
 use crate::choice::{Unread, WordsFault};
 use crate::ending::{Ending, fault_text, status, told};
@@ -22,8 +23,8 @@ use std::thread::Threads;
 /// 0: the run accepted every line, or help or the version was asked for, which goes to `writer`. 1: the run
 /// refused a line, or a proof showed something else than what is expected. 2: `clap` refused the words, and its text goes to `errors`; or the key that they
 /// give isn't 64 hexadecimal digits, or the key is one and the expectation that they give isn't
-/// base64, and `errors` gets a line that says so. 3: a read or a write failed, or memory ran out;
-/// `errors` gets a line that says which. A failure of `errors` changes no status.
+/// base64, and `errors` gets a line that says so. 3: a read or a write failed, memory ran out, or `run` could have no
+/// board; `errors` gets a line that says which. A failure of `errors` changes no status.
 pub fn program<T: Threads + Sync, S: AsStr, R: ByteIn, W: ByteOut, E: ByteOut>(
     rt: &T,
     alloc: Global,
@@ -55,7 +56,9 @@ pub fn program<T: Threads + Sync, S: AsStr, R: ByteIn, W: ByteOut, E: ByteOut>(
     ensures idle_writer { HasBadText (map S.text words.entry.now) → W.sink writer.new ≡ W.sink writer.old }
     ensures bad_key_told { HasBadKey (map S.text words.entry.now) → result ≡ 2 → Tells (E.sink errors.old) bad_key_line (E.sink errors.new) }
     ensures bad_expectation_told { HasBadExpectation (map S.text words.entry.now) → result ≡ 2 → Tells (E.sink errors.old) bad_expectation_line (E.sink errors.new) }
-    ensures told { result ≡ 3 → (fault : Fault) × Tells (E.sink errors.old) (fault_line fault) (E.sink errors.new) }
+    // At 3 the line that is told is that of the fault that ended the run, and of no other.
+    ensures told { result ≡ 3 → (fault : Fault) × (Tells (E.sink errors.old) (fault_line fault) (E.sink errors.new)
+        × Fails (AsksForBoard (map S.text words.entry.now)) (R.source reader.old) (R.source reader.new) (W.sink writer.old) (W.sink writer.new) fault) }
 {
     let outcome = obey(rt, alloc, words, reader, writer);
     conclude(&outcome, errors)
@@ -110,6 +113,7 @@ fn obey<T: Threads + Sync, S: AsStr, R: ByteIn, W: ByteOut>(
     ensures unwritten { IfOk result (λ ending. IfRefused ending (W.sink writer.new ≡ W.sink writer.old)) }
     ensures idle_reader { ChooseNoRun (map S.text words.entry.now) → R.source reader.new ≡ R.source reader.old }
     ensures idle_writer { HasBadText (map S.text words.entry.now) → W.sink writer.new ≡ W.sink writer.old }
+    ensures fails { IfErr result (Fails (AsksForBoard (map S.text words.entry.now)) (R.source reader.old) (R.source reader.new) (W.sink writer.old) (W.sink writer.new)) }
 {
     match settings(alloc, words) {
         Ok(settings) => run_settings(rt, alloc, settings, reader, writer),
@@ -123,6 +127,7 @@ fn explain<W: ByteOut>(alloc: Global, error: Error, writer: &mut W) -> Result<En
     requires { (W.sink writer.old).failed + 1 < 2 ^ 64 }
     ensures kind { IfOk result (IsExplained (kind_of error)) }
     ensures unwritten { IfOk result (λ ending. IfRefused ending (W.sink writer.new ≡ W.sink writer.old)) }
+    ensures fails { (still : Source) → IfErr result (Fails ⊥ still still (W.sink writer.old) (W.sink writer.new)) }
 {
     let Ok(text) = error.to_string(alloc) else {
         return Err(RunFault::OutOfMemory);

@@ -190,26 +190,6 @@ fn a_read_fails(rt: HostRuntime) {
     assert_eq!(rt; ended.failures, 0);
 }
 
-/// Refuses each read, write and flush.
-#[derive(Drop)]
-struct Broken;
-
-impl io::Read for Broken {
-    fn read(&mut self, _buf: &mut [u8]) -> io::Result<usize> {
-        Err(io::Error::from(io::ErrorKind::BrokenPipe))
-    }
-}
-
-impl io::Write for Broken {
-    fn write(&mut self, _buf: &[u8]) -> io::Result<usize> {
-        Err(io::Error::from(io::ErrorKind::BrokenPipe))
-    }
-
-    fn flush(&mut self) -> io::Result<()> {
-        Err(io::Error::from(io::ErrorKind::BrokenPipe))
-    }
-}
-
 #[test]
 fn streams_of_the_system(rt: HostRuntime) {
     let alloc = rt.alloc();
@@ -222,25 +202,6 @@ fn streams_of_the_system(rt: HostRuntime) {
     assert_eq!(rt; reader.failures(), 0);
     assert_eq!(rt; writer.failures(), 0);
     assert!(rt; written.as_slice() == b"0a\n1b\n".as_slice());
-}
-
-#[test]
-fn streams_of_the_system_that_fail(rt: HostRuntime) {
-    let alloc = rt.alloc();
-    let mut writer = MemoryOut::new(alloc);
-    let mut broken = SystemIn::new(Broken);
-    let all = run_lines(alloc, &mut Echo { odd: false }, &mut broken, &mut writer);
-    assert!(rt; all == Err(RunFault::Read));
-    assert_eq!(rt; broken.failures(), 1);
-
-    let input: &[u8] = b"a\nb";
-    let mut reader = SystemIn::new(input);
-    let mut broken = SystemOut::new(Broken);
-    let all = run_lines(alloc, &mut Echo { odd: false }, &mut reader, &mut broken);
-    assert!(rt; all == Err(RunFault::Write));
-    assert_eq!(rt; broken.failures(), 1);
-    assert!(rt; broken.flush().is_err());
-    assert_eq!(rt; broken.failures(), 2);
 }
 
 #[test]

@@ -11,6 +11,7 @@ pub struct SlowIn {
     at: usize,
     gives: usize,
     reads_left: u64,
+    reads: u64,
     failures: u64,
     ends: u64,
     ghost within: { at ≤ vec_len bytes },
@@ -25,6 +26,7 @@ impl SlowIn {
             at: 0,
             gives,
             reads_left: reads,
+            reads: 0,
             failures: 0,
             ends: 0,
         }
@@ -35,9 +37,10 @@ impl ByteIn for SlowIn {
     ghost use Rattle.std.specs.Prelude.{None};
     ghost use Rattle.coniks_lines.specs.Known.{Source};
 
-    ghost source = { λ s. record { left = None; failed = s.failures; ends = s.ends } };
+    ghost source = { λ s. record { left = None; reads = s.reads; failed = s.failures; ends = s.ends } };
 
     fn read(&mut self, buffer: &mut [u8]) -> Result<usize, Failed> {
+        self.reads = self.reads.wrapping_add(1);
         if self.reads_left == 0 {
             self.failures += 1;
             return Err(Failed);

@@ -1,10 +1,10 @@
-use Rattle.std.proofs.Common.{◌≡◌, ◌≢◌, ℕ, ◌+◌, ◌%◌, ◌^◌, List, [], ◌++◌, take, arith, ap, ◌∙◌, subst, ◌&&◌}
+use Rattle.std.proofs.Common.{◌≡◌, ◌≢◌, ℕ, ◌+◌, ◌%◌, ◌^◌, List, [], ◌∷◌, ◌++◌, take, arith, ap, ◌∙◌, subst, inl, inr, ◌&&◌}
 use Rattle.std.proofs.lemmas.Result.{err_from_is_err_and}
 use Rattle.std.proofs.lemmas.Grind.{common_steps}
-use Rattle.std.proofs.lemmas.List.{length-take, length-append}
-use Rattle.coniks_lines.specs.Runs.{AnswersLine, FailsAt}
-use Rattle.coniks_lines.proofs.KnownLemmas.{Takes-then, Takes-end}
-use Rattle.coniks_lines.proofs.RunsLemmas.{ReadsOn, AnswersWhole-then, ReadsOn-then, ReadsOn-end, fails_in_chunk, fails_at_last, ends_empty, ends_with_line, AnswersAll-same}
+use Rattle.std.specs.Io.KnownBytes.{Keeps}
+use Rattle.coniks_lines.specs.Runs.{AnswersLine, StopsFor}
+use Rattle.coniks_lines.proofs.KnownLemmas.{Takes-then, Takes-end, Takes-same}
+use Rattle.coniks_lines.proofs.RunsLemmas.{ReadsOn, Counted, AnswersWhole-then, ReadsOn-then, ReadsOn-end, ends_in_chunk, ends_at_last, ends_unread, Counted-next, Counted-some, ends_empty, ends_with_line, AnswersAll-same}
 use Rattle.coniks_lines.proofs.engine.read_lines.Goals as goal
 use Rattle.coniks_lines.proofs.engine.read_lines.Goals.{then-not-is_empty+in_ok-accepted, else-not-is_empty}
 
@@ -19,16 +19,18 @@ returns-in_err-accepted-clause-err g c =
     let bytes = loop.invariant.0 in
     let inv = loop.invariant.1 in
     let e = c.in_err-accepted.field-0.0 in
+    let from = source c.args.reader.now in
+    let from' = source c.read.new.self in
     let new = sink c.answer_line.new.writer in
-    let at_line = subst (λ (line : List ℕ). FailsAt answer (state loop.machine) line (sink loop.writer) new e) c.deref.ensures.value c.in_err-accepted.ensures.err in
+    let at_line = subst (λ (line : List ℕ). StopsFor answer (state loop.machine) (line ∷ []) from from (sink loop.writer) new e) c.deref.ensures.value (c.in_err-accepted.ensures.err from) in
     let some : loop.held.items ≢ [] = grind (arith, common_steps) in
-    let ends : (source c.read.new.self).ends ≡ (((source loop.reader).ends + 1) % 2 ^ 64) = grind (arith, common_steps) in
-    let ended = ReadsOn-end (source c.args.reader.now) (source loop.reader) (source c.read.new.self) inv.reads_on ends (c.in-Ok.ensures.none_left c.if-count-eq0.true) in
-    rw (p.1, p.2) (record {
-      bytes = bytes;
-      read = Takes-end (source c.args.reader.now) (source loop.reader) (source c.read.new.self) bytes c.read.new.buffer c.in-Ok.count inv.taken c.in-Ok.ensures.taken c.if-count-eq0.true;
-      fails = fails_at_last answer (state c.args.machine.now) (state loop.machine) loop.held.items bytes (source c.args.reader.now) (source c.read.new.self) (sink c.args.writer.now) (sink loop.writer) new loop.all e some ended inv.answers at_line;
-    })
+    let ends : from'.ends ≡ (((source loop.reader).ends + 1) % 2 ^ 64) = grind (arith, common_steps) in
+    let failed : from'.failed ≡ (source loop.reader).failed = grind (arith, common_steps) in
+    let ended = ReadsOn-end from (source loop.reader) from' inv.reads_on ends (c.in-Ok.ensures.none_left c.if-count-eq0.true) in
+    let took = Takes-end from (source loop.reader) from' bytes c.read.new.buffer c.in-Ok.count inv.taken c.in-Ok.ensures.taken c.if-count-eq0.true in
+    rw (p.1, p.2)
+    (ends_at_last answer (state c.args.machine.now) (state loop.machine) loop.held.items bytes from from' (sink c.args.writer.now) (sink loop.writer) new loop.all e
+    some took (failed ∙ inv.reads_on.none_failed) ended inv.answers at_line)
 
 pub returns-then-count-eq0-clause-ok : goal.returns-then-count-eq0-clause-ok
 returns-then-count-eq0-clause-ok g c =
@@ -75,12 +77,12 @@ returns-in_err-accepted-2-clause-err g c =
     let bytes = loop.invariant.0 in
     let inv = loop.invariant.1 in
     let chunk = take c.in-Ok.count c.read.new.buffer in
-    rw (p.1, p.2) (record {
-      bytes = bytes ++ chunk;
-      read = Takes-then (source c.args.reader.now) (source loop.reader) (source c.read.new.self) bytes chunk inv.taken c.in-Ok.ensures.taken;
-      fails = fails_in_chunk answer (state c.args.machine.now) (state loop.machine) loop.held.items bytes chunk (source c.args.reader.now) (source c.read.new.self)
-          (sink c.args.writer.now) (sink loop.writer) (sink c.take_chunk.new.writer) loop.all c.in_err-accepted-2.field-0.0 inv.answers c.in_err-accepted-2.ensures.err;
-    })
+    let from = source c.args.reader.now in
+    let from' = source c.read.new.self in
+    let failed : from'.failed ≡ (source loop.reader).failed = grind (arith, common_steps) in
+    rw (p.1, p.2)
+    (ends_in_chunk answer (state c.args.machine.now) (state loop.machine) loop.held.items bytes chunk from from' (sink c.args.writer.now) (sink loop.writer) (sink c.take_chunk.new.writer) loop.all c.in_err-accepted-2.field-0.0
+    (Takes-then from (source loop.reader) from' bytes chunk inv.taken c.in-Ok.ensures.taken) (failed ∙ inv.reads_on.none_failed) inv.answers (c.in_err-accepted-2.ensures.err from))
 
 pub loop-reads-preserved : goal.loop-reads-preserved
 loop-reads-preserved g c =
@@ -98,8 +100,39 @@ loop-reads-preserved g c =
       bytes ++ chunk,
       record {
         taken = Takes-then (source c.args.reader.now) (source loop.reader) (source c.read.new.self) bytes chunk inv.taken c.in-Ok.ensures.taken;
-        enough = omega (arith, length-append bytes chunk, length-take c.in-Ok.count c.read.new.buffer, inv.enough, c.in-Ok.ensures.count, c.if-count-eq0.false);
+        counted = Counted-next loop._reads (source c.args.reader.now).reads (source loop.reader).reads (source c.read.new.self).reads inv.counted c.in-Ok.ensures.reads;
         answers = AnswersWhole-then answer (state c.args.machine.now) (state loop.machine) (state new.machine) [] loop.held.items new.held.items bytes chunk (sink c.args.writer.now) (sink loop.writer) (sink new.writer) loop.all c.in_ok-accepted-2.accepted inv.answers told.ok;
         reads_on = ReadsOn-then (source c.args.reader.now) (source loop.reader) (source c.read.new.self) inv.reads_on on;
       },
     )
+
+pub returns-in_default-clause-err : goal.returns-in_default-clause-err
+returns-in_default-clause-err g c =
+    let sink = g.W.ByteOut.sink in
+    let source = g.R.ByteIn.source in
+    let state = g.M.LineMachine.state in
+    let loop = c.loop-reads in
+    let bytes = loop.invariant.0 in
+    let inv = loop.invariant.1 in
+    let from = source c.args.reader.now in
+    let from' = source c.read.new.self in
+    let kept : Keeps (source loop.reader).left from'.left = grind (arith, common_steps) in
+    let failed : from'.failed ≡ (source loop.reader).failed + 1 = grind (arith, common_steps) in
+    let ends : from'.ends ≡ (source loop.reader).ends = grind (arith, common_steps) in
+    ends_unread g.M.LineMachine.answer (state c.args.machine.now) (state loop.machine) loop.held.items bytes from from' (sink c.args.writer.now) (sink loop.writer) loop.all
+    (Takes-same from (source loop.reader) from' bytes inv.taken kept) (ends ∙ inv.reads_on.not_ended, inl (failed ∙ ap (λ (n : ℕ). n + 1) inv.reads_on.none_failed)) inv.answers
+
+pub returns-clause-err : goal.returns-clause-err
+returns-clause-err g c =
+    let sink = g.W.ByteOut.sink in
+    let source = g.R.ByteIn.source in
+    let state = g.M.LineMachine.state in
+    let loop = c.loop-reads in
+    let bytes = loop.invariant.0 in
+    let inv = loop.invariant.1 in
+    let from = source c.args.reader.now in
+    let from' = source loop.reader in
+    let many : loop._reads ≡ 2 ^ 63 = omega (arith, c.loop-reads-test.false, loop.auto._reads-end) in
+    let counted = subst (λ (k : ℕ). Counted k from.reads from'.reads) many inv.counted in
+    ends_unread g.M.LineMachine.answer (state c.args.machine.now) (state loop.machine) loop.held.items bytes from from' (sink c.args.writer.now) (sink loop.writer) loop.all
+    inv.taken (inv.reads_on.not_ended, inr (Counted-some (2 ^ 63) from.reads from'.reads (omega arith) counted)) inv.answers

@@ -1,7 +1,7 @@
 use Rattle.std.proofs.lemmas.Result.{IfOk-weaker, IfErr-weaker}
-use Rattle.coniks_lines.specs.Lines.{lines_of}
+use Rattle.coniks_lines.specs.Machine.{output}
 use Rattle.coniks_lines.specs.Runs.{AnswersAll, WritesPart, EndsWell, EndsBadly}
-use Rattle.coniks_lines.proofs.RunsLemmas.{whole_input, part_of_input}
+use Rattle.coniks_lines.proofs.RunsLemmas.{whole_input, part_of_input, ends_unbegun}
 use Rattle.coniks_lines.proofs.engine.run_lines.Goals as goal
 
 pub returns-clause-all_of : goal.returns-clause-all_of
@@ -26,5 +26,8 @@ returns-clause-part_of g c =
     let to = g.W.ByteOut.sink c.args.writer.now in
     let to' = g.W.ByteOut.sink c.read_lines.new.writer in
     λ input told.
-    IfErr-weaker c.read_lines.result (EndsBadly answer start from from' to to') (λ _. WritesPart answer start (lines_of input) to to')
+    IfErr-weaker c.read_lines.result (EndsBadly answer start from from' to to') (λ _. WritesPart (output answer start input) to to')
     (λ fault ends. part_of_input answer start input from from' to to' fault told ends) c.read_lines.ensures.err
+
+pub returns-in_default-clause-err : goal.returns-in_default-clause-err
+returns-in_default-clause-err g c = ends_unbegun g.M.LineMachine.answer (g.M.LineMachine.state c.args.machine.now) (g.R.ByteIn.source c.args.reader.now) (g.W.ByteOut.sink c.args.writer.now)

@@ -3,7 +3,7 @@ use Rattle.std.proofs.lemmas.Result.{err_from_is_err_and}
 use Rattle.std.proofs.lemmas.Grind.{common_steps}
 use Rattle.coniks_lines.specs.Runs.{AnswersWhole}
 use Rattle.coniks_lines.proofs.LinesLemmas.{part_of, newline_found, no_newline_found, front_and_rest}
-use Rattle.coniks_lines.proofs.RunsLemmas.{AnswersWhole-then, line_answered, no_line_answered, fails_at_line, stops_between, and_true}
+use Rattle.coniks_lines.proofs.RunsLemmas.{AnswersWhole-then, line_answered, no_line_answered, stops_at_line, stops_after, and_true}
 use Rattle.coniks_lines.proofs.engine.take_chunk.Goals as goal
 
 pub returns-in_err-accepted-clause-err : goal.returns-in_err-accepted-clause-err
@@ -14,10 +14,11 @@ returns-in_err-accepted-clause-err g c =
     let loop = c.loop-ahead in
     let chunk = c.args.chunk.now in
     let found = newline_found chunk loop.start c.in-Some.ahead loop.invariant.within c.in-Some.ensures in
+    λ still.
     rw (p.1, p.2)
-    (fails_at_line g.M.LineMachine.answer (state c.args.machine.now) (state loop.machine) c.args.held.now.items loop.held.items chunk
+    (stops_at_line g.M.LineMachine.answer (state c.args.machine.now) (state loop.machine) c.args.held.now.items loop.held.items chunk
     (take loop.start chunk) (part_of chunk loop.start (loop.start + c.in-Some.ahead)) (drop (c.in-Some.ahead + 1) (drop loop.start chunk))
-    (sink c.args.writer.now) (sink loop.writer) (sink c.end_line.new.writer) loop.all c.in_err-accepted.field-0.0 found.parts found.none_before loop.invariant.answers c.in_err-accepted.ensures.err)
+    still (sink c.args.writer.now) (sink loop.writer) (sink c.end_line.new.writer) loop.all c.in_err-accepted.field-0.0 found.parts found.none_before loop.invariant.answers (c.in_err-accepted.ensures.err still))
 
 pub loop-ahead-preserved : goal.loop-ahead-preserved
 loop-ahead-preserved g c =
@@ -49,8 +50,9 @@ returns-then-is_err-clause-err g c =
     let sink = g.W.ByteOut.sink in
     let loop = c.loop-ahead in
     let chunk = c.args.chunk.now in
-    stops_between g.M.LineMachine.answer (state c.args.machine.now) (state loop.machine) c.args.held.now.items loop.held.items (take loop.start chunk) (part_of chunk loop.start (length chunk)) chunk
-    (sink c.args.writer.now) (sink loop.writer) loop.all (front_and_rest chunk loop.start) loop.invariant.answers
+    λ still.
+    stops_after g.M.LineMachine.answer (state c.args.machine.now) (state loop.machine) c.args.held.now.items loop.held.items (take loop.start chunk) (part_of chunk loop.start (length chunk)) chunk
+    still (sink c.args.writer.now) (sink loop.writer) loop.all (front_and_rest chunk loop.start) loop.invariant.answers
 
 pub returns-clause-ok : goal.returns-clause-ok
 returns-clause-ok g c =

@@ -1,8 +1,9 @@
 use Rattle.std.proofs.Common.{◌∙◌, map, sym}
 use Rattle.clap.specs.Words.{kind_of}
 use Rattle.coniks_tool.specs.Choice.{choice_of}
+use Rattle.coniks_tool.specs.Program.{AsksForBoard}
 use Rattle.std.specs.Prelude.{Some}
-use Rattle.coniks_tool.proofs.ProgramLemmas.{holds_if_refused, explained-ends_for, run-ends_for, run-isnt_refused, Clap-isnt-OutOfMemory}
+use Rattle.coniks_tool.proofs.ProgramLemmas.{holds_if_refused, explained-ends_for, run-ends_for, run-isnt_refused, Clap-isnt-OutOfMemory, fails_with_no_board}
 use Rattle.coniks_tool.proofs.statuses.obey.Goals as goal
 
 pub returns-in-Ok-clause-found : goal.returns-in-Ok-clause-found
@@ -24,3 +25,8 @@ returns-in-Err-Clap-clause-taken g c =
 pub returns-in-Ok-clause-unwritten : goal.returns-in-Ok-clause-unwritten
 returns-in-Ok-clause-unwritten g c =
     run-isnt_refused (map g.S.AsStr.text c.args.words.now) _ _ _ _ _ (Some (choice_of c.in-Ok.settings)) c.run_settings.result c.run_settings.ensures.ends
+
+pub returns-in-Err-Clap-clause-fails : goal.returns-in-Err-Clap-clause-fails
+returns-in-Err-Clap-clause-fails g c =
+    let from = g.R.ByteIn.source c.args.reader.now in
+    fails_with_no_board (AsksForBoard (map g.S.AsStr.text c.args.words.now)) from from _ _ c.explain.result (c.explain.ensures.fails from)

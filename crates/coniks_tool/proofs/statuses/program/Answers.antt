@@ -50,4 +50,4 @@ returns-clause-bad_expectation_told g c = λ bad is.
     bad_expectation-at_2 (map g.S.AsStr.text c.args.words.now) _ _ _ _ c.obey-outcome.result _ _ c.obey-outcome.ensures.found c.conclude.ensures.told bad (sym c.conclude.ensures.status ∙ is)
 
 pub returns-clause-told : goal.returns-clause-told
-returns-clause-told g c = λ is. told-at_3 c.obey-outcome.result _ _ c.conclude.ensures.told (sym c.conclude.ensures.status ∙ is)
+returns-clause-told g c = λ is. told-at_3 c.obey-outcome.result _ _ c.conclude.ensures.told c.obey-outcome.ensures.fails (sym c.conclude.ensures.status ∙ is)

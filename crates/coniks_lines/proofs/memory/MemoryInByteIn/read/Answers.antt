@@ -1,5 +1,4 @@
 use Rattle.std.proofs.Common.{◌≡◌, ℕ, ◌+◌, ◌-◌, List, ◌≤◌, length, take, drop, ◌++◌, arith, ap, sym, ◌∙◌}
-use Rattle.std.specs.Prelude.{Some}
 use Rattle.std.proofs.lemmas.List.{take-append-drop, drop-drop, length-take, take_at, take_rest}
 use Rattle.coniks_lines.proofs.memory.MemoryInByteIn.read.Goals as goal
 
@@ -21,4 +20,4 @@ returns-else-count-eq0-clause-taken c =
     let k = c.min-count.ensures in
     let fits : c.min-count.result ≤ length (drop at bytes) = omega (arith, k, ap length slice) in
     let is : c.copy_from_slice.new.self ≡ take c.min-count.result (drop at bytes) = c.copy_from_slice.ensures.after ∙ ap (take c.min-count.result) slice in
-    ap Some (parts bytes c.copy_from_slice.new.self (drop c.min-count.result c.args.buffer.now) at c.min-count.result fits is)
+    parts bytes c.copy_from_slice.new.self (drop c.min-count.result c.args.buffer.now) at c.min-count.result fits is

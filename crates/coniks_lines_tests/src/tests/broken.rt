@@ -1,0 +1,114 @@
+//! Readers and writers of std that fail, each by several kinds of error. None of these is an end of the bytes.
+
+use crate::tests::machine::Echo;
+use coniks_lines::{ByteIn, ByteOut, MemoryOut, RunFault, SystemIn, SystemOut, run_lines};
+use std::alloc::Global;
+use std::io;
+use std::io::ErrorKind;
+
+/// Kinds of error that a stream may have: a pipe that nobody reads, a folder in place of a file, a signal and others.
+const KINDS: [ErrorKind; 7] = [
+    ErrorKind::BrokenPipe,
+    ErrorKind::IsADirectory,
+    ErrorKind::Interrupted,
+    ErrorKind::UnexpectedEof,
+    ErrorKind::WouldBlock,
+    ErrorKind::PermissionDenied,
+    ErrorKind::Other,
+];
+
+/// Gives its bytes by one read, and then fails at each read.
+#[derive(Drop)]
+struct BrokenIn {
+    bytes: &'static [u8],
+    kind: ErrorKind,
+}
+
+impl io::Read for BrokenIn {
+    fn read(&mut self, buf: &mut [u8]) -> io::Result<usize> {
+        let count = self.bytes.len().min(buf.len());
+        if count == 0 {
+            return Err(io::Error::from(self.kind));
+        }
+        buf[..count].copy_from_slice(&self.bytes[..count]);
+        self.bytes = &self.bytes[count..];
+        Ok(count)
+    }
+}
+
+/// Takes so many writes, and fails at each flush.
+#[derive(Drop)]
+struct BrokenOut {
+    writes_left: u64,
+    kind: ErrorKind,
+}
+
+impl io::Write for BrokenOut {
+    fn write(&mut self, buf: &[u8]) -> io::Result<usize> {
+        if self.writes_left == 0 {
+            return Err(io::Error::from(self.kind));
+        }
+        self.writes_left -= 1;
+        Ok(buf.len())
+    }
+
+    fn flush(&mut self) -> io::Result<()> {
+        Err(io::Error::from(self.kind))
+    }
+}
+
+/// Whether a run whose reader gives these bytes and then fails says so, having written just this.
+fn is_cut(alloc: Global, bytes: &'static [u8], kind: ErrorKind, wanted: &[u8]) -> bool {
+    let mut reader = SystemIn::new(BrokenIn { bytes, kind });
+    let mut writer = MemoryOut::new(alloc);
+    let all = run_lines(alloc, &mut Echo { odd: false }, &mut reader, &mut writer);
+    all == Err(RunFault::Read) && reader.failures() == 1 && writer.bytes() == wanted
+}
+
+#[test]
+fn reads_that_fail(rt: HostRuntime) {
+    let alloc = rt.alloc();
+    for kind in KINDS {
+        assert!(rt; is_cut(alloc, b"", kind, b""), "{kind:?}");
+        assert!(rt; is_cut(alloc, b"a\nb\nc", kind, b"0a\n1b\n"), "{kind:?}");
+    }
+}
+
+/// Whether a run whose writer takes so many writes and no flush says so.
+fn is_unwritten(alloc: Global, writes: u64, kind: ErrorKind) -> bool {
+    let input: &[u8] = b"a\nb";
+    let mut reader = SystemIn::new(input);
+    let mut writer = SystemOut::new(BrokenOut {
+        writes_left: writes,
+        kind,
+    });
+    let all = run_lines(alloc, &mut Echo { odd: false }, &mut reader, &mut writer);
+    all == Err(RunFault::Write) && writer.failures() == 1
+}
+
+#[test]
+fn writes_and_flushes_that_fail(rt: HostRuntime) {
+    let alloc = rt.alloc();
+    for kind in KINDS {
+        assert!(rt; is_unwritten(alloc, 0, kind), "a write, {kind:?}");
+        assert!(rt; is_unwritten(alloc, 1, kind), "a flush, {kind:?}");
+    }
+}
+
+#[test]
+fn each_failure_counts(rt: HostRuntime) {
+    for kind in KINDS {
+        let mut buffer = [0; 4];
+        let mut reader = SystemIn::new(BrokenIn { bytes: b"", kind });
+        assert!(rt; reader.read(&mut buffer).is_err(), "{kind:?}");
+        assert!(rt; reader.read(&mut buffer).is_err(), "{kind:?}");
+        assert_eq!(rt; reader.failures(), 2, "{kind:?}");
+        let mut writer = SystemOut::new(BrokenOut {
+            writes_left: 0,
+            kind,
+        });
+        assert!(rt; writer.write(b"a").is_err(), "{kind:?}");
+        assert!(rt; writer.flush().is_err(), "{kind:?}");
+        assert_eq!(rt; writer.failures(), 2, "{kind:?}");
+    }
+}
