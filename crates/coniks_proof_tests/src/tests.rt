@@ -315,3 +315,13 @@ fn accepted_by_a_flat_hash(rt: HostRuntime) {
     let answer = check(&Flat, &NONCE, &ZERO, &index_of(0), b"a", &proof);
     assert!(rt; answer == Ok(Answer::Key(b"forged")));
 }
+
+/// Copies of the longest key, and of far more bytes.
+#[test]
+fn copies(rt: HostRuntime) {
+    for count in [0, MAX_KEY, 1 << 24] {
+        let bytes = repeated(&rt, rt.alloc(), b'k', count);
+        let copy = Bytes::copy_of(rt.alloc(), &bytes).expect(&rt, "memory");
+        assert!(rt; copy.as_slice() == bytes.as_slice());
+    }
+}

@@ -1,6 +1,6 @@
 //! Collisions under a hash that gives 32 zero bytes for everything.
 
-use crate::tests::{NONCE, OPENING, ZERO, here, index_of, proof_of, sealed};
+use crate::tests::{NONCE, OPENING, ZERO, beside, here, index_of, proof_of, repeated, sealed};
 use coniks_proof::{Collision, Digest, End, Flat, Proof, Sha256Hash, extract, leaf_hash};
 use std::alloc::Global;
 use std::process::Abort;
@@ -162,4 +162,41 @@ fn no_collision_known(rt: HostRuntime) {
         let found = extract(alloc, &Sha256Hash, &NONCE, &root, &index, a, other);
         assert!(rt; found.expect(&rt, "memory").is_none());
     }
+}
+
+/// The longest name with a key of 4,096 of one letter, below as many siblings as a proof can have.
+fn longest(rt: &impl Abort, alloc: Global, name: &[u8], key: u8) -> Proof {
+    let end = here(rt, alloc, name, &repeated(rt, alloc, key, 4096));
+    beside(rt, alloc, 256, end)
+}
+
+/// Whether bytes are what is hashed to the commitment to the longest name with a key of 4,096 of one letter.
+fn is_longest(rt: &impl Abort, alloc: Global, bytes: &[u8], name: &[u8], key: u8) -> bool {
+    let key = repeated(rt, alloc, key, 4096);
+    is_joined(
+        bytes,
+        &[b"C", &OPENING.0, b"\x00\xff", name, b"\0\0\x10\0", &key],
+    )
+}
+
+/// The longest proofs, which differ at their ends alone.
+#[test]
+fn longest_proofs(rt: HostRuntime) {
+    let alloc = rt.alloc();
+    let name = repeated(&rt, alloc, b'n', 255);
+    let a = longest(&rt, alloc, &name, b'k');
+    let b = longest(&rt, alloc, &name, b'l');
+    let index = index_of(0);
+    let found = extract(
+        alloc,
+        &Flat,
+        &NONCE,
+        &ZERO,
+        &index,
+        (&name, &a),
+        (&name, &b),
+    );
+    let found = found.expect(&rt, "memory").expect(&rt, "a collision");
+    assert!(rt; is_longest(&rt, alloc, found.x.as_slice(), &name, b'k'));
+    assert!(rt; is_longest(&rt, alloc, found.y.as_slice(), &name, b'l'));
 }
