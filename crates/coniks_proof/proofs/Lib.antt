@@ -4,6 +4,7 @@ mod ChangeLemmas
 mod ClimbLemmas
 mod MapLemmas
 mod UnderLemmas
+mod WayLemmas
 mod OrderLemmas
 mod PrefixLemmas
 mod FaultLemmas

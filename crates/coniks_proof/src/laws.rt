@@ -1,10 +1,12 @@
 //! Laws of the definitions, each the contract of a function that only reads.
 
-ghost use Rattle.std.specs.Prelude.{◌↔◌, ◌≡◌, ◌∷◌, [], List, ℕ, Bool, None, false, map};
+ghost use Rattle.std.specs.Prelude.{◌↔◌, ◌≡◌, ◌<◌, ◌≤◌, ◌∷◌, [], List, ℕ, Bool, None, false, length, map, not, slice_get, slice_index_or};
 ghost use Rattle.coniks_proof.specs.Batches.{MayFollow, Operation, after, first_fault};
+ghost use Rattle.coniks_proof.specs.Bits.{bit_at, child, first_bits};
 ghost use Rattle.coniks_proof.specs.Changes.{AreApart, AreIncreasing, AreInOrder};
-ghost use Rattle.coniks_proof.specs.Entries.{Entry, IsIn, backed_by};
-ghost use Rattle.coniks_proof.specs.Maps.{IsMap, SameEntries};
+ghost use Rattle.coniks_proof.specs.Entries.{Entry, IsIn, backed_by, under};
+ghost use Rattle.coniks_proof.specs.Maps.{IsIndex, IsMap, SameEntries};
+ghost use Rattle.coniks_proof.specs.Preimages.{packed};
 ghost use Rattle.coniks_proof.specs.Faults.{Has};
 ghost use Rattle.coniks_proof.specs.Limits.{deepest_level, longest_key, longest_name, most_operations};
 ghost use Rattle.coniks_proof.specs.Proofs.{Accepts, answer_of};
@@ -92,4 +94,26 @@ pub fn orders<T>()
 pub fn ends<T>()
     ensures present { (index : List ℕ) (entries : List (Entry T)) (e : Entry T) → IsMap entries → IsIn e entries → e.index ≡ index → end_of [] index entries ≡ e ∷ [] }
     ensures found { (index : List ℕ) (entries : List (Entry T)) (e : Entry T) → IsMap entries → end_of [] index entries ≡ e ∷ [] → IsIn e entries }
+{}
+
+/// The path to an index over a map ends at the least level at which at most one entry lies under the index's bits, with
+/// what lies there. Its sibling at each level is the node of the other side, that of the prefix with its last bit turned,
+/// over the entries under that.
+pub fn paths<T>()
+    ensures ends { (hash : List ℕ → List ℕ) (nonce index : List ℕ) (entries : List (Entry T)) → IsMap entries
+        → end_of [] index entries ≡ under (first_bits index (length (siblings hash nonce [] index entries))) entries }
+    ensures few { (hash : List ℕ → List ℕ) (nonce index : List ℕ) (entries : List (Entry T)) → IsMap entries
+        → length (under (first_bits index (length (siblings hash nonce [] index entries))) entries) ≤ 1 }
+    ensures least { (hash : List ℕ → List ℕ) (nonce index : List ℕ) (entries : List (Entry T)) → IsMap entries
+        → (level : ℕ) → level < length (siblings hash nonce [] index entries) → 2 ≤ length (under (first_bits index level) entries) }
+    ensures siblings { (hash : List ℕ → List ℕ) (nonce index : List ℕ) (entries : List (Entry T)) → IsMap entries
+        → (level : ℕ) → level < length (siblings hash nonce [] index entries)
+        → let other_side = child (first_bits index level) (not (bit_at index level)) in
+        slice_get (siblings hash nonce [] index entries) level ≡ Some (node hash nonce other_side (under other_side entries)) }
+{}
+
+/// A prefix as it is hashed is 32 bytes. Their bits are those of the prefix, and zeros after them.
+pub fn digits()
+    ensures bytes { (prefix : List Bool) → IsIndex (packed prefix 32) }
+    ensures bits { (prefix : List Bool) (k : ℕ) → k < 256 → bit_at (packed prefix 32) k ≡ slice_index_or prefix k false }
 {}

@@ -124,6 +124,17 @@ fn long_lines(rt: HostRuntime) {
     }
 }
 
+/// So many empty lines: each answer is a digit, 0 and 1 in turn.
+#[test]
+fn many_lines(rt: HostRuntime) {
+    let count = 300_000;
+    let input = vec![in rt.alloc(); b'\n'; count].expect(&rt, "memory");
+    let (writer, all) = echoed(rt.alloc(), input).expect(&rt, "a run");
+    assert!(rt; all);
+    assert_eq!(rt; writer.bytes().len(), 2 * count);
+    assert!(rt; writer.bytes().ends_with(b"0\n1\n"));
+}
+
 /// A run whose writer takes a byte a write, and stops at a call.
 fn stopped_run(alloc: Global, input: Vec<u8>, calls: u64, stop: Stop, wanted: &[u8]) -> Ended {
     let mut reader = MemoryIn::new(input);
