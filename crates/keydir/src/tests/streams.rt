@@ -14,7 +14,7 @@ impl ByteIn for FailIn {
     ghost use Rattle.std.specs.Prelude.{None};
     ghost use Rattle.coniks_lines.specs.Known.{Source};
 
-    ghost source = { λ s. record { left = None; failed = s.failures; ends = 0 } };
+    ghost source = { λ s. record { left = None; reads = s.failures; failed = s.failures; ends = 0 } };
 
     fn read(&mut self, _buffer: &mut [u8]) -> Result<usize, Failed> {
         self.failures += 1;
@@ -70,6 +70,7 @@ impl ByteOut for ShortOut {
 pub(crate) struct OneByteIn {
     bytes: Vec<u8>,
     at: usize,
+    reads: u64,
     ends: u64,
 }
 
@@ -80,6 +81,7 @@ impl OneByteIn {
         OneByteIn {
             bytes,
             at: 0,
+            reads: 0,
             ends: 0,
         }
     }
@@ -89,9 +91,10 @@ impl ByteIn for OneByteIn {
     ghost use Rattle.std.specs.Prelude.{None};
     ghost use Rattle.coniks_lines.specs.Known.{Source};
 
-    ghost source = { λ s. record { left = None; failed = 0; ends = s.ends } };
+    ghost source = { λ s. record { left = None; reads = s.reads; failed = 0; ends = s.ends } };
 
     fn read(&mut self, buffer: &mut [u8]) -> Result<usize, Failed> {
+        self.reads = self.reads.wrapping_add(1);
         match self.bytes.get(self.at) {
             Some(byte) => {
                 buffer[0] = *byte;
