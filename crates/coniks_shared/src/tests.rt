@@ -1,6 +1,8 @@
 ghost use Rattle.std.specs.Prelude.{◌≡◌, ◌<◌, length, All};
 
-use crate::{Board, BoardFull, Claims, Drawer, NoBoard, NoClaims, NoSeat, Publisher, Watcher};
+use crate::{
+    Board, BoardFull, Claims, Drawer, MAX_HEADS, NoBoard, NoClaims, NoSeat, Publisher, Watcher,
+};
 use coniks_proof::{Digest, Head};
 use std::alloc::Global;
 use std::fmt::Display;
@@ -185,6 +187,14 @@ fn a_head_is_five_words(rt: HostRuntime) {
     }
     let mut watcher = publisher.watcher(&board).expect(&rt, "a watcher");
     assert!(rt; watcher.latest(&board) == Some(counting_head()));
+}
+
+// A board for as many heads as one can have.
+#[test]
+fn the_largest_board(rt: HostRuntime) {
+    let (board, mut publisher) = Board::new(rt.alloc(), MAX_HEADS).expect(&rt, "a board");
+    assert_eq!(rt; board.capacity(), 65_536);
+    assert!(rt; publisher.publish(&board, head(1)) == Ok(()));
 }
 
 #[test]

@@ -4,6 +4,7 @@ use crate::gate::Open;
 use crate::jobs::split;
 use crate::tests::batches::{Bound, changes_to, digest, first_epoch, four, index_of};
 use crate::tests::gates::{Counts, Meeting};
+use coniks_proof::Index;
 use std::alloc::{AllocError, Global};
 
 const OF_FOUR: &str = "0d10d652bba80545e24f4d5e24bf33580588fb0d17ee964d3213748e6d7e6145";
@@ -77,4 +78,37 @@ fn jobs_of_four(rt: HostRuntime) {
     }
     let none = split(rt.alloc(), &[], 8).expect(&rt, "memory");
     assert_eq!(rt; none.len(), 0);
+}
+
+/// The index with these first two bytes, and zeros after them.
+fn index_below(first: u8, second: u8) -> Index {
+    let mut bytes = [0; 32];
+    bytes[0] = first;
+    bytes[1] = second;
+    Index(bytes)
+}
+
+/// Sixteen names below each first byte, as many as a batch has, in the order of their indices.
+fn most(alloc: Global) -> Result<Vec<Bound>, AllocError> {
+    let mut names = Vec::new(alloc);
+    for first in 0..=255u8 {
+        for sixteenth in 0..16u8 {
+            names.push((index_below(first, sixteenth * 16), b'a', b'k'))?;
+        }
+    }
+    Ok(names)
+}
+
+/// As many changes as a batch has, as many jobs as there can be, and as many workers.
+#[test]
+fn most_jobs(rt: HostRuntime) {
+    let names = most(rt.alloc()).expect(&rt, "memory");
+    let changes = changes_to(rt.alloc(), &names).expect(&rt, "memory");
+    let jobs = split(rt.alloc(), &changes, 8).expect(&rt, "memory");
+    assert_eq!(rt; jobs.len(), 256);
+    let built = first_epoch(&rt, rt.alloc(), &names, 8, 64, &Open);
+    let (nodes, root) = built.expect(&rt, "memory");
+    assert_eq!(rt; nodes, 8191);
+    let want = "b4a78889400c2799436e930a02ccd8c935afe40650dc0310e44c38c9f2b67f96";
+    assert_eq!(rt; root, digest(&rt, want));
 }
