@@ -9,6 +9,7 @@ mod clients;
 mod epochs;
 mod gates;
 mod installs;
+mod largest;
 mod refused;
 mod runs;
 mod together;

@@ -75,7 +75,10 @@ pub struct Stamp {
 
 impl Stamp {
     /// A signer that refuses the call of this number.
-    pub fn refusing(refused_call: u64) -> Stamp {
+    pub fn refusing(refused_call: u64) -> Stamp
+        ensures made { result.made ≡ 0 }
+        ensures refused { result.refused ≡ 0 }
+    {
         Stamp {
             made: 0,
             refused: 0,

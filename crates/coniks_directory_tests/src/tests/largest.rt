@@ -1,0 +1,109 @@
+//! The largest batch, and as many epochs as a board has heads.
+
+use crate::tests::answers::digest;
+use crate::tests::batches::sized;
+use crate::tests::clerk::{Clerk, NONCE, POLICY, Stamp};
+use coniks_directory::{CommitFault, Directory, IndexSource, InstallFault, Op, OpKind};
+use coniks_proof::{Answer, Bytes, Flat, Hash32, Index, Opening, Sha256Hash, check};
+use coniks_shared::{Board, MAX_HEADS};
+use coniks_work::Open;
+use std::alloc::Global;
+use std::process::Abort;
+use std::thread::Threads;
+
+/// Gives each name its SHA-256 as its index.
+#[derive(Clone, Copy, Drop)]
+struct Hashed;
+
+impl IndexSource for Hashed {
+    ghost use Rattle.coniks_proof.specs.Sha256.{sha256};
+
+    ghost index_of = { λ source name. sha256 name };
+
+    fn index(&self, name: &[u8]) -> Index {
+        Index(Sha256Hash.hash(&[name]).0)
+    }
+}
+
+/// Registers a name of the four bytes of a number, with the key `k`.
+fn numbered(rt: &impl Abort, alloc: Global, number: u32) -> Op {
+    Op {
+        kind: OpKind::Register,
+        name: Bytes::copy_of(alloc, &number.to_be_bytes()).expect(rt, "memory"),
+        key: Bytes::copy_of(alloc, b"k").expect(rt, "memory"),
+        opening: Opening([0x22; 32]),
+    }
+}
+
+/// As many operations as a batch has, of which the last has the longest name and key.
+fn most(rt: &impl Abort, alloc: Global) -> Vec<Op> {
+    let mut ops = Vec::new(alloc);
+    for number in 0..4095 {
+        ops.push(numbered(rt, alloc, number)).expect(rt, "memory");
+    }
+    ops.push(sized(rt, alloc, 255, 4096)).expect(rt, "memory");
+    ops
+}
+
+/// How long the key is that a name has at epoch 1.
+fn key_of(rt: &impl Abort, directory: &Directory<Sha256Hash, Hashed>, name: &[u8]) -> usize {
+    let root = directory.root_at(1).expect(rt, "an epoch");
+    let proof = directory.lookup(1, name).expect(rt, "a proof");
+    match check(
+        &Sha256Hash,
+        &NONCE,
+        &root,
+        &Hashed.index(name),
+        name,
+        &proof,
+    ) {
+        Ok(Answer::Key(key)) => key.len(),
+        _ => 0,
+    }
+}
+
+#[test]
+fn largest_batch(rt: HostRuntime) {
+    let ops = most(&rt, rt.alloc());
+    let (board, mut publisher) = Board::new(rt.alloc(), 1).expect(&rt, "a board");
+    let mut directory = Directory::open(rt.alloc(), Sha256Hash, Hashed, NONCE, POLICY);
+    let mut signer = Stamp::refusing(u64::MAX);
+    let entry = directory.commit(
+        &rt,
+        &ops,
+        8,
+        4,
+        &Open,
+        1,
+        &mut signer,
+        &mut publisher,
+        &board,
+    );
+    assert!(rt; entry.is_ok());
+    assert_eq!(rt; directory.nodes(), 12_205);
+    let root = "1bc468f4a942f367dff260d1c8ba80831d404d68095437b86e8dacc36802202d";
+    assert!(rt; directory.root_at(1) == Some(digest(&rt, root)));
+    assert_eq!(rt; key_of(&rt, &directory, &4094u32.to_be_bytes()), 1);
+    assert_eq!(rt; key_of(&rt, &directory, &[b'b'; 255]), 4096);
+}
+
+/// Commits as many epochs as a board has heads, and one more, which is refused.
+fn fill<R: Threads + Sync + Abort>(rt: &R, clerk: &mut Clerk<Flat>) {
+    for t in 1..=65_536 {
+        assert!(rt; clerk.commit(rt, t, &[]).is_ok());
+    }
+    let full = Some(CommitFault::Install(InstallFault::BoardFull));
+    assert!(rt; clerk.commit(rt, 65_537, &[]).err() == full);
+    assert_eq!(rt; clerk.directory.chain().len(), 65_536);
+    for t in [1, 40_000, 65_536] {
+        assert!(rt; clerk.directory.lookup(t, b"a").is_ok());
+    }
+}
+
+/// Under a hash that costs nothing.
+#[test]
+fn most_epochs(rt: HostRuntime) {
+    let (board, publisher) = Board::new(rt.alloc(), MAX_HEADS).expect(&rt, "a board");
+    let mut clerk = Clerk::new(rt.alloc(), Flat, &board, publisher, u64::MAX);
+    fill(&rt, &mut clerk);
+}
