@@ -21,6 +21,8 @@ use Rattle.coniks_directory.specs.State.{IsStored, Mirrors, registered_of}
 use Rattle.coniks_directory.specs.Holders.{ShowsLatest}
 use Rattle.coniks_directory.specs.Judged.{AreChangesOf, AreSeen}
 use Rattle.coniks_directory.specs.Built.{IsBuilt}
+use Rattle.coniks_directory.specs.declared.seen.Seen.{Seen}
+use Rattle.coniks_directory.proofs.JudgeLemmas.{length-map}
 use Rattle.coniks_directory.proofs.MirrorLemmas.{registered_at-extended}
 use Rattle.coniks_directory.proofs.HolderLemmas.{backed_in, in_backed}
 use Rattle.coniks_directory.proofs.OverlaidLemmas.{ArePart, IsMap-overlaid, IsMap-overwritten, in_overwritten, index_there, once, overlaid_new, overlaid_old, overwritten_new, overwritten_old, part, there_index, within-overlaid}
@@ -176,3 +178,15 @@ built hash of nonce nodes records root registry ops new numbers changes base p s
       stands = stands o.0 o.1 (AreIncreasing-in_order cs own c.increasing) (IsMap-apart (overwritten o.0 cs) (IsMap-overwritten o.0 cs o.2.indices own));
       mirrors = Mirrors-overlaid hash of records o.0 registry o.2 bs new numbers s cs c apart;
     }
+
+-- the changes of the records that were judged, behind a view of them
+module _ (hash of : List ℕ → List ℕ) (ops : List Operation) (seen : Seen) (base : ℕ) (made changes : List Change) (same : changes ≡ made)
+    (are : AreChangesOf base seen.records.items (entries_of_changes made)) where
+  pub seen_changes : AreChangesOf base seen.records.items (entries_of_changes changes)
+  seen_changes = subst (λ (cs : List Change). AreChangesOf base seen.records.items (entries_of_changes cs)) (sym same) are
+
+  -- they are as many as the operations
+  pub as_many : AreSeen hash of (map bound_by ops) seen.records.items seen.numbers → length changes ≡ length ops
+  as_many s =
+      ap length same ∙ sym (length-map entry_of_change made) ∙ are.counted ∙ sym (length-map registered_of seen.records.items)
+      ∙ ap length s.binds ∙ length-map bound_by ops

@@ -54,12 +54,6 @@ module _ (hash of : List ℕ → List ℕ) (s t : State) (p : Prepared) (grows :
 pub fresh : (hash of : List ℕ → List ℕ) (s : State) (p : Prepared) → IsUpdateOf hash of s p → p.base ≡ length s.epochs → IsUpdate hash of s p
 fresh hash of s p u base = fresh_update hash of u.earlier s p u.grows u.update base
 
--- the same behind the view of a directory
-pub fresh_in_view : {H X : Type 0} (digest : H → List ℕ → List ℕ) (index : X → List ℕ → List ℕ) (h : H) (x : X) (s : State) (v : H × X × State) (p : Prepared)
-    → (let w : H × X × State = (h, x, s) in w ≡ v) → IsUpdateOf (digest v.0) (index v.1) v.2 p → p.base ≡ length s.epochs → IsUpdate (digest h) (index x) s p
-fresh_in_view {H} {X} digest index h x s v p is u base =
-    fresh (digest h) (index x) s p (subst (λ (w : H × X × State). IsUpdateOf (digest w.0) (index w.1) w.2 p) (sym is) u) base
-
 -- a state that stays has grown
 pub Grows-refl : (s : State) → Grows s s
 Grows-refl s = record {

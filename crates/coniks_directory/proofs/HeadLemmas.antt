@@ -9,7 +9,6 @@ use Rattle.coniks_chain.specs.Chain.{before_at, link_before}
 use Rattle.coniks_shared.specs.Lists.{Begins, last_of}
 use Rattle.coniks_directory.specs.Chain.{IsChainOf, heads_of}
 use Rattle.coniks_directory.specs.History.{AreRising, Shown, last_number, numbers_of}
-use Rattle.coniks_directory.specs.State.{State}
 
 epochs_of : List Head → List ℕ
 epochs_of heads = map (λ (h : Head). h.epoch) heads
@@ -91,7 +90,3 @@ pub last_links : (hash : List ℕ → List ℕ) (chain : List Entry) → link_in
 last_links hash [] = refl
 last_links hash (e ∷ []) = refl
 last_links hash (e ∷ f ∷ chain) = last_links hash (f ∷ chain)
-
-pub heads_inside : {A B : Type 0} (digest_of : A → List ℕ → List ℕ) (h : A) (x : B) (s : State) (now : A × B × State) (heads : List Head) → (h, x, s) ≡ now
-    → heads ≡ heads_of (digest_of now.0) now.2.chain → heads ≡ heads_of (digest_of h) s.chain
-heads_inside {A} {B} digest_of h x s now heads view is = is ∙ sym (ap (λ (z : A × B × State). heads_of (digest_of z.0) z.2.chain) view)

@@ -1,6 +1,6 @@
 -- What an install leaves.
 use Rattle.std.proofs.Common.{◌≡◌, ℕ, zero, suc, ◌+◌, ◌<◌, ◌≤◌, List, [], ◌∷◌, ◌++◌, length, map, Bool, true, refl, sym, ap, subst, ◌∙◌, arith, ⊎_elim, Some, None, slice_get, length-append}
-use Rattle.std.proofs.lemmas.List.{append-nil, map-append}
+use Rattle.std.proofs.lemmas.List.{map-append}
 use Rattle.coniks_proof.specs.Registry.{Registry}
 use Rattle.coniks_proof.specs.Tree.{node}
 use Rattle.coniks_proof.specs.declared.values.Digest.{Digest}
@@ -15,12 +15,16 @@ use Rattle.coniks_tree.specs.declared.table.Node.{Node}
 use Rattle.coniks_tree.specs.declared.table.Record.{Record}
 use Rattle.coniks_tree.specs.declared.table.Root.{Root}
 use Rattle.coniks_tree.proofs.Lemmas.{Extends-append, Shows-extended, get-push}
-use Rattle.coniks_directory.specs.Chain.{IsChainOf, body_of}
+use Rattle.coniks_directory.specs.Chain.{IsChainOf, body_of, heads_of}
 use Rattle.coniks_directory.specs.History.{AllUnder, Shown, AreRising, latest_epoch, latest_nonce, numbers_of, root_at}
-use Rattle.coniks_directory.specs.State.{HoldsEpoch, Mirrors, State, Whole, history_of, last_count, registry_at, shown_of}
-use Rattle.coniks_directory.specs.Updates.{Grows, IsUpdate, records_after, registry_after, shown_after}
+use Rattle.coniks_directory.specs.Directories.{HasGoodChain, HasPrepared, heads}
+use Rattle.coniks_directory.specs.Installed.{IsEntered, IsNext, IsSigned, Leaves}
+use Rattle.coniks_directory.specs.State.{HoldsEpoch, Mirrors, State, View, Whole, history_of, last_count, registry_at, shown_of}
+use Rattle.coniks_directory.specs.Updates.{IsUpdate, MayInstall, records_after, registry_after, shown_after}
 use Rattle.coniks_directory.specs.declared.epochs.Epoch.{Epoch}
 use Rattle.coniks_directory.specs.declared.update.Prepared.{Prepared}
+use Rattle.coniks_proof.specs.declared.values.Head.{Head}
+use Rattle.coniks_directory.proofs.FreshLemmas.{fresh}
 use Rattle.coniks_directory.proofs.ChainLemmas.{chain-push, follows_next, last-epoch, last-nonce, rising-push}
 use Rattle.coniks_directory.proofs.MirrorLemmas.{Mirrors-extended, mirrored_root}
 use Rattle.coniks_directory.proofs.StateLemmas.{registry_at-append}
@@ -154,106 +158,69 @@ body_is hash of s p t latest root previous u whole latest-is root-is previous-is
     let body : ℕ → List ℕ → List ℕ → Body = λ n r l. record { version = p.version; t = t; t_prev = n; root = record { 0 = r }; previous = record { 0 = l }; nonce = p.nonce; policy = s.policy } in
     ap (λ n. body n root.0 previous.0) t_prev ∙ ap (λ r. body (epoch_before before) r previous.0) rooted ∙ ap (body (epoch_before before) (root_at hash of (shown_after s p t))) previous-is
 
--- what the steps of an install leave
-pub record Left (hash of : List ℕ → List ℕ) (s new : State) (p : Prepared) (t : ℕ) (entry : Entry) : Type 0 where
-  pub whole : Whole hash of new
-  pub history : history_of new ≡ history_of s ++ shown_after s p t ∷ []
-  pub grows : Grows s new
-  pub good : (verdict verdict' : List ℕ → List ℕ → Bool) → ((bytes signature : List ℕ) → verdict' bytes signature ≡ verdict bytes signature) → verdict' (body_bytes entry.body) entry.signature.0 ≡ true
-      → GoodChain hash verdict s.chain → GoodChain hash verdict' new.chain
-
--- with room made nothing has changed
-pub record Roomy (s : State) (nodes : List Node) (records : List Record) (epochs : List Epoch) (chain : List Entry) : Type 0 where
-  pub nodes_kept : nodes ≡ s.nodes
-  pub records_kept : records ≡ s.records
-  pub epochs_kept : epochs ≡ s.epochs
-  pub chain_kept : chain ≡ s.chain
-
 -- the update's part and records are attached, and its epoch and its entry added
-pub record Entered (hash : List ℕ → List ℕ) (p : Prepared) (t : ℕ) (entry : Entry) (root : Root) (nodes : List Node) (records : List Record) (epochs : List Epoch) (chain : List Entry)
-    (nodes' : List Node) (records' : List Record) (epochs' : List Epoch) (chain' : List Entry) : Type 0 where
-  pub count : length nodes' ≡ length nodes + p.new_nodes
-  pub stored : records' ≡ records ++ p.records.items
-  pub known : root.0 < length nodes'
-  pub older : Extends nodes nodes'
-  pub shows : (es : List Numbered) → Stands hash p.nonce.0 nodes records p.part [] es → Shows hash p.nonce.0 nodes' records' root.0 [] es
-  pub epoch : epochs' ≡ epochs ++ record { t = t; version = p.version; nonce = p.nonce; root = root; count = length records' } ∷ []
-  pub last : chain' ≡ chain ++ entry ∷ []
+pub record Entered (hash : List ℕ → List ℕ) (s later : State) (p : Prepared) (t : ℕ) (entry : Entry) (root : Root) : Type 0 where
+  pub count : length later.nodes ≡ length s.nodes + p.new_nodes
+  pub known : root.0 < length later.nodes
+  pub older : Extends s.nodes later.nodes
+  pub shows : (es : List Numbered) → Stands hash p.nonce.0 s.nodes s.records p.part [] es → Shows hash p.nonce.0 later.nodes later.records root.0 [] es
+  pub state : later ≡ installed s p later.nodes root t entry
 
-installed_is : (s : State) (p : Prepared) (root : Root) (t : ℕ) (entry : Entry) (nodes : List Node) (records : List Record) (epochs : List Epoch) (chain : List Entry) → records ≡ records_after s p
+-- it is so where each part is
+pub installed_is : (s : State) (p : Prepared) (root : Root) (t : ℕ) (entry : Entry) (nodes : List Node) (records : List Record) (epochs : List Epoch) (chain : List Entry) → records ≡ records_after s p
     → epochs ≡ s.epochs ++ record { t = t; version = p.version; nonce = p.nonce; root = root; count = length records } ∷ [] → chain ≡ s.chain ++ entry ∷ []
-    → installed s p nodes root t entry ≡ record { nonce = s.nonce; policy = s.policy; nodes = nodes; records = records; epochs = epochs; chain = chain }
-installed_is s p root t entry nodes records epochs chain records-is epochs-is chain-is =
-    let state : List Record → List Epoch → List Entry → State = λ rs es c. record { nonce = s.nonce; policy = s.policy; nodes = nodes; records = rs; epochs = es; chain = c } in
-    let after : List Record → List Epoch = λ rs. s.epochs ++ record { t = t; version = p.version; nonce = p.nonce; root = root; count = length rs } ∷ [] in
-    ap (λ rs. state rs (after rs) (s.chain ++ entry ∷ [])) (sym records-is) ∙ ap (λ es. state records es (s.chain ++ entry ∷ [])) (sym epochs-is) ∙ ap (state records epochs) (sym chain-is)
+    → (let later : State = record { nonce = s.nonce; policy = s.policy; nodes = nodes; records = records; epochs = epochs; chain = chain } in later ≡ installed s p nodes root t entry)
+installed_is s p root t entry nodes records epochs chain records-are epochs-are chain-is = cc
 
-module _ (hash of : List ℕ → List ℕ) (s : State) (p : Prepared) (t : ℕ) (entry : Entry) (root : Root) (nodes nodes' : List Node) (records records' : List Record) (epochs epochs' : List Epoch) (chain chain' : List Entry)
-    (whole : Whole hash of s) (u : IsUpdate hash of s p) (roomy : Roomy s nodes records epochs chain) (entered : Entered hash p t entry root nodes records epochs chain nodes' records' epochs' chain')
-    (later : latest_epoch (history_of s) < t) (body : entry.body ≡ body_of hash of s.policy (before_at hash None s.chain (length s.chain)) (shown_after s p t)) where
-  pub left_by : Left hash of s (record { nonce = s.nonce; policy = s.policy; nodes = nodes'; records = records'; epochs = epochs'; chain = chain' }) p t entry
-  left_by =
-      let stored : records' ≡ records_after s p = entered.stored ∙ ap (λ (rs : List Record). rs ++ p.records.items) roomy.records_kept in
-      let epoch : Epoch = record { t = t; version = p.version; nonce = p.nonce; root = root; count = length records' } in
-      let epochs-are : epochs' ≡ s.epochs ++ epoch ∷ [] = entered.epoch ∙ ap (λ (es : List Epoch). es ++ epoch ∷ []) roomy.epochs_kept in
-      let chain-is : chain' ≡ s.chain ++ entry ∷ [] = entered.last ∙ ap (λ (es : List Entry). es ++ entry ∷ []) roomy.chain_kept in
-      let is = installed_is s p root t entry nodes' records' epochs' chain' stored epochs-are chain-is in
-      let grown : Extends s.nodes nodes' = subst (λ (ns : List Node). Extends ns nodes') roomy.nodes_kept entered.older in
-      let longer : length s.nodes ≤ length nodes' = omega (arith, entered.count, ap length roomy.nodes_kept) in
-      let shows : (es : List Numbered) → Stands hash p.nonce.0 s.nodes s.records p.part [] es → Shows hash p.nonce.0 nodes' (records_after s p) root.0 [] es = λ es stands.
-      subst (λ (rs : List Record). Shows hash p.nonce.0 nodes' rs root.0 [] es) stored
-      (entered.shows es (subst (λ (rs : List Record). Stands hash p.nonce.0 nodes rs p.part [] es) (sym roomy.records_kept) (subst (λ (ns : List Node). Stands hash p.nonce.0 ns s.records p.part [] es) (sym roomy.nodes_kept) stands))) in
-      record {
-        whole = subst (Whole hash of) is (whole_next hash of s p nodes' root t entry whole u grown longer entered.known shows later body);
-        history = subst (λ (z : State). history_of z ≡ history_of s ++ shown_after s p t ∷ []) is (history-installed hash of s p nodes' root t entry whole);
-        grows = record {
-          nonce = refl;
-          policy = refl;
-          nodes = grown;
-          longer = longer;
-          more_records = p.records.items;
-          records = stored;
-          more_epochs = epoch ∷ [];
-          epochs = epochs-are;
-          still = λ none. absurd (let never = none in cc);
-        };
-        good = λ verdict verdict' same signed good.
-            subst (GoodChain hash verdict') (sym chain-is) (good_next hash of s p nodes' root t entry whole u grown longer entered.known shows later body verdict verdict' same signed good);
-      }
+-- and this is an install
+pub left_by : (hash of : List ℕ → List ℕ) (s later : State) (p : Prepared) (t : ℕ) (entry : Entry) (root : Root) → Entered hash s later p t entry root
+    → Whole hash of s → IsUpdate hash of s p → latest_epoch (history_of s) < t → IsNext hash of s p t entry.body → Leaves hash of s later p t entry
+left_by hash of s later p t entry root entered whole u after body =
+    let nodes = later.nodes in
+    let longer : length s.nodes ≤ length nodes = omega (arith, entered.count) in
+    let stored : later.records ≡ records_after s p = ap (λ (z : State). z.records) entered.state in
+    let shows : (es : List Numbered) → Stands hash p.nonce.0 s.nodes s.records p.part [] es → Shows hash p.nonce.0 nodes (records_after s p) root.0 [] es =
+    λ es stands. subst (λ (rs : List Record). Shows hash p.nonce.0 nodes rs root.0 [] es) stored (entered.shows es stands) in
+    let left : Leaves hash of s (installed s p nodes root t entry) p t entry = record {
+      whole = whole_next hash of s p nodes root t entry whole u entered.older longer entered.known shows after body;
+      history = history-installed hash of s p nodes root t entry whole;
+      grows = record {
+        nonce = refl;
+        policy = refl;
+        nodes = entered.older;
+        longer = longer;
+        more_records = p.records.items;
+        records = refl;
+        more_epochs = epoch_after s p root t ∷ [];
+        epochs = refl;
+        still = λ none. absurd (let never = none in cc);
+      };
+      good = λ verdict further same signed good. good_next hash of s p nodes root t entry whole u entered.older longer entered.known shows after body verdict further same signed good;
+    } in
+    subst (λ (z : State). Leaves hash of s z p t entry) (sym entered.state) left
 
--- the body that was signed, in the tree with room made
-pub signed_is : (hash of : List ℕ → List ℕ) (s : State) (p : Prepared) (t latest : ℕ) (root previous : Digest) (nodes : List Node) (records : List Record) (chain : List Entry) (b : Body) (u : IsUpdate hash of s p) → Whole hash of s
-    → latest ≡ latest_epoch (history_of s) → nodes ≡ s.nodes → records ≡ s.records → chain ≡ s.chain
-    → ((es : List Numbered) → Stands hash p.nonce.0 nodes records p.part [] es → root.0 ≡ node hash p.nonce.0 [] es) → previous.0 ≡ link_before (before_at hash None chain (length chain))
-    → b ≡ record { version = p.version; t = t; t_prev = latest; root = root; previous = previous; nonce = p.nonce; policy = s.policy }
-    → b ≡ body_of hash of s.policy (before_at hash None s.chain (length s.chain)) (shown_after s p t)
-signed_is hash of s p t latest root previous nodes records chain b u whole latest-is nodes-are records-are chain-is root-is previous-is b-is =
-    b-is ∙ body_is hash of s p t latest root previous u whole latest-is
-    (λ es stands. root-is es (subst (λ (rs : List Record). Stands hash p.nonce.0 nodes rs p.part [] es) (sym records-are) (subst (λ (ns : List Node). Stands hash p.nonce.0 ns s.records p.part [] es) (sym nodes-are) stands)))
-    (previous-is ∙ ap (λ (es : List Entry). link_before (before_at hash None es (length es))) chain-is)
+-- ---- through the view: an install by a directory that has made room
 
--- ---- through the view
+module _ {H X : Type 0} (digest : H → List ℕ → List ℕ) (index : X → List ℕ → List ℕ) (h : H) (x : X) (s room : State) (v : View H X)
+    (seen : (let w : View H X = record { hash = h; index = x; state = s } in w ≡ v)) (same : room ≡ s) where
+  -- it is seen as before
+  pub roomy : (let w : View H X = record { hash = h; index = x; state = room } in w ≡ v)
+  roomy = ap (λ (z : State). let w : View H X = record { hash = h; index = x; state = z } in w) same ∙ seen
 
-module _ {H X : Type 0} (digest : H → List ℕ → List ℕ) (index : X → List ℕ → List ℕ) (h : H) (x : X) (s : State) (v : H × X × State) (same : (let w : H × X × State = (h, x, s) in w ≡ v)) where
-  -- a good chain, seen from inside, with the verdicts as they were
-  pub good_inside : (verdict : List ℕ → List ℕ → Bool) → GoodChain (digest v.0) verdict v.2.chain → GoodChain (digest h) verdict s.chain
-  good_inside verdict good = subst (λ (w : H × X × State). GoodChain (digest w.0) verdict w.2.chain) (sym same) good
+  pub good_room : (verdict : List ℕ → List ℕ → Bool) → HasGoodChain digest verdict v → GoodChain (digest h) verdict room.chain
+  good_room verdict good = subst (λ (w : View H X). HasGoodChain digest verdict w) (sym roomy) good
 
-  pub good_kept : (verdict verdict' : List ℕ → List ℕ → Bool) (chain : List Entry) → chain ≡ s.chain → ((bytes signature : List ℕ) → verdict' bytes signature ≡ verdict bytes signature) → GoodChain (digest v.0) verdict v.2.chain
-      → GoodChain (digest h) verdict' chain
-  good_kept verdict verdict' chain is alike good = subst (GoodChain (digest h) verdict') (sym is) (good_same_verdict (digest h) verdict verdict' alike s.chain (good_inside verdict good))
+  module _ (p : Prepared) (t published capacity : ℕ) (asked : HasPrepared digest index v p) (may : MayInstall s p.base t published capacity) where
+    -- and the update is one of it
+    pub fresh_room : IsUpdate (digest h) (index x) room p
+    fresh_room = fresh (digest h) (index x) room p (subst (λ (w : View H X). HasPrepared digest index w p) (sym roomy) asked) (may.fresh ∙ ap (λ (z : State). length z.epochs) (sym same))
 
--- with room made the state has grown by nothing
-pub stays_same : (s : State) (nodes : List Node) (records : List Record) (epochs : List Epoch) (chain : List Entry) → Roomy s nodes records epochs chain
-    → Grows s (record { nonce = s.nonce; policy = s.policy; nodes = nodes; records = records; epochs = epochs; chain = chain })
-stays_same s nodes records epochs chain r = record {
-  nonce = refl;
-  policy = refl;
-  nodes = subst (Extends s.nodes) (sym r.nodes_kept) (λ k v at. at);
-  longer = omega (arith, ap length r.nodes_kept);
-  more_records = [];
-  records = r.records_kept ∙ sym (append-nil s.records);
-  more_epochs = [];
-  epochs = r.epochs_kept ∙ sym (append-nil s.epochs);
-  still = λ none. refl;
-}
+    pub left : (later : State) (entry : Entry) (previous : List ℕ) (published_heads : List Head) → Whole (digest h) (index x) s → published_heads ≡ heads digest v
+        → ((hash : List ℕ → List ℕ) (chain : List Entry) → published_heads ≡ heads_of hash chain → previous ≡ link_before (before_at hash None chain (length chain)))
+        → IsSigned (digest h) room p t previous entry.body → IsEntered (digest h) room later p t entry → Leaves (digest v.hash) (index v.index) v.state later p t entry
+    left later entry previous published_heads whole are link signed entered =
+        let whole_room : Whole (digest h) (index x) room = subst (Whole (digest h) (index x)) (sym same) whole in
+        let linked = link (digest h) room.chain (subst (λ (w : View H X). published_heads ≡ heads digest w) (sym roomy) are) in
+        let after : latest_epoch (history_of room) < t = subst (λ (z : State). latest_epoch (history_of z) < t) (sym same) may.later in
+        subst (λ (w : View H X). Leaves (digest w.hash) (index w.index) w.state later p t entry) roomy
+        (entered (index x) whole_room fresh_room after (signed (index x) whole_room fresh_room linked))

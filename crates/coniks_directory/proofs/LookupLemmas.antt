@@ -1,5 +1,5 @@
 -- What a state shows at an epoch.
-use Rattle.std.proofs.Common.{◌≡◌, ◌==◌, ℕ, zero, suc, List, [], ◌∷◌, map, true, false, refl, sym, ap, subst, ◌∙◌, cond, Option, Some, None, option_map, slice_get, is_some}
+use Rattle.std.proofs.Common.{◌≡◌, ◌==◌, ℕ, zero, suc, List, [], ◌∷◌, map, true, false, refl, sym, ap, subst, ◌∙◌, cond, Some, None, option_map, slice_get, is_some}
 use Rattle.std.specs.List.{find}
 use Rattle.coniks_proof.specs.Batches.{fits}
 use Rattle.coniks_proof.specs.Entries.{backed_by}
@@ -13,10 +13,9 @@ use Rattle.coniks_proof.proofs.Lemmas.{own_of_map, path_accepted}
 use Rattle.coniks_tree.specs.Table.{Numbered, Shows, registered_at}
 use Rattle.coniks_tree.specs.declared.table.Record.{Record}
 use Rattle.coniks_directory.specs.History.{AllHaveOwnIndices, Shown, numbers_of, root_at, shown_at}
-use Rattle.coniks_directory.specs.Lookups.{IsAcceptedAt, IsFound, IsMissed}
+use Rattle.coniks_directory.specs.Lookups.{IsAcceptedAt, IsFound}
 use Rattle.coniks_directory.specs.State.{HoldsEpoch, State, Whole, history_of, shown_of}
 use Rattle.coniks_directory.specs.declared.epochs.Epoch.{Epoch}
-use Rattle.coniks_directory.specs.declared.lookup.LookupFault.{LookupFault}
 use Rattle.coniks_directory.proofs.EpochLemmas.{numbers}
 use Rattle.coniks_directory.proofs.MirrorLemmas.{mirrored_path, mirrored_root}
 
@@ -90,25 +89,3 @@ all_own hash of s whole k shown there = let e = get-mapped (shown_of s.records) 
     get-mapped f [] k x at = absurd (let never = at in cc)
     get-mapped f (e ∷ es) zero x at = (e, refl, (let same : f e ≡ x = cc in same))
     get-mapped f (e ∷ es) (suc k) x at = get-mapped f es k x at
-
--- ---- through the view
-
-pub own_in_view : {H X : Type 0} (index : X → List ℕ → List ℕ) (h : H) (x : X) (s : State) (v : H × X × State) → (let w : H × X × State = (h, x, s) in w ≡ v) → AllHaveOwnIndices (index x) (history_of s) → AllHaveOwnIndices (index v.1) (history_of v.2)
-own_in_view {H} {X} index h x s v same own = subst (λ (w : H × X × State). AllHaveOwnIndices (index w.1) (history_of w.2)) same own
-
-pub third : {H X : Type 0} {s : State} {h : H} {x : X} {v : H × X × State} → (let w : H × X × State = (h, x, s) in w ≡ v) → s ≡ v.2
-third {H} {X} {s} {h} {x} {v} same = ap (λ (w : H × X × State). w.2) same
-
-module _ {H X : Type 0} (digest : H → List ℕ → List ℕ) (index : X → List ℕ → List ℕ) (h : H) (x : X) (s : State) (v : H × X × State) (same : (let w : H × X × State = (h, x, s) in w ≡ v)) where
-  pub root_in_view : (t : ℕ) (found : Option (List ℕ)) → found ≡ option_map (root_at (digest h) (index x)) (shown_at (history_of s) t)
-      → found ≡ option_map (root_at (digest v.0) (index v.1)) (shown_at (history_of v.2) t)
-  root_in_view t found is = subst (λ (w : H × X × State). found ≡ option_map (root_at (digest w.0) (index w.1)) (shown_at (history_of w.2) t)) same is
-
-  pub found_in_view : (t : ℕ) (name : List ℕ) (proof : Proof) → IsFound (digest h) (index x) (history_of s) t name proof → IsFound (digest v.0) (index v.1) (history_of v.2) t name proof
-  found_in_view t name proof is = subst (λ (w : H × X × State). IsFound (digest w.0) (index w.1) (history_of w.2) t name proof) same is
-
-  pub accepted_in_view : (t : ℕ) (name : List ℕ) (proof : Proof) → IsAcceptedAt (digest h) (index x) (history_of s) t name proof → IsAcceptedAt (digest v.0) (index v.1) (history_of v.2) t name proof
-  accepted_in_view t name proof is = subst (λ (w : H × X × State). IsAcceptedAt (digest w.0) (index w.1) (history_of w.2) t name proof) same is
-
-  pub missed_in_view : (t : ℕ) (name : List ℕ) (fault : LookupFault) → IsMissed (history_of s) t name fault → IsMissed (history_of v.2) t name fault
-  missed_in_view t name fault is = subst (λ (w : H × X × State). IsMissed (history_of w.2) t name fault) same is

@@ -10,7 +10,7 @@ use Rattle.coniks_tree.specs.Parts.{Fits, Stands, node_count}
 use Rattle.coniks_tree.specs.declared.table.Root.{Root}
 use Rattle.coniks_work.specs.Grown.{unchanged}
 use Rattle.coniks_work.specs.declared.jobs.TheConstants.{MAX_DEPTH}
-use Rattle.coniks_directory.specs.Batches.{AreWorkers, IsAccepted, IsBatchFault, most_nodes}
+use Rattle.coniks_directory.specs.Batches.{AreWorkers, IsBatchFault, most_nodes}
 use Rattle.coniks_directory.specs.Built.{IsBuilt}
 use Rattle.coniks_directory.specs.History.{Shown, latest_nonce, latest_registry}
 use Rattle.coniks_directory.specs.Holders.{ShowsLatest}
@@ -75,13 +75,15 @@ module _ (hash of : List ℕ → List ℕ) (s : State) (whole : Whole hash of s)
       subst (λ (n : List ℕ). ShowsLatest hash of n s.nodes s.records root R) (sym now)
       (subst (λ (r : Option Root). ShowsLatest hash of (latest_nonce s.nonce (history_of s)) s.nodes s.records r R) (sym root-is) (shows_latest last is))
 
-  pub is_update : (p : Prepared) (ops : List Operation) (base : ℕ) (nonce : Nonce) → base ≡ length s.epochs → p.base ≡ base → p.version ≡ 1 → p.nonce ≡ nonce → nonce.0 ≡ latest_nonce s.nonce (history_of s)
+  -- what was built of a batch is an update
+  pub is_update : (p : Prepared) (ops : List Operation) (last : Option Epoch) (opened nonce : Nonce) → last ≡ slice_get s.epochs (length s.epochs - 1) → opened.0 ≡ s.nonce
+      → nonce ≡ option_map_or (λ (e : Epoch). e.nonce) last opened → p.base ≡ length s.epochs → p.version ≡ 1 → p.nonce ≡ nonce
       → Fits (length s.nodes) 0 p.part → IsBuilt hash of nonce.0 s.nodes s.records (latest_registry (history_of s)) ops p.part p.records.items → IsUpdate hash of s p
-  is_update p ops base nonce base-is at-base version under now fits b = record {
-    base = at-base ∙ base-is;
+  is_update p ops last opened nonce is same now base version under fits b = record {
+    base = base;
     counted = whole.last;
     version = version;
-    nonce = ap (λ (n : Nonce). n.0) under ∙ now;
+    nonce = ap (λ (n : Nonce). n.0) (under ∙ now) ∙ nonce_is last opened is same;
     fits = fits;
     placed = b.placed;
     entries = b.entries;
@@ -115,27 +117,6 @@ batch_fault of registry ops depth workers Depth crew shallow few f = absurd f
 batch_fault of registry ops depth workers BatchTooLong crew shallow few f = absurd f
 batch_fault of registry ops depth workers (At place fault) crew shallow few f = (crew, shallow, few, f)
 batch_fault of registry ops depth workers OutOfMemory crew shallow few f = (crew, shallow, few)
-
--- ---- through the view
-
-module _ {H X : Type 0} (digest : H → List ℕ → List ℕ) (index : X → List ℕ → List ℕ) (h : H) (x : X) (s : State) (v : H × X × State) (same : (h, x, s) ≡ v) where
-  pub update_in_view : (p : Prepared) → IsUpdate (digest h) (index x) s p → IsUpdate (digest v.0) (index v.1) v.2 p
-  update_in_view p is = subst (λ (w : H × X × State). IsUpdate (digest w.0) (index w.1) w.2 p) same is
-
-  pub registry_in_view : (p : Prepared) (ops : List Operation) → registry_after s p ≡ after (latest_registry (history_of s)) ops → registry_after v.2 p ≡ after (latest_registry (history_of v.2)) ops
-  registry_in_view p ops is = subst (λ (w : H × X × State). registry_after w.2 p ≡ after (latest_registry (history_of w.2)) ops) same is
-
-  pub few_in_view : (n added : ℕ) → added ≤ most_nodes (history_of s) n → added ≤ most_nodes (history_of v.2) n
-  few_in_view n added is = subst (λ (w : H × X × State). added ≤ most_nodes (history_of w.2) n) same is
-
-  pub none_in_view : (added : ℕ) → added ≡ most_nodes (history_of s) 0 → added ≡ most_nodes (history_of v.2) 0
-  none_in_view added is = subst (λ (w : H × X × State). added ≡ most_nodes (history_of w.2) 0) same is
-
-  pub accepted_in_view : (ops : List Operation) (depth workers : ℕ) → IsAccepted (index x) (latest_registry (history_of s)) ops depth workers → IsAccepted (index v.1) (latest_registry (history_of v.2)) ops depth workers
-  accepted_in_view ops depth workers is = subst (λ (w : H × X × State). IsAccepted (index w.1) (latest_registry (history_of w.2)) ops depth workers) same is
-
-  pub refused_in_view : (ops : List Operation) (depth workers : ℕ) (fault : BatchFault) → IsBatchFault (index x) (latest_registry (history_of s)) ops depth workers fault → IsBatchFault (index v.1) (latest_registry (history_of v.2)) ops depth workers fault
-  refused_in_view ops depth workers fault is = subst (λ (w : H × X × State). IsBatchFault (index w.1) (latest_registry (history_of w.2)) ops depth workers fault) same is
 
 -- what is true of a fault is true of an answer with that fault
 pub answered : {T E : Type 0} (result : Result T E) (fault : E) (P : E → Type 0) → result ≡ Err fault → P fault → IfErr result P

@@ -7,4 +7,6 @@ pub mod Lookups
 pub mod Holders
 pub mod Judged
 pub mod Built
+pub mod Installed
+pub mod Directories
 pub mod Runs

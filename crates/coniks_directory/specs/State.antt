@@ -10,6 +10,7 @@ use Rattle.coniks_chain.specs.declared.entry.Entry.{Entry}
 use Rattle.coniks_directory.specs.History.{Shown, AreRising, numbers_of}
 use Rattle.coniks_directory.specs.Chain.{IsChainOf}
 use Rattle.coniks_directory.specs.declared.epochs.Epoch.{Epoch}
+use Rattle.coniks_directory.specs.declared.held.Held.{Held}
 
 -- what a directory holds; the nonce is that of `open`
 pub record State : Type 0 where
@@ -19,6 +20,20 @@ pub record State : Type 0 where
   pub records : List Record
   pub epochs : List Epoch
   pub chain : List Entry
+
+-- a directory as contracts see it: its hash, its index source and its state
+pub record View (H X : Type 0) : Type 0 where
+  pub hash : H
+  pub index : X
+  pub state : State
+
+-- what is seen of what a directory holds
+abbrev pub state_of : Held → State
+state_of h = record { nonce = h.nonce.0; policy = h.policy; nodes = h.tree.nodes.items; records = h.tree.records.items; epochs = h.epochs.items; chain = h.chain.items }
+
+-- the state of a directory that was opened
+abbrev pub opened : List ℕ → List ℕ → State
+opened nonce policy = record { nonce = nonce; policy = policy; nodes = []; records = []; epochs = []; chain = [] }
 
 -- what a record binds
 abbrev pub registered_of : Record → Registered

@@ -1,20 +1,48 @@
 //! The steps of an install.
 
-ghost use Rattle.std.specs.Prelude.{◌≡◌, ◌≢◌, ◌<◌, ◌≤◌, ◌+◌, ◌-◌, ◌^◌, ◌++◌, ◌∷◌, [], List, ℕ, None, Some, IfNone, IfSome, OnOk, length, vec_len, vec_capacity, true};
+ghost use Rattle.std.specs.Prelude.{◌≡◌, ◌≢◌, ◌<◌, ◌≤◌, ◌+◌, ◌-◌, ◌^◌, ◌++◌, ◌∷◌, [], List, ℕ, None, Some, IfErr, IfNone, IfSome, OnOk, length, vec_len, vec_capacity, true};
 ghost use Rattle.coniks_chain.specs.Chain.{before_at, link_before};
 ghost use Rattle.coniks_chain.specs.Entries.{body_bytes};
 ghost use Rattle.coniks_shared.specs.Boards.{board_end};
-ghost use Rattle.coniks_tree.specs.Parts.{Fits, Placed, Stands, node_count};
-ghost use Rattle.coniks_tree.specs.Table.{Extends, Numbered, Shows};
+ghost use Rattle.coniks_tree.specs.Parts.{Fits, Placed, node_count};
 ghost use Rattle.coniks_directory.specs.Chain.{head_at, heads_of};
-ghost use Rattle.coniks_directory.specs.Updates.{nodes_added};
+ghost use Rattle.coniks_directory.specs.Installed.{IsEntered, IsSigned};
+ghost use Rattle.coniks_directory.specs.State.{state_of};
+ghost use Rattle.coniks_directory.specs.Updates.{IsRefused, MayInstall, nodes_added, refusals};
 
 use crate::epochs::Epoch;
-use crate::update::Prepared;
+use crate::held::Held;
+use crate::update::{InstallFault, Prepared};
 use coniks_chain::{Body, Entry, Sign, link};
-use coniks_proof::{Digest, Hash32, Head, Nonce};
+use coniks_proof::{Digest, Hash32, Head};
 use coniks_shared::{Board, Publisher};
-use coniks_tree::{OutOfMemory, Part, Root, Tree};
+use coniks_tree::OutOfMemory;
+
+/// Why an update that was prepared when there were `base` epochs isn't installed under a number, where so many heads are
+/// published on a board of this capacity.
+pub(crate) fn may_install(
+    held: &Held,
+    base: usize,
+    t: u64,
+    published: usize,
+    capacity: usize,
+) -> Result<(), InstallFault>
+    ensures ok { OnOk result (MayInstall (state_of held.now) base t published capacity) }
+    ensures refused { IfErr result (IsRefused (state_of held.now) base t published capacity) }
+    ensures unsigned { IfErr result (λ fault. refusals fault ≡ 0) }
+{
+    let latest = held.latest();
+    if base != held.count() {
+        return Err(InstallFault::Stale { latest });
+    }
+    if t <= latest {
+        return Err(InstallFault::EpochNotLater { latest });
+    }
+    if published == capacity {
+        return Err(InstallFault::BoardFull);
+    }
+    Ok(())
+}
 
 /// The link of the last entry, which the last published head holds; 32 zero bytes where there is none.
 pub(crate) fn last_link(publisher: &Publisher) -> Digest
@@ -27,58 +55,50 @@ pub(crate) fn last_link(publisher: &Publisher) -> Digest
 }
 
 /// Makes room for an update's nodes and records, and for one more epoch and entry.
-pub(crate) fn make_room(
-    tree: &mut Tree,
-    epochs: &mut Vec<Epoch>,
-    chain: &mut Vec<Entry>,
-    part: &Part,
-    records: usize,
-) -> Result<(), OutOfMemory>
-    requires { Fits (length tree.old.nodes.items) 0 part.now }
-    ensures nodes { tree.new.nodes.items ≡ tree.old.nodes.items }
-    ensures records { tree.new.records.items ≡ tree.old.records.items }
-    ensures epochs { epochs.new.items ≡ epochs.old.items }
-    ensures chain { chain.new.items ≡ chain.old.items }
-    ensures room_nodes { OnOk result (length tree.new.nodes.items + node_count part.now ≤ vec_capacity tree.new.nodes) }
-    ensures room_records { OnOk result (length tree.new.records.items + records ≤ vec_capacity tree.new.records) }
-    ensures room_epochs { OnOk result (vec_len epochs.new < vec_capacity epochs.new) }
-    ensures room_chain { OnOk result (vec_len chain.new < vec_capacity chain.new) }
+pub(crate) fn make_room(held: &mut Held, update: &Prepared) -> Result<(), OutOfMemory>
+    requires { Fits (length held.old.tree.nodes.items) 0 update.now.part }
+    ensures same { state_of held.new ≡ state_of held.old }
+    ensures nodes { OnOk result (length held.new.tree.nodes.items + node_count update.now.part ≤ vec_capacity held.new.tree.nodes) }
+    ensures records { OnOk result (length held.new.tree.records.items + length update.now.records.items ≤ vec_capacity held.new.tree.records) }
+    ensures epochs { OnOk result (vec_len held.new.epochs < vec_capacity held.new.epochs) }
+    ensures chain { OnOk result (vec_len held.new.chain < vec_capacity held.new.chain) }
 {
-    tree.reserve(part, records)?;
-    epochs.try_reserve(1)?;
-    chain.try_reserve(1)?;
+    held.tree.reserve(&update.part, update.records.len())?;
+    held.epochs.try_reserve(1)?;
+    held.chain.try_reserve(1)?;
     Ok(())
 }
 
-/// What the entry of an epoch says.
-pub(crate) fn make_body(
-    version: u8,
-    nonce: Nonce,
-    policy: &[u8; 32],
-    t: u64,
-    t_prev: u64,
-    root: Digest,
-    previous: Digest,
-) -> Body
-    ensures { result ≡ record { version = version; t = t; t_prev = t_prev; root = root; previous = previous; nonce = nonce; policy = policy.now } }
+/// What the entry says of the epoch that an update makes under a number, where the entry before it has this link.
+fn make_body<H: Hash32>(held: &Held, h: &H, update: &Prepared, t: u64, previous: Digest) -> Body
+    requires { Fits (length held.now.tree.nodes.items) 0 update.now.part }
+    ensures { IsSigned (H.digest_of h.now) (state_of held.now) update.now t previous.0 result }
 {
-    let policy = *policy;
     Body {
-        version,
+        version: update.version,
         t,
-        t_prev,
-        root,
+        t_prev: held.latest(),
+        root: held.tree.part_hash(h, &update.nonce, &update.part),
         previous,
-        nonce,
-        policy,
+        nonce: update.nonce,
+        policy: held.policy,
     }
 }
 
-/// The entry that a signer makes of a body. None where it refuses.
-pub(crate) fn signed_by<S: Sign>(signer: &mut S, body: &Body) -> Option<Entry>
+/// The signed entry of the epoch that an update makes under a number, where the entry before it has this link. None where
+/// the signer refuses.
+pub(crate) fn signed<H: Hash32, S: Sign>(
+    held: &Held,
+    h: &H,
+    update: &Prepared,
+    t: u64,
+    previous: Digest,
+    signer: &mut S,
+) -> Option<Entry>
+    requires fits { Fits (length held.now.tree.nodes.items) 0 update.now.part }
     requires made_below { S.made_of signer.old < 2 ^ 64 - 1 }
     requires refused_below { S.refused_of signer.old < 2 ^ 64 - 1 }
-    ensures body { IfSome result (λ entry. entry.body ≡ body.now) }
+    ensures body { IfSome result (λ entry. IsSigned (H.digest_of h.now) (state_of held.now) update.now t previous.0 entry.body) }
     ensures made { IfSome result (λ _. (S.made_of signer.new ≡ S.made_of signer.old + 1) × (S.refused_of signer.new ≡ S.refused_of signer.old)) }
     ensures last { IfSome result (λ entry. S.last_of signer.new ≡ Some entry) }
     ensures verdict { IfSome result (λ entry. S.verdict_of signer.new (body_bytes entry.body) entry.signature.0 ≡ true) }
@@ -86,12 +106,10 @@ pub(crate) fn signed_by<S: Sign>(signer: &mut S, body: &Body) -> Option<Entry>
     ensures last_kept { IfNone result (S.last_of signer.new ≡ S.last_of signer.old) }
     ensures verdicts_kept { (bytes signature : List ℕ) → S.verdict_of signer.new bytes signature ≡ S.verdict_of signer.old bytes signature }
 {
+    let body = make_body(held, h, update, t, previous);
     body.known();
     let signature = signer.sign(&body.bytes())?;
-    Some(Entry {
-        body: *body,
-        signature,
-    })
+    Some(Entry { body, signature })
 }
 
 /// The head of a chain that ends with this entry.
@@ -129,32 +147,17 @@ fn put_entry(chain: &mut Vec<Entry>, entry: Entry)
     let _ = chain.push(entry);
 }
 
-/// Attaches an update, for which there is room, and adds its epoch and its entry. It answers the epoch's root.
-pub(crate) fn enter<H: Hash32>(
-    h: &H,
-    tree: &mut Tree,
-    epochs: &mut Vec<Epoch>,
-    chain: &mut Vec<Entry>,
-    update: Prepared,
-    t: u64,
-    entry: Entry,
-) -> Root
-    requires fits { Fits (length tree.old.nodes.items) 0 update.part }
-    requires placed { Placed (tree.old.records.items ++ update.records.items) update.part }
-    requires room_nodes { length tree.old.nodes.items + node_count update.part ≤ vec_capacity tree.old.nodes }
-    requires room_records { length tree.old.records.items + length update.records.items ≤ vec_capacity tree.old.records }
-    requires room_epochs { vec_len epochs.old < vec_capacity epochs.old }
-    requires room_chain { vec_len chain.old < vec_capacity chain.old }
-    ensures nodes { length tree.new.nodes.items ≡ length tree.old.nodes.items + nodes_added update }
-    ensures records { tree.new.records.items ≡ tree.old.records.items ++ update.records.items }
-    ensures known { result.0 < length tree.new.nodes.items }
-    ensures older { Extends tree.old.nodes.items tree.new.nodes.items }
-    ensures shows { (entries : List Numbered)
-        → Stands (H.digest_of h.now) update.nonce.0 tree.old.nodes.items tree.old.records.items update.part [] entries
-        → Shows (H.digest_of h.now) update.nonce.0 tree.new.nodes.items tree.new.records.items result.0 [] entries }
-    ensures epochs { epochs.new.items ≡ epochs.old.items
-        ++ record { t = t; version = update.version; nonce = update.nonce; root = result; count = length tree.new.records.items } ∷ [] }
-    ensures chain { chain.new.items ≡ chain.old.items ++ entry ∷ [] }
+/// Attaches an update, for which there is room, and adds its epoch and its entry.
+pub(crate) fn enter<H: Hash32>(held: &mut Held, h: &H, update: Prepared, t: u64, entry: Entry)
+    requires fits { Fits (length held.old.tree.nodes.items) 0 update.part }
+    requires placed { Placed (held.old.tree.records.items ++ update.records.items) update.part }
+    requires nodes { length held.old.tree.nodes.items + node_count update.part ≤ vec_capacity held.old.tree.nodes }
+    requires records { length held.old.tree.records.items + length update.records.items ≤ vec_capacity held.old.tree.records }
+    requires epochs { vec_len held.old.epochs < vec_capacity held.old.epochs }
+    requires chain { vec_len held.old.chain < vec_capacity held.old.chain }
+    ensures count { length held.new.tree.nodes.items ≡ length held.old.tree.nodes.items + nodes_added update }
+    ensures last { held.new.chain.items ≡ held.old.chain.items ++ entry ∷ [] }
+    ensures entered { IsEntered (H.digest_of h.now) (state_of held.old) (state_of held.new) update t entry }
 {
     let Prepared {
         version,
@@ -163,18 +166,15 @@ pub(crate) fn enter<H: Hash32>(
         records,
         ..
     } = update;
-    let root = tree.attach(h, &nonce, part, records);
-    let count = tree.records();
-    put_epoch(
-        epochs,
-        Epoch {
-            t,
-            version,
-            nonce,
-            root,
-            count,
-        },
-    );
-    put_entry(chain, entry);
-    root
+    let root = held.tree.attach(h, &nonce, part, records);
+    let count = held.tree.records();
+    let epoch = Epoch {
+        t,
+        version,
+        nonce,
+        root,
+        count,
+    };
+    put_epoch(&mut held.epochs, epoch);
+    put_entry(&mut held.chain, entry);
 }

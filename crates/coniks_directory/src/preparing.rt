@@ -1,23 +1,24 @@
 //! The update of a batch.
 
-ghost use Rattle.std.specs.Prelude.{◌≡◌, ◌<◌, ◌≤◌, ◌+◌, ◌-◌, ◌*◌, ◌^◌, List, ℕ, IfErr, IfOk, IfSome, None, OnOk, length};
-ghost use Rattle.coniks_proof.specs.Batches.{first_fault};
-ghost use Rattle.coniks_proof.specs.Registry.{Registry};
+ghost use Rattle.std.specs.Prelude.{◌≡◌, ◌<◌, ◌≤◌, ◌+◌, ◌-◌, ◌^◌, IfErr, IfOk, None, OnOk, length};
+ghost use Rattle.coniks_proof.specs.Batches.{after, first_fault};
 ghost use Rattle.coniks_tree.specs.Parts.{Fits, node_count};
-ghost use Rattle.coniks_work.specs.Grown.{unchanged};
-ghost use Rattle.coniks_directory.specs.Batches.{AreWorkers, operations};
-ghost use Rattle.coniks_directory.specs.Built.{IsBuilt};
-ghost use Rattle.coniks_directory.specs.Holders.{ShowsLatest};
+ghost use Rattle.coniks_directory.specs.Batches.{AreWorkers, most_nodes, operations};
+ghost use Rattle.coniks_directory.specs.History.{latest_registry};
 ghost use Rattle.coniks_directory.specs.Judged.{IsJudgedFault};
+ghost use Rattle.coniks_directory.specs.State.{Whole, history_of, state_of};
+ghost use Rattle.coniks_directory.specs.Updates.{IsUpdate, nodes_added, registry_after};
 
 use crate::batch::{BatchFault, Op};
 use crate::changes::changes_of;
+use crate::epochs::Epoch;
+use crate::held::Held;
 use crate::judge::judged;
 use crate::seen::Seen;
 use crate::source::IndexSource;
 use crate::update::Prepared;
 use coniks_proof::{Hash32, MAX_OPERATIONS, Nonce};
-use coniks_tree::{Part, Root, Tree};
+use coniks_tree::{Part, Tree};
 use coniks_work::{Gate, MAX_DEPTH, build};
 use std::alloc::Global;
 use std::thread::Threads;
@@ -44,42 +45,33 @@ fn update_of(tree: &Tree, base: usize, nonce: Nonce, part: Part, seen: Seen) -> 
     }
 }
 
-/// The update of a batch on what a root shows, or on nothing where there is none, when there were `base` epochs. The batch
-/// is judged before any node is made.
+/// The update of a batch on what a directory holds. The batch is judged before any node is made. Workers, depth and the batch's length are within their limits.
 pub(crate) fn update_on<H: Hash32 + Sync, X: IndexSource, G: Gate + Sync, R: Threads + Sync>(
     rt: &R,
     alloc: Global,
     h: &H,
     source: &X,
-    tree: &Tree,
-    root: Option<Root>,
-    nonce: Nonce,
-    base: usize,
+    held: &Held,
     ops: &[Op],
     depth: usize,
     workers: usize,
     gate: &G,
 ) -> Result<Prepared, BatchFault>
-    requires root { IfSome root (λ r. r.0 < length tree.now.nodes.items) }
+    requires whole { Whole (H.digest_of h.now) (X.index_of source.now) (state_of held.now) }
     requires few { length ops.now ≤ MAX_OPERATIONS }
     requires depth { depth ≤ MAX_DEPTH }
     requires workers { AreWorkers workers }
-    ensures base { IfOk result (λ p. p.base ≡ base) }
-    ensures version { IfOk result (λ p. p.version ≡ 1) }
-    ensures nonce { IfOk result (λ p. p.nonce ≡ nonce) }
-    ensures fits { IfOk result (λ p. Fits (length tree.now.nodes.items) 0 p.part) }
-    ensures built { IfOk result (λ p. (registry : Registry)
-        → ShowsLatest (H.digest_of h.now) (X.index_of source.now) nonce.0 tree.now.nodes.items tree.now.records.items root registry
-        → IsBuilt (H.digest_of h.now) (X.index_of source.now) nonce.0 tree.now.nodes.items tree.now.records.items registry (operations ops.now) p.part p.records.items) }
-    ensures count { IfOk result (λ p. 0 < length ops.now → p.new_nodes ≤ 512 * length ops.now + 1) }
-    ensures same { IfOk result (λ p. length ops.now ≡ 0 → p.new_nodes ≡ node_count (unchanged root)) }
-    ensures faultless { OnOk result ((registry : Registry)
-        → ShowsLatest (H.digest_of h.now) (X.index_of source.now) nonce.0 tree.now.nodes.items tree.now.records.items root registry
-        → first_fault (X.index_of source.now) registry (operations ops.now) ≡ None) }
-    ensures fault { IfErr result (λ fault. (registry : Registry)
-        → ShowsLatest (H.digest_of h.now) (X.index_of source.now) nonce.0 tree.now.nodes.items tree.now.records.items root registry
-        → IsJudgedFault (X.index_of source.now) registry (operations ops.now) fault) }
+    ensures update { IfOk result (IsUpdate (H.digest_of h.now) (X.index_of source.now) (state_of held.now)) }
+    ensures registry { IfOk result (λ p. registry_after (state_of held.now) p ≡ after (latest_registry (history_of (state_of held.now))) (operations ops.now)) }
+    ensures few { IfOk result (λ p. nodes_added p ≤ most_nodes (history_of (state_of held.now)) (length ops.now)) }
+    ensures none { IfOk result (λ p. length ops.now ≡ 0 → nodes_added p ≡ most_nodes (history_of (state_of held.now)) 0) }
+    ensures faultless { OnOk result (first_fault (X.index_of source.now) (latest_registry (history_of (state_of held.now))) (operations ops.now) ≡ None) }
+    ensures fault { IfErr result (IsJudgedFault (X.index_of source.now) (latest_registry (history_of (state_of held.now))) (operations ops.now)) }
 {
+    let last = held.last();
+    let root = Epoch::root_of(last);
+    let nonce = Epoch::nonce_of(last, held.nonce);
+    let tree = &held.tree;
     let seen = judged(alloc, h, source, tree, root, ops)?;
     let Ok(changes) = changes_of(alloc, tree.records(), &seen) else {
         return Err(BatchFault::OutOfMemory);
@@ -87,7 +79,7 @@ pub(crate) fn update_on<H: Hash32 + Sync, X: IndexSource, G: Gate + Sync, R: Thr
     match build(
         rt, alloc, h, &nonce, tree, root, &changes, depth, workers, gate,
     ) {
-        Ok(part) => Ok(update_of(tree, base, nonce, part, seen)),
+        Ok(part) => Ok(update_of(tree, held.count(), nonce, part, seen)),
         Err(_) => Err(BatchFault::OutOfMemory),
     }
 }

@@ -13,7 +13,7 @@ use Rattle.coniks_chain.specs.declared.entry.Entry.{Entry}
 use Rattle.coniks_directory.specs.Batches.{AreWorkers, IsAccepted}
 use Rattle.coniks_directory.specs.Chain.{IsChainOf, head_at, heads_of}
 use Rattle.coniks_directory.specs.History.{Shown, latest_epoch, latest_registry}
-use Rattle.coniks_directory.specs.State.{State, history_of}
+use Rattle.coniks_directory.specs.State.{State, View, history_of}
 use Rattle.coniks_directory.specs.Updates.{Grows, IsCommitFault, MayInstall, commit_refusals, shown_next}
 use Rattle.coniks_directory.specs.declared.batch.BatchFault.TheVariants as batch
 use Rattle.coniks_directory.specs.declared.update.CommitFault.{CommitFault}
@@ -114,30 +114,30 @@ pub as_many : (heads : List Head) (chain : List Entry) → heads ≡ heads_of sh
 as_many heads chain same = ap length same ∙ length-map (head_at sha256) chain
 
 -- after a commit there are as many signatures as entries, and no more than the board takes
-pub made_and_room : {H X P : Type 0} (result : Result Entry CommitFault) (v v' : H × X × State) (p p' : P) (made made' refused refused' epoch published capacity : ℕ) (last last' : Option Entry)
-    → OnOk result ((made' ≡ made + 1) × (refused' ≡ refused)) → IfOk result (λ e. v'.2.chain ≡ v.2.chain ++ e ∷ [])
-    → OnOk result (MayInstall v.2 (length v.2.epochs) epoch published capacity) → IfErr result (λ fault. (made' ≡ made) × (refused' ≡ refused + commit_refusals fault) × (last' ≡ last)) → OnErr result ((v' ≡ v) × (p' ≡ p))
-    → made ≡ length v.2.chain → length v.2.chain ≤ BOARD_HEADS → published ≡ length v.2.chain → capacity ≡ BOARD_HEADS → (made' ≡ length v'.2.chain) × (length v'.2.chain ≤ BOARD_HEADS)
+pub made_and_room : {H X P : Type 0} (result : Result Entry CommitFault) (v v' : View H X) (p p' : P) (made made' refused refused' epoch published capacity : ℕ) (last last' : Option Entry)
+    → OnOk result ((made' ≡ made + 1) × (refused' ≡ refused)) → IfOk result (λ e. v'.state.chain ≡ v.state.chain ++ e ∷ [])
+    → OnOk result (MayInstall v.state (length v.state.epochs) epoch published capacity) → IfErr result (λ fault. (made' ≡ made) × (refused' ≡ refused + commit_refusals fault) × (last' ≡ last)) → OnErr result ((v' ≡ v) × (p' ≡ p))
+    → made ≡ length v.state.chain → length v.state.chain ≤ BOARD_HEADS → published ≡ length v.state.chain → capacity ≡ BOARD_HEADS → (made' ≡ length v'.state.chain) × (length v'.state.chain ≤ BOARD_HEADS)
 made_and_room {H} {X} {P} (Ok e) v v' p p' made made' refused refused' epoch published capacity last last' one more may kept same own most long full =
     let up = one.0 in
-    let longer : length v'.2.chain ≡ length v.2.chain + 1 = ap length more ∙ length-append v.2.chain (e ∷ []) in
+    let longer : length v'.state.chain ≡ length v.state.chain + 1 = ap length more ∙ length-append v.state.chain (e ∷ []) in
     let room : published ≢ BOARD_HEADS = subst (λ n. published ≢ n) full may.room in
-    (omega arith, below (length v.2.chain) (length v'.2.chain) longer most (λ at. room (long ∙ at)))
+    (omega arith, below (length v.state.chain) (length v'.state.chain) longer most (λ at. room (long ∙ at)))
   where
     below : (n m : ℕ) → m ≡ n + 1 → n ≤ 1024 → (n ≡ 1024 → ⊥) → m ≤ 1024
     below n m next most apart = grind (arith, nat_tests)
 made_and_room {H} {X} {P} (Err e) v v' p p' made made' refused refused' epoch published capacity last last' one more may kept same own most long full =
-    let long' : length v'.2.chain ≡ length v.2.chain = ap (λ (w : H × X × State). length w.2.chain) same.0 in
+    let long' : length v'.state.chain ≡ length v.state.chain = ap (λ (w : View H X). length w.state.chain) same.0 in
     (kept.0 ∙ own ∙ sym long', omega arith)
 
 -- a commit's fault, whatever it is
-pub refused_by : {H X P : Type 0} (of of' : List ℕ → List ℕ) (v v' : H × X × State) (p p' : P) (ops : List Operation) (depth workers epoch published capacity made made' : ℕ) (last last' : Option Entry) (result : Result Entry CommitFault) → AreWorkers workers → depth ≤ MAX_DEPTH
-    → published ≡ length v.2.chain → capacity ≡ BOARD_HEADS → IfErr result (λ fault. (made' ≡ made) × (0 ≡ 0 + commit_refusals fault) × (last' ≡ last)) → IfErr result (IsCommitFault of v.2 ops depth workers epoch published capacity)
-    → OnErr result ((v' ≡ v) × (p' ≡ p)) → IsChainOf sha256 of' v'.2.policy (history_of v'.2) v'.2.chain → IfErr result (IsRefusedBy (refusal of (history_of v.2) epoch ops))
+pub refused_by : {H X P : Type 0} (of of' : List ℕ → List ℕ) (v v' : View H X) (p p' : P) (ops : List Operation) (depth workers epoch published capacity made made' : ℕ) (last last' : Option Entry) (result : Result Entry CommitFault) → AreWorkers workers → depth ≤ MAX_DEPTH
+    → published ≡ length v.state.chain → capacity ≡ BOARD_HEADS → IfErr result (λ fault. (made' ≡ made) × (0 ≡ 0 + commit_refusals fault) × (last' ≡ last)) → IfErr result (IsCommitFault of v.state ops depth workers epoch published capacity)
+    → OnErr result ((v' ≡ v) × (p' ≡ p)) → IsChainOf sha256 of' v'.state.policy (history_of v'.state) v'.state.chain → IfErr result (IsRefusedBy (refusal of (history_of v.state) epoch ops))
 refused_by {H} {X} {P} of of' v v' p p' ops depth workers epoch published capacity made made' last last' (Ok e) crew shallow long full unsigned f same is = tt
 refused_by {H} {X} {P} of of' v v' p p' ops depth workers epoch published capacity made made' last last' (Err fault) crew shallow long full unsigned f same is =
-    let long' : length v.2.chain ≡ length (history_of v.2) = subst (λ (w : H × X × State). length w.2.chain ≡ length (history_of w.2)) same.0 is.long in
-    refused_is of v.2 ops depth workers epoch published capacity fault crew shallow (long ∙ long') full unsigned.1 f
+    let long' : length v.state.chain ≡ length (history_of v.state) = subst (λ (w : View H X). length w.state.chain ≡ length (history_of w.state)) same.0 is.long in
+    refused_is of v.state ops depth workers epoch published capacity fault crew shallow (long ∙ long') full unsigned.1 f
 
 -- a commit's entry, where there is one
 pub installed_by : (key key' : List ℕ) (s t : State) (ops : List Operation) (depth workers epoch published capacity : ℕ) (verdict : List ℕ → List ℕ → Bool) (result : Result Entry CommitFault)

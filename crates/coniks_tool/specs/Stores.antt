@@ -16,7 +16,7 @@ opened_by key s = record { key = key; nonce = s.nonce; policy = s.policy; histor
 
 -- what an opened directory holds
 abbrev pub opened_of : Service → Opened
-opened_of s = opened_by s.directory.1 s.directory.2
+opened_of s = opened_by s.directory.index s.directory.state
 
 abbrev pub state_of : Option Service → State
 state_of None = None
@@ -25,12 +25,12 @@ state_of (Some s) = Some (opened_of s)
 -- the directory's index source and its signer have one key, the signer made just the chain's entries, which are a good chain, and
 -- the heads of the chain are those that are published
 pub record IsServed (published : BoardEnd) (s : Service) : Type 0 where
-  pub same_key : s.index ≡ s.directory.1
-  pub verdicts : (bytes signature : List ℕ) → is_seal s.signer.key bytes signature ≡ is_seal s.directory.1 bytes signature
-  pub good : GoodChain sha256 (is_seal s.signer.key) s.directory.2.chain
-  pub made : s.signer.made ≡ length s.directory.2.chain
-  pub heads : published.heads ≡ heads_of sha256 s.directory.2.chain
-  pub room : length s.directory.2.chain ≤ BOARD_HEADS
+  pub same_key : s.index ≡ s.directory.index
+  pub verdicts : (bytes signature : List ℕ) → is_seal s.signer.key bytes signature ≡ is_seal s.directory.index bytes signature
+  pub good : GoodChain sha256 (is_seal s.signer.key) s.directory.state.chain
+  pub made : s.signer.made ≡ length s.directory.state.chain
+  pub heads : published.heads ≡ heads_of sha256 s.directory.state.chain
+  pub room : length s.directory.state.chain ≤ BOARD_HEADS
 
 -- before a directory is opened no head is published
 abbrev pub IsServedIf : BoardEnd → Option Service → Type 0

@@ -174,7 +174,7 @@ pub struct Clerk<'a, H: Hash32> {
     pub publisher: Publisher,
     pub board: &'a Board,
     ghost tabled: { publisher.table ≡ board.now.table },
-    ghost headed: { publisher.heads ≡ heads_of (H.digest_of directory.0) directory.2.chain },
+    ghost headed: { publisher.heads ≡ heads_of (H.digest_of directory.hash) directory.state.chain },
 }
 
 impl<'a, H: Hash32 + Sync> Clerk<'a, H> {
@@ -235,19 +235,19 @@ impl<'a, H: Hash32 + Sync> Clerk<'a, H> {
 
     /// Prepares a batch at depth 1 with two workers. None where it is refused.
     pub fn prepare<R: Threads + Sync>(&self, rt: &R, written: &[Written]) -> Option<Prepared>
-        ensures { IfSome result (IsUpdateOf (H.digest_of self.now.directory.0) index_of_letter self.now.directory.2) }
+        ensures { IfSome result (IsUpdateOf (H.digest_of self.now.directory.hash) index_of_letter self.now.directory.state) }
     {
         prepared(rt, self.alloc, &self.directory, written)
     }
 
     /// Installs an update.
     pub fn install(&mut self, update: Prepared, t: u64) -> Result<Entry, (InstallFault, Prepared)>
-        requires { IsUpdateOf (H.digest_of self.old.directory.0) index_of_letter self.old.directory.2 update }
+        requires { IsUpdateOf (H.digest_of self.old.directory.hash) index_of_letter self.old.directory.state update }
         ensures table { self.new.board.now.table ≡ self.old.board.now.table }
-        ensures hash { self.new.directory.0 ≡ self.old.directory.0 }
-        ensures grows { Grows self.old.directory.2 self.new.directory.2 }
+        ensures hash { self.new.directory.hash ≡ self.old.directory.hash }
+        ensures grows { Grows self.old.directory.state self.new.directory.state }
         ensures back { IfErr result (λ r. r.1 ≡ update) }
-        ensures still { IfErr result (λ r. IsUpdateOf (H.digest_of self.new.directory.0) index_of_letter self.new.directory.2 r.1) }
+        ensures still { IfErr result (λ r. IsUpdateOf (H.digest_of self.new.directory.hash) index_of_letter self.new.directory.state r.1) }
     {
         if !self.may_sign() {
             return Err((InstallFault::SignerRefused, update));
@@ -295,8 +295,8 @@ impl<'a, H: Hash32 + Sync> Clerk<'a, H> {
         second: Prepared,
         t: u64,
     ) -> Option<(InstallFault, InstallFault)>
-        requires first { IsUpdateOf (H.digest_of self.old.directory.0) index_of_letter self.old.directory.2 first }
-        requires second { IsUpdateOf (H.digest_of self.old.directory.0) index_of_letter self.old.directory.2 second }
+        requires first { IsUpdateOf (H.digest_of self.old.directory.hash) index_of_letter self.old.directory.state first }
+        requires second { IsUpdateOf (H.digest_of self.old.directory.hash) index_of_letter self.old.directory.state second }
     {
         updates_stay();
         if self.install(first, t).is_err() {
@@ -319,7 +319,7 @@ pub fn prepared<H: Hash32 + Sync, R: Threads + Sync>(
     directory: &Directory<H, Letters>,
     written: &[Written],
 ) -> Option<Prepared>
-    ensures { IfSome result (IsUpdateOf (H.digest_of directory.now.0) index_of_letter directory.now.2) }
+    ensures { IfSome result (IsUpdateOf (H.digest_of directory.now.hash) index_of_letter directory.now.state) }
 {
     updates_stay();
     let Ok(ops) = ops_of(alloc, written) else {

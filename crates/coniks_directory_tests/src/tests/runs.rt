@@ -30,7 +30,7 @@ fn prepare_next<H: Hash32 + Sync, X: IndexSource, R: Threads + Sync>(
     directory: &Directory<H, X>,
     ops: &[Op],
 ) -> Result<Prepared, BatchFault>
-    ensures { IfOk result (IsPreparedOf (H.digest_of directory.now.0) (X.index_of directory.now.1) directory.now.2 (operations ops.now) 1 2) }
+    ensures { IfOk result (IsPreparedOf (H.digest_of directory.now.hash) (X.index_of directory.now.index) directory.now.state (operations ops.now) 1 2) }
 {
     directory.prepare(rt, ops, 1, 2, &Open)
 }
@@ -44,16 +44,16 @@ fn install_next<H: Hash32, X: IndexSource, S: Sign>(
     publisher: &mut Publisher,
     board: &Board,
 ) -> Result<Entry, (InstallFault, Prepared)>
-    requires update { IsUpdateOf (H.digest_of directory.old.0) (X.index_of directory.old.1) directory.old.2 update }
+    requires update { IsUpdateOf (H.digest_of directory.old.hash) (X.index_of directory.old.index) directory.old.state update }
     requires made { S.made_of signer.old < 2 ^ 64 - 1 }
     requires refused { S.refused_of signer.old < 2 ^ 64 - 1 }
     requires table { publisher.old.table ≡ board.now.table }
-    requires published { publisher.old.heads ≡ heads_of (H.digest_of directory.old.0) directory.old.2.chain }
+    requires published { publisher.old.heads ≡ heads_of (H.digest_of directory.old.hash) directory.old.state.chain }
     ensures run { OnOk result ((nonce policy : List ℕ) (batches : List Batch) (earlier : State) (ops : List Operation) (depth workers : ℕ)
-        → Run (H.digest_of directory.old.0) (X.index_of directory.old.1) nonce policy batches directory.old.2
-        → IsPreparedOf (H.digest_of directory.old.0) (X.index_of directory.old.1) earlier ops depth workers update → Grows earlier directory.old.2
-        → Run (H.digest_of directory.new.0) (X.index_of directory.new.1) nonce policy (batches ++ record { t = t; ops = ops } ∷ []) directory.new.2) }
-    ensures heads { publisher.new.heads ≡ heads_of (H.digest_of directory.new.0) directory.new.2.chain }
+        → Run (H.digest_of directory.old.hash) (X.index_of directory.old.index) nonce policy batches directory.old.state
+        → IsPreparedOf (H.digest_of directory.old.hash) (X.index_of directory.old.index) earlier ops depth workers update → Grows earlier directory.old.state
+        → Run (H.digest_of directory.new.hash) (X.index_of directory.new.index) nonce policy (batches ++ record { t = t; ops = ops } ∷ []) directory.new.state) }
+    ensures heads { publisher.new.heads ≡ heads_of (H.digest_of directory.new.hash) directory.new.state.chain }
     ensures table { publisher.new.table ≡ publisher.old.table }
 {
     directory.install(update, t, signer, publisher, board)
@@ -72,11 +72,11 @@ fn commit_next<H: Hash32 + Sync, X: IndexSource, S: Sign, R: Threads + Sync>(
     requires made { S.made_of signer.old < 2 ^ 64 - 1 }
     requires refused { S.refused_of signer.old < 2 ^ 64 - 1 }
     requires table { publisher.old.table ≡ board.now.table }
-    requires published { publisher.old.heads ≡ heads_of (H.digest_of directory.old.0) directory.old.2.chain }
+    requires published { publisher.old.heads ≡ heads_of (H.digest_of directory.old.hash) directory.old.state.chain }
     ensures run { OnOk result ((nonce policy : List ℕ) (batches : List Batch)
-        → Run (H.digest_of directory.old.0) (X.index_of directory.old.1) nonce policy batches directory.old.2
-        → Run (H.digest_of directory.new.0) (X.index_of directory.new.1) nonce policy (batches ++ record { t = t; ops = operations ops.now } ∷ []) directory.new.2) }
-    ensures heads { publisher.new.heads ≡ heads_of (H.digest_of directory.new.0) directory.new.2.chain }
+        → Run (H.digest_of directory.old.hash) (X.index_of directory.old.index) nonce policy batches directory.old.state
+        → Run (H.digest_of directory.new.hash) (X.index_of directory.new.index) nonce policy (batches ++ record { t = t; ops = operations ops.now } ∷ []) directory.new.state) }
+    ensures heads { publisher.new.heads ≡ heads_of (H.digest_of directory.new.hash) directory.new.state.chain }
     ensures table { publisher.new.table ≡ publisher.old.table }
 {
     directory.commit(rt, ops, 1, 2, &Open, t, signer, publisher, board)
@@ -85,8 +85,8 @@ fn commit_next<H: Hash32 + Sync, X: IndexSource, S: Sign, R: Threads + Sync>(
 /// `root_at`: after a run the root is that of the directory which the run's batches define.
 fn root_of<H: Hash32, X: IndexSource>(directory: &Directory<H, X>, t: u64) -> Option<Digest>
     ensures { (nonce policy : List ℕ) (batches : List Batch)
-        → Run (H.digest_of directory.now.0) (X.index_of directory.now.1) nonce policy batches directory.now.2
-        → option_map (λ root. root.0) result ≡ option_map (root_at (H.digest_of directory.now.0) (X.index_of directory.now.1)) (shown_at (defined nonce batches) t) }
+        → Run (H.digest_of directory.now.hash) (X.index_of directory.now.index) nonce policy batches directory.now.state
+        → option_map (λ root. root.0) result ≡ option_map (root_at (H.digest_of directory.now.hash) (X.index_of directory.now.index)) (shown_at (defined nonce batches) t) }
 {
     directory_theorem();
     directory.root_at(t)
@@ -99,8 +99,8 @@ fn path_of<H: Hash32, X: IndexSource>(
     name: &[u8],
 ) -> Result<Proof, LookupFault>
     ensures { (nonce policy : List ℕ) (batches : List Batch)
-        → Run (H.digest_of directory.now.0) (X.index_of directory.now.1) nonce policy batches directory.now.2
-        → IfOk result (IsAcceptedAt (H.digest_of directory.now.0) (X.index_of directory.now.1) (defined nonce batches) t name.now) }
+        → Run (H.digest_of directory.now.hash) (X.index_of directory.now.index) nonce policy batches directory.now.state
+        → IfOk result (IsAcceptedAt (H.digest_of directory.now.hash) (X.index_of directory.now.index) (defined nonce batches) t name.now) }
 {
     directory_theorem();
     directory.lookup(t, name)

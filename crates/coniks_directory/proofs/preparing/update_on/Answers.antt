@@ -1,55 +1,109 @@
-use Rattle.std.proofs.Common.{◌≡◌, ◌<◌, ◌≤◌, ◌+◌, ◌*◌, List, ℕ, Vec, Global, arith, length, map, sym, ap, subst, ◌∙◌}
+use Rattle.std.proofs.Common.{◌≡◌, ◌<◌, ◌≤◌, ◌+◌, ◌*◌, Option, IfSome, Vec, Global, ap, arith, length, map, rules, subst, sym, refl, ◌∙◌}
 use Rattle.coniks_proof.specs.Batches.{bound_by}
-use Rattle.coniks_directory.specs.Batches.{operation_of, operations}
-use Rattle.coniks_tree.specs.Parts.{entries_of, entry_of_change, node_count}
-use Rattle.coniks_tree.specs.declared.part.Change.{Change}
+use Rattle.coniks_tree.specs.Parts.{Fits, node_count}
 use Rattle.coniks_tree.specs.declared.part.Part.{Part}
 use Rattle.coniks_tree.specs.declared.table.Record.{Record}
+use Rattle.coniks_tree.specs.declared.table.Root.{Root}
+use Rattle.coniks_work.specs.Grown.{unchanged}
+use Rattle.coniks_directory.specs.Batches.{operation_of, operations}
 use Rattle.coniks_directory.specs.Built.{IsBuilt}
-use Rattle.coniks_directory.specs.Judged.{AreChangesOf}
-use Rattle.coniks_directory.specs.State.{registered_of}
-use Rattle.coniks_directory.proofs.BuiltLemmas.{built}
+use Rattle.coniks_directory.specs.History.{latest_registry}
+use Rattle.coniks_directory.specs.Judged.{IsJudgedFault}
+use Rattle.coniks_directory.specs.State.{history_of, registered_of, state_of}
+use Rattle.coniks_directory.proofs.BuiltLemmas.{as_many, built, seen_changes}
 use Rattle.coniks_directory.proofs.JudgeLemmas.{length-map}
 use Rattle.coniks_directory.proofs.OrderLemmas.{numbers_within}
+use Rattle.coniks_directory.proofs.PrepareLemmas.{answered, few_added, is_update, known_root, none_added, registry_is, shown_now}
 use Rattle.coniks_directory.proofs.preparing.update_on.Goals as goal
+
+pub judged-requires : goal.judged-requires
+judged-requires g c =
+    let s = state_of c.args.held.now in
+    subst (λ (r : Option Root). IfSome r (λ n. n.0 < length s.nodes)) (sym c.root_of-root.ensures)
+    (known_root (g.H.Hash32.digest_of c.args.h.now) (g.X.IndexSource.index_of c.args.source.now) s c.requires.whole c.last-last.result c.last-last.ensures)
+
+pub returns-in_err-seen-clause-fault : goal.returns-in_err-seen-clause-fault
+returns-in_err-seen-clause-fault g c =
+    let hash = g.H.Hash32.digest_of c.args.h.now in
+    let of = g.X.IndexSource.index_of c.args.source.now in
+    let s = state_of c.args.held.now in
+    let registry = latest_registry (history_of s) in
+    let fault = c.in_err-seen.field-0.0 in
+    let shown = shown_now hash of s c.requires.whole c.last-last.result c.args.held.now.nonce c.nonce_of-nonce.result c.root_of-root.result c.last-last.ensures refl c.root_of-root.ensures c.nonce_of-nonce.ensures in
+    answered c.from_residual.result fault (IsJudgedFault of registry (operations c.args.ops.now)) (search rules)
+    (c.in_err-seen.ensures.fault c.nonce_of-nonce.result.0 registry shown)
 
 pub changes_of-requires-clause-numbered : goal.changes_of-requires-clause-numbered
 changes_of-requires-clause-numbered g c =
-    numbers_within (g.H.Hash32.digest_of c.args.h.now) (g.X.IndexSource.index_of c.args.source.now) (map bound_by (operations c.args.ops.now)) c.in_ok-seen.seen.records.items c.in_ok-seen.seen.numbers c.in_ok-seen.ensures.seen
-
-pub returns-in-Ok-build-clause-built : goal.returns-in-Ok-build-clause-built
-returns-in-Ok-build-clause-built g c = λ registry shown.
-    let hash : List ℕ → List ℕ = g.H.Hash32.digest_of c.args.h.now in
-    let of : List ℕ → List ℕ = g.X.IndexSource.index_of c.args.source.now in
-    let nodes = c.args.tree.now.nodes.items in
-    let records = c.args.tree.now.records.items in
-    let ops = operations c.args.ops.now in
     let seen = c.in_ok-seen.seen in
-    let new = seen.records.items in
-    let s = c.in_ok-seen.ensures.seen in
-    let changes = c.deref.result.now in
-    let these : AreChangesOf c.records.result new (entries_of changes) =
-    subst (λ (cs : List Change). AreChangesOf c.records.result new (entries_of cs)) (sym c.deref.ensures.value) (c.in-Ok.ensures hash of (map bound_by ops) s) in
-    let b : IsBuilt hash of c.args.nonce.0 nodes records registry ops c.in-Ok-build.part new =
-    built hash of c.args.nonce.0 nodes records c.args.root registry ops new seen.numbers changes c.records.result c.in-Ok-build.part shown
-    (c.in_ok-seen.ensures.faultless c.args.nonce.0 registry shown) s c.records.ensures these c.in-Ok-build.ensures.placed c.in-Ok-build.ensures.stands in
-    let q : IsBuilt hash of c.args.nonce.0 nodes records registry ops c.update_of.result.part new =
-    subst (λ (p : Part). IsBuilt hash of c.args.nonce.0 nodes records registry ops p new) (sym c.update_of.ensures.part) b in
-    subst (λ (v : Vec Record Global). IsBuilt hash of c.args.nonce.0 nodes records registry ops c.update_of.result.part v.items) (sym c.update_of.ensures.records) q
+    numbers_within (g.H.Hash32.digest_of c.args.h.now) (g.X.IndexSource.index_of c.args.source.now) (map bound_by (operations c.args.ops.now)) seen.records.items seen.numbers c.in_ok-seen.ensures.seen
 
-pub returns-in-Ok-build-clause-count : goal.returns-in-Ok-build-clause-count
-returns-in-Ok-build-clause-count g c = λ some.
-    let hash : List ℕ → List ℕ = g.H.Hash32.digest_of c.args.h.now in
-    let of : List ℕ → List ℕ = g.X.IndexSource.index_of c.args.source.now in
+pub build-requires-clause-root : goal.build-requires-clause-root
+build-requires-clause-root g c κs within =
+    let s = state_of c.args.held.now in
+    subst (λ (r : Option Root). IfSome r (λ n. n.0 < length s.nodes)) (sym c.root_of-root.ensures)
+    (known_root (g.H.Hash32.digest_of c.args.h.now) (g.X.IndexSource.index_of c.args.source.now) s c.requires.whole c.last-last.result c.last-last.ensures)
+
+pub returns-in-Ok-build-clause-update : goal.returns-in-Ok-build-clause-update
+returns-in-Ok-build-clause-update g c =
+    let hash = g.H.Hash32.digest_of c.args.h.now in
+    let of = g.X.IndexSource.index_of c.args.source.now in
+    let s = state_of c.args.held.now in
+    let registry = latest_registry (history_of s) in
     let ops = operations c.args.ops.now in
-    let new = c.in_ok-seen.seen.records.items in
-    let s = c.in_ok-seen.ensures.seen in
+    let nonce = c.nonce_of-nonce.result in
+    let seen = c.in_ok-seen.seen in
+    let p = c.update_of.result in
+    let e = c.update_of.ensures in
+    let shown = shown_now hash of s c.requires.whole c.last-last.result c.args.held.now.nonce nonce c.root_of-root.result c.last-last.ensures refl c.root_of-root.ensures c.nonce_of-nonce.ensures in
+    -- the changes are those of the records, and the part is built of them
+    let these = seen_changes hash of ops seen c.records.result c.in-Ok.changes.items c.deref.result.now c.deref.ensures.value (c.in-Ok.ensures hash of (map bound_by ops) c.in_ok-seen.ensures.seen) in
+    let b : IsBuilt hash of nonce.0 s.nodes s.records registry ops c.in-Ok-build.part seen.records.items =
+    built hash of nonce.0 s.nodes s.records c.root_of-root.result registry ops seen.records.items seen.numbers c.deref.result.now c.records.result c.in-Ok-build.part shown
+    (c.in_ok-seen.ensures.faultless nonce.0 registry shown) c.in_ok-seen.ensures.seen c.records.ensures these c.in-Ok-build.ensures.placed c.in-Ok-build.ensures.stands in
+    -- and both are the update's
+    let q : IsBuilt hash of nonce.0 s.nodes s.records registry ops p.part seen.records.items =
+    subst (λ (part : Part). IsBuilt hash of nonce.0 s.nodes s.records registry ops part seen.records.items) (sym e.part) b in
+    let r : IsBuilt hash of nonce.0 s.nodes s.records registry ops p.part p.records.items =
+    subst (λ (v : Vec Record Global). IsBuilt hash of nonce.0 s.nodes s.records registry ops p.part v.items) (sym e.records) q in
+    let fits : Fits (length s.nodes) 0 p.part = subst (Fits (length s.nodes) 0) (sym e.part) c.in-Ok-build.ensures.fits in
+    is_update hash of s c.requires.whole p ops c.last-last.result c.args.held.now.nonce nonce c.last-last.ensures refl c.nonce_of-nonce.ensures (e.base ∙ c.count.ensures) e.version e.nonce fits r
+
+pub returns-in-Ok-build-clause-registry : goal.returns-in-Ok-build-clause-registry
+returns-in-Ok-build-clause-registry g c =
+    let ops = operations c.args.ops.now in
+    registry_is (g.H.Hash32.digest_of c.args.h.now) (g.X.IndexSource.index_of c.args.source.now) (state_of c.args.held.now) c.requires.whole c.update_of.result ops
+    (ap (λ (v : Vec Record Global). map registered_of v.items) c.update_of.ensures.records ∙ c.in_ok-seen.ensures.seen.binds)
+
+pub returns-in-Ok-build-clause-few : goal.returns-in-Ok-build-clause-few
+returns-in-Ok-build-clause-few g c =
+    let hash = g.H.Hash32.digest_of c.args.h.now in
+    let of = g.X.IndexSource.index_of c.args.source.now in
+    let s = state_of c.args.held.now in
+    let ops = c.args.ops.now in
     let changes = c.deref.result.now in
-    let these = c.in-Ok.ensures hash of (map bound_by ops) s in
-    let as_many : length changes ≡ length c.args.ops.now =
-    ap length c.deref.ensures.value ∙ sym (length-map entry_of_change c.in-Ok.changes.items) ∙ these.counted ∙ sym (length-map registered_of new)
-    ∙ ap length s.binds ∙ length-map bound_by ops ∙ length-map operation_of c.args.ops.now in
-    let few : 0 < length changes → node_count c.in-Ok-build.part ≤ 512 * length changes + 1 = c.in-Ok-build.ensures.count in
-    let fewer = few (omega (arith, as_many, some)) in
-    let same : c.update_of.result.new_nodes ≡ node_count c.in-Ok-build.part = c.update_of.result.counted ∙ ap node_count c.update_of.ensures.part in
-    omega (arith, as_many, fewer, same)
+    let part = c.in-Ok-build.part in
+    let long = length-map operation_of ops in
+    let many = as_many hash of (operations ops) c.in_ok-seen.seen c.records.result c.in-Ok.changes.items changes c.deref.ensures.value (c.in-Ok.ensures hash of (map bound_by (operations ops)) c.in_ok-seen.ensures.seen) c.in_ok-seen.ensures.seen in
+    let few : 0 < length changes → node_count part ≤ 512 * length changes + 1 = c.in-Ok-build.ensures.count in
+    let same : c.update_of.result.new_nodes ≡ node_count part = c.update_of.result.counted ∙ ap node_count c.update_of.ensures.part in
+    few_added (history_of s) (length ops) c.update_of.result.new_nodes
+    (λ some. let fewer = few (omega (arith, many, long, some)) in omega (arith, many, long, fewer, same))
+    (λ empty. same ∙ ap node_count (c.in-Ok-build.ensures.same (many ∙ long ∙ empty)) ∙ ap (λ (r : Option Root). node_count (unchanged r)) c.root_of-root.ensures ∙ none_added hash of s c.requires.whole c.last-last.result c.last-last.ensures)
+
+pub returns-in-Ok-build-clause-none : goal.returns-in-Ok-build-clause-none
+returns-in-Ok-build-clause-none g c = λ empty.
+    let hash = g.H.Hash32.digest_of c.args.h.now in
+    let of = g.X.IndexSource.index_of c.args.source.now in
+    let s = state_of c.args.held.now in
+    let ops = c.args.ops.now in
+    let long = length-map operation_of ops in
+    let many = as_many hash of (operations ops) c.in_ok-seen.seen c.records.result c.in-Ok.changes.items c.deref.result.now c.deref.ensures.value (c.in-Ok.ensures hash of (map bound_by (operations ops)) c.in_ok-seen.ensures.seen) c.in_ok-seen.ensures.seen in
+    c.update_of.result.counted ∙ ap node_count (c.update_of.ensures.part ∙ c.in-Ok-build.ensures.same (many ∙ long ∙ empty)) ∙ ap (λ (r : Option Root). node_count (unchanged r)) c.root_of-root.ensures
+    ∙ none_added hash of s c.requires.whole c.last-last.result c.last-last.ensures
+
+pub returns-in-Ok-build-clause-faultless : goal.returns-in-Ok-build-clause-faultless
+returns-in-Ok-build-clause-faultless g c =
+    let s = state_of c.args.held.now in
+    c.in_ok-seen.ensures.faultless c.nonce_of-nonce.result.0 (latest_registry (history_of s))
+    (shown_now (g.H.Hash32.digest_of c.args.h.now) (g.X.IndexSource.index_of c.args.source.now) s c.requires.whole c.last-last.result c.args.held.now.nonce c.nonce_of-nonce.result c.root_of-root.result c.last-last.ensures refl c.root_of-root.ensures c.nonce_of-nonce.ensures)

@@ -19,7 +19,7 @@ returns-in-Err-NameLength c =
 pub returns-in_default : goal.returns-in_default
 returns-in_default c =
     let o = opened_of c.args.self.now in
-    let chain = c.args.self.now.directory.2.chain in
+    let chain = c.args.self.now.directory.state.chain in
     let is : chain ≡ chain_of o.key o.policy o.history = chain_is o.key o.policy (is_seal c.args.self.now.signer.key) c.requires.1.verdicts o.history chain c.chain.ensures.of_history c.requires.1.good in
     none_there o c.args.epoch c.args.name.now c.as_bytes.result.now c.as_bytes.ensures.value c.in-Ok.proof c.in-Ok.ensures.ok chain is
     (c.in_default.ensures (rises o c.chain.result.now chain c.chain.ensures.value c.chain.ensures.of_history c.chain.ensures.rising) ∙ ap (λ (es : List Entry). entry_at es c.args.epoch) c.chain.ensures.value)
@@ -27,7 +27,7 @@ returns-in_default c =
 pub returns : goal.returns
 returns c =
     let o = opened_of c.args.self.now in
-    let chain = c.args.self.now.directory.2.chain in
+    let chain = c.args.self.now.directory.state.chain in
     let is : chain ≡ chain_of o.key o.policy o.history = chain_is o.key o.policy (is_seal c.args.self.now.signer.key) c.requires.1.verdicts o.history chain c.chain.ensures.of_history c.requires.1.good in
     found_there o c.args.epoch c.args.name.now c.as_bytes.result.now c.as_bytes.ensures.value c.in-Ok.proof c.in-Ok.ensures.ok chain is c.in-Some.entry c.in_ok-name.name.bytes.items c.index-index.result.0
     (c.in-Some.ensures (rises o c.chain.result.now chain c.chain.ensures.value c.chain.ensures.of_history c.chain.ensures.rising) ∙ ap (λ (es : List Entry). entry_at es c.args.epoch) c.chain.ensures.value) c.in_ok-name.ensures.ok

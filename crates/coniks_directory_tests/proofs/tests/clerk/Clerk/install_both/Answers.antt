@@ -5,6 +5,6 @@ use Rattle.coniks_directory_tests.proofs.tests.clerk.Clerk.install_both.Goals as
 
 pub install-requires-2-after_bounds : goal.install-requires-2-after_bounds
 install-requires-2-after_bounds g c κs within =
-    subst (λ (h : g.row.H.Denot). IsUpdateOf (g.H.Hash32.digest_of h) index_of_letter c.install.new.self.directory.2 c.args.second) (sym c.install.ensures.hash)
-    (c.updates_stay.ensures.stays (g.H.Hash32.digest_of c.args.self.now.directory.0) index_of_letter c.args.self.now.directory.2 c.install.new.self.directory.2 c.args.second
+    subst (λ (h : g.row.H.Denot). IsUpdateOf (g.H.Hash32.digest_of h) index_of_letter c.install.new.self.directory.state c.args.second) (sym c.install.ensures.hash)
+    (c.updates_stay.ensures.stays (g.H.Hash32.digest_of c.args.self.now.directory.hash) index_of_letter c.args.self.now.directory.state c.install.new.self.directory.state c.args.second
     c.install.ensures.grows c.requires.second)

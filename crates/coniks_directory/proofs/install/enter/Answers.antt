@@ -1,0 +1,25 @@
+use Rattle.std.proofs.Common.{◌++◌, ◌∷◌, [], ℕ, ◌+◌, length, sym, ap, ◌∙◌}
+use Rattle.coniks_directory.specs.State.{State, state_of}
+use Rattle.coniks_directory.specs.declared.epochs.Epoch.{Epoch}
+use Rattle.coniks_directory.proofs.InstallLemmas.{Entered, installed_is, left_by}
+use Rattle.coniks_directory.proofs.install.enter.Goals as goal
+
+pub returns-clause-entered : goal.returns-clause-entered
+returns-clause-entered g c = λ of.
+    let hash = g.H.Hash32.digest_of c.args.h.now in
+    let s = state_of c.args.held.now in
+    let p = c.args.update in
+    let tree = c.attach-root.new.self in
+    let root = c.attach-root.result in
+    let e = c.attach-root.ensures in
+    let later : State = record { nonce = s.nonce; policy = s.policy; nodes = tree.nodes.items; records = tree.records.items; epochs = c.put_epoch.new.epochs.items; chain = c.put_entry.new.chain.items } in
+    let epoch : ℕ → Epoch = λ count. record { t = c.args.t; version = p.version; nonce = p.nonce; root = root; count = count } in
+    let epochs-are = c.put_epoch.ensures ∙ ap (λ n. s.epochs ++ epoch n ∷ []) c.records-count.ensures in
+    let entered : Entered hash s later p c.args.t c.args.entry root = record {
+      count = e.nodes ∙ ap (λ n. length s.nodes + n) (sym p.counted);
+      known = e.known;
+      older = e.older;
+      shows = e.shows;
+      state = installed_is s p root c.args.t c.args.entry later.nodes later.records later.epochs later.chain e.records epochs-are c.put_entry.ensures;
+    } in
+    left_by hash of s later p c.args.t c.args.entry root entered

@@ -1,0 +1,68 @@
+//! What a directory holds.
+
+ghost use Rattle.std.specs.Prelude.{◌≡◌, ◌==◌, ◌-◌, [], length, slice_get};
+ghost use Rattle.std.specs.List.{find};
+ghost use Rattle.coniks_directory.specs.History.{AreRising, latest_epoch, numbers_of};
+ghost use Rattle.coniks_directory.specs.declared.epochs.Epoch.{Epoch};
+
+use crate::epochs::Epoch;
+use coniks_chain::Entry;
+use coniks_proof::Nonce;
+use coniks_tree::Tree;
+use std::alloc::Global;
+
+/// What a directory holds beside its hash and its index source: the nonce of `open`, the policy, the tree that all epochs
+/// share, the epochs and the chain.
+#[derive(Drop)]
+pub struct Held {
+    pub(crate) nonce: Nonce,
+    pub(crate) policy: [u8; 32],
+    pub(crate) tree: Tree,
+    pub(crate) epochs: Vec<Epoch>,
+    pub(crate) chain: Vec<Entry>,
+}
+
+impl Held {
+    ghost use Rattle.coniks_directory.specs.State.{history_of, opened, state_of};
+
+    /// No epochs and no names.
+    pub(crate) fn new(alloc: Global, nonce: Nonce, policy: [u8; 32]) -> Self
+        ensures { state_of result ≡ opened nonce.0 policy }
+    {
+        Held {
+            nonce,
+            policy,
+            tree: Tree::new(alloc),
+            epochs: Vec::new(alloc),
+            chain: Vec::new(alloc),
+        }
+    }
+
+    /// How many epochs there are.
+    pub(crate) fn count(&self) -> usize
+        ensures { result ≡ length (state_of self.now).epochs }
+    {
+        self.epochs.len()
+    }
+
+    /// The latest epoch's number, or 0 where there is none.
+    pub(crate) fn latest(&self) -> u64
+        ensures { result ≡ latest_epoch (history_of (state_of self.now)) }
+    {
+        Epoch::latest(&self.epochs)
+    }
+
+    /// The last epoch, if there is one.
+    pub(crate) fn last(&self) -> Option<Epoch>
+        ensures { result ≡ slice_get (state_of self.now).epochs (length (state_of self.now).epochs - 1) }
+    {
+        Epoch::last(&self.epochs)
+    }
+
+    /// The epoch of exactly this number.
+    pub(crate) fn epoch(&self, t: u64) -> Option<Epoch>
+        ensures { AreRising 0 (numbers_of (history_of (state_of self.now))) → result ≡ find (λ (e : Epoch). e.t == t) (state_of self.now).epochs }
+    {
+        Epoch::of_number(&self.epochs, t)
+    }
+}
