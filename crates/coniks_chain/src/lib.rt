@@ -4,6 +4,30 @@
 //! Blankstein, Bonneau, Felten, Freedman: CONIKS, USENIX Security 2015, section 3). An auditor follows such a chain,
 //! and a client's monitor follows it with a proof for its own name at each entry. Two chains that end in one link are
 //! the same, or a collision of the hash is found in them.
+//!
+//! An auditor is fed the entries, with who judges their signatures:
+//!
+//! ```rust
+//! let mut auditor = Auditor::new(TaggedHash);
+//! for entry in provider.directory.chain() {
+//!     auditor.feed(entry, &provider.signer)?;
+//! }
+//! if let Some(head) = auditor.head() {
+//!     let link = hex::encode(rt.alloc(), &head.link.0)?;
+//!     println!(rt; "the chain is good up to epoch {}, link {link}", head.epoch)?;
+//! }
+//! ```
+//!
+//! A monitor of a name also takes the proof for it at each entry:
+//!
+//! ```rust
+//! let proof = provider.directory.lookup(epoch, name.as_bytes())?;
+//! match monitor.step(entry, &proof, &provider.signer)? {
+//!     Seen::Same => println!(rt; "{name} at epoch {epoch}: the expected key")?,
+//!     Seen::Changed => println!(rt; "{name} at epoch {epoch}: another key")?,
+//!     Seen::Absent => println!(rt; "{name} at epoch {epoch}: no key")?,
+//! }
+//! ```
 #![tactic(auto)]
 
 pub mod auditor;

@@ -4,6 +4,34 @@
 //! A batch of operations is judged and its epoch's tree is built by `prepare`, with several workers, while the directory
 //! is only read. `install` puts the update in: all growth comes before the signature, and after it nothing can fail. Each
 //! epoch stays: `lookup`, `root_at` and `chain` answer from the epoch asked.
+//!
+//! Hash, source of indices and signer are the user's own, and the publisher is that of a board (`coniks_shared`):
+//!
+//! ```rust
+//! let mut signer = DemoSigner::new([8; 32]);
+//! let mut directory = Directory::open(alloc, TaggedHash, INDEX, NONCE, POLICY);
+//!
+//! // Two workers build an epoch, apart for each prefix of one bit. The directory is only read meanwhile.
+//! let update = directory.prepare(rt, &first_batch(alloc)?, 1, 2, &Open)?;
+//! let nodes = update.new_nodes();
+//! match directory.install(update, 1, &mut signer, &mut publisher, &board) {
+//!     Ok(entry) => {
+//!         let root = hex::encode(alloc, &entry.body.root.0)?;
+//!         println!(rt; "epoch 1: {nodes} nodes, root {root}")?;
+//!     }
+//!     Err((fault, _)) => bail!("epoch 1: {fault}"),
+//! }
+//! ```
+//!
+//! Each epoch stays. A proof for a name at an epoch, and the root that it leads to; `library_example` has the whole
+//! program:
+//!
+//! ```rust
+//! let proof = provider.directory.lookup(epoch, asked)?;
+//! let Some(root) = provider.directory.root_at(epoch) else {
+//!     bail!("there is no epoch {epoch}");
+//! };
+//! ```
 #![tactic(auto)]
 
 pub mod batch;

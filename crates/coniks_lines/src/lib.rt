@@ -1,4 +1,31 @@
 //! Streams of bytes, and one engine that reads lines from one, lets a machine answer each, and writes the answers to another.
+//!
+//! A machine that repeats lines, and refuses empty ones:
+//!
+//! ```rust
+//! impl LineMachine for Echo {
+//!     ghost State = { ℕ };
+//!
+//!     ghost state = { λ _. 0 };
+//!
+//!     ghost answer = { λ state line. record { text = line; accepted = nat_lt 0 (length line); state = state } };
+//!
+//!     ghost Needs = { Unit {0} };
+//!
+//!     fn step(&mut self, line: &[u8], out: &mut Vec<u8>) -> Result<bool, AllocError> {
+//!         out.extend_from_slice(line)?;
+//!         Ok(line.len() > 0)
+//!     }
+//! }
+//! ```
+//!
+//! It answers three lines, from memory to memory. `SystemIn` and `SystemOut` are the standard streams:
+//!
+//! ```rust
+//! let mut reader = MemoryIn::new(Vec::from_slice(alloc, b"one\n\nthree\n")?);
+//! let mut writer = MemoryOut::new(alloc);
+//! let all = run_lines(alloc, &mut Echo, &mut reader, &mut writer)?;
+//! ```
 #![tactic(auto)]
 
 pub mod bytes;

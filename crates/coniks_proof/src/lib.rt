@@ -3,6 +3,17 @@
 //! A directory keeps a Merkle binary prefix tree over the indices of its names (Melara, Blankstein, Bonneau, Felten,
 //! Freedman: CONIKS, USENIX Security 2015, section 3). This crate has what all others speak of: the values of 32 bytes,
 //! the hashes of nodes and commitments, the proof that an authentication path is, and the check that accepts it.
+//!
+//! A client computes a name's index itself, and has root and nonce from an entry that it has audited. `TaggedHash` and
+//! `INDEX` are the user's own hash and source of indices:
+//!
+//! ```rust
+//! let index = INDEX.index(asked);
+//! match check(&TaggedHash, &NONCE, &root, &index, asked, &proof)? {
+//!     Answer::Key(key) => println!(rt; "{name} at epoch {epoch}: a key of {} bytes", key.len())?,
+//!     Answer::Absent => println!(rt; "{name} at epoch {epoch}: not registered")?,
+//! }
+//! ```
 #![tactic(auto)]
 
 pub mod bits;

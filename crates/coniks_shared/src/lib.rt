@@ -1,5 +1,20 @@
 //! What workers and watchers share, without a lock: numbers that several threads draw, each once, and a board on which
 //! one publisher puts heads while watchers read the last one.
+//!
+//! A board with its publisher, and a watcher:
+//!
+//! ```rust
+//! let (board, mut publisher) = Board::new(alloc, 8)?;
+//! let mut watcher = publisher.watcher(&board)?;
+//! ```
+//!
+//! A directory (`coniks_directory`) takes the publisher at each install, and publishes the epoch's head there:
+//!
+//! ```rust
+//! if let Some(head) = watcher.latest(&board) {
+//!     println!(rt; "the watcher saw epoch {}", head.epoch)?;
+//! }
+//! ```
 #![tactic(auto)]
 
 mod board;

@@ -4,8 +4,10 @@ mod CheckFaultLemmas
 mod CheckLemmas
 mod CommandLemmas
 mod FoundLemmas
+mod LimitLemmas
 mod MonitorLemmas
 mod OperationsLemmas
+mod OptionLemmas
 mod PathLemmas
 mod ProgramLemmas
 mod ProofObjectLemmas

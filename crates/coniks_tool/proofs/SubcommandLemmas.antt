@@ -63,11 +63,11 @@ after_step-isnt c word w h (trailing position) off is = is
 after_step-isnt c word w h (subcommand name) off is = absurd (false≢true (sym off))
 after_step-isnt c word w h value off is = to_positional-isnt c (arg_by_index c w.position) word w h is
 
-first-none : (a b : Kinds) → or_else a b ≡ [] → a ≡ []
+pub first-none : (a b : Kinds) → or_else a b ≡ [] → a ≡ []
 first-none [] b none = refl
 first-none (k ∷ ks) b none = none
 
-then-none : (a b : Kinds) → or_else a b ≡ [] → b ≡ []
+pub then-none : (a b : Kinds) → or_else a b ≡ [] → b ≡ []
 then-none [] b none = none
 then-none (k ∷ ks) b none = cc
 

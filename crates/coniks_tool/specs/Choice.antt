@@ -1,5 +1,5 @@
 -- What the words choose, and why they may choose nothing.
-use Rattle.std.specs.Prelude.{◌≡◌, ◌⊎◌, ◌≤◌, max, min, List, [], ℕ, codes, ◌&&◌, Option, Some, None, is_none, is_some, option_and_then, option_map, unwrap_or, Bool, true, false, if◌then◌else◌}
+use Rattle.std.specs.Prelude.{◌≡◌, ◌⊎◌, ◌≤◌, List, [], ℕ, codes, ◌&&◌, Option, Some, None, is_none, is_some, option_and_then, option_map, unwrap_or, Bool, true, false, if◌then◌else◌}
 use Rattle.std.specs.Option.{option_map_or}
 use Rattle.std.specs.Result.{result_ok}
 use Rattle.std.specs.Str.{bytes_eq}
@@ -7,7 +7,6 @@ use Rattle.clap.specs.Walk.{byte_or_zero}
 use Rattle.clap.specs.Words.{Row, Kinds, IsAmong, first_of, kind_of}
 use Rattle.coniks_directory.specs.Batches.{AreWorkers}
 use Rattle.hex.specs.Hex.{decode_sized}
-use Rattle.coniks_work.specs.declared.building.TheConstants.{MAX_WORKERS}
 use Rattle.coniks_work.specs.declared.jobs.TheConstants.{MAX_DEPTH}
 use Rattle.coniks_tool.specs.Expectations.{expectation_in}
 use Rattle.coniks_tool.specs.declared.choice.Settings.{Settings}
@@ -37,12 +36,16 @@ text_of name rows = unwrap_or (first_of name rows) []
 abbrev pub number_of : List ℕ → ℕ → List Row → ℕ
 number_of name missing rows = option_map_or byte_or_zero (first_of name rows) missing
 
--- the workers and the depth that the options ask for; those that `clap` takes are within these limits
+-- the workers and the depth that the options ask for
 abbrev pub workers_of : List Row → ℕ
-workers_of rows = min (max (number_of (codes "workers") 1 rows) 1) MAX_WORKERS
+workers_of rows = number_of (codes "workers") 1 rows
 
 abbrev pub depth_of : List Row → ℕ
-depth_of rows = min (number_of (codes "depth") 0 rows) MAX_DEPTH
+depth_of rows = number_of (codes "depth") 0 rows
+
+-- both are within their limits
+abbrev pub AreWithin : List Row → Type 0
+AreWithin rows = AreWorkers (workers_of rows) × (depth_of rows ≤ MAX_DEPTH)
 
 -- the numbers of a run are within their limits
 abbrev pub IsWithin : Settings → Type 0

@@ -1,4 +1,12 @@
 //! Lines, engines and the words of the program.
+//!
+//! A script over memory is answered as `keydir run` answers standard input:
+//!
+//! ```rust
+//! let mut reader = MemoryIn::new(Vec::from_slice(alloc, SCRIPT)?);
+//! let mut writer = MemoryOut::new(alloc);
+//! let all = run_script(rt, alloc, &mut reader, &mut writer, 2, 1)?;
+//! ```
 #![tactic(auto)]
 
 pub mod audit_laws;

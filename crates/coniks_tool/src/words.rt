@@ -1,17 +1,17 @@
 //! Reads the program's words.
 
-ghost use Rattle.std.specs.Prelude.{◌≡◌, IfOk, IfErr, OnOk, Some, [], is_some, map, option_map, true};
+ghost use Rattle.std.specs.Prelude.{◌≡◌, IfOk, IfErr, OnOk, Some, [], codes, is_some, map, option_map, true};
+ghost use Rattle.std.specs.Str.{bytes_eq};
 ghost use Rattle.clap.specs.Walk.{byte_or_zero};
 ghost use Rattle.clap.specs.Words.{Kinds, HasKind, fault_of, first_of, found_of, kind_of, rows_of, subcommand_of, takes};
 ghost use Rattle.coniks_tool.specs.Keydir.{keydir};
-ghost use Rattle.coniks_tool.specs.Choice.{choice_by, choice_of, chosen, depth_of, number_of, run, text_of, workers_of, IsRefusal, IsWithin};
+ghost use Rattle.coniks_tool.specs.Choice.{choice_by, choice_of, chosen, depth_of, number_of, run, text_of, workers_of, AreWithin, IsRefusal, IsWithin};
 ghost use Rattle.coniks_tool.specs.declared.choice.WordsFault.TheVariants.{OutOfMemory};
 
 use crate::choice::{Settings, WordsFault};
 use crate::command::keydir_command;
 use clap::error::ErrorKind;
 use clap::{ArgMatches, Error};
-use coniks_work::{MAX_DEPTH, MAX_WORKERS};
 use std::alloc::Global;
 use std::convert::AsStr;
 
@@ -58,20 +58,22 @@ fn number_or(found: &ArgMatches<'_>, name: &str, missing: u8) -> usize
     }
 }
 
-/// What `run` asks for, by the options that were found. Those that `clap` takes are within the limits.
+/// What `run` asks for, by the options that were found.
 fn run_by<'a>(found: &ArgMatches<'a>) -> Settings<'a>
+    requires limits { AreWithin (rows_of (found_of found.now)) }
     ensures numbers { choice_of result ≡ run (workers_of (rows_of (found_of found.now))) (depth_of (rows_of (found_of found.now))) }
     ensures within { IsWithin result }
 {
     Settings::Run {
-        workers: number_or(found, "workers", 1).max(1).min(MAX_WORKERS),
-        depth: number_or(found, "depth", 0).min(MAX_DEPTH),
+        workers: number_or(found, "workers", 1),
+        depth: number_or(found, "depth", 0),
     }
 }
 
 /// What a subcommand asks for, by its name and the options that were found. There is no fifth one.
 fn settings_by<'a>(name: &'a str, found: &ArgMatches<'a>) -> Settings<'a>
-    requires { is_some (choice_by name.now (rows_of (found_of found.now))) ≡ true }
+    requires chosen { is_some (choice_by name.now (rows_of (found_of found.now))) ≡ true }
+    requires limits { bytes_eq name.now (codes "run") ≡ true → AreWithin (rows_of (found_of found.now)) }
     ensures choice { choice_by name.entry.now (rows_of (found_of found.now)) ≡ Some (choice_of result) }
     ensures within { IsWithin result }
 {

@@ -4,6 +4,29 @@
 //! A `Tree` holds nodes and records, and only grows. A new epoch is a `Part`, which is grown from what an older root
 //! shows and then attached at the end of the table, so every older root shows what it showed. An epoch of b changes, b at
 //! least 1, takes at most `512 * b + 1` nodes, however large the tree is, and each new node is hashed once.
+//!
+//! A directory (`coniks_directory`) keeps a tree and calls this crate itself. A tree alone takes a part and its records,
+//! for which it has made room:
+//!
+//! ```rust
+//! let mut tree = Tree::new(alloc);
+//! tree.reserve(&part, records.len())?;
+//! let root = tree.attach(&TaggedHash, &NONCE, part, records);
+//! ```
+//!
+//! An epoch later:
+//!
+//! ```rust
+//! // The next part is grown from what a root shows. The tree is only read.
+//! let top = Prefix::root();
+//! let part = tree.grow(
+//!     &TaggedHash,
+//!     &NONCE,
+//!     tree.part_at(root, &top),
+//!     &top,
+//!     &changes,
+//! )?;
+//! ```
 #![tactic(auto)]
 
 mod attach;

@@ -4,6 +4,20 @@
 //! Workers draw the numbers of the jobs from one word, and each grows the part of the prefixes that it drew (Melara,
 //! Blankstein, Bonneau, Felten, Freedman: CONIKS, USENIX Security 2015, section 3.1, for the tree). The parts are joined
 //! upwards. The part is the same for every number of workers and every depth.
+//!
+//! A directory (`coniks_directory`) calls `build` for its batches, and is given but a `Gate`, which `Open` is. For a tree
+//! alone:
+//!
+//! ```rust
+//! // Indices that differ in their first bit are jobs of their own, and two workers draw them.
+//! let (depth, workers) = (1, 2);
+//! let (h, old) = (&TaggedHash, Some(root));
+//! let alloc = rt.alloc();
+//! let part = build(
+//!     rt, alloc, h, &NONCE, tree, old, changes, depth, workers, &Open,
+//! )?;
+//! let hash = tree.part_hash(h, &NONCE, &part);
+//! ```
 #![tactic(auto)]
 
 mod building;

@@ -3,8 +3,14 @@ use Rattle.std.specs.Prelude.{IfSome}
 use Rattle.clap.specs.Words.{App, Row, takes, fault_of, found_of, is_simple_and_free, app_of, rows_of, subcommand_of}
 use Rattle.coniks_tool.specs.Keydir.{keydir}
 use Rattle.coniks_tool.proofs.CommandLemmas.{keydir-is_simple}
+use Rattle.coniks_tool.proofs.LimitLemmas.{IsLimited, faultless-limited}
 use Rattle.coniks_tool.proofs.SubcommandLemmas.{IsChosen, faultless-chosen}
 use Rattle.coniks_tool.proofs.words.settings.Goals as goal
+
+-- what `clap` says of a command that is `keydir`
+fault_is : (app : App) (words : List (List ℕ)) → app ≡ keydir → (is_simple_and_free app ≡ true → fault_of app words ≡ [])
+    → fault_of keydir words ≡ []
+fault_is app words is none = ap (λ (a : App). fault_of a words) (sym is) ∙ none (ap is_simple_and_free is ∙ keydir-is_simple)
 
 pub returns-in-Err-clause-passes : goal.returns-in-Err-clause-passes
 returns-in-Err-clause-passes g c =
@@ -12,13 +18,19 @@ returns-in-Err-clause-passes g c =
 
 pub returns-clause-faultless : goal.returns-clause-faultless
 returns-clause-faultless g c =
-    let simple : is_simple_and_free (app_of c.in-Ok.command) ≡ true = ap is_simple_and_free c.in-Ok.ensures.app ∙ keydir-is_simple in
-    ap (λ (a : App). fault_of a (map g.S.AsStr.text c.args.words.now)) (sym c.in-Ok.ensures.app) ∙ c.in-Ok-try_get_matches_from.ensures.kinds simple
-
-pub settings_by-requires : goal.settings_by-requires
-settings_by-requires g c =
     let words = map g.S.AsStr.text c.args.words.now in
-    let simple : is_simple_and_free (app_of c.in-Ok.command) ≡ true = ap is_simple_and_free c.in-Ok.ensures.app ∙ keydir-is_simple in
-    let none : fault_of keydir words ≡ [] = ap (λ (a : App). fault_of a words) (sym c.in-Ok.ensures.app) ∙ c.in-Ok-try_get_matches_from.ensures.kinds simple in
+    fault_is (app_of c.in-Ok.command) words c.in-Ok.ensures.app c.in-Ok-try_get_matches_from.ensures.kinds
+
+pub settings_by-requires-clause-chosen : goal.settings_by-requires-clause-chosen
+settings_by-requires-clause-chosen g c =
+    let words = map g.S.AsStr.text c.args.words.now in
+    let none = fault_is (app_of c.in-Ok.command) words c.in-Ok.ensures.app c.in-Ok-try_get_matches_from.ensures.kinds in
     let met : subcommand_of keydir words ≡ Some (c.in-Some.name.now, rows_of (found_of c.in-Some.found.now)) = search rules in
     subst (λ (o : Option (List ℕ × List Row)). IfSome o IsChosen) met (faultless-chosen words none)
+
+pub settings_by-requires-clause-limits : goal.settings_by-requires-clause-limits
+settings_by-requires-clause-limits g c =
+    let words = map g.S.AsStr.text c.args.words.now in
+    let none = fault_is (app_of c.in-Ok.command) words c.in-Ok.ensures.app c.in-Ok-try_get_matches_from.ensures.kinds in
+    let met : subcommand_of keydir words ≡ Some (c.in-Some.name.now, rows_of (found_of c.in-Some.found.now)) = search rules in
+    subst (λ (o : Option (List ℕ × List Row)). IfSome o IsLimited) met (faultless-limited words none)

@@ -1,0 +1,26 @@
+//! A tour of the libraries. The first page of each is a part of this program.
+//!
+//! `own` has what a user brings, `provider` keeps a directory, `client` checks, audits and watches, `tree` grows a tree
+//! alone, and `lines` answers lines.
+#![tactic(auto)]
+
+mod client;
+mod lines;
+mod own;
+mod provider;
+mod tree;
+
+use anyhow::Result;
+
+fn main(rt: HostRuntime) -> Result<()> {
+    let provider = provider::two_epochs(&rt)?;
+    client::look_up(&rt, &provider, 1, "bob")?;
+    client::look_up(&rt, &provider, 2, "bob")?;
+    client::look_up(&rt, &provider, 2, "mallory")?;
+    client::audit(&rt, &provider)?;
+    client::watch(&rt, &provider, "bob")?;
+    tree::small_tree(&rt)?;
+    lines::echo_lines(&rt)?;
+    lines::answer_script(&rt)?;
+    Ok(())
+}

@@ -1,0 +1,107 @@
+//! What a user of the libraries brings: a hash, a source of indices and a signer.
+//!
+//! All three are made of SHA-256 with tags of their own. Index and signer are for demonstrations and claim no security: a
+//! provider has a verifiable unpredictable function and a signature in their place.
+
+ghost use Rattle.std.specs.Prelude.{◌≡◌, ◌<◌, ◌+◌, ◌-◌, ◌^◌, ◌++◌, ◌∷◌, []};
+ghost use Rattle.coniks_proof.specs.Sha256.{sha256};
+
+use coniks_chain::{Body, Entry, Sign, Signature, Verify};
+use coniks_directory::IndexSource;
+use coniks_proof::{Digest, Hash32, Index, Sha256Hash};
+
+/// SHA-256 of the byte 01 and the SHA-256 of the message.
+#[derive(Clone, Copy, Drop)]
+pub struct TaggedHash;
+
+impl Hash32 for TaggedHash {
+    ghost digest_of = { λ _ message. sha256 (1 ∷ sha256 message) };
+
+    fn hash(&self, pieces: &[&[u8]]) -> Digest {
+        let inner = Sha256Hash.hash(pieces);
+        Sha256Hash.hash(&[&[1], &inner.0])
+    }
+}
+
+/// SHA-256 of the byte 02, a key and the name.
+#[derive(Clone, Copy, Drop)]
+pub struct KeyedIndex {
+    pub key: [u8; 32],
+}
+
+impl IndexSource for KeyedIndex {
+    ghost index_of = { λ source name. sha256 (2 ∷ source.key ++ name) };
+
+    fn index(&self, name: &[u8]) -> Index {
+        Index(Sha256Hash.hash(&[&[2], &self.key, name]).0)
+    }
+}
+
+/// Signs by SHA-256 of the byte 03, a key and the body, written twice. Who can judge such a signature can also make one.
+#[derive(Drop)]
+pub struct DemoSigner {
+    key: [u8; 32],
+    made: u64,
+    last: Option<Entry>,
+}
+
+impl DemoSigner {
+    /// The signer of a key, which has signed nothing.
+    pub fn new(key: [u8; 32]) -> DemoSigner
+        ensures { result.made ≡ 0 }
+    {
+        DemoSigner {
+            key,
+            made: 0,
+            last: None,
+        }
+    }
+
+    /// The signature of a body's bytes.
+    fn seal(&self, body: &[u8; 145]) -> Signature
+        ensures { result.0 ≡ sha256 (3 ∷ self.now.key ++ body.now) ++ sha256 (3 ∷ self.now.key ++ body.now) }
+    {
+        let half = Sha256Hash.hash(&[&[3], &self.key, body]);
+        Signature::of_halves(&half.0, &half.0)
+    }
+}
+
+impl Verify for DemoSigner {
+    ghost use Rattle.std.specs.Str.{bytes_eq};
+
+    ghost verdict_of = { λ signer body signature. bytes_eq signature (sha256 (3 ∷ signer.key ++ body) ++ sha256 (3 ∷ signer.key ++ body)) };
+
+    fn verdict(&self, body: &[u8; 145], signature: &Signature) -> bool {
+        signature.0 == self.seal(body).0
+    }
+}
+
+impl Sign for DemoSigner {
+    ghost made_of = { λ signer. signer.made };
+
+    ghost refused_of = { λ _. 0 };
+
+    ghost last_of = { λ signer. signer.last };
+
+    fn sign(&mut self, body: &[u8; 145]) -> Option<Signature> {
+        let signature = self.seal(body);
+        self.made += 1;
+        self.last = Some(Entry {
+            body: Body::read(body),
+            signature,
+        });
+        Some(signature)
+    }
+
+    fn made(&self) -> u64 {
+        self.made
+    }
+
+    fn refused(&self) -> u64 {
+        0
+    }
+
+    fn last(&self) -> Option<Entry> {
+        self.last
+    }
+}
