@@ -11,7 +11,7 @@ use Rattle.coniks_directory.specs.declared.update.Prepared.{Prepared}
 -- more nodes, another policy and another chain are of no account to an update
 onto : (hash of : List ℕ → List ℕ) (s t : State) (p : Prepared) → t.nonce ≡ s.nonce → t.records ≡ s.records → t.epochs ≡ s.epochs → Grows s t → IsUpdate hash of s p → IsUpdate hash of t p
 onto hash of s t p nonce records epochs grows u =
-    let over : IsUpdate hash of (record { nonce = s.nonce; policy = t.policy; nodes = t.nodes; records = s.records; epochs = s.epochs; chain = t.chain }) p = record {
+    let over : IsUpdate hash of (record t { nonce = s.nonce; records = s.records; epochs = s.epochs }) p = record {
       base = u.base;
       counted = u.counted;
       version = u.version;
@@ -22,9 +22,9 @@ onto hash of s t p nonce records epochs grows u =
       stands = Stands-extended hash p.nonce.0 s.nodes t.nodes s.records grows.nodes p.part [] u.entries u.stands;
       mirrors = u.mirrors;
     } in
-    subst (λ (es : List Epoch). IsUpdate hash of (record { nonce = t.nonce; policy = t.policy; nodes = t.nodes; records = t.records; epochs = es; chain = t.chain }) p) (sym epochs)
-    (subst (λ (rs : List Record). IsUpdate hash of (record { nonce = t.nonce; policy = t.policy; nodes = t.nodes; records = rs; epochs = s.epochs; chain = t.chain }) p) (sym records)
-    (subst (λ (n : List ℕ). IsUpdate hash of (record { nonce = n; policy = t.policy; nodes = t.nodes; records = s.records; epochs = s.epochs; chain = t.chain }) p) (sym nonce) over))
+    subst (λ (es : List Epoch). IsUpdate hash of (record t { epochs = es }) p) (sym epochs)
+    (subst (λ (rs : List Record). IsUpdate hash of (record t { records = rs; epochs = s.epochs }) p) (sym records)
+    (subst (λ (n : List ℕ). IsUpdate hash of (record t { nonce = n; records = s.records; epochs = s.epochs }) p) (sym nonce) over))
 
 -- where no epoch came since, neither did records: the update is one of the later state
 module _ (hash of : List ℕ → List ℕ) (s t : State) (p : Prepared) (grows : Grows s t) (u : IsUpdate hash of s p) (base : p.base ≡ length t.epochs) where

@@ -85,12 +85,10 @@ abbrev pub epoch_after : State → Prepared → Root → ℕ → Epoch
 epoch_after s p root t = record { t = t; version = p.version; nonce = p.nonce; root = root; count = length (records_after s p) }
 
 abbrev pub installed : State → Prepared → List Node → Root → ℕ → Entry → State
-installed s p nodes root t entry = record {
-  nonce = s.nonce;
-  policy = s.policy;
+installed s p nodes root t entry = record s {
   nodes = nodes;
   records = records_after s p;
-  epochs = s.epochs ++ record { t = t; version = p.version; nonce = p.nonce; root = root; count = length (records_after s p) } ∷ [];
+  epochs = s.epochs ++ epoch_after s p root t ∷ [];
   chain = s.chain ++ entry ∷ [];
 }
 
@@ -169,7 +167,7 @@ pub record Entered (hash : List ℕ → List ℕ) (s later : State) (p : Prepare
 -- it is so where each part is
 pub installed_is : (s : State) (p : Prepared) (root : Root) (t : ℕ) (entry : Entry) (nodes : List Node) (records : List Record) (epochs : List Epoch) (chain : List Entry) → records ≡ records_after s p
     → epochs ≡ s.epochs ++ record { t = t; version = p.version; nonce = p.nonce; root = root; count = length records } ∷ [] → chain ≡ s.chain ++ entry ∷ []
-    → (let later : State = record { nonce = s.nonce; policy = s.policy; nodes = nodes; records = records; epochs = epochs; chain = chain } in later ≡ installed s p nodes root t entry)
+    → (let later : State = record s { nodes = nodes; records = records; epochs = epochs; chain = chain } in later ≡ installed s p nodes root t entry)
 installed_is s p root t entry nodes records epochs chain records-are epochs-are chain-is = cc
 
 -- and this is an install

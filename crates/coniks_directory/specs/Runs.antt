@@ -5,7 +5,7 @@ use Rattle.coniks_proof.specs.Registry.{Registry}
 use Rattle.coniks_proof.specs.declared.values.TheConstants.{MAX_OPERATIONS}
 use Rattle.coniks_directory.specs.Batches.{IsAccepted}
 use Rattle.coniks_directory.specs.History.{Shown, latest_registry}
-use Rattle.coniks_directory.specs.State.{State, history_of}
+use Rattle.coniks_directory.specs.State.{State, history_of, opened as nothing}
 use Rattle.coniks_directory.specs.Updates.{Grows, IsUpdate, MayInstall, base_of, registry_after, shown_after, shown_next}
 use Rattle.coniks_directory.specs.declared.update.Prepared.{Prepared}
 
@@ -42,7 +42,7 @@ pub record IsPreparedOf (hash of : List ℕ → List ℕ) (s : State) (ops : Lis
 
 -- public calls on a directory, from `open` on, in which these batches were installed: each call as its contract tells it
 pub data Run (hash of : List ℕ → List ℕ) (nonce policy : List ℕ) : List Batch → State → Type 0 where
-  opened : Run hash of nonce policy [] (record { nonce = nonce; policy = policy; nodes = []; records = []; epochs = []; chain = [] })
+  opened : Run hash of nonce policy [] (nothing nonce policy)
   -- a call that was refused, or that only reads
   stayed : (batches : List Batch) (s later : State) → Run hash of nonce policy batches s → later ≡ s → Run hash of nonce policy batches later
   committed : (batches : List Batch) (b : Batch) (s later : State) (depth workers published capacity : ℕ) → Run hash of nonce policy batches s

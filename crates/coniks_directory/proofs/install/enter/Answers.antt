@@ -1,5 +1,5 @@
 use Rattle.std.proofs.Common.{◌++◌, ◌∷◌, [], ℕ, ◌+◌, length, sym, ap, ◌∙◌}
-use Rattle.coniks_directory.specs.State.{State, state_of}
+use Rattle.coniks_directory.specs.State.{state_of}
 use Rattle.coniks_directory.specs.declared.epochs.Epoch.{Epoch}
 use Rattle.coniks_directory.proofs.InstallLemmas.{Entered, installed_is, left_by}
 use Rattle.coniks_directory.proofs.install.enter.Goals as goal
@@ -12,7 +12,7 @@ returns-clause-entered g c = λ of.
     let tree = c.attach-root.new.self in
     let root = c.attach-root.result in
     let e = c.attach-root.ensures in
-    let later : State = record { nonce = s.nonce; policy = s.policy; nodes = tree.nodes.items; records = tree.records.items; epochs = c.put_epoch.new.epochs.items; chain = c.put_entry.new.chain.items } in
+    let later = state_of (record c.args.held.now { tree = tree; epochs = c.put_epoch.new.epochs; chain = c.put_entry.new.chain }) in
     let epoch : ℕ → Epoch = λ count. record { t = c.args.t; version = p.version; nonce = p.nonce; root = root; count = count } in
     let epochs-are = c.put_epoch.ensures ∙ ap (λ n. s.epochs ++ epoch n ∷ []) c.records-count.ensures in
     let entered : Entered hash s later p c.args.t c.args.entry root = record {
