@@ -5,15 +5,17 @@ use Rattle.coniks_tree.specs.declared.part.Part.{Part}
 use Rattle.coniks_tree.specs.declared.table.Record.{Record}
 use Rattle.coniks_tree.specs.declared.table.Root.{Root}
 use Rattle.coniks_work.specs.Grown.{unchanged}
-use Rattle.coniks_directory.specs.Batches.{operation_of, operations}
+use Rattle.coniks_directory.specs.Batches.{most_nodes, operation_of, operations}
 use Rattle.coniks_directory.specs.Built.{IsBuilt}
 use Rattle.coniks_directory.specs.History.{latest_registry}
+use Rattle.coniks_directory.specs.Holders.{ShowsLatest}
 use Rattle.coniks_directory.specs.Judged.{IsJudgedFault}
 use Rattle.coniks_directory.specs.State.{history_of, registered_of, state_of}
 use Rattle.coniks_directory.proofs.BuiltLemmas.{as_many, built, seen_changes}
 use Rattle.coniks_directory.proofs.JudgeLemmas.{length-map}
 use Rattle.coniks_directory.proofs.OrderLemmas.{numbers_within}
 use Rattle.coniks_directory.proofs.PrepareLemmas.{answered, few_added, is_update, known_root, none_added, registry_is, shown_now}
+use Rattle.coniks_directory.proofs.preparing.update_on.Given as given
 use Rattle.coniks_directory.proofs.preparing.update_on.Goals as goal
 
 pub judged-requires : goal.judged-requires
@@ -44,6 +46,31 @@ build-requires-clause-root g c κs within =
     subst (λ (r : Option Root). IfSome r (λ n. n.0 < length s.nodes)) (sym c.root_of-root.ensures)
     (known_root (g.H.Hash32.digest_of c.args.h.now) (g.X.IndexSource.index_of c.args.source.now) s c.requires.whole c.last-last.result c.last-last.ensures)
 
+-- the root that the code found shows the latest registry
+shown_in : (g : given.Over) (c : goal.After-drop-changes g)
+    → ShowsLatest (g.H.Hash32.digest_of c.args.h.now) (g.X.IndexSource.index_of c.args.source.now) c.nonce_of-nonce.result.0 c.args.held.now.tree.nodes.items c.args.held.now.tree.records.items
+    c.root_of-root.result (latest_registry (history_of (state_of c.args.held.now)))
+shown_in g c =
+    shown_now (g.H.Hash32.digest_of c.args.h.now) (g.X.IndexSource.index_of c.args.source.now) (state_of c.args.held.now) c.requires.whole c.last-last.result c.args.held.now.nonce
+    c.nonce_of-nonce.result c.root_of-root.result c.last-last.ensures refl c.root_of-root.ensures c.nonce_of-nonce.ensures
+
+-- there are as many changes as operations
+as_many_in : (g : given.Over) (c : goal.After-drop-changes g) → length c.deref.result.now ≡ length c.args.ops.now
+as_many_in g c =
+    let hash = g.H.Hash32.digest_of c.args.h.now in
+    let of = g.X.IndexSource.index_of c.args.source.now in
+    let ops = operations c.args.ops.now in
+    as_many hash of ops c.in_ok-seen.seen c.records.result c.in-Ok.changes.items c.deref.result.now c.deref.ensures.value
+    (c.in-Ok.ensures hash of (map bound_by ops) c.in_ok-seen.ensures.seen) c.in_ok-seen.ensures.seen
+    ∙ length-map operation_of c.args.ops.now
+
+-- without them the part is what was there
+none_in : (g : given.Over) (c : goal.After-drop-changes g) → length c.args.ops.now ≡ 0 → c.update_of.result.new_nodes ≡ most_nodes (history_of (state_of c.args.held.now)) 0
+none_in g c empty =
+    c.update_of.result.counted ∙ ap node_count (c.update_of.ensures.part ∙ c.in-Ok-build.ensures.same (as_many_in g c ∙ empty))
+    ∙ ap (λ (r : Option Root). node_count (unchanged r)) c.root_of-root.ensures
+    ∙ none_added (g.H.Hash32.digest_of c.args.h.now) (g.X.IndexSource.index_of c.args.source.now) (state_of c.args.held.now) c.requires.whole c.last-last.result c.last-last.ensures
+
 pub returns-in-Ok-build-clause-update : goal.returns-in-Ok-build-clause-update
 returns-in-Ok-build-clause-update g c =
     let hash = g.H.Hash32.digest_of c.args.h.now in
@@ -55,12 +82,11 @@ returns-in-Ok-build-clause-update g c =
     let seen = c.in_ok-seen.seen in
     let p = c.update_of.result in
     let e = c.update_of.ensures in
-    let shown = shown_now hash of s c.requires.whole c.last-last.result c.args.held.now.nonce nonce c.root_of-root.result c.last-last.ensures refl c.root_of-root.ensures c.nonce_of-nonce.ensures in
     -- the changes are those of the records, and the part is built of them
     let these = seen_changes hash of ops seen c.records.result c.in-Ok.changes.items c.deref.result.now c.deref.ensures.value (c.in-Ok.ensures hash of (map bound_by ops) c.in_ok-seen.ensures.seen) in
     let b : IsBuilt hash of nonce.0 s.nodes s.records registry ops c.in-Ok-build.part seen.records.items =
-    built hash of nonce.0 s.nodes s.records c.root_of-root.result registry ops seen.records.items seen.numbers c.deref.result.now c.records.result c.in-Ok-build.part shown
-    (c.in_ok-seen.ensures.faultless nonce.0 registry shown) c.in_ok-seen.ensures.seen c.records.ensures these c.in-Ok-build.ensures.placed c.in-Ok-build.ensures.stands in
+    built hash of nonce.0 s.nodes s.records c.root_of-root.result registry ops seen.records.items seen.numbers c.deref.result.now c.records.result c.in-Ok-build.part (shown_in g c)
+    (c.in_ok-seen.ensures.faultless nonce.0 registry (shown_in g c)) c.in_ok-seen.ensures.seen c.records.ensures these c.in-Ok-build.ensures.placed c.in-Ok-build.ensures.stands in
     -- and both are the update's
     let q : IsBuilt hash of nonce.0 s.nodes s.records registry ops p.part seen.records.items =
     subst (λ (part : Part). IsBuilt hash of nonce.0 s.nodes s.records registry ops part seen.records.items) (sym e.part) b in
@@ -71,39 +97,20 @@ returns-in-Ok-build-clause-update g c =
 
 pub returns-in-Ok-build-clause-registry : goal.returns-in-Ok-build-clause-registry
 returns-in-Ok-build-clause-registry g c =
-    let ops = operations c.args.ops.now in
-    registry_is (g.H.Hash32.digest_of c.args.h.now) (g.X.IndexSource.index_of c.args.source.now) (state_of c.args.held.now) c.requires.whole c.update_of.result ops
+    registry_is (g.H.Hash32.digest_of c.args.h.now) (g.X.IndexSource.index_of c.args.source.now) (state_of c.args.held.now) c.requires.whole c.update_of.result (operations c.args.ops.now)
     (ap (λ (v : Vec Record Global). map registered_of v.items) c.update_of.ensures.records ∙ c.in_ok-seen.ensures.seen.binds)
 
 pub returns-in-Ok-build-clause-few : goal.returns-in-Ok-build-clause-few
 returns-in-Ok-build-clause-few g c =
-    let hash = g.H.Hash32.digest_of c.args.h.now in
-    let of = g.X.IndexSource.index_of c.args.source.now in
-    let s = state_of c.args.held.now in
-    let ops = c.args.ops.now in
-    let changes = c.deref.result.now in
+    let many = as_many_in g c in
     let part = c.in-Ok-build.part in
-    let long = length-map operation_of ops in
-    let many = as_many hash of (operations ops) c.in_ok-seen.seen c.records.result c.in-Ok.changes.items changes c.deref.ensures.value (c.in-Ok.ensures hash of (map bound_by (operations ops)) c.in_ok-seen.ensures.seen) c.in_ok-seen.ensures.seen in
-    let few : 0 < length changes → node_count part ≤ 512 * length changes + 1 = c.in-Ok-build.ensures.count in
+    let few : 0 < length c.deref.result.now → node_count part ≤ 512 * length c.deref.result.now + 1 = c.in-Ok-build.ensures.count in
     let same : c.update_of.result.new_nodes ≡ node_count part = c.update_of.result.counted ∙ ap node_count c.update_of.ensures.part in
-    few_added (history_of s) (length ops) c.update_of.result.new_nodes
-    (λ some. let fewer = few (omega (arith, many, long, some)) in omega (arith, many, long, fewer, same))
-    (λ empty. same ∙ ap node_count (c.in-Ok-build.ensures.same (many ∙ long ∙ empty)) ∙ ap (λ (r : Option Root). node_count (unchanged r)) c.root_of-root.ensures ∙ none_added hash of s c.requires.whole c.last-last.result c.last-last.ensures)
+    few_added (history_of (state_of c.args.held.now)) (length c.args.ops.now) c.update_of.result.new_nodes
+    (λ some. let fewer = few (omega (arith, many, some)) in omega (arith, many, fewer, same)) (none_in g c)
 
 pub returns-in-Ok-build-clause-none : goal.returns-in-Ok-build-clause-none
-returns-in-Ok-build-clause-none g c = λ empty.
-    let hash = g.H.Hash32.digest_of c.args.h.now in
-    let of = g.X.IndexSource.index_of c.args.source.now in
-    let s = state_of c.args.held.now in
-    let ops = c.args.ops.now in
-    let long = length-map operation_of ops in
-    let many = as_many hash of (operations ops) c.in_ok-seen.seen c.records.result c.in-Ok.changes.items c.deref.result.now c.deref.ensures.value (c.in-Ok.ensures hash of (map bound_by (operations ops)) c.in_ok-seen.ensures.seen) c.in_ok-seen.ensures.seen in
-    c.update_of.result.counted ∙ ap node_count (c.update_of.ensures.part ∙ c.in-Ok-build.ensures.same (many ∙ long ∙ empty)) ∙ ap (λ (r : Option Root). node_count (unchanged r)) c.root_of-root.ensures
-    ∙ none_added hash of s c.requires.whole c.last-last.result c.last-last.ensures
+returns-in-Ok-build-clause-none g c = none_in g c
 
 pub returns-in-Ok-build-clause-faultless : goal.returns-in-Ok-build-clause-faultless
-returns-in-Ok-build-clause-faultless g c =
-    let s = state_of c.args.held.now in
-    c.in_ok-seen.ensures.faultless c.nonce_of-nonce.result.0 (latest_registry (history_of s))
-    (shown_now (g.H.Hash32.digest_of c.args.h.now) (g.X.IndexSource.index_of c.args.source.now) s c.requires.whole c.last-last.result c.args.held.now.nonce c.nonce_of-nonce.result c.root_of-root.result c.last-last.ensures refl c.root_of-root.ensures c.nonce_of-nonce.ensures)
+returns-in-Ok-build-clause-faultless g c = c.in_ok-seen.ensures.faultless c.nonce_of-nonce.result.0 (latest_registry (history_of (state_of c.args.held.now))) (shown_in g c)

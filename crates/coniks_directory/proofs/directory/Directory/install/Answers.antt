@@ -1,9 +1,11 @@
 use Rattle.std.proofs.Common.{refl, subst, sym}
 use Rattle.coniks_chain.specs.Chain.{GoodChain}
 use Rattle.coniks_chain.proofs.Lemmas.{good_same_verdict}
+use Rattle.coniks_directory.specs.Installed.{Leaves}
 use Rattle.coniks_directory.specs.State.{View, Whole, state_of}
 use Rattle.coniks_directory.proofs.FreshLemmas.{Grows-refl}
-use Rattle.coniks_directory.proofs.InstallLemmas.{fresh_room, good_room, left, roomy}
+use Rattle.coniks_directory.proofs.InstallLemmas.{fresh_room, good_room, left}
+use Rattle.coniks_directory.proofs.directory.Directory.install.Given as given
 use Rattle.coniks_directory.proofs.directory.Directory.install.Goals as goal
 
 -- ---- refused
@@ -54,43 +56,26 @@ enter-requires-clause-fits g c =
     let room = state_of c.make_room.new.held in
     (fresh_room digest index d.h d.source (state_of d.held) room c.args.self.now c.self.view_is c.make_room.ensures.same c.args.update c.args.t c.published-published.result c.capacity-capacity.result c.requires.update c.in_default.ensures.ok).fits
 
+-- what is left is an install, seen from outside
+left_in : (g : given.Over) (c : goal.After-put_head g)
+    → Leaves (g.H.Hash32.digest_of c.args.self.now.hash) (g.X.IndexSource.index_of c.args.self.now.index) c.args.self.now.state (state_of c.enter.new.held) c.args.update c.args.t c.in-Some.entry
+left_in g c =
+    let d = c.self.inside in
+    left g.H.Hash32.digest_of g.X.IndexSource.index_of d.h d.source (state_of d.held) (state_of c.make_room.new.held) c.args.self.now c.self.view_is c.make_room.ensures.same
+    c.args.update c.args.t c.published-published.result c.capacity-capacity.result c.requires.update c.in_default.ensures.ok
+    (state_of c.enter.new.held) c.in-Some.entry c.last_link-previous.result.0 c.args.publisher.now.heads c.self.invariant c.requires.published c.last_link-previous.ensures c.in-Some.ensures.body c.enter.ensures.entered
+
 pub invariant_of-self-2 : goal.invariant_of-self-2
 invariant_of-self-2 g c =
-    let d = c.self.inside in
-    let digest = g.H.Hash32.digest_of in
-    let index = g.X.IndexSource.index_of in
-    let room = state_of c.make_room.new.held in
-    let left = left digest index d.h d.source (state_of d.held) room c.args.self.now c.self.view_is c.make_room.ensures.same c.args.update c.args.t c.published-published.result c.capacity-capacity.result c.requires.update c.in_default.ensures.ok
-    (state_of c.enter.new.held) c.in-Some.entry c.last_link-previous.result.0 c.args.publisher.now.heads c.self.invariant c.requires.published c.last_link-previous.ensures c.in-Some.ensures.body c.enter.ensures.entered in
-    subst (λ (v : View g.row.H.Denot g.row.X.Denot). Whole (digest v.hash) (index v.index) (state_of c.enter.new.held)) (sym (roomy digest index d.h d.source (state_of d.held) room c.args.self.now c.self.view_is c.make_room.ensures.same)) left.whole
+    subst (λ (v : View g.row.H.Denot g.row.X.Denot). Whole (g.H.Hash32.digest_of v.hash) (g.X.IndexSource.index_of v.index) (state_of c.enter.new.held)) (sym c.self.view_is) (left_in g c).whole
 
 pub returns-clause-history : goal.returns-clause-history
-returns-clause-history g c =
-    let d = c.self.inside in
-    let digest = g.H.Hash32.digest_of in
-    let index = g.X.IndexSource.index_of in
-    let room = state_of c.make_room.new.held in
-    let left = left digest index d.h d.source (state_of d.held) room c.args.self.now c.self.view_is c.make_room.ensures.same c.args.update c.args.t c.published-published.result c.capacity-capacity.result c.requires.update c.in_default.ensures.ok
-    (state_of c.enter.new.held) c.in-Some.entry c.last_link-previous.result.0 c.args.publisher.now.heads c.self.invariant c.requires.published c.last_link-previous.ensures c.in-Some.ensures.body c.enter.ensures.entered in
-    left.history
+returns-clause-history g c = (left_in g c).history
 
 pub returns-clause-good : goal.returns-clause-good
-returns-clause-good g c =
-    let d = c.self.inside in
-    let digest = g.H.Hash32.digest_of in
-    let index = g.X.IndexSource.index_of in
-    let room = state_of c.make_room.new.held in
-    let left = left digest index d.h d.source (state_of d.held) room c.args.self.now c.self.view_is c.make_room.ensures.same c.args.update c.args.t c.published-published.result c.capacity-capacity.result c.requires.update c.in_default.ensures.ok
-    (state_of c.enter.new.held) c.in-Some.entry c.last_link-previous.result.0 c.args.publisher.now.heads c.self.invariant c.requires.published c.last_link-previous.ensures c.in-Some.ensures.body c.enter.ensures.entered in
-    λ good. subst (λ (v : View g.row.H.Denot g.row.X.Denot). GoodChain (digest v.hash) (g.S.Verify.verdict_of c.signed.new.signer) c.enter.new.held.chain.items) (sym (roomy digest index d.h d.source (state_of d.held) room c.args.self.now c.self.view_is c.make_room.ensures.same))
-    (left.good (g.S.Verify.verdict_of c.args.signer.now) (g.S.Verify.verdict_of c.signed.new.signer) c.in-Some.ensures.verdicts_kept c.in-Some.ensures.verdict good)
+returns-clause-good g c = λ good.
+    subst (λ (v : View g.row.H.Denot g.row.X.Denot). GoodChain (g.H.Hash32.digest_of v.hash) (g.S.Verify.verdict_of c.signed.new.signer) c.enter.new.held.chain.items) (sym c.self.view_is)
+    ((left_in g c).good (g.S.Verify.verdict_of c.args.signer.now) (g.S.Verify.verdict_of c.signed.new.signer) c.in-Some.ensures.verdicts_kept c.in-Some.ensures.verdict good)
 
 pub returns-clause-grows : goal.returns-clause-grows
-returns-clause-grows g c =
-    let d = c.self.inside in
-    let digest = g.H.Hash32.digest_of in
-    let index = g.X.IndexSource.index_of in
-    let room = state_of c.make_room.new.held in
-    let left = left digest index d.h d.source (state_of d.held) room c.args.self.now c.self.view_is c.make_room.ensures.same c.args.update c.args.t c.published-published.result c.capacity-capacity.result c.requires.update c.in_default.ensures.ok
-    (state_of c.enter.new.held) c.in-Some.entry c.last_link-previous.result.0 c.args.publisher.now.heads c.self.invariant c.requires.published c.last_link-previous.ensures c.in-Some.ensures.body c.enter.ensures.entered in
-    left.grows
+returns-clause-grows g c = (left_in g c).grows

@@ -5,6 +5,7 @@ use Rattle.coniks_directory.specs.Directories.{Finds, Misses, Shows}
 use Rattle.coniks_directory.specs.State.{View, shown_of, state_of}
 use Rattle.coniks_directory.specs.declared.lookup.LookupFault.TheVariants.{UnknownEpoch, NameLength, OutOfMemory}
 use Rattle.coniks_directory.proofs.LookupLemmas.{accepted_there, found_there, holds, none_there, pathed, some_there}
+use Rattle.coniks_directory.proofs.directory.Directory.lookup.Given as given
 use Rattle.coniks_directory.proofs.directory.Directory.lookup.Goals as goal
 
 pub returns-in_default-clause-missed : goal.returns-in_default-clause-missed
@@ -23,31 +24,30 @@ path-requires g c =
     (holds (g.H.Hash32.digest_of d.h) (g.X.IndexSource.index_of d.source) (state_of d.held) c.self.invariant c.args.t c.in-Some.epoch (sym (c.in-Some.ensures c.self.invariant.rising))).known
 
 -- the path is that of the name's index in the tree of the epoch's registry
-pub returns-in-Ok-clause-ok : goal.returns-in-Ok-clause-ok
-returns-in-Ok-clause-ok g c =
+path_in : (g : given.Over) (c : goal.In-Ok g) → (let hash = g.H.Hash32.digest_of c.self.inside.h in let of = g.X.IndexSource.index_of c.self.inside.source in
+    IsPath hash c.in-Some.epoch.nonce.0 (entries_of hash of (shown_of c.self.inside.held.tree.records.items c.in-Some.epoch).registry) (of c.args.name.now) c.in-Ok.proof)
+path_in g c =
     let d = c.self.inside in
     let s = state_of d.held in
     let hash = g.H.Hash32.digest_of d.h in
     let of = g.X.IndexSource.index_of d.source in
     let e = c.in-Some.epoch in
-    let found = sym (c.in-Some.ensures c.self.invariant.rising) in
-    let path = subst (λ (j : List ℕ). IsPath hash e.nonce.0 (entries_of hash of (shown_of s.records e).registry) j c.in-Ok.proof) c.index-index.ensures
-    (pathed hash of s c.self.invariant c.args.t e found c.index-index.result.0 c.in-Ok.proof (λ entries shows. c.in-Ok.ensures hash e.nonce.0 entries shows)) in
+    subst (λ (j : List ℕ). IsPath hash e.nonce.0 (entries_of hash of (shown_of s.records e).registry) j c.in-Ok.proof) c.index-index.ensures
+    (pathed hash of s c.self.invariant c.args.t e (sym (c.in-Some.ensures c.self.invariant.rising)) c.index-index.result.0 c.in-Ok.proof (λ entries shows. c.in-Ok.ensures hash e.nonce.0 entries shows))
+
+pub returns-in-Ok-clause-ok : goal.returns-in-Ok-clause-ok
+returns-in-Ok-clause-ok g c =
+    let d = c.self.inside in
     subst (λ (v : View g.row.H.Denot g.row.X.Denot). Finds g.H.Hash32.digest_of g.X.IndexSource.index_of v c.args.t c.args.name.now c.in-Ok.proof) c.self.view_is
-    (found_there hash of s c.self.invariant c.args.t e found c.args.name.now c.in-Ok.proof (sym c.if-not-is_length.ensures.value) path)
+    (found_there (g.H.Hash32.digest_of d.h) (g.X.IndexSource.index_of d.source) (state_of d.held) c.self.invariant c.args.t c.in-Some.epoch (sym (c.in-Some.ensures c.self.invariant.rising))
+    c.args.name.now c.in-Ok.proof (sym c.if-not-is_length.ensures.value) (path_in g c))
 
 pub returns-in-Ok-clause-accepted : goal.returns-in-Ok-clause-accepted
 returns-in-Ok-clause-accepted g c =
     let d = c.self.inside in
-    let s = state_of d.held in
-    let hash = g.H.Hash32.digest_of d.h in
-    let of = g.X.IndexSource.index_of d.source in
-    let e = c.in-Some.epoch in
-    let found = sym (c.in-Some.ensures c.self.invariant.rising) in
-    let path = subst (λ (j : List ℕ). IsPath hash e.nonce.0 (entries_of hash of (shown_of s.records e).registry) j c.in-Ok.proof) c.index-index.ensures
-    (pathed hash of s c.self.invariant c.args.t e found c.index-index.result.0 c.in-Ok.proof (λ entries shows. c.in-Ok.ensures hash e.nonce.0 entries shows)) in
     subst (λ (v : View g.row.H.Denot g.row.X.Denot). Shows g.H.Hash32.digest_of g.X.IndexSource.index_of v c.args.t c.args.name.now c.in-Ok.proof) c.self.view_is
-    (accepted_there hash of s c.self.invariant c.args.t e found c.args.name.now c.in-Ok.proof (c.if-not-is_length.ensures.holds refl) path)
+    (accepted_there (g.H.Hash32.digest_of d.h) (g.X.IndexSource.index_of d.source) (state_of d.held) c.self.invariant c.args.t c.in-Some.epoch (sym (c.in-Some.ensures c.self.invariant.rising))
+    c.args.name.now c.in-Ok.proof (c.if-not-is_length.ensures.holds refl) (path_in g c))
 
 pub returns-in-Err-clause-missed : goal.returns-in-Err-clause-missed
 returns-in-Err-clause-missed g c =
