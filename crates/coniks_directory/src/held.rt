@@ -14,7 +14,7 @@ use std::alloc::Global;
 /// What a directory holds beside its hash and its index source: the nonce of `open`, the policy, the tree that all epochs
 /// share, the epochs and the chain.
 #[derive(Drop)]
-pub struct Held {
+pub(crate) struct Held {
     pub(crate) nonce: Nonce,
     pub(crate) policy: [u8; 32],
     pub(crate) tree: Tree,

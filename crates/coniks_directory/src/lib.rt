@@ -38,7 +38,7 @@ pub mod batch;
 mod changes;
 pub mod directory;
 pub mod epochs;
-pub mod held;
+mod held;
 mod install;
 mod judge;
 pub mod laws;
