@@ -1,25 +1,19 @@
 //! A registry of pseudo-random indices, an epoch for each batch.
 
-ghost use Rattle.std.specs.Prelude.{◌≡◌, ◌++◌, ◌<◌, ◌≤◌, ◌+◌, List, length, IfOk, IfSome, Some, slice_get};
-ghost use Rattle.coniks_tree.specs.Parts.{AllPlaced, Fits, Placed};
+ghost use Rattle.std.specs.Prelude.{List, length};
+ghost use Rattle.coniks_tree.specs.Parts.{Fits, Placed};
 ghost use Rattle.coniks_tree.specs.Table.{Extends};
-ghost use Rattle.coniks_tree.specs.declared.part.Part.{Entry};
 ghost use Rattle.coniks_tree.specs.declared.table.Record.{Record};
 
 use crate::counting::Counting;
 use crate::plan::{Crew, Plan};
-use coniks_proof::{
-    Binding, Bytes, Digest, Hash32, Index, Nonce, Opening, Prefix, Sha256Hash, commit_hash,
-};
-use coniks_tree::{Change, OutOfMemory, Part, Record, RecordNo, Root, Tree};
+use coniks_proof::{Digest, Hash32, Index, Prefix, Sha256Hash};
+use coniks_samples::{NONCE, add, changes_to, known, record_of};
+use coniks_tree::{Change, OutOfMemory, Part, Record, Root, Tree};
 use coniks_work::{Open, build};
 use std::alloc::{AllocError, Global};
 use std::fmt;
 use std::thread::Threads;
-
-pub const NONCE: Nonce = Nonce([0x11; 32]);
-
-const OPENING: Opening = Opening([0x22; 32]);
 
 /// How much was made, and the latest root's hash.
 #[derive(Drop)]
@@ -49,26 +43,8 @@ fn indices_of(alloc: Global, from: u64, to: u64) -> Result<Vec<(Index, u64)>, Al
     Ok(indices)
 }
 
-/// The record of a number: its name is the number's 8 bytes and its key the index's 32 bytes.
-fn record_of<H: Hash32>(
-    alloc: Global,
-    h: &H,
-    index: Index,
-    number: u64,
-) -> Result<Record, AllocError> {
-    let name = number.to_be_bytes();
-    let commitment = commit_hash(h, &OPENING, &name, &index.0);
-    let name = Bytes::copy_of(alloc, &name)?;
-    let key = Bytes::copy_of(alloc, &index.0)?;
-    Ok(Record {
-        index,
-        binding: Binding { name, key },
-        opening: OPENING,
-        commitment,
-    })
-}
-
-/// The records of these numbers, in the order of their indices.
+/// The records of these numbers, in the order of their indices: the name is the number's 8 bytes, and the key the index's
+/// 32.
 fn records_of<H: Hash32>(
     alloc: Global,
     h: &H,
@@ -77,42 +53,10 @@ fn records_of<H: Hash32>(
 ) -> Result<Vec<Record>, AllocError> {
     let mut records = Vec::new(alloc);
     for (index, number) in &indices_of(alloc, from, to)? {
-        records.push(record_of(alloc, h, *index, *number)?)?;
+        let name = number.to_be_bytes();
+        records.push(record_of(alloc, h, *index, &name, &index.0)?)?;
     }
     Ok(records)
-}
-
-/// The change that puts a record into the tree, which is to stand at a place.
-fn change_to(place: usize, new: &Record) -> Change
-    ensures { (all : List Record) → slice_get all place ≡ Some new.now → Placed all (Entry result) }
-{
-    Change {
-        index: new.index,
-        commitment: new.commitment,
-        place: RecordNo(place),
-    }
-}
-
-/// The changes that put records into the tree, which are to stand from a place on.
-fn changes_to(alloc: Global, first: usize, records: &[Record]) -> Result<Vec<Change>, AllocError>
-    ensures { IfOk result (λ changes. (old : List Record) → length old ≡ first → AllPlaced (old ++ records.now) changes.items) }
-{
-    let mut changes = Vec::new(alloc);
-    for (position, new) in records.iter().enumerate() {
-        let place = first.checked_add(position).ok_or(AllocError)?;
-        changes.push(change_to(place, new))?;
-    }
-    Ok(changes)
-}
-
-/// A root, if the tree has it.
-fn known(tree: &Tree, root: Option<Root>) -> Option<Root>
-    ensures { IfSome result (λ r. r.0 < length tree.now.nodes.items) }
-{
-    match root {
-        Some(root) if root.0 < tree.nodes() => Some(root),
-        _ => None,
-    }
 }
 
 /// What the latest root shows; nothing where the tree has no such root.
@@ -164,9 +108,8 @@ impl Registry {
         let part = self
             .tree
             .grow(&self.hash, &NONCE, part, &Prefix::root(), &changes)?;
-        self.tree.reserve(&part, records.len())?;
-        let root = self.tree.attach(&self.hash, &NONCE, part, records);
-        self.latest = Some(root);
+        let added = add(&mut self.tree, &self.hash, part, records)?;
+        self.latest = Some(added.root);
         Ok(())
     }
 

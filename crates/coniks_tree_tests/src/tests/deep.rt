@@ -1,7 +1,8 @@
 //! Two indices that differ in their last bit alone: 256 levels.
 
-use crate::tests::epochs::{Epochs, answers, digest, index_of};
+use crate::tests::epochs::{Epochs, answers, digest};
 use coniks_proof::{Answer, Digest, Hash32, Sha256Hash};
+use coniks_samples::index_of;
 use coniks_tree::Root;
 use std::alloc::Global;
 use std::process::Abort;

@@ -1,89 +1,23 @@
 //! A tree to which tests add epochs.
 
-ghost use Rattle.std.specs.Prelude.{◌≡◌, ◌++◌, ◌<◌, ◌≤◌, ◌+◌, List, length, IfOk, Some, slice_get};
+ghost use Rattle.std.specs.Prelude.{◌<◌, ◌≤◌, List, length, IfOk};
 ghost use Rattle.coniks_tree.specs.Table.{Extends};
 ghost use Rattle.coniks_tree.specs.Parts.{AllPlaced, Fits, Placed};
-ghost use Rattle.coniks_tree.specs.declared.part.Part.{Entry};
 ghost use Rattle.coniks_tree.specs.declared.table.Record.{Record};
 
 use coniks_proof::{
-    Answer, Binding, Bytes, Digest, Hash32, Index, MAX_LEVEL, Nonce, Opening, Prefix, Proof,
-    Sha256Hash, bit, check, commit_hash,
+    Answer, Digest, Hash32, Index, MAX_LEVEL, Prefix, Proof, Sha256Hash, bit, check,
 };
-use coniks_tree::{Change, OutOfMemory, Part, Record, RecordNo, Root, Tree};
-use std::alloc::{AllocError, Global};
+use coniks_samples::{Added, Bound, NONCE, add, changes_to, records_of};
+use coniks_tree::{Change, OutOfMemory, Part, Root, Tree};
+use std::alloc::Global;
 use std::process::Abort;
-
-pub const NONCE: Nonce = Nonce([0x11; 32]);
-
-const OPENING: Opening = Opening([0x22; 32]);
-
-/// An index, and the letters of the name and of the key that are bound there.
-pub type Bound = (Index, u8, u8);
-
-/// The index with a first and a last byte, and zeros between.
-pub fn index_of(first: u8, last: u8) -> Index {
-    let mut bytes = [0; 32];
-    bytes[0] = first;
-    bytes[31] = last;
-    Index(bytes)
-}
 
 /// The digest with these hexadecimal digits.
 pub fn digest(rt: &impl Abort, digits: &str) -> Digest {
     let mut bytes = [0; 32];
     hex::decode_to_slice(digits, &mut bytes).expect(rt, "64 digits");
     Digest(bytes)
-}
-
-fn record_of<H: Hash32>(alloc: Global, h: &H, bound: Bound) -> Result<Record, AllocError> {
-    let (index, name, key) = bound;
-    let name = [name];
-    let key = [key];
-    let commitment = commit_hash(h, &OPENING, &name, &key);
-    let name = Bytes::copy_of(alloc, &name)?;
-    let key = Bytes::copy_of(alloc, &key)?;
-    Ok(Record {
-        index,
-        binding: Binding { name, key },
-        opening: OPENING,
-        commitment,
-    })
-}
-
-fn records_of<H: Hash32>(
-    alloc: Global,
-    h: &H,
-    bindings: &[Bound],
-) -> Result<Vec<Record>, AllocError> {
-    let mut records = Vec::new(alloc);
-    for bound in bindings {
-        records.push(record_of(alloc, h, *bound)?)?;
-    }
-    Ok(records)
-}
-
-/// The change that puts a record into the tree, which is to stand at a place.
-fn change_to(place: usize, new: &Record) -> Change
-    ensures { (all : List Record) → slice_get all place ≡ Some new.now → Placed all (Entry result) }
-{
-    Change {
-        index: new.index,
-        commitment: new.commitment,
-        place: RecordNo(place),
-    }
-}
-
-/// The changes that put records into the tree, which are to stand from a place on.
-fn changes_to(alloc: Global, first: usize, records: &[Record]) -> Result<Vec<Change>, AllocError>
-    ensures { IfOk result (λ changes. (old : List Record) → length old ≡ first → AllPlaced (old ++ records.now) changes.items) }
-{
-    let mut changes = Vec::new(alloc);
-    for (position, new) in records.iter().enumerate() {
-        let place = first.checked_add(position).ok_or(AllocError)?;
-        changes.push(change_to(place, new))?;
-    }
-    Ok(changes)
 }
 
 /// How many changes, which are in the order of their indices, go left at a level.
@@ -147,13 +81,6 @@ pub fn answers(
     check(&Sha256Hash, &NONCE, &epochs.hash(root), index, name, &path) == Ok(answer)
 }
 
-/// An epoch's root, and how many nodes it took.
-#[derive(Clone, Copy, Debug)]
-pub struct Added {
-    pub root: Root,
-    pub nodes: usize,
-}
-
 /// A tree of epochs.
 #[derive(Drop)]
 pub struct Epochs<H> {
@@ -182,10 +109,7 @@ impl<H: Hash32> Epochs<H> {
         let records = records_of(self.alloc, &self.h, bindings)?;
         let changes = changes_to(self.alloc, self.tree.records(), &records)?;
         let part = grown_at(&self.tree, &self.h, older, &Prefix::root(), depth, &changes)?;
-        let nodes = self.tree.new_nodes(&part);
-        self.tree.reserve(&part, records.len())?;
-        let root = self.tree.attach(&self.h, &NONCE, part, records);
-        Ok(Added { root, nodes })
+        Ok(add(&mut self.tree, &self.h, part, records)?)
     }
 
     /// How many nodes and records the tree holds.

@@ -1,7 +1,8 @@
 //! Worked examples, whose digests were computed by other programs.
 
-use crate::tests::epochs::{Bound, Epochs, NONCE, answers, digest, index_of};
+use crate::tests::epochs::{Epochs, answers, digest};
 use coniks_proof::{Answer, Digest, End, Index, Sha256Hash};
+use coniks_samples::{Bound, NONCE, index_of};
 use coniks_tree::{Part, Root, Tree};
 use std::alloc::Global;
 use std::process::Abort;

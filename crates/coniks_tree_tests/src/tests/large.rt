@@ -1,7 +1,8 @@
 //! A tree of more nodes than one batch makes.
 
-use crate::tests::epochs::{Bound, Epochs};
+use crate::tests::epochs::Epochs;
 use coniks_proof::{Flat, Index};
+use coniks_samples::Bound;
 use std::alloc::{AllocError, Global};
 
 /// The index that begins with the two bytes of a number, and has zeros after them.

@@ -1,7 +1,8 @@
 //! Memory that is refused.
 
-use crate::tests::epochs::{Epochs, digest, index_of};
+use crate::tests::epochs::{Epochs, digest};
 use coniks_proof::Sha256Hash;
+use coniks_samples::index_of;
 use coniks_tree::{OutOfMemory, Part, Root, Tree};
 use std::process::Abort;
 

@@ -1,7 +1,8 @@
 //! Indices as a hash gives them, beside roots and counts that a recursion over the list gave in another language.
 
-use crate::tests::epochs::{Bound, Epochs, digest};
+use crate::tests::epochs::{Epochs, digest};
 use coniks_proof::{Hash32, Index, Sha256Hash};
+use coniks_samples::Bound;
 use coniks_tree::Root;
 use std::alloc::Global;
 use std::process::Abort;

@@ -1,7 +1,8 @@
 //! Epochs that share nodes.
 
-use crate::tests::epochs::{Bound, Epochs, digest, index_of};
+use crate::tests::epochs::{Epochs, digest};
 use coniks_proof::Sha256Hash;
+use coniks_samples::{Bound, index_of};
 use coniks_tree::Root;
 use std::process::Abort;
 

@@ -4,26 +4,12 @@ ghost use Rattle.std.specs.Prelude.{◌≤◌};
 
 use crate::building::build;
 use crate::gate::Gate;
-use coniks_proof::{Digest, Index, Nonce, Opening, Sha256Hash, commit_hash};
-use coniks_tree::{Change, OutOfMemory, RecordNo, Tree};
+use coniks_proof::{Digest, Sha256Hash};
+use coniks_samples::{Bound, NONCE, changes_to, index_of, records_of};
+use coniks_tree::{Change, OutOfMemory, Tree};
 use std::alloc::{AllocError, Global};
 use std::process::Abort;
 use std::thread::Threads;
-
-pub const NONCE: Nonce = Nonce([0x11; 32]);
-
-pub const OPENING: Opening = Opening([0x22; 32]);
-
-/// An index, and the letters of the name and of the key that are bound there.
-pub type Bound = (Index, u8, u8);
-
-/// The index with a first and a last byte, and zeros between.
-pub fn index_of(first: u8, last: u8) -> Index {
-    let mut bytes = [0; 32];
-    bytes[0] = first;
-    bytes[31] = last;
-    Index(bytes)
-}
 
 /// `a`, `d`, `c` and `b`, each with a key, in the order of their indices.
 pub fn four() -> [Bound; 4] {
@@ -42,19 +28,10 @@ pub fn digest(rt: &impl Abort, digits: &str) -> Digest {
     Digest(bytes)
 }
 
-/// The changes that bind these, whose records are to stand from the first place on.
-pub fn changes_to(alloc: Global, bindings: &[Bound]) -> Result<Vec<Change>, AllocError> {
-    let mut changes = Vec::new(alloc);
-    for (place, (index, name, key)) in bindings.iter().enumerate() {
-        let name = [*name];
-        let key = [*key];
-        changes.push(Change {
-            index: *index,
-            commitment: commit_hash(&Sha256Hash, &OPENING, &name, &key),
-            place: RecordNo(place),
-        })?;
-    }
-    Ok(changes)
+/// The changes of a first epoch that binds these.
+pub fn changes_of(alloc: Global, bindings: &[Bound]) -> Result<Vec<Change>, AllocError> {
+    let records = records_of(alloc, &Sha256Hash, bindings)?;
+    Ok(changes_to(alloc, 0, &records)?)
 }
 
 /// How many nodes a first epoch of these takes, and its root's hash.
@@ -68,7 +45,7 @@ pub fn first_epoch<G: Gate + Sync, R: Threads + Sync>(
 ) -> Result<(usize, Digest), OutOfMemory>
     requires { (depth ≤ 8) × (1 ≤ workers) × (workers ≤ 64) }
 {
-    let changes = changes_to(alloc, bindings)?;
+    let changes = changes_of(alloc, bindings)?;
     let tree = Tree::new(alloc);
     let part = build(
         rt,

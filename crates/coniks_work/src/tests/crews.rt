@@ -2,9 +2,10 @@
 
 use crate::gate::Open;
 use crate::jobs::split;
-use crate::tests::batches::{Bound, changes_to, digest, first_epoch, four, index_of};
+use crate::tests::batches::{changes_of, digest, first_epoch, four};
 use crate::tests::gates::{Counts, Meeting};
 use coniks_proof::Index;
+use coniks_samples::{Bound, index_of};
 use std::alloc::{AllocError, Global};
 
 const OF_FOUR: &str = "0d10d652bba80545e24f4d5e24bf33580588fb0d17ee964d3213748e6d7e6145";
@@ -71,7 +72,7 @@ fn same_for_every_crew(rt: HostRuntime) {
 
 #[test]
 fn jobs_of_four(rt: HostRuntime) {
-    let changes = changes_to(rt.alloc(), &four()).expect(&rt, "memory");
+    let changes = changes_of(rt.alloc(), &four()).expect(&rt, "memory");
     for (depth, count) in [(0, 1), (1, 2), (2, 3), (3, 4), (8, 4)] {
         let jobs = split(rt.alloc(), &changes, depth).expect(&rt, "memory");
         assert_eq!(rt; jobs.len(), count);
@@ -103,7 +104,7 @@ fn most(alloc: Global) -> Result<Vec<Bound>, AllocError> {
 #[test]
 fn most_jobs(rt: HostRuntime) {
     let names = most(rt.alloc()).expect(&rt, "memory");
-    let changes = changes_to(rt.alloc(), &names).expect(&rt, "memory");
+    let changes = changes_of(rt.alloc(), &names).expect(&rt, "memory");
     let jobs = split(rt.alloc(), &changes, 8).expect(&rt, "memory");
     assert_eq!(rt; jobs.len(), 256);
     let built = first_epoch(&rt, rt.alloc(), &names, 8, 64, &Open);

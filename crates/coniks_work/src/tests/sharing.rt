@@ -1,7 +1,8 @@
 //! Epochs that share nodes. Their digests were computed by another program.
 
-use crate::tests::batches::{digest, index_of};
+use crate::tests::batches::digest;
 use crate::tests::epochs::Epochs;
+use coniks_samples::index_of;
 
 /// Over three names a change on the right, one on the left, and none: how many nodes each takes at each depth.
 #[test]

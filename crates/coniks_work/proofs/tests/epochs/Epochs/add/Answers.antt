@@ -1,14 +1,12 @@
 use Rattle.std.proofs.Common.{sym, subst, ◌++◌}
-use Rattle.coniks_tree.specs.Parts.{AllPlaced, Placed}
+use Rattle.coniks_tree.specs.Parts.{AllPlaced}
 use Rattle.coniks_tree.proofs.Lemmas.{Extends-append}
 use Rattle.coniks_work.proofs.tests.epochs.Epochs.add.Goals as goal
 
-pub attach-root-requires-clause-placed : goal.attach-root-requires-clause-placed
-attach-root-requires-clause-placed g c =
+pub add-requires-clause-placed : goal.add-requires-clause-placed
+add-requires-clause-placed g c =
     let old = c.args.self.now.tree.records.items in
     let new = c.in_ok-records.records.items in
     let changes = c.in_ok-changes.changes.items in
     let each : AllPlaced (old ++ new) changes = subst (λ rs. AllPlaced (old ++ rs) changes) c.deref.ensures.value (c.in_ok-changes.ensures old (sym c.records.ensures)) in
-    let placed : Placed (old ++ new) c.in_ok-part.part =
-    c.in_ok-part.ensures.placed (old ++ new) (Extends-append old new) (subst (AllPlaced (old ++ new)) (sym c.deref-2.ensures.value) each) in
-    subst (λ rs. Placed (rs ++ new) c.in_ok-part.part) (sym c.reserve.ensures.records) placed
+    c.in_ok-part.ensures.placed (old ++ new) (Extends-append old new) (subst (AllPlaced (old ++ new)) (sym c.deref-2.ensures.value) each)
