@@ -26,6 +26,17 @@ pub struct Auditing {
 }
 
 impl Auditing {
+    /// Audits under the seal of a key, and has accepted no entry.
+    fn new(alloc: Global, key: [u8; 32]) -> Auditing
+        ensures { record { key = result.seal.key; before = result.auditor.1 } ≡ none_audited key }
+    {
+        Auditing {
+            alloc,
+            seal: DemoSeal::new(key),
+            auditor: Auditor::new(Sha256Hash),
+        }
+    }
+
     /// Feeds an entry to the auditor.
     fn judge(&mut self, entry: &Entry) -> AuditReply
         ensures reply { audit_outcome result ≡ (entry_turn (record { key = self.old.seal.key; before = self.old.auditor.1 }) (Some entry.now)).outcome }
@@ -108,10 +119,6 @@ pub fn run_audit<R: ByteIn, W: ByteOut>(
     ensures chain { (input : List ℕ) → (R.source reader.old).left ≡ Some input
         → IfOk result (λ all. (all ≡ true) ↔ HoldsGoodChain key (lines_of input)) }
 {
-    let mut auditing = Auditing {
-        alloc,
-        seal: DemoSeal::new(key),
-        auditor: Auditor::new(Sha256Hash),
-    };
+    let mut auditing = Auditing::new(alloc, key);
     run_lines(alloc, &mut auditing, reader, writer)
 }

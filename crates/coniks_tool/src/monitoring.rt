@@ -35,6 +35,18 @@ pub struct Monitoring {
 }
 
 impl Monitoring {
+    /// Watches a name under the seal and the index of a key, for a client that expects a key of it, or none. It has seen no entry.
+    fn new(alloc: Global, key: [u8; 32], name: Bytes, expected: Option<Bytes>) -> Monitoring
+        ensures { watching result.seal.key result.monitor ≡ none_watched key name expected }
+    {
+        let index = DemoIndex::new(key).index(name.as_slice());
+        Monitoring {
+            alloc,
+            seal: DemoSeal::new(key),
+            monitor: Monitor::new(Sha256Hash, name, index, expected),
+        }
+    }
+
     /// Shows the monitor an entry and its proof.
     fn judge(&mut self, entry: &Entry, proof: &Proof) -> MonitorReply
         ensures reply { monitor_outcome result ≡ (step_turn (watching self.old.seal.key self.old.monitor) entry.now proof.now).outcome }
@@ -164,11 +176,6 @@ pub fn run_monitor<R: ByteIn, W: ByteOut>(
         → OnErr result (WritesPart (output monitor_answer (none_watched key name expected) input)
         (W.sink writer.old) (W.sink writer.new)) }
 {
-    let index = DemoIndex::new(key).index(name.as_slice());
-    let mut monitoring = Monitoring {
-        alloc,
-        seal: DemoSeal::new(key),
-        monitor: Monitor::new(Sha256Hash, name, index, expected),
-    };
+    let mut monitoring = Monitoring::new(alloc, key, name, expected);
     run_lines(alloc, &mut monitoring, reader, writer)
 }
