@@ -1,6 +1,7 @@
 -- What a part and the records of a batch leave.
 use Rattle.std.proofs.Common.{◌≡◌, ℕ, suc, ◌+◌, List, [], ◌∷◌, ◌++◌, length, map, arith, false, refl, sym, ap, subst, ◌∙◌, inl, inr, Option, Some, None, slice_get}
 use Rattle.std.proofs.lemmas.Bool.{false_from_ne_true}
+use Rattle.std.proofs.lemmas.List.{length-map}
 use Rattle.std.specs.BTreeMap.{BTreeMap}
 use Rattle.coniks_proof.specs.Entries.{Entry, IsIn, backed_by}
 use Rattle.coniks_proof.specs.Changes.{AreApart, AreInOrder, has_index, overwritten}
@@ -22,7 +23,6 @@ use Rattle.coniks_directory.specs.Holders.{ShowsLatest}
 use Rattle.coniks_directory.specs.Judged.{AreChangesOf, AreSeen}
 use Rattle.coniks_directory.specs.Built.{IsBuilt}
 use Rattle.coniks_directory.specs.declared.seen.Seen.{Seen}
-use Rattle.coniks_directory.proofs.JudgeLemmas.{length-map}
 use Rattle.coniks_directory.proofs.MirrorLemmas.{registered_at-extended}
 use Rattle.coniks_directory.proofs.HolderLemmas.{backed_in, in_backed}
 use Rattle.coniks_directory.proofs.OverlaidLemmas.{ArePart, IsMap-overlaid, IsMap-overwritten, in_overwritten, index_there, once, overlaid_new, overlaid_old, overwritten_new, overwritten_old, part, there_index, within-overlaid}
@@ -188,5 +188,5 @@ module _ (hash of : List ℕ → List ℕ) (ops : List Operation) (seen : Seen) 
   -- they are as many as the operations
   pub as_many : AreSeen hash of (map bound_by ops) seen.records.items seen.numbers → length changes ≡ length ops
   as_many s =
-      ap length same ∙ sym (length-map entry_of_change made) ∙ are.counted ∙ sym (length-map registered_of seen.records.items)
-      ∙ ap length s.binds ∙ length-map bound_by ops
+      ap length same ∙ sym (length-map made entry_of_change) ∙ are.counted ∙ sym (length-map seen.records.items registered_of)
+      ∙ ap length s.binds ∙ length-map ops bound_by

@@ -1,8 +1,8 @@
 -- The chain of a history, entry by entry.
-use Rattle.std.proofs.Common.{◌≡◌, ℕ, zero, suc, ◌+◌, ◌<◌, ◌≤◌, List, [], ◌∷◌, ◌++◌, length, length-append, Bool, true, refl, sym, ap, subst, ◌∙◌, arith, ⊎_elim, Option, Some, None, slice_get}
+use Rattle.std.proofs.Common.{◌≡◌, ℕ, zero, suc, ◌+◌, ◌<◌, ◌≤◌, List, [], ◌∷◌, ◌++◌, length, length-append, Bool, true, refl, sym, ap, ◌∙◌, arith, ⊎_elim, inl, inr, get_or, Option, Some, None, slice_get}
 use Rattle.std.specs.Option.{option_map}
 use Rattle.std.proofs.lemmas.List.{map-append}
-use Rattle.std.proofs.lemmas.Option.{slice_get_within}
+use Rattle.std.proofs.lemmas.Option.{same_Some, slice_get-get_or, slice_get_cases, slice_get_within}
 use Rattle.coniks_chain.specs.Chain.{Follows, before_at, before_of, epoch_before, link_before}
 use Rattle.coniks_chain.specs.Entries.{body_bytes}
 use Rattle.coniks_chain.specs.declared.auditor.Before.{Before}
@@ -10,7 +10,8 @@ use Rattle.coniks_chain.specs.declared.entry.Body.{Body}
 use Rattle.coniks_chain.specs.declared.entry.Entry.{Entry}
 use Rattle.coniks_tree.proofs.Lemmas.{get-push}
 use Rattle.coniks_directory.specs.Chain.{IsChainOf, body_of, head_at, heads_of}
-use Rattle.coniks_directory.specs.History.{AreRising, Shown, last_number, latest_epoch, numbers_of}
+use Rattle.coniks_directory.specs.History.{AreRising, Shown, last_number, latest_epoch}
+use Rattle.coniks_directory.proofs.LastLemmas.{at_last}
 
 -- ---- rising numbers
 
@@ -18,67 +19,50 @@ pub rising-push : (t : ℕ) (ns : List ℕ) (n : ℕ) → AreRising t ns → las
 rising-push t [] n up later = (later, tt)
 rising-push t (m ∷ ns) n up later = (up.0, rising-push m ns n up.1 later)
 
-last_shown : (t n : ℕ) (history : List Shown) (s : Shown) → suc n ≡ length history → slice_get history n ≡ Some s → last_number t (numbers_of history) ≡ s.t
-last_shown t n [] s long at = absurd (omega arith)
-last_shown t zero (x ∷ []) s long at = let same : x ≡ s = cc in ap (λ (y : Shown). y.t) same
-last_shown t zero (x ∷ y ∷ ss) s long at = absurd (omega arith)
-last_shown t (suc n) (x ∷ []) s long at = absurd (omega arith)
-last_shown t (suc n) (x ∷ y ∷ ss) s long at = last_shown x.t n (y ∷ ss) s (omega arith) at
-
 -- ---- the last entry
 
--- the last epoch and its entry
-record AreLast (hash of : List ℕ → List ℕ) (policy : List ℕ) (history : List Shown) (chain : List Entry) : Type 0 where
+-- what stands before the next entry is of the last epoch
+record IsLast (history : List Shown) (b : Before) : Type 0 where
+  place : ℕ
   shown : Shown
-  entry : Entry
-  there : (n : ℕ) × (suc n ≡ length history) × (slice_get history n ≡ Some shown)
-  before : before_at hash None chain (length chain) ≡ Some (before_of hash entry)
-  t : entry.body.t ≡ shown.t
-  nonce : entry.body.nonce.0 ≡ shown.nonce
-
-last_there : {T : Type 0} (x : T) (xs : List T) → (y : T) × (slice_get (x ∷ xs) (length xs) ≡ Some y)
-last_there x [] = (x, refl)
-last_there x (z ∷ xs) = last_there z xs
-
-are_last : (hash of : List ℕ → List ℕ) (policy : List ℕ) (s : Shown) (history : List Shown) (e : Entry) (chain : List Entry) → IsChainOf hash of policy (s ∷ history) (e ∷ chain) → AreLast hash of policy (s ∷ history) (e ∷ chain)
-are_last hash of policy s history e chain is =
-    let x = last_there e chain in
-    let y = last_there s history in
-    let same : length history ≡ length chain = omega (arith, is.long) in
-    let at : slice_get (s ∷ history) (length chain) ≡ Some y.0 = subst (λ n. slice_get (s ∷ history) n ≡ Some y.0) same y.1 in
-    let body = is.bodies (length chain) y.0 x.0 at x.1 in
-    record {
-      shown = y.0;
-      entry = x.0;
-      there = (length history, refl, y.1);
-      before = ap (option_map (before_of hash)) x.1;
-      t = ap (λ (b : Body). b.t) body;
-      nonce = ap (λ (b : Body). b.nonce.0) body;
-    }
+  last : place + 1 ≡ length history
+  there : slice_get history place ≡ Some shown
+  t : b.t ≡ shown.t
+  nonce : b.nonce.0 ≡ shown.nonce
 
 module _ (hash of : List ℕ → List ℕ) (policy : List ℕ) where
+  is_last : (history : List Shown) (chain : List Entry) (b : Before) → IsChainOf hash of policy history chain → before_at hash None chain (length chain) ≡ Some b → IsLast history b
+  is_last history [] b is before = absurd (let never = before in cc)
+  is_last history (e ∷ chain) b is before = elim (slice_get_cases history (length chain)).1 [
+    | inl (s, within, at, _) ↦
+        let there = slice_get-get_or (e ∷ chain) (length chain) e (omega arith) in
+        let same : before_of hash (get_or (e ∷ chain) (length chain) e) ≡ b = same_Some _ b (sym (ap (option_map (before_of hash)) there) ∙ before) in
+        let body = is.bodies (length chain) s (get_or (e ∷ chain) (length chain) e) at there in
+        record {
+          place = length chain;
+          shown = s;
+          last = let long = is.long in omega arith;
+          there = at;
+          t = ap (λ (x : Before). x.t) (sym same) ∙ ap (λ (x : Body). x.t) body;
+          nonce = ap (λ (x : Before). x.nonce.0) (sym same) ∙ ap (λ (x : Body). x.nonce.0) body;
+        }
+    | inr (past, _) ↦ absurd (let long = is.long in omega arith)
+  ]
+
   -- the last entry names the latest epoch
   pub last-epoch : (history : List Shown) (chain : List Entry) → IsChainOf hash of policy history chain → epoch_before (before_at hash None chain (length chain)) ≡ latest_epoch history
   last-epoch [] [] is = refl
-  last-epoch [] (e ∷ chain) is = absurd (let long = is.long in omega arith)
   last-epoch (s ∷ history) [] is = absurd (let long = is.long in omega arith)
-  last-epoch (s ∷ history) (e ∷ chain) is =
-      let l = are_last hash of policy s history e chain is in
-      ap epoch_before l.before ∙ l.t ∙ sym (last_shown 0 l.there.0 (s ∷ history) l.shown l.there.1 l.there.2)
+  last-epoch history (e ∷ chain) is =
+      let there = slice_get-get_or (e ∷ chain) (length chain) e (omega arith) in
+      let before = ap (option_map (before_of hash)) there in
+      let l = is_last history (e ∷ chain) (before_of hash (get_or (e ∷ chain) (length chain) e)) is before in
+      ap epoch_before before ∙ l.t ∙ sym (at_last (λ xs. latest_epoch xs) (λ x. x.t) (λ x. refl) (λ x y xs. refl) history l.shown l.place l.last l.there)
 
   -- and has its nonce
   pub last-nonce : (nonce : List ℕ) (history : List Shown) (chain : List Entry) (b : Before) → IsChainOf hash of policy history chain → ((k : ℕ) (s : Shown) → slice_get history k ≡ Some s → s.nonce ≡ nonce)
       → before_at hash None chain (length chain) ≡ Some b → b.nonce.0 ≡ nonce
-  last-nonce nonce [] [] b is all before = absurd (let never = before in cc)
-  last-nonce nonce [] (e ∷ chain) b is all before = absurd (let long = is.long in omega arith)
-  last-nonce nonce (s ∷ history) [] b is all before = absurd (let long = is.long in omega arith)
-  last-nonce nonce (s ∷ history) (e ∷ chain) b is all before =
-      let l = are_last hash of policy s history e chain is in
-      let same : before_of hash l.entry ≡ b = one (before_of hash l.entry) b (sym l.before ∙ before) in
-      ap (λ (x : Before). x.nonce.0) (sym same) ∙ l.nonce ∙ all l.there.0 l.shown l.there.2
-    where
-      one : (x y : Before) → Some x ≡ Some y → x ≡ y
-      one x y h = cc
+  last-nonce nonce history chain b is all before = let l = is_last history chain b is before in l.nonce ∙ all l.place l.shown l.there
 
 get_push : (es : List Entry) (e : Entry) (k : ℕ) → k < length es → slice_get (es ++ e ∷ []) k ≡ slice_get es k
 get_push [] e k less = absurd (omega arith)

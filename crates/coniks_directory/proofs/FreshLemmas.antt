@@ -1,39 +1,30 @@
 -- An update that isn't stale is one of the directory as it is.
 use Rattle.std.proofs.Common.{◌≡◌, ℕ, List, [], ◌∷◌, ◌++◌, length, map, refl, sym, ap, subst, ◌∙◌, arith, length-append, append_assoc}
-use Rattle.std.proofs.lemmas.List.{append-nil}
+use Rattle.std.proofs.lemmas.List.{append-nil, nil_from_length}
 use Rattle.coniks_tree.proofs.Lemmas.{Extends-trans, Fits-more, Stands-extended}
 use Rattle.coniks_tree.specs.declared.table.Record.{Record}
 use Rattle.coniks_directory.specs.State.{State, history_of, registry_at, shown_of}
 use Rattle.coniks_directory.specs.Updates.{Grows, IsUpdate, IsUpdateOf, registry_after}
-use Rattle.coniks_directory.specs.declared.epochs.Epoch.{Epoch}
 use Rattle.coniks_directory.specs.declared.update.Prepared.{Prepared}
 
 -- more nodes, another policy and another chain are of no account to an update
 onto : (hash of : List ℕ → List ℕ) (s t : State) (p : Prepared) → t.nonce ≡ s.nonce → t.records ≡ s.records → t.epochs ≡ s.epochs → Grows s t → IsUpdate hash of s p → IsUpdate hash of t p
-onto hash of s t p nonce records epochs grows u =
-    let over : IsUpdate hash of (record t { nonce = s.nonce; records = s.records; epochs = s.epochs }) p = record {
-      base = u.base;
-      counted = u.counted;
-      version = u.version;
-      nonce = u.nonce;
-      fits = Fits-more (length s.nodes) (length t.nodes) 0 p.part grows.longer u.fits;
-      placed = u.placed;
-      entries = u.entries;
-      stands = Stands-extended hash p.nonce.0 s.nodes t.nodes s.records grows.nodes p.part [] u.entries u.stands;
-      mirrors = u.mirrors;
-    } in
-    subst (λ (es : List Epoch). IsUpdate hash of (record t { epochs = es }) p) (sym epochs)
-    (subst (λ (rs : List Record). IsUpdate hash of (record t { records = rs; epochs = s.epochs }) p) (sym records)
-    (subst (λ (n : List ℕ). IsUpdate hash of (record t { nonce = n; records = s.records; epochs = s.epochs }) p) (sym nonce) over))
+onto hash of s t p nonce records epochs grows u = record {
+  base = u.base ∙ sym (ap length epochs);
+  counted = rw (epochs, records) u.counted;
+  version = u.version;
+  nonce = rw (nonce, records, epochs) u.nonce;
+  fits = Fits-more (length s.nodes) (length t.nodes) 0 p.part grows.longer u.fits;
+  placed = rw records u.placed;
+  entries = u.entries;
+  stands = rw records (Stands-extended hash p.nonce.0 s.nodes t.nodes s.records grows.nodes p.part [] u.entries u.stands);
+  mirrors = rw records u.mirrors;
+}
 
 -- where no epoch came since, neither did records: the update is one of the later state
 module _ (hash of : List ℕ → List ℕ) (s t : State) (p : Prepared) (grows : Grows s t) (u : IsUpdate hash of s p) (base : p.base ≡ length t.epochs) where
   none_since : grows.more_epochs ≡ []
-  none_since = let same = u.base in let sum = ap length grows.epochs in let both = length-append s.epochs grows.more_epochs in none_of grows.more_epochs (omega (arith, same, base, sum, both))
-    where
-      none_of : {T : Type 0} (xs : List T) → length xs ≡ 0 → xs ≡ []
-      none_of [] none = refl
-      none_of (x ∷ xs) none = absurd (let never = none in omega (arith, never))
+  none_since = nil_from_length grows.more_epochs (omega (arith, u.base, ap length grows.epochs, length-append s.epochs grows.more_epochs))
 
   same_epochs : t.epochs ≡ s.epochs
   same_epochs = grows.epochs ∙ ap (λ es. s.epochs ++ es) none_since ∙ append-nil s.epochs

@@ -1,6 +1,6 @@
 -- The heads of a chain, which rise.
-use Rattle.std.proofs.Common.{◌≡◌, ℕ, suc, ◌≤◌, List, [], ◌∷◌, ◌++◌, length, map, refl, sym, ap, subst, ◌∙◌, arith, Option, Some, None, slice_get}
-use Rattle.std.proofs.lemmas.List.{map-append}
+use Rattle.std.proofs.Common.{◌≡◌, ℕ, suc, ◌+◌, ◌≤◌, get_or, append_assoc, length-append, List, [], ◌∷◌, ◌++◌, length, map, refl, sym, ap, subst, ◌∙◌, arith, Option, Some, None, slice_get}
+use Rattle.std.proofs.lemmas.Option.{same_Some}
 use Rattle.coniks_chain.specs.declared.entry.Body.{Body}
 use Rattle.coniks_chain.specs.declared.entry.Entry.{Entry}
 use Rattle.coniks_proof.specs.declared.values.Head.{Head}
@@ -8,77 +8,49 @@ use Rattle.coniks_proof.specs.Preimages.{zeros}
 use Rattle.coniks_chain.specs.Chain.{before_at, link_before}
 use Rattle.coniks_shared.specs.Lists.{Begins, last_of}
 use Rattle.coniks_directory.specs.Chain.{IsChainOf, heads_of}
-use Rattle.coniks_directory.specs.History.{AreRising, Shown, last_number, numbers_of}
+use Rattle.coniks_directory.specs.History.{AreRising, Shown, numbers_of}
+use Rattle.coniks_directory.proofs.NumberLemmas.{rising-sorted}
 
-epochs_of : List Head → List ℕ
-epochs_of heads = map (λ (h : Head). h.epoch) heads
-
-entry_numbers : List Entry → List ℕ
-entry_numbers chain = map (λ (e : Entry). e.body.t) chain
-
+-- the entries have the numbers of their epochs
 numbers_alike : (history : List Shown) (chain : List Entry) → length chain ≡ length history
-    → ((k : ℕ) (s : Shown) (e : Entry) → slice_get history k ≡ Some s → slice_get chain k ≡ Some e → e.body.t ≡ s.t) → entry_numbers chain ≡ numbers_of history
-unfolding entry_numbers
+    → ((k : ℕ) (s : Shown) (e : Entry) → slice_get history k ≡ Some s → slice_get chain k ≡ Some e → e.body.t ≡ s.t) → map (λ (e : Entry). e.body.t) chain ≡ numbers_of history
 numbers_alike [] [] long same = refl
 numbers_alike [] (e ∷ chain) long same = absurd (omega arith)
 numbers_alike (s ∷ history) [] long same = absurd (omega arith)
 numbers_alike (s ∷ history) (e ∷ chain) long same =
-    ap (λ n. n ∷ entry_numbers chain) (same 0 s e refl refl)
+    ap (λ n. n ∷ map (λ (x : Entry). x.body.t) chain) (same 0 s e refl refl)
     ∙ ap (λ ns. s.t ∷ ns) (numbers_alike history chain (omega arith) (λ k x f at_x at_f. same (suc k) x f at_x at_f))
-
--- the entries have the numbers of their epochs
-numbers_are : (hash of : List ℕ → List ℕ) (policy : List ℕ) (history : List Shown) (chain : List Entry) → IsChainOf hash of policy history chain → entry_numbers chain ≡ numbers_of history
-numbers_are hash of policy history chain is = numbers_alike history chain is.long (λ k s e at_s at_e. ap (λ (b : Body). b.t) (is.bodies k s e at_s at_e))
 
 pub chain-rises : (hash of : List ℕ → List ℕ) (policy : List ℕ) (history : List Shown) (chain : List Entry) → IsChainOf hash of policy history chain → AreRising 0 (numbers_of history)
     → AreRising 0 (map (λ (e : Entry). e.body.t) chain)
-unfolding entry_numbers
-chain-rises hash of policy history chain is up = subst (AreRising 0) (sym (numbers_are hash of policy history chain is)) up
+chain-rises hash of policy history chain is up =
+    subst (AreRising 0) (sym (numbers_alike history chain is.long (λ k s e at_s at_e. ap (λ (b : Body). b.t) (is.bodies k s e at_s at_e)))) up
 
-heads_numbers : (hash : List ℕ → List ℕ) (chain : List Entry) → epochs_of (heads_of hash chain) ≡ entry_numbers chain
-unfolding epochs_of entry_numbers
+-- and so have the heads
+heads_numbers : (hash : List ℕ → List ℕ) (chain : List Entry) → map (λ (h : Head). h.epoch) (heads_of hash chain) ≡ map (λ (e : Entry). e.body.t) chain
 heads_numbers hash [] = refl
 heads_numbers hash (e ∷ chain) = ap (λ ns. e.body.t ∷ ns) (heads_numbers hash chain)
 
-rising-first : (t : ℕ) (ns ms : List ℕ) → AreRising t (ns ++ ms) → AreRising t ns
-rising-first t [] ms up = tt
-rising-first t (n ∷ ns) ms up = (up.0, rising-first n ns ms up.1)
-
-rising-rest : (t : ℕ) (ns ms : List ℕ) → AreRising t (ns ++ ms) → AreRising (last_number t ns) ms
-rising-rest t [] ms up = up
-rising-rest t (n ∷ ns) ms up = rising-rest n ns ms up.1
-
-last-append : (t : ℕ) (ns ms : List ℕ) → last_number t (ns ++ ms) ≡ last_number (last_number t ns) ms
-last-append t [] ms = refl
-last-append t (n ∷ ns) ms = last-append n ns ms
-
-rises : (t : ℕ) (ns : List ℕ) → AreRising t ns → t ≤ last_number t ns
-rises t [] up = omega arith
-rises t (n ∷ ns) up = let later = rises n ns up.1 in let first = up.0 in omega arith
-
-last_head : (t : ℕ) (heads : List Head) (h : Head) → last_of heads ≡ Some h → last_number t (epochs_of heads) ≡ h.epoch
-unfolding epochs_of
-last_head t [] h is = absurd (let never = is in cc)
-last_head t (x ∷ []) h is = let same : x ≡ h = one x h is in ap (λ (y : Head). y.epoch) same
-  where
-    one : (x y : Head) → Some x ≡ Some y → x ≡ y
-    one x y e = cc
-last_head t (x ∷ y ∷ hs) h is = last_head x.epoch (y ∷ hs) h is
-
-epochs-append : (xs ys : List Head) → epochs_of (xs ++ ys) ≡ epochs_of xs ++ epochs_of ys
-unfolding epochs_of
-epochs-append xs ys = map-append (λ (h : Head). h.epoch) xs ys
+-- the last of the heads that others follow stands where these begin
+last_place : (heads rest : List Head) (h : Head) → last_of heads ≡ Some h → (n : ℕ) × (suc n ≡ length heads) × ((d : Head) → get_or (heads ++ rest) n d ≡ h)
+last_place [] rest h is = absurd (let never = is in cc)
+last_place (x ∷ []) rest h is = (0, refl, λ d. same_Some x h is)
+last_place (x ∷ y ∷ hs) rest h is = let k = last_place (y ∷ hs) rest h is in (suc k.0, ap suc k.1, k.2)
 
 pub no_older : (hash of : List ℕ → List ℕ) (policy : List ℕ) (history : List Shown) (chain : List Entry) (had has : List Head) (latest answer : Head) → IsChainOf hash of policy history chain → AreRising 0 (numbers_of history)
     → Begins had has → Begins has (heads_of hash chain) → last_of had ≡ Some latest → last_of has ≡ Some answer → latest.epoch ≤ answer.epoch
 no_older hash of policy history chain had has latest answer is up begins within last_had last_has =
-    let numbers = heads_numbers hash chain ∙ numbers_are hash of policy history chain is in
-    let all : AreRising 0 (epochs_of has ++ epochs_of within.0) = subst (AreRising 0) (sym numbers ∙ ap epochs_of within.1 ∙ epochs-append has within.0) up in
-    let seen : AreRising 0 (epochs_of had ++ epochs_of begins.0) = subst (AreRising 0) (ap epochs_of begins.1 ∙ epochs-append had begins.0) (rising-first 0 (epochs_of has) (epochs_of within.0) all) in
-    let later = rises (last_number 0 (epochs_of had)) (epochs_of begins.0) (rising-rest 0 (epochs_of had) (epochs_of begins.0) seen) in
-    let answer-is : last_number (last_number 0 (epochs_of had)) (epochs_of begins.0) ≡ answer.epoch =
-    sym (last-append 0 (epochs_of had) (epochs_of begins.0)) ∙ ap (last_number 0) (sym (epochs-append had begins.0)) ∙ ap (λ hs. last_number 0 (epochs_of hs)) (sym begins.1) ∙ last_head 0 has answer last_has in
-    omega (arith, later, answer-is, last_head 0 had latest last_had)
+    let epoch : Head → ℕ = λ h. h.epoch in
+    let all : heads_of hash chain ≡ had ++ (begins.0 ++ within.0) = within.1 ∙ ap (λ hs. hs ++ within.0) begins.1 ∙ append_assoc had begins.0 within.0 in
+    let rise : AreRising 0 (map epoch (heads_of hash chain)) = subst (AreRising 0) (sym (heads_numbers hash chain)) (chain-rises hash of policy history chain is up) in
+    let first = last_place had (begins.0 ++ within.0) latest last_had in
+    let last = last_place has within.0 answer last_has in
+    let one : get_or (heads_of hash chain) first.0 latest ≡ latest = ap (λ hs. get_or hs first.0 latest) all ∙ first.2 latest in
+    let other : get_or (heads_of hash chain) last.0 latest ≡ answer = ap (λ hs. get_or hs last.0 latest) within.1 ∙ last.2 latest in
+    let longer : length has ≡ length had + length begins.0 = ap length begins.1 ∙ length-append had begins.0 in
+    let long : length (heads_of hash chain) ≡ length has + length within.0 = ap length within.1 ∙ length-append has within.0 in
+    let sorted = rising-sorted epoch 0 (heads_of hash chain) rise first.0 last.0 latest (omega (arith, first.1, last.1)) (omega (arith, last.1)) in
+    subst (λ h. latest.epoch ≤ h.epoch) other (subst (λ h. h.epoch ≤ epoch (get_or (heads_of hash chain) last.0 latest)) one sorted)
 
 -- the link of a head, zeros where there is none
 abbrev pub link_in : Option Head → List ℕ

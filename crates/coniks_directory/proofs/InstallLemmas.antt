@@ -1,5 +1,5 @@
 -- What an install leaves.
-use Rattle.std.proofs.Common.{◌≡◌, ℕ, zero, suc, ◌+◌, ◌<◌, ◌≤◌, List, [], ◌∷◌, ◌++◌, length, map, Bool, true, refl, sym, ap, subst, ◌∙◌, arith, ⊎_elim, Some, None, slice_get, length-append}
+use Rattle.std.proofs.Common.{◌≡◌, ℕ, suc, ◌+◌, ◌<◌, ◌≤◌, List, [], ◌∷◌, ◌++◌, length, map, Bool, true, refl, sym, ap, subst, ◌∙◌, arith, ⊎_elim, Some, None, slice_get, length-append}
 use Rattle.std.proofs.lemmas.List.{map-append}
 use Rattle.coniks_proof.specs.Registry.{Registry}
 use Rattle.coniks_proof.specs.Tree.{node}
@@ -14,7 +14,7 @@ use Rattle.coniks_tree.specs.Table.{Extends, Numbered, Shows}
 use Rattle.coniks_tree.specs.declared.table.Node.{Node}
 use Rattle.coniks_tree.specs.declared.table.Record.{Record}
 use Rattle.coniks_tree.specs.declared.table.Root.{Root}
-use Rattle.coniks_tree.proofs.Lemmas.{Extends-append, Shows-extended, get-push}
+use Rattle.coniks_tree.proofs.Lemmas.{Extends-append, Shows-extended, get-last, get-push}
 use Rattle.coniks_directory.specs.Chain.{IsChainOf, body_of, heads_of}
 use Rattle.coniks_directory.specs.History.{AllUnder, Shown, AreRising, latest_epoch, latest_nonce, numbers_of, root_at}
 use Rattle.coniks_directory.specs.Directories.{HasGoodChain, HasPrepared, heads}
@@ -26,6 +26,7 @@ use Rattle.coniks_directory.specs.declared.update.Prepared.{Prepared}
 use Rattle.coniks_proof.specs.declared.values.Head.{Head}
 use Rattle.coniks_directory.proofs.FreshLemmas.{fresh}
 use Rattle.coniks_directory.proofs.ChainLemmas.{chain-push, follows_next, last-epoch, last-nonce, rising-push}
+use Rattle.coniks_directory.proofs.LastLemmas.{at_last, get-mapped}
 use Rattle.coniks_directory.proofs.MirrorLemmas.{Mirrors-extended, mirrored_root}
 use Rattle.coniks_directory.proofs.StateLemmas.{registry_at-append}
 
@@ -52,26 +53,14 @@ holds-extended hash of nonce nodes further records more e grown longer h =
 shown-before : (records more : List Record) (es : List Epoch) → ((k : ℕ) (e : Epoch) → slice_get es k ≡ Some e → e.count ≤ length records) → map (shown_of (records ++ more)) es ≡ map (shown_of records) es
 shown-before records more [] counted = refl
 shown-before records more (e ∷ es) counted =
-    let shown : Registry → Shown = λ R. record { t = e.t; version = e.version; nonce = e.nonce.0; registry = R } in
-    ap (λ R. shown R ∷ map (shown_of (records ++ more)) es) (registry_at-append records more e.count (counted 0 e refl))
-    ∙ ap (λ ss. shown_of records e ∷ ss) (shown-before records more es (λ k f at. counted (suc k) f at))
-
-last_count-push : (es : List Epoch) (e : Epoch) → last_count (es ++ e ∷ []) ≡ e.count
-last_count-push [] e = refl
-last_count-push (x ∷ []) e = refl
-last_count-push (x ∷ y ∷ es) e = last_count-push (y ∷ es) e
+    rw (registry_at-append records more e.count (counted 0 e refl), shown-before records more es (λ k f at. counted (suc k) f at)) refl
 
 -- each epoch has the nonce of `open` and version 1
-under : (records : List Record) (nonce : List ℕ) (es : List Epoch) → ((k : ℕ) (e : Epoch) → slice_get es k ≡ Some e → (e.version ≡ 1) × (e.nonce.0 ≡ nonce)) → AllUnder nonce (map (shown_of records) es)
-under records nonce [] all k s at = absurd (let never = at in cc)
-under records nonce (e ∷ es) all zero s at = subst (λ (x : Shown). (x.version ≡ 1) × (x.nonce ≡ nonce)) (one (shown_of records e) s at) (all 0 e refl)
-  where
-    one : (x y : Shown) → Some x ≡ Some y → x ≡ y
-    one x y h = cc
-under records nonce (e ∷ es) all (suc k) s at = under records nonce es (λ i f there. all (suc i) f there) k s at
-
 pub all_under : (hash of : List ℕ → List ℕ) (s : State) → Whole hash of s → AllUnder s.nonce (history_of s)
-all_under hash of s whole = under s.records s.nonce s.epochs (λ k e at. let h = whole.held k e at in (h.first_version, h.same_nonce))
+all_under hash of s whole k shown at =
+    let e = get-mapped (shown_of s.records) s.epochs k shown at in
+    let h = whole.held k e.0 e.1 in
+    subst (λ (x : Shown). (x.version ≡ 1) × (x.nonce ≡ s.nonce)) e.2 (h.first_version, h.same_nonce)
 
 -- and so has the next one
 pub next_nonce : (records : List Record) (nonce : List ℕ) (es : List Epoch) → ((k : ℕ) (e : Epoch) → slice_get es k ≡ Some e → e.nonce.0 ≡ nonce) → latest_nonce nonce (map (shown_of records) es) ≡ nonce
@@ -115,12 +104,12 @@ module _ (hash of : List ℕ → List ℕ) (s : State) (p : Prepared) (nodes : L
 
     -- it is whole
     pub whole_next : Whole hash of (installed s p nodes root t entry)
-    whole_next = record {
+    whole_next = let next = epoch_after s p root t in record {
       held = λ k e at. ⊎_elim
           (λ old. holds-extended hash of s.nonce s.nodes nodes s.records p.records.items e grown longer (whole.held k e old))
           (λ new. subst (HoldsEpoch hash of s.nonce nodes (records_after s p)) new.1 held_next)
           (get-push s.epochs (epoch_after s p root t) k e at);
-      last = last_count-push s.epochs (epoch_after s p root t);
+      last = at_last last_count (λ e. e.count) (λ e. refl) (λ x y es. refl) (s.epochs ++ next ∷ []) next (length s.epochs) (sym (length-append s.epochs (next ∷ []))) (get-last s.epochs next);
       rising = subst (AreRising 0) (sym numbers-installed) (rising-push 0 (numbers_of (history_of s)) t whole.rising later);
       chain = subst (λ (ss : List Shown). IsChainOf hash of s.policy ss (s.chain ++ entry ∷ [])) (sym history-installed)
           (chain-push hash of s.policy (history_of s) s.chain (shown_after s p t) entry whole.chain body);

@@ -1,3 +1,4 @@
+mod LastLemmas
 mod StateLemmas
 mod MirrorLemmas
 mod HolderLemmas

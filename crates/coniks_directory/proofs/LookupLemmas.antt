@@ -1,6 +1,7 @@
 -- What a state shows at an epoch.
-use Rattle.std.proofs.Common.{◌≡◌, ◌==◌, ℕ, zero, suc, List, [], ◌∷◌, map, true, false, refl, sym, ap, subst, ◌∙◌, cond, Some, None, option_map, slice_get, is_some}
+use Rattle.std.proofs.Common.{◌≡◌, ◌==◌, ℕ, suc, List, [], ◌∷◌, map, true, false, refl, sym, ap, subst, ◌∙◌, cond, Some, None, option_map, slice_get, is_some}
 use Rattle.std.specs.List.{find}
+use Rattle.std.proofs.lemmas.Option.{same_Some}
 use Rattle.coniks_proof.specs.Batches.{fits}
 use Rattle.coniks_proof.specs.Entries.{backed_by}
 use Rattle.coniks_proof.specs.Paths.{IsPath}
@@ -17,6 +18,7 @@ use Rattle.coniks_directory.specs.Lookups.{IsAcceptedAt, IsFound}
 use Rattle.coniks_directory.specs.State.{HoldsEpoch, State, Whole, history_of, shown_of}
 use Rattle.coniks_directory.specs.declared.epochs.Epoch.{Epoch}
 use Rattle.coniks_directory.proofs.EpochLemmas.{numbers}
+use Rattle.coniks_directory.proofs.LastLemmas.{get-mapped}
 use Rattle.coniks_directory.proofs.MirrorLemmas.{mirrored_path, mirrored_root}
 
 -- the numbers of the history are those of the epochs
@@ -66,13 +68,10 @@ module _ (hash of : List ℕ → List ℕ) (s : State) (whole : Whole hash of s)
 
   pub accepted_there : (name : List ℕ) (proof : Proof) → IsLength MAX_NAME name → IsPath hash e.nonce.0 (entries_of hash of (shown_of s.records e).registry) (of name) proof → IsAcceptedAt hash of (history_of s) t name proof
   accepted_there name proof sized path shown there alone =
-      let same : shown_of s.records e ≡ shown = one_shown (shown_of s.records e) shown (sym shown_there ∙ there) in
+      let same : shown_of s.records e ≡ shown = same_Some (shown_of s.records e) shown (sym shown_there ∙ there) in
       let m = holds.registry.mirrors in
       subst (λ (x : Shown). (has_name x.registry name ≡ false → IsFree of x.registry (of name)) → Accepts hash x.nonce (root_at hash of x) (of name) name proof (key_of x.registry name)) same
       (λ own. path_accepted hash of e.nonce.0 (root_at hash of (shown_of s.records e)) (shown_of s.records e).registry name proof m.names m.limits refl path own sized) alone
-    where
-      one_shown : (x y : Shown) → Some x ≡ Some y → x ≡ y
-      one_shown x y h = cc
 
 pub none_there : (s : State) (t : ℕ) → find (λ (f : Epoch). f.t == t) s.epochs ≡ None → shown_at (history_of s) t ≡ None
 none_there s t none = shown-found s.records s.epochs t ∙ ap (option_map (shown_of s.records)) none
@@ -84,8 +83,3 @@ some_there s t e found = ap is_some (shown-found s.records s.epochs t ∙ ap (op
 pub all_own : (hash of : List ℕ → List ℕ) (s : State) → Whole hash of s → AllHaveOwnIndices of (history_of s)
 all_own hash of s whole k shown there = let e = get-mapped (shown_of s.records) s.epochs k shown there in
     subst (λ (x : Shown). HaveOwnIndices of x.registry) e.2 (own_of_map hash of (shown_of s.records e.0).registry (whole.held k e.0 e.1).registry.mirrors.names)
-  where
-    get-mapped : (f : Epoch → Shown) (es : List Epoch) (k : ℕ) (x : Shown) → slice_get (map f es) k ≡ Some x → (e : Epoch) × (slice_get es k ≡ Some e) × (f e ≡ x)
-    get-mapped f [] k x at = absurd (let never = at in cc)
-    get-mapped f (e ∷ es) zero x at = (e, refl, (let same : f e ≡ x = cc in same))
-    get-mapped f (e ∷ es) (suc k) x at = get-mapped f es k x at

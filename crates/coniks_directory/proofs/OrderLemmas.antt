@@ -1,17 +1,17 @@
 -- The changes of a batch, in the order of the map of their records.
-use Rattle.std.proofs.Common.{◌≡◌, ℕ, zero, suc, ◌+◌, ◌<◌, List, [], ◌∷◌, ◌++◌, length, map, arith, true, false, refl, sym, ap, subst, ◌∙◌, ◌⊎◌, inl, inr, cond, nat_lt, ◌==◌, slice_index, slice_index_or, Option, Some, None, slice_get}
-use Rattle.std.specs.declared.cmp.Ordering.TheVariants.{Less, Equal, Greater}
+use Rattle.std.proofs.Common.{◌≡◌, ℕ, zero, suc, ◌+◌, ◌<◌, List, [], ◌∷◌, ◌++◌, length, map, arith, true, false, refl, sym, ap, subst, ◌∙◌, inl, inr, cond, slice_index, slice_index_or, Option, Some, None, slice_get}
+use Rattle.std.specs.declared.cmp.Ordering.TheVariants.{Less}
 use Rattle.std.specs.Borrow.{Bor}
 use Rattle.std.specs.Map.Iter.{deref}
 use Rattle.std.specs.List.{All, AllByRecursion}
 use Rattle.std.specs.List.Sorted.{IsStrictlySortedBy}
 use Rattle.std.specs.Map.{keys_of, values_of, lookup}
-use Rattle.std.specs.Ordering.{is_eq, ordering_then, nat_cmp}
+use Rattle.std.specs.Ordering.{is_eq, nat_cmp}
 use Rattle.std.specs.Cmp.Lexicographic.{slice_cmp}
 use Rattle.std.specs.BTreeMap.{BTreeMap, is_at, values}
-use Rattle.std.proofs.lemmas.List.{map-append}
-use Rattle.std.proofs.lemmas.Bool.Decides.{nat_tests, Decides-eqb}
-use Rattle.std.proofs.lemmas.Cmp.{nat_list_cmp_total}
+use Rattle.std.proofs.lemmas.List.{length-map, map-append}
+use Rattle.std.proofs.lemmas.Option.{slice_get_within}
+use Rattle.std.proofs.lemmas.Cmp.{by_ranked, nat_list_cmp_total, ranked}
 use Rattle.std.proofs.lemmas.Map.Views.{All-found}
 use Rattle.coniks_proof.specs.Entries.{IsIn}
 use Rattle.coniks_proof.specs.Maps.{IsIndex}
@@ -20,19 +20,8 @@ use Rattle.coniks_proof.specs.Registry.{Registered}
 use Rattle.coniks_tree.specs.Table.{Numbered, entry_of_record}
 use Rattle.coniks_tree.specs.declared.table.Record.{Record}
 use Rattle.coniks_directory.specs.Judged.{AreChangesOf, AreSeen, IsSealed, number_at}
-use Rattle.coniks_directory.proofs.JudgeLemmas.{length-map}
-use Rattle.coniks_directory.proofs.SeenLemmas.{get_within}
 
 -- ---- the order of byte lists
-
-head_cases : (x y : ℕ) (xs ys : List ℕ) → ordering_then (nat_cmp x y) (slice_cmp nat_cmp xs ys) ≡ Less → (x < y) ⊎ ((x ≡ y) × (slice_cmp nat_cmp xs ys ≡ Less))
-head_cases x y xs ys h = (elim (nat_lt x y) as (λ v. nat_lt x y ≡ v → ordering_then (cond v Less (cond (x == y) Equal Greater)) (slice_cmp nat_cmp xs ys) ≡ Less → (x < y) ⊎ ((x ≡ y) × (slice_cmp nat_cmp xs ys ≡ Less))) [
-  | true ↦ λ is _. inl (grind (arith, nat_tests))
-  | false ↦ λ _. (elim (x == y) as (λ w. x == y ≡ w → ordering_then (cond w Equal Greater) (slice_cmp nat_cmp xs ys) ≡ Less → (x < y) ⊎ ((x ≡ y) × (slice_cmp nat_cmp xs ys ≡ Less))) [
-    | true ↦ λ is k. inr ((Decides-eqb x y).0 is, k)
-    | false ↦ λ _ k. absurd (let found = k in cc)
-  ]) refl
-]) refl h
 
 -- at the first place where they differ the lesser list has the smaller number
 record IsLess (x y : List ℕ) : Type 0 where
@@ -45,21 +34,16 @@ less : (xs ys : List ℕ) → length xs ≡ length ys → slice_cmp nat_cmp xs y
 less [] [] long h = absurd (let found = h in cc)
 less [] (y ∷ ys) long h = absurd (omega arith)
 less (x ∷ xs) [] long h = absurd (omega arith)
-less (x ∷ xs) (y ∷ ys) long h = elim (head_cases x y xs ys h) [
-  | inl first ↦ record { place = 0; within = omega arith; same = λ q below. absurd (omega arith); smaller = first }
-  | inr (same, later) ↦
-      let c = less xs ys (omega arith) later in
-      record {
-        place = suc c.place;
-        within = let w = c.within in omega arith;
-        same = λ q below. agree x y xs ys same c.place (λ r b. c.same r b) q below;
-        smaller = c.smaller;
-      }
-]
+less (x ∷ xs) (y ∷ ys) long h = by_ranked (x < y) (x ≡ y) (y < x) (nat_cmp x y) (ranked x y (nat_cmp x y) refl)
+    (λ _ first. record { place = 0; within = omega arith; same = λ q below. absurd (omega arith); smaller = first })
+    (λ tie same.
+    let c = less xs ys (omega arith) (rw tie at h) in
+    record { place = suc c.place; within = omega (arith, c.within); same = λ q below. agree same c.place c.same q below; smaller = c.smaller })
+    (λ more _. absurd (let never = rw more at h in cc))
   where
-    agree : (x y : ℕ) (xs ys : List ℕ) → x ≡ y → (n : ℕ) → ((r : ℕ) → r < n → slice_index xs r ≡ slice_index ys r) → (q : ℕ) → q < suc n → slice_index (x ∷ xs) q ≡ slice_index (y ∷ ys) q
-    agree x y xs ys same n below zero h = same
-    agree x y xs ys same n below (suc q) h = below q (omega arith)
+    agree : x ≡ y → (n : ℕ) → ((r : ℕ) → r < n → slice_index xs r ≡ slice_index ys r) → (q : ℕ) → q < suc n → slice_index (x ∷ xs) q ≡ slice_index (y ∷ ys) q
+    agree same n below zero h = same
+    agree same n below (suc q) h = below q (omega arith)
 
 before : (x y : List ℕ) → IsIndex x → IsIndex y → slice_cmp nat_cmp x y ≡ Less → IsBefore x y
 before x y ix iy h =
@@ -148,12 +132,12 @@ changes hash of bound base records numbers entries s are =
       increasing = increasing hash of base records s.sealed numbers.entries found s.ordered;
       each = λ n r at. subst (λ (e : Numbered). IsIn e (map (entry_at base records) (values numbers))) (entry_at-found base records n r at) (each base records numbers.entries r.index.0 n (s.all n r at));
       only = λ e there. only base records numbers.entries e found there;
-      counted = length-map (entry_at base records) (values numbers) ∙ length-map (λ (p : List ℕ × ℕ). p.1) numbers.entries ∙ s.counted;
+      counted = length-map (values numbers) (entry_at base records) ∙ length-map numbers.entries (λ (p : List ℕ × ℕ). p.1) ∙ s.counted;
     })
 
 found_within : (records : List Record) (ps : List (List ℕ × ℕ)) → AreFound records ps → (k d : ℕ) → k < length (values_of ps) → slice_index_or (values_of ps) k d < length records
 found_within records [] found k d below = absurd (omega arith)
-found_within records (p ∷ ps) found zero d below = get_within records p.1 found.0.found found.0.there
+found_within records (p ∷ ps) found zero d below = slice_get_within records p.1 found.0.found found.0.there
 found_within records (p ∷ ps) found (suc k) d below = found_within records ps found.1 k d (omega arith)
 
 -- each number is that of a record

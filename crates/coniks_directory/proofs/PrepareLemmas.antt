@@ -2,6 +2,7 @@
 use Rattle.std.proofs.Common.{◌≡◌, ℕ, zero, suc, ◌+◌, ◌*◌, ◌-◌, ◌<◌, ◌≤◌, List, [], ◌∷◌, ◌++◌, length, map, arith, refl, sym, ap, subst, ◌∙◌, Option, Some, None, IfErr, IfSome, Result, Err, option_map, slice_get}
 use Rattle.std.specs.Option.{option_map_or}
 use Rattle.std.proofs.lemmas.List.{map-append}
+use Rattle.std.proofs.lemmas.Option.{slice_get_within}
 use Rattle.coniks_proof.specs.Batches.{Operation, after, bound_by}
 use Rattle.coniks_proof.specs.Registry.{Registered, Registry, overlaid}
 use Rattle.coniks_proof.specs.declared.values.Nonce.{Nonce}
@@ -15,23 +16,15 @@ use Rattle.coniks_directory.specs.Built.{IsBuilt}
 use Rattle.coniks_directory.specs.History.{Shown, latest_nonce, latest_registry}
 use Rattle.coniks_directory.specs.Holders.{ShowsLatest}
 use Rattle.coniks_directory.specs.Judged.{IsJudgedFault}
-use Rattle.coniks_directory.specs.State.{Mirrors, ShowsRegistry, State, Whole, history_of, registered_of, shown_of}
+use Rattle.coniks_directory.specs.State.{Mirrors, State, Whole, history_of, registered_of, shown_of}
 use Rattle.coniks_directory.specs.Updates.{IsUpdate, records_after, registry_after}
 use Rattle.coniks_directory.specs.declared.batch.BatchFault.{BatchFault}
 use Rattle.coniks_directory.specs.declared.batch.BatchFault.TheVariants.{Workers, Depth, BatchTooLong, At, OutOfMemory}
 use Rattle.coniks_directory.specs.declared.epochs.Epoch.{Epoch}
 use Rattle.coniks_directory.specs.declared.update.Prepared.{Prepared}
 use Rattle.coniks_proof.proofs.Lemmas.{overlaid-append}
+use Rattle.coniks_directory.proofs.LastLemmas.{none_last}
 use Rattle.coniks_directory.proofs.StateLemmas.{latest-is, latest-last, nonce-last, registry_at-all}
-
-some_at : {T : Type 0} (xs : List T) (n : ℕ) → n < length xs → slice_get xs n ≡ None → ⊥
-some_at [] n within none = absurd (omega arith)
-some_at (x ∷ xs) zero within none = let never = none in cc
-some_at (x ∷ xs) (suc n) within none = some_at xs n (omega arith) none
-
-none_last : {T : Type 0} (xs : List T) → slice_get xs (length xs - 1) ≡ None → xs ≡ []
-none_last [] none = refl
-none_last (x ∷ xs) none = absurd (some_at (x ∷ xs) (length (x ∷ xs) - 1) (omega arith) none)
 
 -- the root of the last epoch, and the nonce under which the next tree is hashed
 abbrev pub root_of_last : Option Epoch → Option Root
@@ -50,8 +43,7 @@ module _ (hash of : List ℕ → List ℕ) (s : State) (whole : Whole hash of s)
   shows_latest None is = ap (λ (es : List Epoch). latest_registry (map (shown_of s.records) es)) (none_last s.epochs (sym is))
   shows_latest (Some e) is =
       let held = whole.held (length s.epochs - 1) e (sym is) in
-      subst (λ (n : List ℕ). ShowsRegistry hash of n s.nodes s.records e.root.0 (latest_registry (history_of s))) (sym (nonce-last s e (sym is)))
-      (subst (λ (R : Registry). ShowsRegistry hash of e.nonce.0 s.nodes s.records e.root.0 R) (sym (latest-last s e (sym is))) held.registry)
+      rw (nonce-last s e (sym is), latest-last s e (sym is)) held.registry
 
   -- and it is the number of a node
   pub known_root : (last : Option Epoch) → last ≡ slice_get s.epochs (length s.epochs - 1) → IfSome (root_of_last last) (λ r. r.0 < length s.nodes)
@@ -70,10 +62,8 @@ module _ (hash of : List ℕ → List ℕ) (s : State) (whole : Whole hash of s)
   pub shown_now : (last : Option Epoch) (opened nonce : Nonce) (root : Option Root) → last ≡ slice_get s.epochs (length s.epochs - 1) → opened.0 ≡ s.nonce → root ≡ root_of_last last
       → nonce ≡ option_map_or (λ (e : Epoch). e.nonce) last opened → ShowsLatest hash of nonce.0 s.nodes s.records root (latest_registry (history_of s))
   shown_now last opened nonce root is same root-is nonce-is =
-      let R = latest_registry (history_of s) in
       let now : nonce.0 ≡ latest_nonce s.nonce (history_of s) = ap (λ (n : Nonce). n.0) nonce-is ∙ nonce_is last opened is same in
-      subst (λ (n : List ℕ). ShowsLatest hash of n s.nodes s.records root R) (sym now)
-      (subst (λ (r : Option Root). ShowsLatest hash of (latest_nonce s.nonce (history_of s)) s.nodes s.records r R) (sym root-is) (shows_latest last is))
+      rw (now, root-is) (shows_latest last is)
 
   -- what was built of a batch is an update
   pub is_update : (p : Prepared) (ops : List Operation) (last : Option Epoch) (opened nonce : Nonce) → last ≡ slice_get s.epochs (length s.epochs - 1) → opened.0 ≡ s.nonce
@@ -94,11 +84,11 @@ module _ (hash of : List ℕ → List ℕ) (s : State) (whole : Whole hash of s)
   -- how many nodes an update without operations adds
   pub none_added : (last : Option Epoch) → last ≡ slice_get s.epochs (length s.epochs - 1) → node_count (unchanged (root_of_last last)) ≡ most_nodes (history_of s) 0
   none_added None is = sym (ap (λ (es : List Epoch). most_nodes (map (shown_of s.records) es) 0) (none_last s.epochs (sym is)))
-  none_added (Some e) is = some_there s.epochs (sym is)
+  none_added (Some e) is = let within = slice_get_within s.epochs (length s.epochs - 1) e (sym is) in some_there s.epochs (omega arith)
     where
-      some_there : (es : List Epoch) → slice_get es (length es - 1) ≡ Some e → 0 ≡ most_nodes (map (shown_of s.records) es) 0
-      some_there [] at = absurd (let never = at in cc)
-      some_there (x ∷ es) at = refl
+      some_there : (es : List Epoch) → 0 < length es → 0 ≡ most_nodes (map (shown_of s.records) es) 0
+      some_there [] some = absurd (omega arith)
+      some_there (x ∷ es) some = refl
 
 most_some : (history : List Shown) (n : ℕ) → most_nodes history (suc n) ≡ 512 * suc n + 1
 most_some [] n = refl

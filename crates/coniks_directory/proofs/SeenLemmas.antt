@@ -1,5 +1,5 @@
 -- The records of the operations that were judged, and one more.
-use Rattle.std.proofs.Common.{◌≡◌, ◌≢◌, ℕ, zero, suc, ◌+◌, ◌<◌, List, [], ◌∷◌, ◌++◌, length, map, get_or, arith, length-append, true, false, refl, sym, ap, subst, ◌∙◌, cond, ◌⊎◌, inl, inr, Some, None, slice_get}
+use Rattle.std.proofs.Common.{◌≡◌, ◌≢◌, ℕ, zero, suc, ◌+◌, List, [], ◌∷◌, ◌++◌, length, map, arith, length-append, true, false, refl, sym, ap, subst, ◌∙◌, cond, ◌⊎◌, inl, inr, Some, None, slice_get}
 use Rattle.std.proofs.lemmas.Bool.{false_from_ne_true}
 use Rattle.std.specs.Str.{bytes_eq}
 use Rattle.std.specs.Ordering.{nat_cmp, is_eq}
@@ -28,16 +28,6 @@ pub record_in : (records : List Record) (n : ℕ) (r : Record) → slice_get rec
 record_in [] n r at = absurd (let never = at in cc)
 record_in (x ∷ xs) zero r at = let same : x ≡ r = cc in inl (ap registered_of same)
 record_in (x ∷ xs) (suc n) r at = inr (record_in xs n r at)
-
-pub get_from : {T : Type 0} (xs : List T) (n : ℕ) (x : T) → n < length xs → x ≡ get_or xs n x → slice_get xs n ≡ Some x
-get_from [] n x within is = absurd (omega arith)
-get_from (y ∷ ys) zero x within is = ap (λ z. Some z) (sym is)
-get_from (y ∷ ys) (suc n) x within is = get_from ys n x (omega arith) is
-
-pub get_within : {T : Type 0} (xs : List T) (n : ℕ) (x : T) → slice_get xs n ≡ Some x → n < length xs
-get_within [] n x at = absurd (let never = at in cc)
-get_within (y ∷ ys) zero x at = omega arith
-get_within (y ∷ ys) (suc n) x at = let ih = get_within ys n x at in omega arith
 
 module _ (hash of : List ℕ → List ℕ) (bound : List Registered) (records : List Record) (numbers : BTreeMap (List ℕ) ℕ) (s : AreSeen hash of bound records numbers) where
   -- the record of a name that is bound

@@ -7,7 +7,7 @@ ghost use Rattle.coniks_directory.specs.Batches.{fault_is, kind_of, operation_of
 ghost use Rattle.coniks_directory.specs.Holders.{HolderIs, ShowsLatest};
 
 use crate::batch::{Op, OpFault, OpKind};
-use coniks_proof::{Index, MAX_KEY, MAX_NAME};
+use coniks_proof::{Bytes, Index, MAX_KEY, MAX_NAME};
 use coniks_tree::{Record, Root, Tree};
 
 /// The record of the name that has an index under a root. None where there is no root.
@@ -21,22 +21,22 @@ pub(crate) fn holder_at<'a>(tree: &'a Tree, root: Option<Root>, index: &Index) -
 }
 
 /// Whether the record at a name's index is of the name.
-fn is_named(holder: Option<&Record>, name: &[u8]) -> bool
+fn is_named(holder: Option<&Record>, name: &Bytes) -> bool
     ensures { (of : List ℕ → List ℕ) (registry : Registry) → HolderIs of registry (of name.now) holder.entry → result ≡ has_name registry name.now }
 {
     match holder {
         None => false,
-        Some(record) => record.binding.name.as_slice() == name,
+        Some(record) => record.binding.name.as_slice() == name.as_slice(),
     }
 }
 
 /// Whether the record at a name's index is of another name.
-fn is_other(holder: Option<&Record>, name: &[u8]) -> bool
+fn is_other(holder: Option<&Record>, name: &Bytes) -> bool
     ensures { (of : List ℕ → List ℕ) (registry : Registry) → HolderIs of registry (of name.now) holder.entry → result ≡ clashes of registry name.now }
 {
     match holder {
         None => false,
-        Some(record) => record.binding.name.as_slice() != name,
+        Some(record) => record.binding.name.as_slice() != name.as_slice(),
     }
 }
 
@@ -65,7 +65,7 @@ pub(crate) fn op_fault(
         → option_map fault_is result ≡ fault_of of registry before (operation_of op.now) }
     ensures free { result ≡ None → earlier.entry ≡ None }
 {
-    let name = op.name.as_slice();
+    let name = &op.name;
     if is_named(earlier, name) {
         return Some(OpFault::NameTwice);
     }

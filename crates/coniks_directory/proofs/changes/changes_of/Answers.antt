@@ -1,12 +1,12 @@
-use Rattle.std.proofs.Common.{◌≡◌, ◌<◌, Some, ℕ, ap, sym, ◌∙◌, length, map, slice_get, rules}
+use Rattle.std.proofs.Common.{refl, ◌≡◌, ◌<◌, Some, ℕ, ap, sym, ◌∙◌, length, map, slice_get, rules}
 use Rattle.std.specs.BTreeMap.{values}
 use Rattle.std.specs.Map.Iter.{deref}
 use Rattle.std.specs.Borrow.{Bor}
 use Rattle.std.proofs.lemmas.Map.Iter.{iter_end}
+use Rattle.std.proofs.lemmas.Option.{slice_get_read}
 use Rattle.std.proofs.lemmas.Map.Views.{All-turn}
 use Rattle.coniks_tree.specs.Parts.{entries_of, entry_of_change}
 use Rattle.coniks_directory.proofs.OrderLemmas.{changes, map-map, maps-push, entry_at, entry_at-found}
-use Rattle.coniks_directory.proofs.SeenLemmas.{get_from}
 use Rattle.coniks_directory.proofs.changes.changes_of.Goals as goal
 
 pub loop-number-init : goal.loop-number-init
@@ -19,7 +19,7 @@ loop-number-preserved c =
     let r = c.index.result.now in
     let start = c.into_iter-number-iterator.ensures.into_iter_gives ∙ c.values-number-items.ensures.rest in
     let within : n < length records = All-turn deref (λ k. k < length records) _ _ _ _ _ _ _ c.requires.numbered start c.loop-number.yielded_by c.in-Some.is c.next.ensures.steps in
-    let at : slice_get records n ≡ Some r = get_from records n r within (search rules) in
+    let at : slice_get records n ≡ Some r = slice_get_read records (length records) n r refl within (search rules) in
     let is : entry_of_change c.change_to.result ≡ entry_at c.args.base records n = c.change_to.ensures ∙ (search rules) ∙ sym (entry_at-found c.args.base records n r at) in
     ap entries_of c.in_ok-push.ensures.items
     ∙ maps-push (λ (number : Bor ℕ). entry_at c.args.base records number.now) entry_of_change c.loop-number.yielded c.loop-number.changes.items c.in-Some.field-0 c.change_to.result c.loop-number.invariant is

@@ -1,4 +1,5 @@
 use Rattle.std.proofs.Common.{◌≡◌, ◌<◌, ◌≤◌, ◌+◌, ◌*◌, Option, IfSome, Vec, Global, ap, arith, length, map, rules, subst, sym, refl, ◌∙◌}
+use Rattle.std.proofs.lemmas.List.{length-map}
 use Rattle.coniks_proof.specs.Batches.{bound_by}
 use Rattle.coniks_tree.specs.Parts.{Fits, node_count}
 use Rattle.coniks_tree.specs.declared.part.Part.{Part}
@@ -12,7 +13,6 @@ use Rattle.coniks_directory.specs.Holders.{ShowsLatest}
 use Rattle.coniks_directory.specs.Judged.{IsJudgedFault}
 use Rattle.coniks_directory.specs.State.{history_of, registered_of, state_of}
 use Rattle.coniks_directory.proofs.BuiltLemmas.{as_many, built, seen_changes}
-use Rattle.coniks_directory.proofs.JudgeLemmas.{length-map}
 use Rattle.coniks_directory.proofs.OrderLemmas.{numbers_within}
 use Rattle.coniks_directory.proofs.PrepareLemmas.{answered, few_added, is_update, known_root, none_added, registry_is, shown_now}
 use Rattle.coniks_directory.proofs.preparing.update_on.Given as given
@@ -62,7 +62,7 @@ as_many_in g c =
     let ops = operations c.args.ops.now in
     as_many hash of ops c.in_ok-seen.seen c.records.result c.in-Ok.changes.items c.deref.result.now c.deref.ensures.value
     (c.in-Ok.ensures hash of (map bound_by ops) c.in_ok-seen.ensures.seen) c.in_ok-seen.ensures.seen
-    ∙ length-map operation_of c.args.ops.now
+    ∙ length-map c.args.ops.now operation_of
 
 -- without them the part is what was there
 none_in : (g : given.Over) (c : goal.After-drop-changes g) → length c.args.ops.now ≡ 0 → c.update_of.result.new_nodes ≡ most_nodes (history_of (state_of c.args.held.now)) 0
