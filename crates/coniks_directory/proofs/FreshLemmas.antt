@@ -77,6 +77,8 @@ Grows-trans s t u a b = record {
   still = λ none. let both = neither_more a.more_epochs b.more_epochs none in rw (a.still both.0, b.still both.1) refl;
 }
 
+pub ruleset growth = (Grows-refl, Grows-trans)
+
 -- an update stays one of its directory
 pub stays : (hash of : List ℕ → List ℕ) (s t : State) (p : Prepared) → Grows s t → IsUpdateOf hash of s p → IsUpdateOf hash of t p
 stays hash of s t p grows u = record { earlier = u.earlier; grows = Grows-trans u.earlier s t u.grows grows; update = u.update }

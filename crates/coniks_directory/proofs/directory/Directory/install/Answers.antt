@@ -3,15 +3,11 @@ use Rattle.coniks_chain.specs.Chain.{GoodChain}
 use Rattle.coniks_chain.proofs.Lemmas.{good_same_verdict}
 use Rattle.coniks_directory.specs.Installed.{Leaves}
 use Rattle.coniks_directory.specs.State.{View, Whole, state_of}
-use Rattle.coniks_directory.proofs.FreshLemmas.{Grows-refl}
 use Rattle.coniks_directory.proofs.InstallLemmas.{fresh_room, good_room, left}
 use Rattle.coniks_directory.proofs.directory.Directory.install.Given as given
 use Rattle.coniks_directory.proofs.directory.Directory.install.Goals as goal
 
 -- ---- refused
-
-pub returns-in-Err-clause-grows : goal.returns-in-Err-clause-grows
-returns-in-Err-clause-grows g c = Grows-refl c.args.self.now.state
 
 pub make_room-requires : goal.make_room-requires
 make_room-requires g c =
