@@ -46,12 +46,7 @@ module _ (hash of : List ℕ → List ℕ) (old : List Record) (es : List Number
 
   -- the entry of a new record, with its binding behind it
   new_entry : (n : ℕ) (r : Record) → slice_get new n ≡ Some r → backed_by binding (entry_of_record (length old + n) r) ≡ entry_of hash of (registered_of r)
-  new_entry n r at =
-      let binds = new_binding n r at in
-      let sealed = s.sealed n r at in
-      let entry : List ℕ → List ℕ → Registered → Entry Registered = λ i k b. record { index = i; commitment = k; behind = b } in
-      let b = registered_of r in
-      ap (entry r.index.0 r.commitment.0) binds ∙ ap (λ i. entry i r.commitment.0 b) sealed.indexed ∙ ap (λ k. entry (of b.name) k b) sealed.committed
+  new_entry n r at = let sealed = s.sealed n r at in rw (new_binding n r at, sealed.indexed, sealed.committed) refl
 
   record_of : (b : Registered) → IsIn b bs → (n : ℕ) × (r : Record) × (slice_get new n ≡ Some r) × (registered_of r ≡ b)
   record_of b there = in_records new b (subst (λ (xs : List Registered). IsIn b xs) (sym s.binds) there)
@@ -71,9 +66,7 @@ module _ (hash of : List ℕ → List ℕ) (old : List Record) (es : List Number
   -- an old entry, with its binding behind it, is what it was
   old_entry : (x : Numbered) → IsIn x es → backed_by binding x ≡ backed_by (registered_at old) x
   unfolding binding
-  old_entry x there =
-      let entry : Registered → Entry Registered = λ b. record { index = x.index; commitment = x.commitment; behind = b } in
-      ap entry (registered_at-extended old (old ++ new) x (Extends-append old new) (m.stored x there))
+  old_entry x there = rw (registered_at-extended old (old ++ new) x (Extends-append old new) (m.stored x there)) refl
 
   there : (e : Entry Registered) → IsIn e (map (backed_by binding) (overwritten es cs)) → IsIn e (entries_of hash of (overlaid registry bs))
   there e is =

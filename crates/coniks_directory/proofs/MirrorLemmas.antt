@@ -19,9 +19,7 @@ backed-extended : (records more : List Record) (es : List Numbered) → Extends 
     → map (backed_by (registered_at more)) es ≡ map (backed_by (registered_at records)) es
 backed-extended records more [] kept s = refl
 backed-extended records more (e ∷ es) kept s =
-    let entry : Registered → Entry Registered = λ b. record { index = e.index; commitment = e.commitment; behind = b } in
-    ap (λ b. entry b ∷ map (backed_by (registered_at more)) es) (registered_at-extended records more e kept (s e (inl refl)))
-    ∙ ap (λ xs. entry (registered_at records e.behind) ∷ xs) (backed-extended records more es kept (λ x is. s x (inr is)))
+    rw (registered_at-extended records more e kept (s e (inl refl)), backed-extended records more es kept (λ x is. s x (inr is))) refl
 
 -- entries that mirror a registry do so with more records
 pub Mirrors-extended : (hash of : List ℕ → List ℕ) (records more : List Record) (es : List Numbered) (registry : Registry) → Extends records more → Mirrors hash of records es registry → Mirrors hash of more es registry
