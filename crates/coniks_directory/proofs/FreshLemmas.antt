@@ -1,5 +1,5 @@
 -- An update that isn't stale is one of the directory as it is.
-use Rattle.std.proofs.Common.{◌≡◌, ℕ, List, [], ◌∷◌, ◌++◌, length, map, refl, sym, ap, subst, ◌∙◌, arith, length-append, append_assoc}
+use Rattle.std.proofs.Common.{◌≡◌, ℕ, List, [], ◌∷◌, ◌++◌, length, map, refl, sym, ap, ◌∙◌, arith, length-append, append_assoc}
 use Rattle.std.proofs.lemmas.List.{append-nil, nil_from_length}
 use Rattle.coniks_tree.proofs.Lemmas.{Extends-trans, Fits-more, Stands-extended}
 use Rattle.coniks_tree.specs.declared.table.Record.{Record}
@@ -86,7 +86,3 @@ stays hash of s t p grows u = record { earlier = u.earlier; grows = Grows-trans 
 -- an update is one of the directory that it was prepared from
 pub prepared_of : (hash of : List ℕ → List ℕ) (s : State) (p : Prepared) → IsUpdate hash of s p → IsUpdateOf hash of s p
 prepared_of hash of s p u = record { earlier = s; grows = Grows-refl s; update = u }
-
--- the same for a directory that keeps its hash
-pub stays_held : {H : Type 0} (digest : H → List ℕ → List ℕ) (of : List ℕ → List ℕ) (h h' : H) (s t : State) (p : Prepared) → h' ≡ h → Grows s t → IsUpdateOf (digest h) of s p → IsUpdateOf (digest h') of t p
-stays_held {H} digest of h h' s t p same grows u = subst (λ (x : H). IsUpdateOf (digest x) of t p) (sym same) (stays (digest h) of s t p grows u)

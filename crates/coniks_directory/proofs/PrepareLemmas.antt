@@ -6,20 +6,15 @@ use Rattle.std.proofs.lemmas.Option.{slice_get_within}
 use Rattle.coniks_proof.specs.Batches.{Operation, after, bound_by}
 use Rattle.coniks_proof.specs.Registry.{Registered, Registry, overlaid}
 use Rattle.coniks_proof.specs.declared.values.Nonce.{Nonce}
-use Rattle.coniks_proof.specs.declared.values.TheConstants.{MAX_OPERATIONS}
 use Rattle.coniks_tree.specs.Parts.{Fits, node_count}
 use Rattle.coniks_tree.specs.declared.table.Root.{Root}
 use Rattle.coniks_work.specs.Grown.{unchanged}
-use Rattle.coniks_work.specs.declared.jobs.TheConstants.{MAX_DEPTH}
-use Rattle.coniks_directory.specs.Batches.{AreWorkers, IsBatchFault, most_nodes}
+use Rattle.coniks_directory.specs.Batches.{most_nodes}
 use Rattle.coniks_directory.specs.Built.{IsBuilt}
 use Rattle.coniks_directory.specs.History.{Shown, latest_nonce, latest_registry}
 use Rattle.coniks_directory.specs.Holders.{ShowsLatest}
-use Rattle.coniks_directory.specs.Judged.{IsJudgedFault}
 use Rattle.coniks_directory.specs.State.{State, Whole, history_of, registered_of, shown_of}
 use Rattle.coniks_directory.specs.Updates.{IsUpdate, registry_after}
-use Rattle.coniks_directory.specs.declared.batch.BatchFault.{BatchFault}
-use Rattle.coniks_directory.specs.declared.batch.BatchFault.TheVariants.{Workers, Depth, BatchTooLong, At, OutOfMemory}
 use Rattle.coniks_directory.specs.declared.epochs.Epoch.{Epoch}
 use Rattle.coniks_directory.specs.declared.update.Prepared.{Prepared}
 use Rattle.coniks_proof.proofs.Lemmas.{overlaid-append}
@@ -107,15 +102,6 @@ most_some (s ∷ ss) n = refl
 pub few_added : (history : List Shown) (n added : ℕ) → (0 < n → added ≤ 512 * n + 1) → (n ≡ 0 → added ≡ most_nodes history 0) → added ≤ most_nodes history n
 few_added history zero added some none = let same = none refl in omega arith
 few_added history (suc n) added some none = let few = some (omega arith) in let most = most_some history n in omega arith
-
--- the fault of an operation is one of the batch, whose workers, depth and length are within their limits
-pub batch_fault : (of : List ℕ → List ℕ) (registry : Registry) (ops : List Operation) (depth workers : ℕ) (fault : BatchFault) → AreWorkers workers → depth ≤ MAX_DEPTH → length ops ≤ MAX_OPERATIONS
-    → IsJudgedFault of registry ops fault → IsBatchFault of registry ops depth workers fault
-batch_fault of registry ops depth workers Workers crew shallow few f = absurd f
-batch_fault of registry ops depth workers Depth crew shallow few f = absurd f
-batch_fault of registry ops depth workers BatchTooLong crew shallow few f = absurd f
-batch_fault of registry ops depth workers (At place fault) crew shallow few f = (crew, shallow, few, f)
-batch_fault of registry ops depth workers OutOfMemory crew shallow few f = (crew, shallow, few)
 
 -- what is true of a fault is true of an answer with that fault
 pub answered : {T E : Type 0} (result : Result T E) (fault : E) (P : E → Type 0) → result ≡ Err fault → P fault → IfErr result P
