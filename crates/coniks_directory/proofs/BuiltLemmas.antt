@@ -1,28 +1,14 @@
 -- What a part and the records of a batch leave.
 use Rattle.std.proofs.Common.{◌≡◌, ℕ, suc, ◌+◌, List, [], ◌∷◌, ◌++◌, length, map, arith, false, refl, sym, ap, subst, ◌∙◌, inl, inr, Option, Some, None, slice_get}
-use Rattle.std.proofs.lemmas.Bool.{false_from_ne_true}
-use Rattle.std.proofs.lemmas.List.{length-map}
-use Rattle.std.specs.BTreeMap.{BTreeMap}
-use Rattle.coniks_proof.specs.Entries.{Entry, IsIn, backed_by}
-use Rattle.coniks_proof.specs.Changes.{AreApart, AreInOrder, has_index, overwritten}
-use Rattle.coniks_proof.specs.Registry.{Registered, Registry, IsLength, has_name, overlaid, entry_of, entries_of}
-use Rattle.coniks_proof.specs.Batches.{Operation, bound_by, first_fault}
-use Rattle.coniks_proof.specs.declared.values.TheConstants.{MAX_KEY, MAX_NAME}
+use Rattle.coniks_directory.proofs.Words.{AllPlaced, AreApart, AreChangesOf, AreInOrder, AreSeen, BTreeMap, Change, Entry, Extends, IsBuilt}
+use Rattle.coniks_directory.proofs.Words.{IsIn, IsLength, IsOldMap, IsStored, MAX_KEY, MAX_NAME, Mirrors, Node, Numbered, Operation, Part}
+use Rattle.coniks_directory.proofs.Words.{Placed, Record, Registered, Registry, Root, Seen, ShowsLatest, Stands, backed_by, bound_by}
+use Rattle.coniks_directory.proofs.Words.{entries_of, entry_of, entry_of_change, entry_of_record, false_from_ne_true, first_fault}
+use Rattle.coniks_directory.proofs.Words.{has_index, has_name, length-map, overlaid, overwritten, registered_at, registered_by}
+use Rattle.coniks_directory.proofs.Words.{registered_of}
 use Rattle.coniks_proof.proofs.Lemmas.{AreIncreasing-in_order, IsMap-apart, entry_in, has_of, in_entries, in_overlaid, increasing_map, named_of}
-use Rattle.coniks_tree.specs.Table.{Extends, Numbered, entry_of_record, registered_at, registered_by}
-use Rattle.coniks_tree.specs.Parts.{AllPlaced, Placed, Stands, entries_of as entries_of_changes, entry_of_change}
-use Rattle.coniks_tree.specs.declared.part.Change.{Change}
-use Rattle.coniks_tree.specs.declared.part.Part.{Part}
-use Rattle.coniks_tree.specs.declared.table.Node.{Node}
-use Rattle.coniks_tree.specs.declared.table.Record.{Record}
-use Rattle.coniks_tree.specs.declared.table.Root.{Root}
+use Rattle.coniks_tree.specs.Parts.{entries_of as entries_of_changes}
 use Rattle.coniks_tree.proofs.Lemmas.{Extends-append}
-use Rattle.coniks_work.specs.Grown.{IsOldMap}
-use Rattle.coniks_directory.specs.State.{IsStored, Mirrors, registered_of}
-use Rattle.coniks_directory.specs.Holders.{ShowsLatest}
-use Rattle.coniks_directory.specs.Judged.{AreChangesOf, AreSeen}
-use Rattle.coniks_directory.specs.Built.{IsBuilt}
-use Rattle.coniks_directory.specs.declared.seen.Seen.{Seen}
 use Rattle.coniks_directory.proofs.MirrorLemmas.{registered_at-extended}
 use Rattle.coniks_directory.proofs.HolderLemmas.{backed_in, in_backed}
 use Rattle.coniks_directory.proofs.OverlaidLemmas.{ArePart, IsMap-overlaid, IsMap-overwritten, in_overwritten, index_there, once, overlaid_new, overlaid_old, overwritten_new, overwritten_old, part, there_index, within-overlaid}

@@ -1,15 +1,10 @@
 -- The chain of a history, entry by entry.
 use Rattle.std.proofs.Common.{◌≡◌, ℕ, zero, suc, ◌+◌, ◌<◌, ◌≤◌, List, [], ◌∷◌, ◌++◌, length, length-append, Bool, true, refl, sym, ap, ◌∙◌, arith, ⊎_elim, inl, inr, get_or, Option, Some, None, slice_get}
-use Rattle.std.specs.Option.{option_map}
-use Rattle.std.proofs.lemmas.Option.{same_Some, slice_get-get_or, slice_get_cases, slice_get_within}
-use Rattle.coniks_chain.specs.Chain.{Follows, before_at, before_of, epoch_before, link_before}
-use Rattle.coniks_chain.specs.Entries.{body_bytes}
-use Rattle.coniks_chain.specs.declared.auditor.Before.{Before}
-use Rattle.coniks_chain.specs.declared.entry.Body.{Body}
+use Rattle.coniks_directory.proofs.Words.{AreRising, Before, Body, Follows, IsChainOf, Shown, before_at, before_of, body_bytes, body_of}
+use Rattle.coniks_directory.proofs.Words.{epoch_before, last_number, latest_epoch, link_before, option_map, same_Some, slice_get-get_or}
+use Rattle.coniks_directory.proofs.Words.{slice_get_cases, slice_get_within}
 use Rattle.coniks_chain.specs.declared.entry.Entry.{Entry}
 use Rattle.coniks_tree.proofs.Lemmas.{get-push}
-use Rattle.coniks_directory.specs.Chain.{IsChainOf, body_of}
-use Rattle.coniks_directory.specs.History.{AreRising, Shown, last_number, latest_epoch}
 use Rattle.coniks_directory.proofs.LastLemmas.{at_last}
 
 -- ---- rising numbers

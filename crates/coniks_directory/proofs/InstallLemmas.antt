@@ -1,29 +1,14 @@
 -- What an install leaves.
 use Rattle.std.proofs.Common.{◌≡◌, ℕ, suc, ◌+◌, ◌<◌, ◌≤◌, List, [], ◌∷◌, ◌++◌, length, map, Bool, true, refl, sym, ap, subst, ◌∙◌, arith, ⊎_elim, Some, None, slice_get, length-append}
-use Rattle.std.proofs.lemmas.List.{map-append}
-use Rattle.coniks_proof.specs.Registry.{Registry}
-use Rattle.coniks_proof.specs.Tree.{node}
-use Rattle.coniks_proof.specs.declared.values.Digest.{Digest}
-use Rattle.coniks_chain.specs.Chain.{GoodChain, before_at, epoch_before, link_before}
-use Rattle.coniks_chain.specs.Entries.{body_bytes}
-use Rattle.coniks_chain.specs.declared.entry.Body.{Body}
+use Rattle.coniks_directory.proofs.Words.{AllUnder, AreRising, Body, Digest, Epoch, Extends, GoodChain, HasGoodChain, HasPrepared, Head}
+use Rattle.coniks_directory.proofs.Words.{HoldsEpoch, IsChainOf, IsEntered, IsNext, IsSigned, IsUpdate, Leaves, MayInstall, Mirrors, Node}
+use Rattle.coniks_directory.proofs.Words.{Numbered, Prepared, Record, Registry, Root, Shown, Shows, Stands, State, View, Whole, before_at}
+use Rattle.coniks_directory.proofs.Words.{body_bytes, body_of, epoch_before, heads, heads_of, history_of, last_count, latest_epoch}
+use Rattle.coniks_directory.proofs.Words.{latest_nonce, link_before, map-append, node, numbers_of, records_after, registry_after}
+use Rattle.coniks_directory.proofs.Words.{registry_at, root_at, shown_after, shown_of}
 use Rattle.coniks_chain.specs.declared.entry.Entry.{Entry}
 use Rattle.coniks_chain.proofs.Lemmas.{good_push, good_same_verdict}
-use Rattle.coniks_tree.specs.Parts.{Stands}
-use Rattle.coniks_tree.specs.Table.{Extends, Numbered, Shows}
-use Rattle.coniks_tree.specs.declared.table.Node.{Node}
-use Rattle.coniks_tree.specs.declared.table.Record.{Record}
-use Rattle.coniks_tree.specs.declared.table.Root.{Root}
 use Rattle.coniks_tree.proofs.Lemmas.{Extends-append, Shows-extended, get-last, get-push}
-use Rattle.coniks_directory.specs.Chain.{IsChainOf, body_of, heads_of}
-use Rattle.coniks_directory.specs.History.{AllUnder, Shown, AreRising, latest_epoch, latest_nonce, numbers_of, root_at}
-use Rattle.coniks_directory.specs.Directories.{HasGoodChain, HasPrepared, heads}
-use Rattle.coniks_directory.specs.Installed.{IsEntered, IsNext, IsSigned, Leaves}
-use Rattle.coniks_directory.specs.State.{HoldsEpoch, Mirrors, State, View, Whole, history_of, last_count, registry_at, shown_of}
-use Rattle.coniks_directory.specs.Updates.{IsUpdate, MayInstall, records_after, registry_after, shown_after}
-use Rattle.coniks_directory.specs.declared.epochs.Epoch.{Epoch}
-use Rattle.coniks_directory.specs.declared.update.Prepared.{Prepared}
-use Rattle.coniks_proof.specs.declared.values.Head.{Head}
 use Rattle.coniks_directory.proofs.FreshLemmas.{fresh}
 use Rattle.coniks_directory.proofs.ChainLemmas.{chain-push, follows_next, last-epoch, last-nonce, rising-push}
 use Rattle.coniks_directory.proofs.LastLemmas.{at_last, get-mapped}

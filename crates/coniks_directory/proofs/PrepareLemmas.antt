@@ -1,22 +1,9 @@
 -- An update of a batch on the state of a directory.
 use Rattle.std.proofs.Common.{◌≡◌, ℕ, zero, suc, ◌+◌, ◌*◌, ◌-◌, ◌<◌, ◌≤◌, List, [], ◌∷◌, ◌++◌, length, map, arith, refl, sym, ap, subst, ◌∙◌, Option, Some, None, IfErr, IfSome, Result, Err, option_map, slice_get}
-use Rattle.std.specs.Option.{option_map_or}
-use Rattle.std.proofs.lemmas.List.{map-append}
-use Rattle.std.proofs.lemmas.Option.{slice_get_within}
-use Rattle.coniks_proof.specs.Batches.{Operation, after, bound_by}
-use Rattle.coniks_proof.specs.Registry.{Registered, Registry, overlaid}
-use Rattle.coniks_proof.specs.declared.values.Nonce.{Nonce}
-use Rattle.coniks_tree.specs.Parts.{Fits, node_count}
-use Rattle.coniks_tree.specs.declared.table.Root.{Root}
-use Rattle.coniks_work.specs.Grown.{unchanged}
-use Rattle.coniks_directory.specs.Batches.{most_nodes}
-use Rattle.coniks_directory.specs.Built.{IsBuilt}
-use Rattle.coniks_directory.specs.History.{Shown, latest_nonce, latest_registry}
-use Rattle.coniks_directory.specs.Holders.{ShowsLatest}
-use Rattle.coniks_directory.specs.State.{State, Whole, history_of, registered_of, shown_of}
-use Rattle.coniks_directory.specs.Updates.{IsUpdate, registry_after}
-use Rattle.coniks_directory.specs.declared.epochs.Epoch.{Epoch}
-use Rattle.coniks_directory.specs.declared.update.Prepared.{Prepared}
+use Rattle.coniks_directory.proofs.Words.{Epoch, Fits, IsBuilt, IsUpdate, Nonce, Operation, Prepared, Registered, Registry, Root, Shown}
+use Rattle.coniks_directory.proofs.Words.{ShowsLatest, State, Whole, after, bound_by, history_of, latest_nonce, latest_registry, map-append}
+use Rattle.coniks_directory.proofs.Words.{most_nodes, node_count, option_map_or, overlaid, registered_of, registry_after, shown_of}
+use Rattle.coniks_directory.proofs.Words.{slice_get_within, unchanged}
 use Rattle.coniks_proof.proofs.Lemmas.{overlaid-append}
 use Rattle.coniks_directory.proofs.LastLemmas.{none_last}
 use Rattle.coniks_directory.proofs.StateLemmas.{latest-is, latest-last, nonce-last, registry_at-all}

@@ -1,12 +1,8 @@
 use Rattle.std.proofs.Common.{◌≡◌, ◌++◌, ◌∷◌, [], List, ℕ, ap, option_map, subst, sym, ◌∙◌}
-use Rattle.coniks_proof.specs.Batches.{fault_of}
-use Rattle.coniks_proof.specs.Registry.{Registered, Registry, IsFree}
-use Rattle.coniks_directory.specs.Batches.{fault_is, operation_of}
-use Rattle.coniks_directory.specs.Holders.{HolderIs, ShowsLatest}
-use Rattle.coniks_directory.specs.Judged.{AreSeen}
+use Rattle.coniks_directory.proofs.Words.{AreSeen, HolderIs, IsFree, Registered, Registry, ShowsLatest, fault_is, fault_of, operation_of}
+use Rattle.coniks_directory.proofs.judge.judge_one.Goals.{After-op_fault}
 use Rattle.coniks_directory.proofs.judge.judge_one.Given as given
 use Rattle.coniks_directory.proofs.judge.judge_one.Goals as goal
-use Rattle.coniks_directory.proofs.judge.judge_one.Goals.{After-op_fault}
 
 -- what `op_fault` answers is the fault by the registry and by the earlier operations
 fault_in : (g : given.Over) (c : goal.After-op_fault g) → (nonce : List ℕ) (registry : Registry) (bound : List Registered)

@@ -1,23 +1,16 @@
 use Rattle.std.proofs.Common.{◌≡◌, ◌<◌, ◌≤◌, ◌+◌, ◌*◌, IfSome, Vec, Global, ap, arith, length, map, rules, refl, ◌∙◌}
-use Rattle.std.proofs.lemmas.List.{length-map}
-use Rattle.coniks_proof.specs.Batches.{bound_by}
-use Rattle.coniks_tree.specs.Parts.{node_count}
-use Rattle.coniks_tree.specs.declared.table.Record.{Record}
-use Rattle.coniks_directory.specs.Batches.{most_nodes, operation_of, operations}
-use Rattle.coniks_directory.specs.Built.{IsBuilt}
-use Rattle.coniks_directory.specs.History.{latest_registry}
-use Rattle.coniks_directory.specs.Holders.{ShowsLatest}
-use Rattle.coniks_directory.specs.Judged.{IsJudgedFault}
-use Rattle.coniks_directory.specs.State.{history_of, registered_of, state_of}
+use Rattle.coniks_directory.proofs.Words.{IsBuilt, IsJudgedFault, Record, ShowsLatest, bound_by, history_of, latest_registry, length-map}
+use Rattle.coniks_directory.proofs.Words.{most_nodes, node_count, operation_of, operations, registered_of, state_of}
 use Rattle.coniks_directory.proofs.BuiltLemmas.{as_many, built, seen_changes}
 use Rattle.coniks_directory.proofs.OrderLemmas.{numbers_within}
 use Rattle.coniks_directory.proofs.PrepareLemmas.{AreFound, answered, few_added, is_update, known_root, none_added, registry_is, shown_now}
+use Rattle.coniks_directory.proofs.preparing.update_on.Goals.{After-nonce_of-nonce}
 use Rattle.coniks_directory.proofs.preparing.update_on.Given as given
 use Rattle.coniks_directory.proofs.preparing.update_on.Goals as goal
-use Rattle.coniks_directory.proofs.preparing.update_on.Goals.{After-nonce_of-nonce}
 
 -- what the code finds in the directory, and that the root shows the latest registry
-found_in : (g : given.Over) (c : goal.After-nonce_of-nonce g) → AreFound (state_of c.args.held.now) c.last-last.result c.root_of-root.result c.args.held.now.nonce c.nonce_of-nonce.result
+found_in : (g : given.Over) (c : goal.After-nonce_of-nonce g)
+    → AreFound (state_of c.args.held.now) c.last-last.result c.root_of-root.result c.args.held.now.nonce c.nonce_of-nonce.result
 found_in g c = record { last_is = c.last-last.ensures; root_is = c.root_of-root.ensures; opened_is = refl; nonce_is = c.nonce_of-nonce.ensures }
 
 shown_in : (g : given.Over) (c : goal.After-nonce_of-nonce g) → ShowsLatest (g.H.Hash32.digest_of c.args.h.now) (g.X.IndexSource.index_of c.args.source.now)
@@ -56,7 +49,8 @@ as_many_in g c =
 
 -- without them the part is what was there
 none_in : (g : given.Over) (c : goal.After-drop-changes g)
-    → AreFound (state_of c.args.held.now) c.last-last.result c.root_of-root.result c.args.held.now.nonce c.nonce_of-nonce.result → length c.args.ops.now ≡ 0 → c.update_of.result.new_nodes ≡ most_nodes (history_of (state_of c.args.held.now)) 0
+    → AreFound (state_of c.args.held.now) c.last-last.result c.root_of-root.result c.args.held.now.nonce c.nonce_of-nonce.result
+    → length c.args.ops.now ≡ 0 → c.update_of.result.new_nodes ≡ most_nodes (history_of (state_of c.args.held.now)) 0
 none_in g c found empty =
     c.update_of.result.counted ∙ ap node_count (c.update_of.ensures.part ∙ c.in-Ok-build.ensures.same (as_many_in g c ∙ empty))
     ∙ none_added (g.H.Hash32.digest_of c.args.h.now) (g.X.IndexSource.index_of c.args.source.now) (state_of c.args.held.now) c.requires.whole _ _ _ _ found
@@ -100,4 +94,6 @@ pub returns-in-Ok-build-clause-none : goal.returns-in-Ok-build-clause-none
 returns-in-Ok-build-clause-none g c = none_in g c (found_in g (goal.at.returns-in-Ok-build-clause-none g c).After-nonce_of-nonce)
 
 pub returns-in-Ok-build-clause-faultless : goal.returns-in-Ok-build-clause-faultless
-returns-in-Ok-build-clause-faultless g c = c.in_ok-seen.ensures.faultless c.nonce_of-nonce.result.0 (latest_registry (history_of (state_of c.args.held.now))) (shown_in g (goal.at.returns-in-Ok-build-clause-faultless g c).After-nonce_of-nonce)
+returns-in-Ok-build-clause-faultless g c =
+    c.in_ok-seen.ensures.faultless c.nonce_of-nonce.result.0 (latest_registry (history_of (state_of c.args.held.now)))
+    (shown_in g (goal.at.returns-in-Ok-build-clause-faultless g c).After-nonce_of-nonce)

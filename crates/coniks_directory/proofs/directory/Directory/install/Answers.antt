@@ -1,33 +1,33 @@
 use Rattle.std.proofs.Common.{List, ℕ, Bool, length, refl, subst, sym}
-use Rattle.coniks_tree.specs.Parts.{Fits}
-use Rattle.coniks_directory.specs.Directories.{HasGoodChain}
-use Rattle.coniks_chain.specs.Chain.{GoodChain}
+use Rattle.coniks_directory.proofs.Words.{Fits, GoodChain, HasGoodChain, Leaves, View, Whole, state_of}
 use Rattle.coniks_chain.proofs.Lemmas.{good_same_verdict}
-use Rattle.coniks_directory.specs.Installed.{Leaves}
-use Rattle.coniks_directory.specs.State.{View, Whole, state_of}
 use Rattle.coniks_directory.proofs.InstallLemmas.{fresh_room, good_room, left}
+use Rattle.coniks_directory.proofs.directory.Directory.install.Goals.{After-make_room}
 use Rattle.coniks_directory.proofs.directory.Directory.install.Given as given
 use Rattle.coniks_directory.proofs.directory.Directory.install.Goals as goal
-use Rattle.coniks_directory.proofs.directory.Directory.install.Goals.{After-make_room}
 
 -- ---- refused
 
 pub make_room-requires : goal.make_room-requires
 make_room-requires g c =
-    (fresh_room g.H.Hash32.digest_of g.X.IndexSource.index_of c.self.inside.h c.self.inside.source (state_of c.self.inside.held) (state_of c.self.inside.held) c.args.self.now c.self.view_is refl
+    (fresh_room g.H.Hash32.digest_of g.X.IndexSource.index_of c.self.inside.h c.self.inside.source (state_of c.self.inside.held)
+    (state_of c.self.inside.held) c.args.self.now c.self.view_is refl
     c.args.update c.args.t c.published-published.result c.capacity-capacity.result c.requires.update c.in_default.ensures.ok).fits
 
 -- once there is room the chain is as good as it was
 good_in : (g : given.Over) (c : goal.After-make_room g) → (verdict : List ℕ → List ℕ → Bool)
     → HasGoodChain g.H.Hash32.digest_of verdict c.args.self.now → GoodChain (g.H.Hash32.digest_of c.self.inside.h) verdict c.make_room.new.held.chain.items
-good_in g c = good_room g.H.Hash32.digest_of g.X.IndexSource.index_of c.self.inside.h c.self.inside.source (state_of c.self.inside.held) (state_of c.make_room.new.held) c.args.self.now c.self.view_is c.make_room.ensures.same
+good_in g c =
+    good_room g.H.Hash32.digest_of g.X.IndexSource.index_of c.self.inside.h c.self.inside.source (state_of c.self.inside.held)
+    (state_of c.make_room.new.held) c.args.self.now c.self.view_is c.make_room.ensures.same
 
 pub returns-then-is_err-clause-good : goal.returns-then-is_err-clause-good
 returns-then-is_err-clause-good g c = good_in g (goal.at.returns-then-is_err-clause-good g c).After-make_room (g.S.Verify.verdict_of c.args.signer.now)
 
 pub returns-in_default-signed-clause-good : goal.returns-in_default-signed-clause-good
 returns-in_default-signed-clause-good g c = λ good.
-    good_same_verdict (g.H.Hash32.digest_of c.self.inside.h) (g.S.Verify.verdict_of c.args.signer.now) (g.S.Verify.verdict_of c.signed.new.signer) c.in_default-signed.ensures.verdicts_kept c.make_room.new.held.chain.items
+    good_same_verdict (g.H.Hash32.digest_of c.self.inside.h) (g.S.Verify.verdict_of c.args.signer.now) (g.S.Verify.verdict_of c.signed.new.signer)
+    c.in_default-signed.ensures.verdicts_kept c.make_room.new.held.chain.items
     (good_in g (goal.at.returns-in_default-signed-clause-good g c).After-make_room (g.S.Verify.verdict_of c.args.signer.now) good)
 
 -- ---- signed and entered
@@ -35,7 +35,8 @@ returns-in_default-signed-clause-good g c = λ good.
 -- and the update fits
 fits_in : (g : given.Over) (c : goal.After-make_room g) → Fits (length c.make_room.new.held.tree.nodes.items) 0 c.args.update.part
 fits_in g c =
-    (fresh_room g.H.Hash32.digest_of g.X.IndexSource.index_of c.self.inside.h c.self.inside.source (state_of c.self.inside.held) (state_of c.make_room.new.held) c.args.self.now c.self.view_is c.make_room.ensures.same
+    (fresh_room g.H.Hash32.digest_of g.X.IndexSource.index_of c.self.inside.h c.self.inside.source (state_of c.self.inside.held)
+    (state_of c.make_room.new.held) c.args.self.now c.self.view_is c.make_room.ensures.same
     c.args.update c.args.t c.published-published.result c.capacity-capacity.result c.requires.update c.in_default.ensures.ok).fits
 
 pub signed-requires-clause-fits : goal.signed-requires-clause-fits
