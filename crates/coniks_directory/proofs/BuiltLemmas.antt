@@ -1,28 +1,14 @@
 -- What a part and the records of a batch leave.
 use Rattle.std.proofs.Common.{◌≡◌, ℕ, suc, ◌+◌, List, [], ◌∷◌, ◌++◌, length, map, arith, false, refl, sym, ap, subst, ◌∙◌, inl, inr, Option, Some, None, slice_get}
-use Rattle.std.proofs.lemmas.Bool.{false_from_ne_true}
-use Rattle.std.proofs.lemmas.List.{length-map}
-use Rattle.std.specs.BTreeMap.{BTreeMap}
-use Rattle.coniks_proof.specs.Entries.{Entry, IsIn, backed_by}
-use Rattle.coniks_proof.specs.Changes.{AreApart, AreInOrder, has_index, overwritten}
-use Rattle.coniks_proof.specs.Registry.{Registered, Registry, IsLength, has_name, overlaid, entry_of, entries_of}
-use Rattle.coniks_proof.specs.Batches.{Operation, bound_by, first_fault}
-use Rattle.coniks_proof.specs.declared.values.TheConstants.{MAX_KEY, MAX_NAME}
+use Rattle.coniks_directory.proofs.Words.{AllPlaced, AreApart, AreChangesOf, AreInOrder, AreSeen, BTreeMap, Change, Entry, Extends, IsBuilt}
+use Rattle.coniks_directory.proofs.Words.{IsIn, IsLength, IsOldMap, IsStored, MAX_KEY, MAX_NAME, Mirrors, Node, Numbered, Operation, Part}
+use Rattle.coniks_directory.proofs.Words.{Placed, Record, Registered, Registry, Root, Seen, ShowsLatest, Stands, backed_by, bound_by}
+use Rattle.coniks_directory.proofs.Words.{entries_of, entry_of, entry_of_change, entry_of_record, false_from_ne_true, first_fault}
+use Rattle.coniks_directory.proofs.Words.{has_index, has_name, length-map, overlaid, overwritten, registered_at, registered_by}
+use Rattle.coniks_directory.proofs.Words.{registered_of}
 use Rattle.coniks_proof.proofs.Lemmas.{AreIncreasing-in_order, IsMap-apart, entry_in, has_of, in_entries, in_overlaid, increasing_map, named_of}
-use Rattle.coniks_tree.specs.Table.{Extends, Numbered, entry_of_record, registered_at, registered_by}
-use Rattle.coniks_tree.specs.Parts.{AllPlaced, Placed, Stands, entries_of as entries_of_changes, entry_of_change}
-use Rattle.coniks_tree.specs.declared.part.Change.{Change}
-use Rattle.coniks_tree.specs.declared.part.Part.{Part}
-use Rattle.coniks_tree.specs.declared.table.Node.{Node}
-use Rattle.coniks_tree.specs.declared.table.Record.{Record}
-use Rattle.coniks_tree.specs.declared.table.Root.{Root}
+use Rattle.coniks_tree.specs.Parts.{entries_of as entries_of_changes}
 use Rattle.coniks_tree.proofs.Lemmas.{Extends-append}
-use Rattle.coniks_work.specs.Grown.{IsOldMap}
-use Rattle.coniks_directory.specs.State.{IsStored, Mirrors, registered_of}
-use Rattle.coniks_directory.specs.Holders.{ShowsLatest}
-use Rattle.coniks_directory.specs.Judged.{AreChangesOf, AreSeen}
-use Rattle.coniks_directory.specs.Built.{IsBuilt}
-use Rattle.coniks_directory.specs.declared.seen.Seen.{Seen}
 use Rattle.coniks_directory.proofs.MirrorLemmas.{registered_at-extended}
 use Rattle.coniks_directory.proofs.HolderLemmas.{backed_in, in_backed}
 use Rattle.coniks_directory.proofs.OverlaidLemmas.{ArePart, IsMap-overlaid, IsMap-overwritten, in_overwritten, index_there, once, overlaid_new, overlaid_old, overwritten_new, overwritten_old, part, there_index, within-overlaid}
@@ -46,12 +32,7 @@ module _ (hash of : List ℕ → List ℕ) (old : List Record) (es : List Number
 
   -- the entry of a new record, with its binding behind it
   new_entry : (n : ℕ) (r : Record) → slice_get new n ≡ Some r → backed_by binding (entry_of_record (length old + n) r) ≡ entry_of hash of (registered_of r)
-  new_entry n r at =
-      let binds = new_binding n r at in
-      let sealed = s.sealed n r at in
-      let entry : List ℕ → List ℕ → Registered → Entry Registered = λ i k b. record { index = i; commitment = k; behind = b } in
-      let b = registered_of r in
-      ap (entry r.index.0 r.commitment.0) binds ∙ ap (λ i. entry i r.commitment.0 b) sealed.indexed ∙ ap (λ k. entry (of b.name) k b) sealed.committed
+  new_entry n r at = let sealed = s.sealed n r at in rw (new_binding n r at, sealed.indexed, sealed.committed) refl
 
   record_of : (b : Registered) → IsIn b bs → (n : ℕ) × (r : Record) × (slice_get new n ≡ Some r) × (registered_of r ≡ b)
   record_of b there = in_records new b (subst (λ (xs : List Registered). IsIn b xs) (sym s.binds) there)
@@ -71,9 +52,7 @@ module _ (hash of : List ℕ → List ℕ) (old : List Record) (es : List Number
   -- an old entry, with its binding behind it, is what it was
   old_entry : (x : Numbered) → IsIn x es → backed_by binding x ≡ backed_by (registered_at old) x
   unfolding binding
-  old_entry x there =
-      let entry : Registered → Entry Registered = λ b. record { index = x.index; commitment = x.commitment; behind = b } in
-      ap entry (registered_at-extended old (old ++ new) x (Extends-append old new) (m.stored x there))
+  old_entry x there = rw (registered_at-extended old (old ++ new) x (Extends-append old new) (m.stored x there)) refl
 
   there : (e : Entry Registered) → IsIn e (map (backed_by binding) (overwritten es cs)) → IsIn e (entries_of hash of (overlaid registry bs))
   there e is =

@@ -1,16 +1,10 @@
 -- The chain of a history, entry by entry.
 use Rattle.std.proofs.Common.{◌≡◌, ℕ, zero, suc, ◌+◌, ◌<◌, ◌≤◌, List, [], ◌∷◌, ◌++◌, length, length-append, Bool, true, refl, sym, ap, ◌∙◌, arith, ⊎_elim, inl, inr, get_or, Option, Some, None, slice_get}
-use Rattle.std.specs.Option.{option_map}
-use Rattle.std.proofs.lemmas.List.{map-append}
-use Rattle.std.proofs.lemmas.Option.{same_Some, slice_get-get_or, slice_get_cases, slice_get_within}
-use Rattle.coniks_chain.specs.Chain.{Follows, before_at, before_of, epoch_before, link_before}
-use Rattle.coniks_chain.specs.Entries.{body_bytes}
-use Rattle.coniks_chain.specs.declared.auditor.Before.{Before}
-use Rattle.coniks_chain.specs.declared.entry.Body.{Body}
+use Rattle.coniks_directory.proofs.Words.{AreRising, Before, Body, Follows, IsChainOf, Shown, before_at, before_of, body_bytes, body_of}
+use Rattle.coniks_directory.proofs.Words.{epoch_before, last_number, latest_epoch, link_before, option_map, same_Some, slice_get-get_or}
+use Rattle.coniks_directory.proofs.Words.{slice_get_cases, slice_get_within}
 use Rattle.coniks_chain.specs.declared.entry.Entry.{Entry}
 use Rattle.coniks_tree.proofs.Lemmas.{get-push}
-use Rattle.coniks_directory.specs.Chain.{IsChainOf, body_of, head_at, heads_of}
-use Rattle.coniks_directory.specs.History.{AreRising, Shown, last_number, latest_epoch}
 use Rattle.coniks_directory.proofs.LastLemmas.{at_last}
 
 -- ---- rising numbers
@@ -100,7 +94,3 @@ pub follows_next : (verdict : List ℕ → List ℕ → Bool) (before : Option B
     → entry.body.previous.0 ≡ link_before before → ((b : Before) → before ≡ Some b → entry.body.nonce.0 ≡ b.nonce.0) → verdict (body_bytes entry.body) entry.signature.0 ≡ true → Follows verdict before entry
 follows_next verdict None entry version later t_prev previous nonce signed = record { rows = (version, (omega arith, (tt, (t_prev, (previous, (tt, (signed, tt))))))) }
 follows_next verdict (Some b) entry version later t_prev previous nonce signed = record { rows = (version, (tt, (later, (t_prev, (previous, (nonce b refl, (signed, tt))))))) }
-
--- the heads of a chain with one entry more
-pub heads-push : (hash : List ℕ → List ℕ) (chain : List Entry) (e : Entry) → heads_of hash (chain ++ e ∷ []) ≡ heads_of hash chain ++ head_at hash e ∷ []
-heads-push hash chain e = map-append (head_at hash) chain (e ∷ [])

@@ -1,7 +1,6 @@
 -- The last of the epochs.
 use Rattle.std.proofs.Common.{◌≡◌, ℕ, ◌-◌, List, length, map, refl, ap, Some, None, slice_get}
-use Rattle.coniks_directory.specs.History.{last_number}
-use Rattle.coniks_directory.specs.declared.epochs.Epoch.{Epoch}
+use Rattle.coniks_directory.proofs.Words.{Epoch, last_number}
 use Rattle.coniks_directory.proofs.LastLemmas.{last_found, none_last}
 
 abbrev pub numbers : List Epoch → List ℕ

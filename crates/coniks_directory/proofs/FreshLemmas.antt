@@ -1,11 +1,8 @@
 -- An update that isn't stale is one of the directory as it is.
-use Rattle.std.proofs.Common.{◌≡◌, ℕ, List, [], ◌∷◌, ◌++◌, length, map, refl, sym, ap, subst, ◌∙◌, arith, length-append, append_assoc}
-use Rattle.std.proofs.lemmas.List.{append-nil, nil_from_length}
+use Rattle.std.proofs.Common.{◌≡◌, ℕ, List, [], ◌∷◌, ◌++◌, length, map, refl, sym, ap, ◌∙◌, arith, length-append, append_assoc}
+use Rattle.coniks_directory.proofs.Words.{Grows, IsUpdate, IsUpdateOf, Prepared, Record, State, append-nil, history_of, nil_from_length}
+use Rattle.coniks_directory.proofs.Words.{registry_after, registry_at, shown_of}
 use Rattle.coniks_tree.proofs.Lemmas.{Extends-trans, Fits-more, Stands-extended}
-use Rattle.coniks_tree.specs.declared.table.Record.{Record}
-use Rattle.coniks_directory.specs.State.{State, history_of, registry_at, shown_of}
-use Rattle.coniks_directory.specs.Updates.{Grows, IsUpdate, IsUpdateOf, registry_after}
-use Rattle.coniks_directory.specs.declared.update.Prepared.{Prepared}
 
 -- more nodes, another policy and another chain are of no account to an update
 onto : (hash of : List ℕ → List ℕ) (s t : State) (p : Prepared) → t.nonce ≡ s.nonce → t.records ≡ s.records → t.epochs ≡ s.epochs → Grows s t → IsUpdate hash of s p → IsUpdate hash of t p
@@ -77,6 +74,8 @@ Grows-trans s t u a b = record {
   still = λ none. let both = neither_more a.more_epochs b.more_epochs none in rw (a.still both.0, b.still both.1) refl;
 }
 
+pub ruleset growth = (Grows-refl, Grows-trans)
+
 -- an update stays one of its directory
 pub stays : (hash of : List ℕ → List ℕ) (s t : State) (p : Prepared) → Grows s t → IsUpdateOf hash of s p → IsUpdateOf hash of t p
 stays hash of s t p grows u = record { earlier = u.earlier; grows = Grows-trans u.earlier s t u.grows grows; update = u.update }
@@ -84,7 +83,3 @@ stays hash of s t p grows u = record { earlier = u.earlier; grows = Grows-trans 
 -- an update is one of the directory that it was prepared from
 pub prepared_of : (hash of : List ℕ → List ℕ) (s : State) (p : Prepared) → IsUpdate hash of s p → IsUpdateOf hash of s p
 prepared_of hash of s p u = record { earlier = s; grows = Grows-refl s; update = u }
-
--- the same for a directory that keeps its hash
-pub stays_held : {H : Type 0} (digest : H → List ℕ → List ℕ) (of : List ℕ → List ℕ) (h h' : H) (s t : State) (p : Prepared) → h' ≡ h → Grows s t → IsUpdateOf (digest h) of s p → IsUpdateOf (digest h') of t p
-stays_held {H} digest of h h' s t p same grows u = subst (λ (x : H). IsUpdateOf (digest x) of t p) (sym same) (stays (digest h) of s t p grows u)

@@ -1,14 +1,8 @@
 -- The heads of a chain, which rise.
 use Rattle.std.proofs.Common.{◌≡◌, ℕ, suc, ◌+◌, ◌≤◌, get_or, append_assoc, length-append, List, [], ◌∷◌, ◌++◌, length, map, refl, sym, ap, subst, ◌∙◌, arith, Option, Some, None, slice_get}
-use Rattle.std.proofs.lemmas.Option.{same_Some}
-use Rattle.coniks_chain.specs.declared.entry.Body.{Body}
+use Rattle.coniks_directory.proofs.Words.{AreRising, Begins, Body, Head, IsChainOf, Shown, before_at, heads_of, last_of, link_before}
+use Rattle.coniks_directory.proofs.Words.{numbers_of, same_Some, zeros}
 use Rattle.coniks_chain.specs.declared.entry.Entry.{Entry}
-use Rattle.coniks_proof.specs.declared.values.Head.{Head}
-use Rattle.coniks_proof.specs.Preimages.{zeros}
-use Rattle.coniks_chain.specs.Chain.{before_at, link_before}
-use Rattle.coniks_shared.specs.Lists.{Begins, last_of}
-use Rattle.coniks_directory.specs.Chain.{IsChainOf, heads_of}
-use Rattle.coniks_directory.specs.History.{AreRising, Shown, numbers_of}
 use Rattle.coniks_directory.proofs.NumberLemmas.{rising-sorted}
 
 -- the entries have the numbers of their epochs

@@ -1,20 +1,9 @@
 -- Who has an index, and what that says of a name at it.
 use Rattle.std.proofs.Common.{◌≡◌, ℕ, List, [], ◌∷◌, map, true, false, refl, sym, ap, subst, ◌∙◌, not, inl, inr, Option, Some, None, is_some, slice_get}
-use Rattle.std.proofs.lemmas.Bool.{false_from_ne_true}
-use Rattle.std.specs.Borrow.{Bor}
-use Rattle.std.specs.Str.{bytes_eq}
-use Rattle.std.proofs.lemmas.Slice.Eq.{bytes_eq-Decides}
-use Rattle.coniks_proof.specs.Entries.{Entry, IsIn, backed_by}
-use Rattle.coniks_proof.specs.Registry.{Registered, Registry, has_name, entry_of, entries_of, IsFree}
-use Rattle.coniks_proof.specs.Batches.{clashes}
+use Rattle.coniks_directory.proofs.Words.{Bor, Entry, Finds, HolderIs, IsFree, IsHeld, IsIn, Node, Numbered, Record, RecordNo, Registered}
+use Rattle.coniks_directory.proofs.Words.{Registry, ShowsRegistry, backed_by, bytes_eq, bytes_eq-Decides, clashes, entries_of, entry_of}
+use Rattle.coniks_directory.proofs.Words.{entry_of_record, false_from_ne_true, has_name, registered_at, registered_by, registered_of}
 use Rattle.coniks_proof.proofs.Lemmas.{clash_found, clash_made, entry_in, eq_same, in_entries, named_in, named_of, same_bool, same_entry}
-use Rattle.coniks_tree.specs.Table.{Numbered, entry_of_record, registered_at, registered_by}
-use Rattle.coniks_tree.specs.Paths.{Finds}
-use Rattle.coniks_tree.specs.declared.table.Node.{Node}
-use Rattle.coniks_tree.specs.declared.table.Record.{Record}
-use Rattle.coniks_tree.specs.declared.table.RecordNo.{RecordNo}
-use Rattle.coniks_directory.specs.State.{ShowsRegistry, registered_of}
-use Rattle.coniks_directory.specs.Holders.{HolderIs, IsHeld}
 
 -- an entry with something else behind it was one before
 pub in_backed : {B C : Type 0} (f : B → C) (es : List (Entry B)) (e : Entry C) → IsIn e (map (backed_by f) es) → (x : Entry B) × IsIn x es × (backed_by f x ≡ e)

@@ -1,29 +1,14 @@
 -- What an install leaves.
 use Rattle.std.proofs.Common.{◌≡◌, ℕ, suc, ◌+◌, ◌<◌, ◌≤◌, List, [], ◌∷◌, ◌++◌, length, map, Bool, true, refl, sym, ap, subst, ◌∙◌, arith, ⊎_elim, Some, None, slice_get, length-append}
-use Rattle.std.proofs.lemmas.List.{map-append}
-use Rattle.coniks_proof.specs.Registry.{Registry}
-use Rattle.coniks_proof.specs.Tree.{node}
-use Rattle.coniks_proof.specs.declared.values.Digest.{Digest}
-use Rattle.coniks_chain.specs.Chain.{GoodChain, before_at, epoch_before, link_before}
-use Rattle.coniks_chain.specs.Entries.{body_bytes}
-use Rattle.coniks_chain.specs.declared.entry.Body.{Body}
+use Rattle.coniks_directory.proofs.Words.{AllUnder, AreRising, Body, Digest, Epoch, Extends, GoodChain, HasGoodChain, HasPrepared, Head}
+use Rattle.coniks_directory.proofs.Words.{HoldsEpoch, IsChainOf, IsEntered, IsNext, IsSigned, IsUpdate, Leaves, MayInstall, Mirrors, Node}
+use Rattle.coniks_directory.proofs.Words.{Numbered, Prepared, Record, Registry, Root, Shown, Shows, Stands, State, View, Whole, before_at}
+use Rattle.coniks_directory.proofs.Words.{body_bytes, body_of, epoch_before, heads, heads_of, history_of, last_count, latest_epoch}
+use Rattle.coniks_directory.proofs.Words.{latest_nonce, link_before, map-append, node, numbers_of, records_after, registry_after}
+use Rattle.coniks_directory.proofs.Words.{registry_at, root_at, shown_after, shown_of}
 use Rattle.coniks_chain.specs.declared.entry.Entry.{Entry}
 use Rattle.coniks_chain.proofs.Lemmas.{good_push, good_same_verdict}
-use Rattle.coniks_tree.specs.Parts.{Stands}
-use Rattle.coniks_tree.specs.Table.{Extends, Numbered, Shows}
-use Rattle.coniks_tree.specs.declared.table.Node.{Node}
-use Rattle.coniks_tree.specs.declared.table.Record.{Record}
-use Rattle.coniks_tree.specs.declared.table.Root.{Root}
 use Rattle.coniks_tree.proofs.Lemmas.{Extends-append, Shows-extended, get-last, get-push}
-use Rattle.coniks_directory.specs.Chain.{IsChainOf, body_of, heads_of}
-use Rattle.coniks_directory.specs.History.{AllUnder, Shown, AreRising, latest_epoch, latest_nonce, numbers_of, root_at}
-use Rattle.coniks_directory.specs.Directories.{HasGoodChain, HasPrepared, heads}
-use Rattle.coniks_directory.specs.Installed.{IsEntered, IsNext, IsSigned, Leaves}
-use Rattle.coniks_directory.specs.State.{HoldsEpoch, Mirrors, State, View, Whole, history_of, last_count, registry_at, shown_of}
-use Rattle.coniks_directory.specs.Updates.{IsUpdate, MayInstall, records_after, registry_after, shown_after}
-use Rattle.coniks_directory.specs.declared.epochs.Epoch.{Epoch}
-use Rattle.coniks_directory.specs.declared.update.Prepared.{Prepared}
-use Rattle.coniks_proof.specs.declared.values.Head.{Head}
 use Rattle.coniks_directory.proofs.FreshLemmas.{fresh}
 use Rattle.coniks_directory.proofs.ChainLemmas.{chain-push, follows_next, last-epoch, last-nonce, rising-push}
 use Rattle.coniks_directory.proofs.LastLemmas.{at_last, get-mapped}
@@ -81,8 +66,16 @@ installed s p nodes root t entry = record s {
   chain = s.chain ++ entry ∷ [];
 }
 
+-- the update's part and records are attached, and its epoch and its entry added
+pub record Entered (hash : List ℕ → List ℕ) (s later : State) (p : Prepared) (t : ℕ) (entry : Entry) (root : Root) : Type 0 where
+  pub count : length later.nodes ≡ length s.nodes + p.new_nodes
+  pub known : root.0 < length later.nodes
+  pub older : Extends s.nodes later.nodes
+  pub shows : (es : List Numbered) → Stands hash p.nonce.0 s.nodes s.records p.part [] es → Shows hash p.nonce.0 later.nodes later.records root.0 [] es
+  pub state : later ≡ installed s p later.nodes root t entry
+
 module _ (hash of : List ℕ → List ℕ) (s : State) (p : Prepared) (nodes : List Node) (root : Root) (t : ℕ) (entry : Entry) (whole : Whole hash of s) where
-  pub history-installed : history_of (installed s p nodes root t entry) ≡ history_of s ++ shown_after s p t ∷ []
+  history-installed : history_of (installed s p nodes root t entry) ≡ history_of s ++ shown_after s p t ∷ []
   history-installed =
       map-append (shown_of (records_after s p)) s.epochs (epoch_after s p root t ∷ [])
       ∙ ap (λ (ss : List Shown). ss ++ shown_after s p t ∷ []) (shown-before s.records p.records.items s.epochs (λ k e at. (whole.held k e at).counted))
@@ -90,25 +83,23 @@ module _ (hash of : List ℕ → List ℕ) (s : State) (p : Prepared) (nodes : L
   numbers-installed : numbers_of (history_of (installed s p nodes root t entry)) ≡ numbers_of (history_of s) ++ t ∷ []
   numbers-installed = ap numbers_of history-installed ∙ map-append (λ (x : Shown). x.t) (history_of s) (shown_after s p t ∷ [])
 
-  module _ (u : IsUpdate hash of s p) (grown : Extends s.nodes nodes) (longer : length s.nodes ≤ length nodes) (known : root.0 < length nodes)
-      (shows : (es : List Numbered) → Stands hash p.nonce.0 s.nodes s.records p.part [] es → Shows hash p.nonce.0 nodes (records_after s p) root.0 [] es)
-      (later : latest_epoch (history_of s) < t) (body : entry.body ≡ body_of hash of s.policy (before_at hash None s.chain (length s.chain)) (shown_after s p t)) where
+  module _ (u : IsUpdate hash of s p) (e : Entered hash s (installed s p nodes root t entry) p t entry root) (later : latest_epoch (history_of s) < t) (body : IsNext hash of s p t entry.body) where
     held_next : HoldsEpoch hash of s.nonce nodes (records_after s p) (epoch_after s p root t)
     held_next = record {
       first_version = u.version;
       same_nonce = u.nonce ∙ next_nonce s.records s.nonce s.epochs (λ k e at. (whole.held k e at).same_nonce);
-      known = known;
+      known = e.known;
       counted = omega arith;
-      registry = record { entries = u.entries; shows = shows u.entries u.stands; mirrors = u.mirrors };
+      registry = record { entries = u.entries; shows = e.shows u.entries u.stands; mirrors = u.mirrors };
     }
 
     -- it is whole
-    pub whole_next : Whole hash of (installed s p nodes root t entry)
+    whole_next : Whole hash of (installed s p nodes root t entry)
     whole_next = let next = epoch_after s p root t in record {
-      held = λ k e at. ⊎_elim
-          (λ old. holds-extended hash of s.nonce s.nodes nodes s.records p.records.items e grown longer (whole.held k e old))
+      held = λ k x at. ⊎_elim
+          (λ old. holds-extended hash of s.nonce s.nodes nodes s.records p.records.items x e.older (omega (arith, e.count)) (whole.held k x old))
           (λ new. subst (HoldsEpoch hash of s.nonce nodes (records_after s p)) new.1 held_next)
-          (get-push s.epochs (epoch_after s p root t) k e at);
+          (get-push s.epochs next k x at);
       last = at_last last_count (λ e. e.count) (λ e. refl) (λ x y es. refl) (s.epochs ++ next ∷ []) next (length s.epochs) (sym (length-append s.epochs (next ∷ []))) (get-last s.epochs next);
       rising = subst (AreRising 0) (sym numbers-installed) (rising-push 0 (numbers_of (history_of s)) t whole.rising later);
       chain = subst (λ (ss : List Shown). IsChainOf hash of s.policy ss (s.chain ++ entry ∷ [])) (sym history-installed)
@@ -116,7 +107,7 @@ module _ (hash of : List ℕ → List ℕ) (s : State) (p : Prepared) (nodes : L
     }
 
     -- where the chain is good it still is
-    pub good_next : (verdict verdict' : List ℕ → List ℕ → Bool) → ((bytes signature : List ℕ) → verdict' bytes signature ≡ verdict bytes signature) → verdict' (body_bytes entry.body) entry.signature.0 ≡ true
+    good_next : (verdict verdict' : List ℕ → List ℕ → Bool) → ((bytes signature : List ℕ) → verdict' bytes signature ≡ verdict bytes signature) → verdict' (body_bytes entry.body) entry.signature.0 ≡ true
         → GoodChain hash verdict s.chain → GoodChain hash verdict' (s.chain ++ entry ∷ [])
     good_next verdict verdict' same signed good =
         let before = before_at hash None s.chain (length s.chain) in
@@ -134,6 +125,24 @@ module _ (hash of : List ℕ → List ℕ) (s : State) (p : Prepared) (nodes : L
         ∙ sym (last-nonce hash of s.policy s.nonce (history_of s) s.chain b whole.chain (λ k x there. (all_under hash of s whole k x there).1) is))
         signed)
 
+    left_next : Leaves hash of s (installed s p nodes root t entry) p t entry
+    left_next = record {
+      whole = whole_next;
+      history = history-installed;
+      grows = record {
+        nonce = refl;
+        policy = refl;
+        nodes = e.older;
+        longer = omega (arith, e.count);
+        more_records = p.records.items;
+        records = refl;
+        more_epochs = epoch_after s p root t ∷ [];
+        epochs = refl;
+        still = λ none. absurd (let never = none in cc);
+      };
+      good = good_next;
+    }
+
 -- the body that an install signs is that of the epoch which it makes
 pub body_is : (hash of : List ℕ → List ℕ) (s : State) (p : Prepared) (t latest : ℕ) (root previous : Digest) (u : IsUpdate hash of s p) → Whole hash of s → latest ≡ latest_epoch (history_of s)
     → ((es : List Numbered) → Stands hash p.nonce.0 s.nodes s.records p.part [] es → root.0 ≡ node hash p.nonce.0 [] es) → previous.0 ≡ link_before (before_at hash None s.chain (length s.chain))
@@ -145,14 +154,6 @@ body_is hash of s p t latest root previous u whole latest-is root-is previous-is
     let body : ℕ → List ℕ → List ℕ → Body = λ n r l. record { version = p.version; t = t; t_prev = n; root = record { 0 = r }; previous = record { 0 = l }; nonce = p.nonce; policy = s.policy } in
     ap (λ n. body n root.0 previous.0) t_prev ∙ ap (λ r. body (epoch_before before) r previous.0) rooted ∙ ap (body (epoch_before before) (root_at hash of (shown_after s p t))) previous-is
 
--- the update's part and records are attached, and its epoch and its entry added
-pub record Entered (hash : List ℕ → List ℕ) (s later : State) (p : Prepared) (t : ℕ) (entry : Entry) (root : Root) : Type 0 where
-  pub count : length later.nodes ≡ length s.nodes + p.new_nodes
-  pub known : root.0 < length later.nodes
-  pub older : Extends s.nodes later.nodes
-  pub shows : (es : List Numbered) → Stands hash p.nonce.0 s.nodes s.records p.part [] es → Shows hash p.nonce.0 later.nodes later.records root.0 [] es
-  pub state : later ≡ installed s p later.nodes root t entry
-
 -- it is so where each part is
 pub installed_is : (s : State) (p : Prepared) (root : Root) (t : ℕ) (entry : Entry) (nodes : List Node) (records : List Record) (epochs : List Epoch) (chain : List Entry) → records ≡ records_after s p
     → epochs ≡ s.epochs ++ record { t = t; version = p.version; nonce = p.nonce; root = root; count = length records } ∷ [] → chain ≡ s.chain ++ entry ∷ []
@@ -163,28 +164,8 @@ installed_is s p root t entry nodes records epochs chain records-are epochs-are 
 pub left_by : (hash of : List ℕ → List ℕ) (s later : State) (p : Prepared) (t : ℕ) (entry : Entry) (root : Root) → Entered hash s later p t entry root
     → Whole hash of s → IsUpdate hash of s p → latest_epoch (history_of s) < t → IsNext hash of s p t entry.body → Leaves hash of s later p t entry
 left_by hash of s later p t entry root entered whole u after body =
-    let nodes = later.nodes in
-    let longer : length s.nodes ≤ length nodes = omega (arith, entered.count) in
-    let stored : later.records ≡ records_after s p = ap (λ (z : State). z.records) entered.state in
-    let shows : (es : List Numbered) → Stands hash p.nonce.0 s.nodes s.records p.part [] es → Shows hash p.nonce.0 nodes (records_after s p) root.0 [] es =
-    λ es stands. subst (λ (rs : List Record). Shows hash p.nonce.0 nodes rs root.0 [] es) stored (entered.shows es stands) in
-    let left : Leaves hash of s (installed s p nodes root t entry) p t entry = record {
-      whole = whole_next hash of s p nodes root t entry whole u entered.older longer entered.known shows after body;
-      history = history-installed hash of s p nodes root t entry whole;
-      grows = record {
-        nonce = refl;
-        policy = refl;
-        nodes = entered.older;
-        longer = longer;
-        more_records = p.records.items;
-        records = refl;
-        more_epochs = epoch_after s p root t ∷ [];
-        epochs = refl;
-        still = λ none. absurd (let never = none in cc);
-      };
-      good = λ verdict further same signed good. good_next hash of s p nodes root t entry whole u entered.older longer entered.known shows after body verdict further same signed good;
-    } in
-    subst (λ (z : State). Leaves hash of s z p t entry) (sym entered.state) left
+    let there = subst (λ (z : State). Entered hash s z p t entry root) entered.state entered in
+    subst (λ (z : State). Leaves hash of s z p t entry) (sym entered.state) (left_next hash of s p later.nodes root t entry whole u there after body)
 
 -- ---- through the view: an install by a directory that has made room
 

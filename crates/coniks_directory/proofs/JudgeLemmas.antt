@@ -1,12 +1,12 @@
 -- The faults of operations, and the operations in turn.
-use Rattle.std.proofs.Common.{◌≡◌, ℕ, ◌+◌, List, [], ◌∷◌, ◌++◌, length, map, take, drop, append_assoc, arith, zero-add, Bool, true, false, refl, sym, ap, ◌∙◌, ◌||◌, cond, Option, Some, None, slice_get}
-use Rattle.coniks_proof.specs.Registry.{Registered, Registry, has_name}
-use Rattle.coniks_proof.specs.Batches.{Operation, Fault, clashes, fault_of, fault_from, first_fault, placed, kind_fault, fits, bound_by, name_twice, index_clash}
-use Rattle.coniks_proof.specs.declared.values.TheConstants.{MAX_KEY, MAX_NAME}
-use Rattle.std.proofs.lemmas.List.{append-nil, drop_more, length-take-le, map-append, take-append-drop, take_all, take_more}
-use Rattle.std.proofs.lemmas.Option.{get_or_from_slice_get, slice_get_within}
+use Rattle.std.proofs.Common.{◌<◌, get_or, ◌≡◌, ℕ, ◌+◌, List, [], ◌∷◌, ◌++◌, length, map, take, drop, append_assoc, arith, zero-add, Bool, true, false, refl, sym, ap, ◌∙◌, ◌||◌, cond, Option, Some, None, slice_get}
+use Rattle.coniks_directory.proofs.Words.{Fault, IsJudged, MAX_KEY, MAX_NAME, Operation, Registered, Registry, append-nil, bound_by}
+use Rattle.coniks_directory.proofs.Words.{clashes, drop_more, fault_from, fault_of, first_fault, fits, get_or_from_slice_get, has_name}
+use Rattle.coniks_directory.proofs.Words.{index_clash, kind_fault, length-take-le, map-append, name_twice, placed, slice_get_within}
+use Rattle.coniks_directory.proofs.Words.{take-append-drop, take_all, take_more}
+use Rattle.coniks_directory.specs.declared.batch.Op.{Op}
+use Rattle.coniks_directory.proofs.Words.{operation_of, operations, option_map, slice_get-map, slice_get_read}
 use Rattle.coniks_proof.proofs.Lemmas.{clashes-append, placed_none}
-use Rattle.coniks_directory.specs.Judged.{IsJudged}
 
 -- ---- the first fault that applies to an operation
 
@@ -27,6 +27,10 @@ module _ (of : List ℕ → List ℕ) (registry : Registry) (before : List Regis
 
 take_next : {T : Type 0} (xs : List T) (i : ℕ) (x : T) → slice_get xs i ≡ Some x → take (i + 1) xs ≡ take i xs ++ x ∷ []
 take_next xs i x at = take_more xs i x (slice_get_within xs i x at) ∙ ap (λ y. take i xs ++ y ∷ []) (get_or_from_slice_get xs i x x at)
+
+-- an operation as the code reads it
+pub op_at : (ops : List Op) (i : ℕ) (op : Op) → i < length ops → op ≡ get_or ops i op → slice_get (operations ops) i ≡ Some (operation_of op)
+op_at ops i op below is = slice_get-map operation_of ops i ∙ ap (option_map operation_of) (slice_get_read ops (length ops) i op refl below is)
 
 -- what the operations up to the next one bind
 pub bound-next : (ops : List Operation) (i : ℕ) (op : Operation) → slice_get ops i ≡ Some op → map bound_by (take i ops) ++ bound_by op ∷ [] ≡ map bound_by (take (i + 1) ops)

@@ -1,6 +1,6 @@
 -- The last of a list, and what is mapped.
 use Rattle.std.proofs.Common.{◌≡◌, ℕ, zero, suc, ◌+◌, ◌-◌, List, [], ◌∷◌, length, map, refl, sym, ap, ◌∙◌, arith, Some, None, slice_get}
-use Rattle.std.proofs.lemmas.Option.{slice_get_within, slice_get-get_or}
+use Rattle.coniks_directory.proofs.Words.{slice_get-get_or, slice_get_within}
 
 -- what depends on the last element alone is what it is there
 pub at_last : {T A : Type 0} (F : List T → A) (g : T → A) → ((x : T) → F (x ∷ []) ≡ g x) → ((x y : T) (xs : List T) → F (x ∷ y ∷ xs) ≡ F (y ∷ xs))

@@ -1,3 +1,4 @@
+mod Words
 mod LastLemmas
 mod StateLemmas
 mod MirrorLemmas

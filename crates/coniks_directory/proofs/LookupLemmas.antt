@@ -1,22 +1,10 @@
 -- What a state shows at an epoch.
 use Rattle.std.proofs.Common.{◌≡◌, ◌==◌, ℕ, suc, List, [], ◌∷◌, map, true, false, refl, sym, ap, subst, ◌∙◌, cond, Some, None, option_map, slice_get, is_some}
-use Rattle.std.specs.List.{find}
-use Rattle.std.proofs.lemmas.Option.{same_Some}
-use Rattle.coniks_proof.specs.Batches.{fits}
-use Rattle.coniks_proof.specs.Entries.{backed_by}
-use Rattle.coniks_proof.specs.Paths.{IsPath}
-use Rattle.coniks_proof.specs.Proofs.{Accepts}
-use Rattle.coniks_proof.specs.Registry.{HaveOwnIndices, IsFree, IsLength, entries_of, has_name, key_of}
-use Rattle.coniks_proof.specs.Tree.{node}
-use Rattle.coniks_proof.specs.declared.paths.Proof.{Proof}
-use Rattle.coniks_proof.specs.declared.values.TheConstants.{MAX_NAME}
+use Rattle.coniks_directory.proofs.Words.{Accepts, AllHaveOwnIndices, Epoch, HaveOwnIndices, HoldsEpoch, IsAcceptedAt, IsFound, IsFree}
+use Rattle.coniks_directory.proofs.Words.{IsLength, IsPath, MAX_NAME, Numbered, Proof, Record, Shown, Shows, State, Whole, backed_by}
+use Rattle.coniks_directory.proofs.Words.{entries_of, find, fits, has_name, history_of, key_of, node, numbers_of, registered_at, root_at}
+use Rattle.coniks_directory.proofs.Words.{same_Some, shown_at, shown_of}
 use Rattle.coniks_proof.proofs.Lemmas.{own_of_map, path_accepted}
-use Rattle.coniks_tree.specs.Table.{Numbered, Shows, registered_at}
-use Rattle.coniks_tree.specs.declared.table.Record.{Record}
-use Rattle.coniks_directory.specs.History.{AllHaveOwnIndices, Shown, numbers_of, root_at, shown_at}
-use Rattle.coniks_directory.specs.Lookups.{IsAcceptedAt, IsFound}
-use Rattle.coniks_directory.specs.State.{HoldsEpoch, State, Whole, history_of, shown_of}
-use Rattle.coniks_directory.specs.declared.epochs.Epoch.{Epoch}
 use Rattle.coniks_directory.proofs.EpochLemmas.{numbers}
 use Rattle.coniks_directory.proofs.LastLemmas.{get-mapped}
 use Rattle.coniks_directory.proofs.MirrorLemmas.{mirrored_path, mirrored_root}

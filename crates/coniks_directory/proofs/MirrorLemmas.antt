@@ -1,15 +1,9 @@
 -- The entries under a root and the bindings of the registry that they mirror.
 use Rattle.std.proofs.Common.{◌≡◌, ℕ, List, [], ◌∷◌, map, refl, sym, ap, subst, ◌∙◌, inl, inr}
-use Rattle.coniks_proof.specs.Entries.{Entry, IsIn, backed_by}
-use Rattle.coniks_proof.specs.Maps.{IsMap, IsNew, SameEntries}
-use Rattle.coniks_proof.specs.Paths.{EndIs, IsPath}
-use Rattle.coniks_proof.specs.Registry.{Registered, Registry, entries_of, root_of}
-use Rattle.coniks_proof.specs.Tree.{node}
-use Rattle.coniks_proof.specs.declared.paths.Proof.{Proof}
+use Rattle.coniks_directory.proofs.Words.{EndIs, Entry, Extends, IsIn, IsMap, IsNew, IsPath, IsStored, Mirrors, Numbered, Proof, Record}
+use Rattle.coniks_directory.proofs.Words.{Registered, Registry, SameEntries, backed_by, entries_of, node, registered_at, registered_by}
+use Rattle.coniks_directory.proofs.Words.{root_of}
 use Rattle.coniks_proof.proofs.Lemmas.{end_of-same, node-backed, node-same, siblings-same}
-use Rattle.coniks_tree.specs.Table.{Numbered, Extends, registered_at, registered_by}
-use Rattle.coniks_tree.specs.declared.table.Record.{Record}
-use Rattle.coniks_directory.specs.State.{IsStored, Mirrors}
 
 -- what a stored entry's record binds stays
 pub registered_at-extended : (records more : List Record) (e : Numbered) → Extends records more → IsStored records e → registered_at more e.behind ≡ registered_at records e.behind
@@ -19,9 +13,7 @@ backed-extended : (records more : List Record) (es : List Numbered) → Extends 
     → map (backed_by (registered_at more)) es ≡ map (backed_by (registered_at records)) es
 backed-extended records more [] kept s = refl
 backed-extended records more (e ∷ es) kept s =
-    let entry : Registered → Entry Registered = λ b. record { index = e.index; commitment = e.commitment; behind = b } in
-    ap (λ b. entry b ∷ map (backed_by (registered_at more)) es) (registered_at-extended records more e kept (s e (inl refl)))
-    ∙ ap (λ xs. entry (registered_at records e.behind) ∷ xs) (backed-extended records more es kept (λ x is. s x (inr is)))
+    rw (registered_at-extended records more e kept (s e (inl refl)), backed-extended records more es kept (λ x is. s x (inr is))) refl
 
 -- entries that mirror a registry do so with more records
 pub Mirrors-extended : (hash of : List ℕ → List ℕ) (records more : List Record) (es : List Numbered) (registry : Registry) → Extends records more → Mirrors hash of records es registry → Mirrors hash of more es registry

@@ -1,25 +1,9 @@
 -- The changes of a batch, in the order of the map of their records.
 use Rattle.std.proofs.Common.{◌≡◌, ℕ, zero, suc, ◌+◌, ◌<◌, List, [], ◌∷◌, ◌++◌, length, map, arith, true, false, refl, sym, ap, subst, ◌∙◌, inl, inr, cond, slice_index, slice_index_or, Option, Some, None, slice_get}
-use Rattle.std.specs.declared.cmp.Ordering.TheVariants.{Less}
-use Rattle.std.specs.Borrow.{Bor}
-use Rattle.std.specs.Map.Iter.{deref}
-use Rattle.std.specs.List.{All, AllByRecursion}
-use Rattle.std.specs.List.Sorted.{IsStrictlySortedBy}
-use Rattle.std.specs.Map.{keys_of, values_of, lookup}
-use Rattle.std.specs.Ordering.{is_eq, nat_cmp}
-use Rattle.std.specs.Cmp.Lexicographic.{slice_cmp}
-use Rattle.std.specs.BTreeMap.{BTreeMap, is_at, values}
-use Rattle.std.proofs.lemmas.List.{length-map, map-append}
-use Rattle.std.proofs.lemmas.Option.{slice_get_within}
-use Rattle.std.proofs.lemmas.Cmp.{by_ranked, nat_list_cmp_total, ranked}
-use Rattle.std.proofs.lemmas.Map.Views.{All-found}
-use Rattle.coniks_proof.specs.Entries.{IsIn}
-use Rattle.coniks_proof.specs.Maps.{IsIndex}
-use Rattle.coniks_proof.specs.Changes.{IsBefore, AllAfter, AreIncreasing}
-use Rattle.coniks_proof.specs.Registry.{Registered}
-use Rattle.coniks_tree.specs.Table.{Numbered, entry_of_record}
-use Rattle.coniks_tree.specs.declared.table.Record.{Record}
-use Rattle.coniks_directory.specs.Judged.{AreChangesOf, AreSeen, IsSealed, number_at}
+use Rattle.coniks_directory.proofs.Words.{All, All-found, AllAfter, AllByRecursion, AreChangesOf, AreIncreasing, AreSeen, BTreeMap, Bor}
+use Rattle.coniks_directory.proofs.Words.{IsBefore, IsIn, IsIndex, IsSealed, IsStrictlySortedBy, Less, Numbered, Record, Registered}
+use Rattle.coniks_directory.proofs.Words.{by_ranked, deref, entry_of_record, is_at, is_eq, keys_of, length-map, lookup, map-append, nat_cmp}
+use Rattle.coniks_directory.proofs.Words.{nat_list_cmp_total, number_at, ranked, slice_cmp, slice_get_within, values, values_of}
 
 -- ---- the order of byte lists
 

@@ -1,15 +1,9 @@
 -- A registry that a batch's bindings are laid over, and entries that changes are laid over.
 use Rattle.std.proofs.Common.{◌≡◌, ◌≢◌, ℕ, ◌+◌, List, [], ◌∷◌, ◌++◌, map, Bool, true, false, refl, sym, ap, subst, ◌∙◌, not, ◌||◌, ◌⊎◌, inl, inr, None}
-use Rattle.std.proofs.lemmas.Bool.{not-true, or_cases, or_parts, or_right}
-use Rattle.std.specs.List.{filter}
-use Rattle.std.specs.Str.{bytes_eq}
-use Rattle.std.proofs.lemmas.Slice.Eq.{bytes_eq-Decides}
-use Rattle.coniks_proof.specs.Entries.{Entry, IsIn}
-use Rattle.coniks_proof.specs.Maps.{IsIndex, IsNew, IsMap}
-use Rattle.coniks_proof.specs.Changes.{has_index, overwritten}
-use Rattle.coniks_proof.specs.Registry.{Registered, Registry, AreWithin, IsLength, has_name, rebound, overlaid, entry_of, entries_of}
-use Rattle.coniks_proof.specs.Batches.{AreOnce, Operation, bound_by, clashes, fault_from, fault_of, first_fault}
-use Rattle.coniks_proof.specs.declared.values.TheConstants.{MAX_KEY, MAX_NAME}
+use Rattle.coniks_directory.proofs.Words.{AreOnce, AreWithin, Entry, IsIn, IsIndex, IsLength, IsMap, IsNew, MAX_KEY, MAX_NAME, Operation}
+use Rattle.coniks_directory.proofs.Words.{Registered, Registry, bound_by, bytes_eq, bytes_eq-Decides, clashes, entries_of, entry_of}
+use Rattle.coniks_directory.proofs.Words.{fault_from, fault_of, filter, first_fault, has_index, has_name, not-true, or_cases, or_parts}
+use Rattle.coniks_directory.proofs.Words.{or_right, overlaid, overwritten, rebound}
 use Rattle.coniks_proof.proofs.Lemmas.{IsIn-filter, IsMap-filter, IsMap-rebound, clash_of, clashes-append, clear_of, entry_in, eq_apart, eq_same, in_overlaid, in_rebound, of_filter, passes, placed_none, rebound_new, rebound_old, within, same_entry}
 
 -- ---- lists

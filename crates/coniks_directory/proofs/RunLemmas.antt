@@ -1,14 +1,10 @@
 -- What a run of public calls leaves is the directory that its batches define.
 use Rattle.std.proofs.Common.{◌≡◌, ℕ, List, [], ◌∷◌, ◌++◌, ◌<◌, ◌≤◌, length, refl, sym, ap, subst, ◌∙◌, None}
-use Rattle.coniks_proof.specs.Batches.{MayFollow, after, first_fault}
-use Rattle.coniks_proof.specs.Registry.{HaveOwnIndices, Registry}
-use Rattle.coniks_proof.specs.declared.values.TheConstants.{MAX_OPERATIONS}
+use Rattle.coniks_directory.proofs.Words.{AreAccepted, AreAcceptedFrom, Batch, HaveOwnIndices, IsAccepted, MAX_OPERATIONS, MayFollow}
+use Rattle.coniks_directory.proofs.Words.{Registry, Run, Shown, State, after, committed, defined, epochs_from, first_fault, history_of}
+use Rattle.coniks_directory.proofs.Words.{installed, last_number, latest_epoch, latest_nonce, latest_registry, numbers_of, opened}
+use Rattle.coniks_directory.proofs.Words.{registry_after, stayed}
 use Rattle.coniks_proof.proofs.Lemmas.{may_follow, own_after}
-use Rattle.coniks_directory.specs.Batches.{IsAccepted}
-use Rattle.coniks_directory.specs.History.{Shown, last_number, latest_epoch, latest_nonce, latest_registry, numbers_of}
-use Rattle.coniks_directory.specs.Runs.{AreAccepted, AreAcceptedFrom, Batch, Run, opened, stayed, committed, installed, defined, epochs_from}
-use Rattle.coniks_directory.specs.State.{State, history_of}
-use Rattle.coniks_directory.specs.Updates.{registry_after}
 use Rattle.coniks_directory.proofs.FreshLemmas.{fresh_history, fresh_registry, fresh_update}
 
 -- ---- one more batch

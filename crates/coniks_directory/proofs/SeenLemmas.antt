@@ -1,21 +1,9 @@
 -- The records of the operations that were judged, and one more.
 use Rattle.std.proofs.Common.{◌≡◌, ◌≢◌, ℕ, zero, suc, ◌+◌, List, [], ◌∷◌, ◌++◌, length, map, arith, length-append, true, false, refl, sym, ap, subst, ◌∙◌, cond, ◌⊎◌, inl, inr, Some, None, slice_get}
-use Rattle.std.proofs.lemmas.Bool.{false_from_ne_true}
-use Rattle.std.specs.Str.{bytes_eq}
-use Rattle.std.specs.Ordering.{nat_cmp, is_eq}
-use Rattle.std.specs.Cmp.Lexicographic.{slice_cmp}
-use Rattle.std.specs.BTreeMap.{BTreeMap, btree_map_len, IsOrdered}
-use Rattle.std.proofs.lemmas.List.{map-append}
-use Rattle.std.proofs.lemmas.Slice.Eq.{bytes_eq-Decides}
-use Rattle.std.proofs.lemmas.Map.Text.{is_eq-slice_cmp}
-use Rattle.coniks_proof.specs.Entries.{IsIn}
-use Rattle.coniks_proof.specs.Maps.{IsIndex}
-use Rattle.coniks_proof.specs.Registry.{Registered, has_name, IsFree}
+use Rattle.coniks_directory.proofs.Words.{AreSeen, BTreeMap, IsFree, IsHeld, IsIn, IsIndex, IsOrdered, IsSealed, Record, Registered}
+use Rattle.coniks_directory.proofs.Words.{btree_map_len, bytes_eq, bytes_eq-Decides, false_from_ne_true, has_name, is_eq, is_eq-slice_cmp}
+use Rattle.coniks_directory.proofs.Words.{map-append, nat_cmp, number_at, registered_of, slice_cmp}
 use Rattle.coniks_tree.proofs.Lemmas.{Extends-append, get-last, get-push}
-use Rattle.coniks_tree.specs.declared.table.Record.{Record}
-use Rattle.coniks_directory.specs.State.{registered_of}
-use Rattle.coniks_directory.specs.Holders.{IsHeld}
-use Rattle.coniks_directory.specs.Judged.{AreSeen, IsSealed, number_at}
 use Rattle.coniks_proof.proofs.Lemmas.{IsMap-one_more, eq_apart, eq_same, has_of, named_of}
 
 -- a binding of the records is that of one of them

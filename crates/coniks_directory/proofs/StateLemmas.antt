@@ -1,11 +1,7 @@
 -- Registries, as the log of records leaves them, and the history of a state.
 use Rattle.std.proofs.Common.{◌≡◌, ℕ, ◌-◌, ◌≤◌, List, [], ◌∷◌, ◌++◌, length, map, refl, sym, ap, ◌∙◌, arith, Some, slice_get}
-use Rattle.std.proofs.lemmas.List.{take_all, take-append-le}
-use Rattle.coniks_proof.specs.Registry.{overlaid}
-use Rattle.coniks_tree.specs.declared.table.Record.{Record}
-use Rattle.coniks_directory.specs.History.{latest_nonce, latest_registry}
-use Rattle.coniks_directory.specs.State.{State, Whole, history_of, last_count, registered_of, registry_at, shown_of}
-use Rattle.coniks_directory.specs.declared.epochs.Epoch.{Epoch}
+use Rattle.coniks_directory.proofs.Words.{Epoch, Record, State, Whole, history_of, last_count, latest_nonce, latest_registry, overlaid}
+use Rattle.coniks_directory.proofs.Words.{registered_of, registry_at, shown_of, take-append-le, take_all}
 use Rattle.coniks_directory.proofs.LastLemmas.{last_found}
 
 -- a registry doesn't depend on later records

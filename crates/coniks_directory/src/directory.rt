@@ -118,6 +118,7 @@ impl<H: Hash32, X: IndexSource> Directory<H, X> {
     /// The update was prepared from this directory, the publisher is the board's and has published just the heads of this
     /// directory's chain, and the signer's counts are below 2^64 - 1. A refusal changes neither the directory nor the
     /// board, and hands the update back.
+    #[tactic(auto, using(crate::proofs::FreshLemmas::growth))]
     pub fn install<S: Sign>(
         &mut self,
         update: Prepared,
@@ -219,6 +220,7 @@ impl<H: Hash32 + Sync, X: IndexSource> Directory<H, X> {
 
     /// Prepares a batch and installs its update: `prepare`, then `install`. A refused update is dropped. It may wait, as
     /// `prepare` may. The conditions of `install` are its own.
+    #[tactic(auto, using(crate::proofs::FreshLemmas::growth))]
     pub fn commit<S: Sign, G: Gate + Sync, R: Threads + Sync>(
         &mut self,
         rt: &R,

@@ -45,6 +45,7 @@ pub(crate) fn may_install(
 }
 
 /// The link of the last entry, which the last published head holds; 32 zero bytes where there is none.
+#[tactic(auto, using(crate::proofs::HeadLemmas::last_links))]
 pub(crate) fn last_link(publisher: &Publisher) -> Digest
     ensures { (hash : List ℕ → List ℕ) (chain : List Entry) → publisher.now.heads ≡ heads_of hash chain → result.0 ≡ link_before (before_at hash None chain (length chain)) }
 {

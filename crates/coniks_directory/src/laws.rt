@@ -17,6 +17,7 @@ ghost use Rattle.coniks_shared.specs.Lists.{Begins, last_of};
 
 /// An update is one of the directory that it was prepared from, and stays one while epochs are installed. (It is stale
 /// then, which `install` answers.)
+#[tactic(auto, using(crate::proofs::FreshLemmas::prepared_of, crate::proofs::FreshLemmas::stays))]
 pub fn updates_stay()
     ensures prepared { (hash of : List ℕ → List ℕ) (s : State) (update : Prepared) → IsUpdate hash of s update → IsUpdateOf hash of s update }
     ensures stays { (hash of : List ℕ → List ℕ) (s later : State) (update : Prepared) → Grows s later → IsUpdateOf hash of s update → IsUpdateOf hash of later update }
@@ -24,6 +25,7 @@ pub fn updates_stay()
 
 /// Where no epoch was installed since an update was prepared, whatever was refused in between, the directory shows what it
 /// showed, and the update leaves the registry that it left.
+#[tactic(auto, using(crate::proofs::FreshLemmas::fresh_history, crate::proofs::FreshLemmas::fresh_registry))]
 pub fn updates_that_are_not_stale()
     ensures history { (hash of : List ℕ → List ℕ) (s later : State) (update : Prepared) → IsUpdate hash of s update → Grows s later → base_of update ≡ length later.epochs
         → history_of later ≡ history_of s }
@@ -32,6 +34,7 @@ pub fn updates_that_are_not_stale()
 {}
 
 /// A directory that stays has grown, and one that grows and grows again has grown.
+#[tactic(auto, using(crate::proofs::FreshLemmas::growth))]
 pub fn directories_grow()
     ensures stays { (s : State) → Grows s s }
     ensures again { (s later last : State) → Grows s later → Grows later last → Grows s last }

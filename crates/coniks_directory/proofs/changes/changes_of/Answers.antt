@@ -1,11 +1,6 @@
 use Rattle.std.proofs.Common.{refl, ◌≡◌, ◌<◌, Some, ℕ, ap, sym, ◌∙◌, length, map, slice_get, rules}
-use Rattle.std.specs.BTreeMap.{values}
-use Rattle.std.specs.Map.Iter.{deref}
-use Rattle.std.specs.Borrow.{Bor}
-use Rattle.std.proofs.lemmas.Map.Iter.{iter_end}
-use Rattle.std.proofs.lemmas.Option.{slice_get_read}
-use Rattle.std.proofs.lemmas.Map.Views.{All-turn}
-use Rattle.coniks_tree.specs.Parts.{entries_of, entry_of_change}
+use Rattle.coniks_directory.proofs.Words.{All-turn, Bor, deref, entry_of_change, iter_end, slice_get_read, values}
+use Rattle.coniks_tree.specs.Parts.{entries_of}
 use Rattle.coniks_directory.proofs.OrderLemmas.{changes, map-map, maps-push, entry_at, entry_at-found}
 use Rattle.coniks_directory.proofs.changes.changes_of.Goals as goal
 

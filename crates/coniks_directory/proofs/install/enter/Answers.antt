@@ -1,6 +1,5 @@
 use Rattle.std.proofs.Common.{◌++◌, ◌∷◌, [], ℕ, ◌+◌, length, sym, ap, ◌∙◌}
-use Rattle.coniks_directory.specs.State.{state_of}
-use Rattle.coniks_directory.specs.declared.epochs.Epoch.{Epoch}
+use Rattle.coniks_directory.proofs.Words.{Epoch, state_of}
 use Rattle.coniks_directory.proofs.InstallLemmas.{Entered, installed_is, left_by}
 use Rattle.coniks_directory.proofs.install.enter.Goals as goal
 

@@ -1,4 +1,4 @@
-use Rattle.coniks_directory.specs.State.{state_of}
+use Rattle.coniks_directory.proofs.Words.{state_of}
 use Rattle.coniks_directory.proofs.InstallLemmas.{body_is}
 use Rattle.coniks_directory.proofs.install.make_body.Goals as goal
 

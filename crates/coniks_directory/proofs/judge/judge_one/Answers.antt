@@ -1,27 +1,28 @@
 use Rattle.std.proofs.Common.{◌≡◌, ◌++◌, ◌∷◌, [], List, ℕ, ap, option_map, subst, sym, ◌∙◌}
-use Rattle.coniks_proof.specs.Registry.{Registered, IsFree}
-use Rattle.coniks_directory.specs.Batches.{fault_is}
-use Rattle.coniks_directory.specs.Holders.{HolderIs}
-use Rattle.coniks_directory.specs.Judged.{AreSeen}
+use Rattle.coniks_directory.proofs.Words.{AreSeen, HolderIs, IsFree, Registered, Registry, ShowsLatest, fault_is, fault_of, operation_of}
+use Rattle.coniks_directory.proofs.judge.judge_one.Goals.{After-op_fault}
+use Rattle.coniks_directory.proofs.judge.judge_one.Given as given
 use Rattle.coniks_directory.proofs.judge.judge_one.Goals as goal
+
+-- what `op_fault` answers is the fault by the registry and by the earlier operations
+fault_in : (g : given.Over) (c : goal.After-op_fault g) → (nonce : List ℕ) (registry : Registry) (bound : List Registered)
+    → ShowsLatest (g.H.Hash32.digest_of c.args.h.now) (g.X.IndexSource.index_of c.args.source.now) nonce c.args.tree.now.nodes.items c.args.tree.now.records.items c.args.root registry
+    → AreSeen (g.H.Hash32.digest_of c.args.h.now) (g.X.IndexSource.index_of c.args.source.now) bound c.args.seen.now.records.items c.args.seen.now.numbers
+    → option_map fault_is c.op_fault.result ≡ fault_of (g.X.IndexSource.index_of c.args.source.now) registry bound (operation_of c.args.op.now)
+fault_in g c nonce registry bound shown s =
+    let of : List ℕ → List ℕ = g.X.IndexSource.index_of c.args.source.now in
+    let at : c.index-index.result.0 ≡ of c.args.op.now.name = c.index-index.ensures ∙ ap of c.as_slice.ensures in
+    c.op_fault.ensures.fault of registry bound
+    (subst (λ i. HolderIs of registry i c.holder_at-present.result) at (c.holder_at-present.ensures (g.H.Hash32.digest_of c.args.h.now) of nonce registry shown))
+    (subst (λ i. HolderIs of bound i c.holder-earlier.result) at (c.holder-earlier.ensures (g.H.Hash32.digest_of c.args.h.now) of bound s))
 
 pub returns-in-Some-op_fault-clause-fault : goal.returns-in-Some-op_fault-clause-fault
 returns-in-Some-op_fault-clause-fault g c = λ nonce registry bound shown s.
-    let hash : List ℕ → List ℕ = g.H.Hash32.digest_of c.args.h.now in
-    let of : List ℕ → List ℕ = g.X.IndexSource.index_of c.args.source.now in
-    let at : c.index-index.result.0 ≡ of c.args.op.now.name = c.index-index.ensures ∙ ap of c.as_slice.ensures in
-    let present = subst (λ i. HolderIs of registry i c.holder_at-present.result) at (c.holder_at-present.ensures hash of nonce registry shown) in
-    let earlier = subst (λ i. HolderIs of bound i c.holder-earlier.result) at (c.holder-earlier.ensures hash of bound s) in
-    ap (option_map fault_is) (sym c.in-Some-op_fault.is) ∙ c.op_fault.ensures.fault of registry bound present earlier
+    ap (option_map fault_is) (sym c.in-Some-op_fault.is) ∙ fault_in g (goal.at.returns-in-Some-op_fault-clause-fault g c).After-op_fault nonce registry bound shown s
 
 pub returns-clause-fault : goal.returns-clause-fault
 returns-clause-fault g c = λ nonce registry bound shown s.
-    let hash : List ℕ → List ℕ = g.H.Hash32.digest_of c.args.h.now in
-    let of : List ℕ → List ℕ = g.X.IndexSource.index_of c.args.source.now in
-    let at : c.index-index.result.0 ≡ of c.args.op.now.name = c.index-index.ensures ∙ ap of c.as_slice.ensures in
-    let present = subst (λ i. HolderIs of registry i c.holder_at-present.result) at (c.holder_at-present.ensures hash of nonce registry shown) in
-    let earlier = subst (λ i. HolderIs of bound i c.holder-earlier.result) at (c.holder-earlier.ensures hash of bound s) in
-    ap (option_map fault_is) (sym c.in_default-op_fault.is) ∙ c.op_fault.ensures.fault of registry bound present earlier
+    ap (option_map fault_is) (sym c.in_default-op_fault.is) ∙ fault_in g (goal.at.returns-clause-fault g c).After-op_fault nonce registry bound shown s
 
 pub returns-clause-seen : goal.returns-clause-seen
 returns-clause-seen g c = λ _ bound s.

@@ -1,11 +1,6 @@
-use Rattle.std.proofs.Common.{◌≡◌, List, ℕ, Some, None, Ok, length, map, take, slice_get, option_map, arith, sym, subst, ap, ◌∙◌, refl}
-use Rattle.std.proofs.lemmas.List.{length-map}
-use Rattle.std.proofs.lemmas.Option.{slice_get-map, slice_get_read}
-use Rattle.coniks_proof.specs.Batches.{bound_by}
-use Rattle.coniks_proof.specs.Registry.{Registered}
-use Rattle.coniks_directory.specs.Batches.{fault_is, operation_of, operations}
-use Rattle.coniks_directory.specs.Judged.{AreSeen, IsJudged}
-use Rattle.coniks_directory.proofs.JudgeLemmas.{bound-next, bound-all, judged-next, judged-fault, judged-all}
+use Rattle.std.proofs.Common.{◌≡◌, List, ℕ, None, Ok, length, map, take, option_map, arith, sym, subst, ap, ◌∙◌, refl}
+use Rattle.coniks_directory.proofs.Words.{AreSeen, IsJudged, Registered, bound_by, fault_is, length-map, operation_of, operations}
+use Rattle.coniks_directory.proofs.JudgeLemmas.{bound-next, bound-all, op_at, judged-next, judged-fault, judged-all}
 use Rattle.coniks_directory.proofs.judge.judged.Goals as goal
 
 pub loop-position-init : goal.loop-position-init
@@ -23,7 +18,7 @@ loop-position-preserved g c =
     let op = c.index-ops-position.result in
     let ops = operations c.args.ops.now in
     let before = map bound_by (take i ops) in
-    let at : slice_get ops i ≡ Some (operation_of op) = slice_get-map operation_of c.args.ops.now i ∙ ap (option_map operation_of) (slice_get_read c.args.ops.now (length c.args.ops.now) i op refl c.loop-position-test.true c.index-ops-position.is) in
+    let at = op_at c.args.ops.now i op c.loop-position-test.true c.index-ops-position.is in
     let is : c.judge_one.result ≡ Ok None = c.in-Ok-None.is ∙ ap Ok c.in-Ok-None.field-0-is in
     record {
       seen = subst (λ (bs : List Registered). AreSeen hash of bs c.judge_one.new.seen.records.items c.judge_one.new.seen.numbers) (bound-next ops i (operation_of op) at) (c.judge_one.ensures.seen is before l.invariant.seen);
@@ -38,7 +33,7 @@ returns-in-Ok-Some-clause-fault g c = λ nonce registry shown.
     let i = l.position in
     let op = c.index-ops-position.result in
     let ops = operations c.args.ops.now in
-    let at : slice_get ops i ≡ Some (operation_of op) = slice_get-map operation_of c.args.ops.now i ∙ ap (option_map operation_of) (slice_get_read c.args.ops.now (length c.args.ops.now) i op refl c.loop-position-test.true c.index-ops-position.is) in
+    let at = op_at c.args.ops.now i op c.loop-position-test.true c.index-ops-position.is in
     judged-fault of registry ops i (operation_of op) (fault_is c.in-Ok-Some.fault) at (l.invariant.rest nonce registry shown)
     (sym (c.in-Ok-Some.ensures.fault nonce registry (map bound_by (take i ops)) shown l.invariant.seen) ∙ ap (option_map fault_is) c.in-Ok-Some.field-0-is)
 

@@ -1,9 +1,5 @@
 use Rattle.std.proofs.Common.{ℕ, List, map, take}
-use Rattle.coniks_proof.specs.Registry.{Registry}
-use Rattle.coniks_proof.specs.Batches.{bound_by}
-use Rattle.coniks_directory.specs.Batches.{operations}
-use Rattle.coniks_directory.specs.Holders.{ShowsLatest}
-use Rattle.coniks_directory.specs.Judged.{AreSeen, IsJudged}
+use Rattle.coniks_directory.proofs.Words.{AreSeen, IsJudged, Registry, ShowsLatest, bound_by, operations}
 use Rattle.coniks_directory.proofs.judge.judged.Given as goal
 
 abbrev pub invariant-loop-position : goal.invariant-loop-position

@@ -1,8 +1,5 @@
 use Rattle.std.proofs.Common.{List, refl, sym, ap, subst, ◌∙◌, option_map}
-use Rattle.coniks_directory.specs.Chain.{IsChainOf}
-use Rattle.coniks_directory.specs.History.{Shown, root_at, shown_at}
-use Rattle.coniks_directory.specs.Lookups.{IsAcceptedAt, IsFound}
-use Rattle.coniks_directory.specs.State.{history_of}
+use Rattle.coniks_directory.proofs.Words.{IsAcceptedAt, IsChainOf, IsFound, Shown, history_of, root_at, shown_at}
 use Rattle.coniks_directory.proofs.RunLemmas.{defined_by}
 use Rattle.coniks_directory.proofs.laws.directory_theorem.Goals as goal
 

@@ -1,39 +1,33 @@
-use Rattle.std.proofs.Common.{◌≡◌, ◌<◌, ◌≤◌, ◌+◌, ◌*◌, Option, IfSome, Vec, Global, ap, arith, length, map, rules, subst, sym, refl, ◌∙◌}
-use Rattle.std.proofs.lemmas.List.{length-map}
-use Rattle.coniks_proof.specs.Batches.{bound_by}
-use Rattle.coniks_tree.specs.Parts.{Fits, node_count}
-use Rattle.coniks_tree.specs.declared.part.Part.{Part}
-use Rattle.coniks_tree.specs.declared.table.Record.{Record}
-use Rattle.coniks_tree.specs.declared.table.Root.{Root}
-use Rattle.coniks_work.specs.Grown.{unchanged}
-use Rattle.coniks_directory.specs.Batches.{most_nodes, operation_of, operations}
-use Rattle.coniks_directory.specs.Built.{IsBuilt}
-use Rattle.coniks_directory.specs.History.{latest_registry}
-use Rattle.coniks_directory.specs.Holders.{ShowsLatest}
-use Rattle.coniks_directory.specs.Judged.{IsJudgedFault}
-use Rattle.coniks_directory.specs.State.{history_of, registered_of, state_of}
+use Rattle.std.proofs.Common.{◌≡◌, ◌<◌, ◌≤◌, ◌+◌, ◌*◌, IfSome, Vec, Global, ap, arith, length, map, rules, refl, ◌∙◌}
+use Rattle.coniks_directory.proofs.Words.{IsBuilt, IsJudgedFault, Record, ShowsLatest, bound_by, history_of, latest_registry, length-map}
+use Rattle.coniks_directory.proofs.Words.{most_nodes, node_count, operation_of, operations, registered_of, state_of}
 use Rattle.coniks_directory.proofs.BuiltLemmas.{as_many, built, seen_changes}
 use Rattle.coniks_directory.proofs.OrderLemmas.{numbers_within}
-use Rattle.coniks_directory.proofs.PrepareLemmas.{answered, few_added, is_update, known_root, none_added, registry_is, shown_now}
+use Rattle.coniks_directory.proofs.PrepareLemmas.{AreFound, answered, few_added, is_update, known_root, none_added, registry_is, shown_now}
+use Rattle.coniks_directory.proofs.preparing.update_on.Goals.{After-nonce_of-nonce}
 use Rattle.coniks_directory.proofs.preparing.update_on.Given as given
 use Rattle.coniks_directory.proofs.preparing.update_on.Goals as goal
 
+-- what the code finds in the directory, and that the root shows the latest registry
+found_in : (g : given.Over) (c : goal.After-nonce_of-nonce g)
+    → AreFound (state_of c.args.held.now) c.last-last.result c.root_of-root.result c.args.held.now.nonce c.nonce_of-nonce.result
+found_in g c = record { last_is = c.last-last.ensures; root_is = c.root_of-root.ensures; opened_is = refl; nonce_is = c.nonce_of-nonce.ensures }
+
+shown_in : (g : given.Over) (c : goal.After-nonce_of-nonce g) → ShowsLatest (g.H.Hash32.digest_of c.args.h.now) (g.X.IndexSource.index_of c.args.source.now)
+    c.nonce_of-nonce.result.0 c.args.held.now.tree.nodes.items c.args.held.now.tree.records.items c.root_of-root.result (latest_registry (history_of (state_of c.args.held.now)))
+shown_in g c = shown_now (g.H.Hash32.digest_of c.args.h.now) (g.X.IndexSource.index_of c.args.source.now) (state_of c.args.held.now) c.requires.whole _ _ _ _ (found_in g c)
+
+known_in : (g : given.Over) (c : goal.After-nonce_of-nonce g) → IfSome c.root_of-root.result (λ r. r.0 < length c.args.held.now.tree.nodes.items)
+known_in g c = known_root (g.H.Hash32.digest_of c.args.h.now) (g.X.IndexSource.index_of c.args.source.now) (state_of c.args.held.now) c.requires.whole _ _ _ _ (found_in g c)
+
 pub judged-requires : goal.judged-requires
-judged-requires g c =
-    let s = state_of c.args.held.now in
-    subst (λ (r : Option Root). IfSome r (λ n. n.0 < length s.nodes)) (sym c.root_of-root.ensures)
-    (known_root (g.H.Hash32.digest_of c.args.h.now) (g.X.IndexSource.index_of c.args.source.now) s c.requires.whole c.last-last.result c.last-last.ensures)
+judged-requires g c = known_in g (goal.at.judged-requires g c).After-nonce_of-nonce
 
 pub returns-in_err-seen-clause-fault : goal.returns-in_err-seen-clause-fault
 returns-in_err-seen-clause-fault g c =
-    let hash = g.H.Hash32.digest_of c.args.h.now in
-    let of = g.X.IndexSource.index_of c.args.source.now in
-    let s = state_of c.args.held.now in
-    let registry = latest_registry (history_of s) in
-    let fault = c.in_err-seen.field-0.0 in
-    let shown = shown_now hash of s c.requires.whole c.last-last.result c.args.held.now.nonce c.nonce_of-nonce.result c.root_of-root.result c.last-last.ensures refl c.root_of-root.ensures c.nonce_of-nonce.ensures in
-    answered c.from_residual.result fault (IsJudgedFault of registry (operations c.args.ops.now)) (search rules)
-    (c.in_err-seen.ensures.fault c.nonce_of-nonce.result.0 registry shown)
+    let registry = latest_registry (history_of (state_of c.args.held.now)) in
+    answered c.from_residual.result c.in_err-seen.field-0.0 (IsJudgedFault (g.X.IndexSource.index_of c.args.source.now) registry (operations c.args.ops.now)) (search rules)
+    (c.in_err-seen.ensures.fault c.nonce_of-nonce.result.0 registry (shown_in g (goal.at.returns-in_err-seen-clause-fault g c).After-nonce_of-nonce))
 
 pub changes_of-requires-clause-numbered : goal.changes_of-requires-clause-numbered
 changes_of-requires-clause-numbered g c =
@@ -41,18 +35,7 @@ changes_of-requires-clause-numbered g c =
     numbers_within (g.H.Hash32.digest_of c.args.h.now) (g.X.IndexSource.index_of c.args.source.now) (map bound_by (operations c.args.ops.now)) seen.records.items seen.numbers c.in_ok-seen.ensures.seen
 
 pub build-requires-clause-root : goal.build-requires-clause-root
-build-requires-clause-root g c κs within =
-    let s = state_of c.args.held.now in
-    subst (λ (r : Option Root). IfSome r (λ n. n.0 < length s.nodes)) (sym c.root_of-root.ensures)
-    (known_root (g.H.Hash32.digest_of c.args.h.now) (g.X.IndexSource.index_of c.args.source.now) s c.requires.whole c.last-last.result c.last-last.ensures)
-
--- the root that the code found shows the latest registry
-shown_in : (g : given.Over) (c : goal.After-drop-changes g)
-    → ShowsLatest (g.H.Hash32.digest_of c.args.h.now) (g.X.IndexSource.index_of c.args.source.now) c.nonce_of-nonce.result.0 c.args.held.now.tree.nodes.items c.args.held.now.tree.records.items
-    c.root_of-root.result (latest_registry (history_of (state_of c.args.held.now)))
-shown_in g c =
-    shown_now (g.H.Hash32.digest_of c.args.h.now) (g.X.IndexSource.index_of c.args.source.now) (state_of c.args.held.now) c.requires.whole c.last-last.result c.args.held.now.nonce
-    c.nonce_of-nonce.result c.root_of-root.result c.last-last.ensures refl c.root_of-root.ensures c.nonce_of-nonce.ensures
+build-requires-clause-root g c κs within = known_in g (goal.at.build-requires-clause-root g c).After-nonce_of-nonce
 
 -- there are as many changes as operations
 as_many_in : (g : given.Over) (c : goal.After-drop-changes g) → length c.deref.result.now ≡ length c.args.ops.now
@@ -65,11 +48,12 @@ as_many_in g c =
     ∙ length-map c.args.ops.now operation_of
 
 -- without them the part is what was there
-none_in : (g : given.Over) (c : goal.After-drop-changes g) → length c.args.ops.now ≡ 0 → c.update_of.result.new_nodes ≡ most_nodes (history_of (state_of c.args.held.now)) 0
-none_in g c empty =
+none_in : (g : given.Over) (c : goal.After-drop-changes g)
+    → AreFound (state_of c.args.held.now) c.last-last.result c.root_of-root.result c.args.held.now.nonce c.nonce_of-nonce.result
+    → length c.args.ops.now ≡ 0 → c.update_of.result.new_nodes ≡ most_nodes (history_of (state_of c.args.held.now)) 0
+none_in g c found empty =
     c.update_of.result.counted ∙ ap node_count (c.update_of.ensures.part ∙ c.in-Ok-build.ensures.same (as_many_in g c ∙ empty))
-    ∙ ap (λ (r : Option Root). node_count (unchanged r)) c.root_of-root.ensures
-    ∙ none_added (g.H.Hash32.digest_of c.args.h.now) (g.X.IndexSource.index_of c.args.source.now) (state_of c.args.held.now) c.requires.whole c.last-last.result c.last-last.ensures
+    ∙ none_added (g.H.Hash32.digest_of c.args.h.now) (g.X.IndexSource.index_of c.args.source.now) (state_of c.args.held.now) c.requires.whole _ _ _ _ found
 
 pub returns-in-Ok-build-clause-update : goal.returns-in-Ok-build-clause-update
 returns-in-Ok-build-clause-update g c =
@@ -79,21 +63,18 @@ returns-in-Ok-build-clause-update g c =
     let registry = latest_registry (history_of s) in
     let ops = operations c.args.ops.now in
     let nonce = c.nonce_of-nonce.result in
+    let now = (goal.at.returns-in-Ok-build-clause-update g c).After-nonce_of-nonce in
     let seen = c.in_ok-seen.seen in
     let p = c.update_of.result in
     let e = c.update_of.ensures in
     -- the changes are those of the records, and the part is built of them
     let these = seen_changes hash of ops seen c.records.result c.in-Ok.changes.items c.deref.result.now c.deref.ensures.value (c.in-Ok.ensures hash of (map bound_by ops) c.in_ok-seen.ensures.seen) in
     let b : IsBuilt hash of nonce.0 s.nodes s.records registry ops c.in-Ok-build.part seen.records.items =
-    built hash of nonce.0 s.nodes s.records c.root_of-root.result registry ops seen.records.items seen.numbers c.deref.result.now c.records.result c.in-Ok-build.part (shown_in g c)
-    (c.in_ok-seen.ensures.faultless nonce.0 registry (shown_in g c)) c.in_ok-seen.ensures.seen c.records.ensures these c.in-Ok-build.ensures.placed c.in-Ok-build.ensures.stands in
+    built hash of nonce.0 s.nodes s.records c.root_of-root.result registry ops seen.records.items seen.numbers c.deref.result.now c.records.result c.in-Ok-build.part (shown_in g now)
+    (c.in_ok-seen.ensures.faultless nonce.0 registry (shown_in g now)) c.in_ok-seen.ensures.seen c.records.ensures these c.in-Ok-build.ensures.placed c.in-Ok-build.ensures.stands in
     -- and both are the update's
-    let q : IsBuilt hash of nonce.0 s.nodes s.records registry ops p.part seen.records.items =
-    subst (λ (part : Part). IsBuilt hash of nonce.0 s.nodes s.records registry ops part seen.records.items) (sym e.part) b in
-    let r : IsBuilt hash of nonce.0 s.nodes s.records registry ops p.part p.records.items =
-    subst (λ (v : Vec Record Global). IsBuilt hash of nonce.0 s.nodes s.records registry ops p.part v.items) (sym e.records) q in
-    let fits : Fits (length s.nodes) 0 p.part = subst (Fits (length s.nodes) 0) (sym e.part) c.in-Ok-build.ensures.fits in
-    is_update hash of s c.requires.whole p ops c.last-last.result c.args.held.now.nonce nonce c.last-last.ensures refl c.nonce_of-nonce.ensures (e.base ∙ c.count.ensures) e.version e.nonce fits r
+    let r : IsBuilt hash of nonce.0 s.nodes s.records registry ops p.part p.records.items = rw (e.part, e.records) b in
+    is_update hash of s c.requires.whole _ _ _ _ (found_in g now) p ops (e.base ∙ c.count.ensures) e.version e.nonce (rw e.part c.in-Ok-build.ensures.fits) r
 
 pub returns-in-Ok-build-clause-registry : goal.returns-in-Ok-build-clause-registry
 returns-in-Ok-build-clause-registry g c =
@@ -107,10 +88,12 @@ returns-in-Ok-build-clause-few g c =
     let few : 0 < length c.deref.result.now → node_count part ≤ 512 * length c.deref.result.now + 1 = c.in-Ok-build.ensures.count in
     let same : c.update_of.result.new_nodes ≡ node_count part = c.update_of.result.counted ∙ ap node_count c.update_of.ensures.part in
     few_added (history_of (state_of c.args.held.now)) (length c.args.ops.now) c.update_of.result.new_nodes
-    (λ some. let fewer = few (omega (arith, many, some)) in omega (arith, many, fewer, same)) (none_in g c)
+    (λ some. let fewer = few (omega (arith, many, some)) in omega (arith, many, fewer, same)) (none_in g c (found_in g (goal.at.returns-in-Ok-build-clause-few g c).After-nonce_of-nonce))
 
 pub returns-in-Ok-build-clause-none : goal.returns-in-Ok-build-clause-none
-returns-in-Ok-build-clause-none g c = none_in g c
+returns-in-Ok-build-clause-none g c = none_in g c (found_in g (goal.at.returns-in-Ok-build-clause-none g c).After-nonce_of-nonce)
 
 pub returns-in-Ok-build-clause-faultless : goal.returns-in-Ok-build-clause-faultless
-returns-in-Ok-build-clause-faultless g c = c.in_ok-seen.ensures.faultless c.nonce_of-nonce.result.0 (latest_registry (history_of (state_of c.args.held.now))) (shown_in g c)
+returns-in-Ok-build-clause-faultless g c =
+    c.in_ok-seen.ensures.faultless c.nonce_of-nonce.result.0 (latest_registry (history_of (state_of c.args.held.now)))
+    (shown_in g (goal.at.returns-in-Ok-build-clause-faultless g c).After-nonce_of-nonce)

@@ -1,7 +1,5 @@
 use Rattle.std.proofs.Common.{subst, sym}
-use Rattle.coniks_tree.specs.Paths.{Finds}
-use Rattle.coniks_directory.specs.Holders.{HolderIs, ShowsLatest}
-use Rattle.coniks_directory.specs.State.{ShowsRegistry}
+use Rattle.coniks_directory.proofs.Words.{Finds, HolderIs, ShowsLatest, ShowsRegistry}
 use Rattle.coniks_directory.proofs.HolderLemmas.{found_none, found_some}
 use Rattle.coniks_directory.proofs.stand.holder_at.Goals as goal
 

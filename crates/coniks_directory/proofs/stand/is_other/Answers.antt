@@ -1,7 +1,5 @@
 use Rattle.std.proofs.Common.{rules, ◌≡◌, not, sym, subst, ◌∙◌}
-use Rattle.std.specs.Str.{bytes_eq}
-use Rattle.coniks_directory.specs.Holders.{HolderIs, IsHeld}
-use Rattle.coniks_directory.specs.State.{registered_of}
+use Rattle.coniks_directory.proofs.Words.{HolderIs, IsHeld, bytes_eq, registered_of}
 use Rattle.coniks_directory.proofs.HolderLemmas.{clash_free, clash_held}
 use Rattle.coniks_directory.proofs.stand.is_other.Goals as goal
 

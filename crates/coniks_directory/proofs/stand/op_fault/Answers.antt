@@ -1,12 +1,9 @@
 use Rattle.std.proofs.Common.{◌≡◌, true, false, is_some, option_map, ap, sym, ◌∙◌, ◌||◌}
-use Rattle.coniks_proof.specs.Registry.{has_name}
-use Rattle.coniks_proof.specs.Batches.{kind_fault}
-use Rattle.coniks_directory.specs.Batches.{fault_is, kind_of, operation_of}
+use Rattle.coniks_directory.proofs.Words.{fault_is, has_name, kind_fault, kind_of, operation_of, or_right}
 use Rattle.coniks_directory.proofs.HolderLemmas.{clash_some}
-use Rattle.std.proofs.lemmas.Bool.{or_right}
 use Rattle.coniks_directory.proofs.JudgeLemmas.{at_twice, at_kind, at_clash}
-use Rattle.coniks_directory.proofs.stand.op_fault.Goals as goal
 use Rattle.coniks_directory.proofs.stand.op_fault.Goals.{then-is_other-via-then-is_other, then-is_other-via-else-is_other+then-is_some}
+use Rattle.coniks_directory.proofs.stand.op_fault.Goals as goal
 
 pub returns-then-is_named-clause-fault : goal.returns-then-is_named-clause-fault
 returns-then-is_named-clause-fault c = λ of registry before p e.

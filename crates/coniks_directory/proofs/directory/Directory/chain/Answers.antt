@@ -1,7 +1,5 @@
 use Rattle.std.proofs.Common.{subst}
-use Rattle.coniks_directory.specs.Directories.{history}
-use Rattle.coniks_directory.specs.History.{AllHaveOwnIndices, AllUnder}
-use Rattle.coniks_directory.specs.State.{View, state_of}
+use Rattle.coniks_directory.proofs.Words.{AllHaveOwnIndices, AllUnder, View, history, state_of}
 use Rattle.coniks_directory.proofs.InstallLemmas.{all_under}
 use Rattle.coniks_directory.proofs.LookupLemmas.{all_own}
 use Rattle.coniks_directory.proofs.directory.Directory.chain.Goals as goal

@@ -1,6 +1,5 @@
 use Rattle.std.proofs.Common.{List, ap, sym, ◌∙◌}
-use Rattle.coniks_directory.specs.History.{last_number}
-use Rattle.coniks_directory.specs.declared.epochs.Epoch.{Epoch}
+use Rattle.coniks_directory.proofs.Words.{Epoch, last_number}
 use Rattle.coniks_directory.proofs.EpochLemmas.{numbers}
 use Rattle.coniks_directory.proofs.LookupLemmas.{numbers-history}
 use Rattle.coniks_directory.proofs.held.Held.latest.Goals as goal

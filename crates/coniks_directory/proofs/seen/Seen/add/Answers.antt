@@ -1,8 +1,5 @@
 use Rattle.std.proofs.Common.{◌≡◌, ◌+◌, None, Some, ap, ◌∙◌, cond, is_some, if◌then◌else◌, length}
-use Rattle.std.specs.Ordering.{nat_cmp, is_eq}
-use Rattle.std.specs.Cmp.Lexicographic.{slice_cmp}
-use Rattle.std.specs.BTreeMap.{btree_map_len}
-use Rattle.coniks_directory.specs.Judged.{number_at}
+use Rattle.coniks_directory.proofs.Words.{btree_map_len, is_eq, nat_cmp, number_at, slice_cmp}
 use Rattle.coniks_directory.proofs.SeenLemmas.{free_none, seen_next}
 use Rattle.coniks_directory.proofs.seen.Seen.add.Goals as goal
 

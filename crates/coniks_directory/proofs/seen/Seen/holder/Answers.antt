@@ -1,8 +1,5 @@
 use Rattle.std.proofs.Common.{◌≡◌, List, Option, None, Some, MatchOption, slice_get, subst, sym}
-use Rattle.std.specs.Borrow.{Bor}
-use Rattle.coniks_tree.specs.declared.table.Record.{Record}
-use Rattle.coniks_directory.specs.Holders.{HolderIs}
-use Rattle.coniks_directory.specs.Judged.{number_at}
+use Rattle.coniks_directory.proofs.Words.{Bor, HolderIs, Record, number_at}
 use Rattle.coniks_directory.proofs.SeenLemmas.{seen_free, seen_held}
 use Rattle.coniks_directory.proofs.seen.Seen.holder.Goals as goal
 
