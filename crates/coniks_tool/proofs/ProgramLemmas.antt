@@ -13,10 +13,10 @@ use Rattle.coniks_tool.specs.Choice.{Choice, run, check, audit, monitor, chosen,
 use Rattle.coniks_tool.specs.Expectations.{expectation_in}
 use Rattle.coniks_tool.specs.Keydir.{keydir}
 use Rattle.coniks_tool.specs.Program.{AsksForHelp, ChooseNoRun, EndsBy, EndsFor, HasBadExpectation, HasBadKey, HasBadText, HasMistake, IfRefused, IsExplained, Runs, RunsFor, Tells, TellsIf, bad_expectation_line, bad_key_line, fault_line, status_of, told_of, Fails}
-use Rattle.coniks_tool.specs.declared.choice.WordsFault.{WordsFault}
-use Rattle.coniks_tool.specs.declared.choice.WordsFault.TheVariants.{Clap, OutOfMemory}
-use Rattle.coniks_tool.specs.declared.ending.Ending.{Ending}
-use Rattle.coniks_tool.specs.declared.ending.Ending.TheVariants.{Done, Refused, BadKey, BadExpectation}
+use Rattle.coniks_tool.specs.declared.words.choice.WordsFault.{WordsFault}
+use Rattle.coniks_tool.specs.declared.words.choice.WordsFault.TheVariants.{Clap, OutOfMemory}
+use Rattle.coniks_tool.specs.declared.words.ending.Ending.{Ending}
+use Rattle.coniks_tool.specs.declared.words.ending.Ending.TheVariants.{Done, Refused, BadKey, BadExpectation}
 
 -- a fact that always holds also holds where the words are refused
 pub holds_if_refused : {P : Type 0} (r : Result Ending RunFault) → P → IfOk r (λ ending. IfRefused ending P)

@@ -24,12 +24,12 @@ use Rattle.coniks_work.specs.declared.jobs.TheConstants.{MAX_DEPTH}
 use Rattle.coniks_tool.specs.Demo.{demo_index}
 use Rattle.coniks_tool.specs.Refusals.{IsRefusedBy, Refusal, not_later, refusal}
 use Rattle.coniks_tool.specs.Replies.{Outcome, installed, outcome_of}
-use Rattle.coniks_tool.specs.declared.reply.Reply.{Reply}
+use Rattle.coniks_tool.specs.declared.run.reply.Reply.{Reply}
 use Rattle.coniks_tool.specs.Script.{Installs, Opened, State as Held, Turn, batch_on, batch_with, refusal_outcome, refused, shown_next as shown_epoch}
 use Rattle.coniks_tool.specs.Seal.{is_seal}
 use Rattle.coniks_tool.specs.Stores.{opened_by, opened_of, state_of}
-use Rattle.coniks_tool.specs.declared.store.Service.{Service}
-use Rattle.coniks_tool.specs.declared.store.TheConstants.{BOARD_HEADS}
+use Rattle.coniks_tool.specs.declared.run.store.Service.{Service}
+use Rattle.coniks_tool.specs.declared.run.store.TheConstants.{BOARD_HEADS}
 use Rattle.coniks_tool.proofs.SealedLemmas.{entry_is}
 
 -- what is accepted isn't refused

@@ -6,8 +6,8 @@ use Rattle.coniks_chain.specs.declared.auditor.AuditFault.{AuditFault}
 use Rattle.coniks_chain.specs.declared.auditor.AuditFault.TheVariants.{Version, FirstEpoch, NotLater, PreviousEpoch, PreviousLink, NonceChanged, Verdict}
 use Rattle.coniks_tool.specs.ProofTexts.{digits}
 use Rattle.coniks_tool.specs.Replies.{fault_data, bad_member_data}
-use Rattle.coniks_tool.specs.declared.audit_reply.AuditReply.{AuditReply}
-use Rattle.coniks_tool.specs.declared.audit_reply.AuditReply.TheVariants as reply
+use Rattle.coniks_tool.specs.declared.audit.reply.AuditReply.{AuditReply}
+use Rattle.coniks_tool.specs.declared.audit.reply.AuditReply.TheVariants as reply
 
 -- what comes of a line
 pub data AuditOutcome : Type 0 where

@@ -10,9 +10,9 @@ use Rattle.coniks_tool.specs.Members.{object_in, text_in, digits_in}
 use Rattle.coniks_tool.specs.ProofObjects.{proof_in}
 use Rattle.coniks_tool.specs.CheckFaults.{check_fault}
 use Rattle.coniks_tool.specs.CheckReplies.{CheckOutcome, answered, not_json, no_member, at_fault, check_text, is_answered}
-use Rattle.coniks_tool.specs.declared.question.Question.{Question}
-use Rattle.coniks_tool.specs.declared.reply.Member.{Member}
-use Rattle.coniks_tool.specs.declared.reply.Member.TheVariants.{Index, Name, Nonce, Root, Proof}
+use Rattle.coniks_tool.specs.declared.check.question.Question.{Question}
+use Rattle.coniks_tool.specs.declared.lines.printing.Member.{Member}
+use Rattle.coniks_tool.specs.declared.lines.printing.Member.TheVariants.{Index, Name, Nonce, Root, Proof}
 
 -- what a checker is asked: whether a proof is accepted for a name and its index, under a root and a nonce
 pub record Asked : Type 0 where

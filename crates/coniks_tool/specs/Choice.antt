@@ -9,10 +9,10 @@ use Rattle.coniks_directory.specs.Batches.{AreWorkers}
 use Rattle.hex.specs.Hex.{decode_sized}
 use Rattle.coniks_work.specs.declared.jobs.TheConstants.{MAX_DEPTH}
 use Rattle.coniks_tool.specs.Expectations.{expectation_in}
-use Rattle.coniks_tool.specs.declared.choice.Settings.{Settings}
-use Rattle.coniks_tool.specs.declared.choice.Settings.TheVariants.{Run, Check, Audit, Monitor}
-use Rattle.coniks_tool.specs.declared.choice.WordsFault.{WordsFault}
-use Rattle.coniks_tool.specs.declared.choice.WordsFault.TheVariants.{Clap, OutOfMemory}
+use Rattle.coniks_tool.specs.declared.words.choice.Settings.{Settings}
+use Rattle.coniks_tool.specs.declared.words.choice.Settings.TheVariants.{Run, Check, Audit, Monitor}
+use Rattle.coniks_tool.specs.declared.words.choice.WordsFault.{WordsFault}
+use Rattle.coniks_tool.specs.declared.words.choice.WordsFault.TheVariants.{Clap, OutOfMemory}
 
 -- what to do
 pub data Choice : Type 0 where

@@ -24,7 +24,7 @@ use Rattle.coniks_tool.specs.Members.{object_in, text_in}
 use Rattle.coniks_tool.specs.MonitorReplies.{MonitorOutcome, watched, expecting, not_json, no_member, at_fault, monitor_text, is_as_expected}
 use Rattle.coniks_tool.specs.ProofObjects.{proof_in}
 use Rattle.coniks_tool.specs.Seal.{is_seal}
-use Rattle.coniks_tool.specs.declared.reply.Member.TheVariants.{Key, Proof, Entry}
+use Rattle.coniks_tool.specs.declared.lines.printing.Member.TheVariants.{Key, Proof, Entry}
 
 -- the key of the seal, the name and its index, what the next entry is compared with, and the key that is expected, if one is
 pub record MonitorState : Type 0 where

@@ -10,9 +10,9 @@ use Rattle.coniks_chain.specs.declared.seen.MonitorFault.TheVariants.{Audit, Che
 use Rattle.coniks_tool.specs.AuditReplies.{audit_fault_name}
 use Rattle.coniks_tool.specs.CheckReplies.{check_fault_name}
 use Rattle.coniks_tool.specs.Replies.{fault_data, bad_member_data, member_name}
-use Rattle.coniks_tool.specs.declared.reply.Member.{Member}
-use Rattle.coniks_tool.specs.declared.monitor_reply.MonitorReply.{MonitorReply}
-use Rattle.coniks_tool.specs.declared.monitor_reply.MonitorReply.TheVariants as reply
+use Rattle.coniks_tool.specs.declared.lines.printing.Member.{Member}
+use Rattle.coniks_tool.specs.declared.monitor.reply.MonitorReply.{MonitorReply}
+use Rattle.coniks_tool.specs.declared.monitor.reply.MonitorReply.TheVariants as reply
 
 -- what comes of a line
 pub data MonitorOutcome : Type 0 where

@@ -15,10 +15,10 @@ use Rattle.coniks_tool.specs.Expectations.{expectation_in}
 use Rattle.coniks_tool.specs.Keydir.{keydir}
 use Rattle.coniks_tool.specs.Monitor.{MonitorState, monitor_answer, none_watched}
 use Rattle.coniks_tool.specs.Script.{State, script_answer}
-use Rattle.coniks_tool.specs.declared.choice.Unread.{Unread}
-use Rattle.coniks_tool.specs.declared.choice.Unread.TheVariants as unread
-use Rattle.coniks_tool.specs.declared.ending.Ending.{Ending}
-use Rattle.coniks_tool.specs.declared.ending.Ending.TheVariants.{Done, Refused, BadKey, BadExpectation}
+use Rattle.coniks_tool.specs.declared.words.choice.Unread.{Unread}
+use Rattle.coniks_tool.specs.declared.words.choice.Unread.TheVariants as unread
+use Rattle.coniks_tool.specs.declared.words.ending.Ending.{Ending}
+use Rattle.coniks_tool.specs.declared.words.ending.Ending.TheVariants.{Done, Refused, BadKey, BadExpectation}
 
 -- the line that tells of a fault
 abbrev pub fault_line : RunFault → List ℕ

@@ -8,7 +8,7 @@ use Rattle.coniks_directory.specs.declared.batch.BatchFault.TheVariants as batch
 use Rattle.coniks_directory.specs.declared.update.CommitFault.{CommitFault}
 use Rattle.coniks_directory.specs.declared.update.CommitFault.TheVariants.{Batch, Install}
 use Rattle.coniks_directory.specs.declared.update.InstallFault.TheVariants as install
-use Rattle.coniks_tool.specs.declared.store.TheConstants.{BOARD_HEADS}
+use Rattle.coniks_tool.specs.declared.run.store.TheConstants.{BOARD_HEADS}
 
 -- why a batch is refused
 pub data Refusal : Type 0 where

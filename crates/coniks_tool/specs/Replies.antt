@@ -9,10 +9,10 @@ use Rattle.coniks_directory.specs.Batches.{fault_is}
 use Rattle.coniks_chain.specs.Entries.{entry_bytes}
 use Rattle.coniks_tool.specs.Paths.{Path, path_of}
 use Rattle.coniks_tool.specs.ProofTexts.{digits, proof_data}
-use Rattle.coniks_tool.specs.declared.reply.Member.{Member}
-use Rattle.coniks_tool.specs.declared.reply.Member.TheVariants as named
-use Rattle.coniks_tool.specs.declared.reply.Reply.{Reply}
-use Rattle.coniks_tool.specs.declared.reply.Reply.TheVariants as reply
+use Rattle.coniks_tool.specs.declared.lines.printing.Member.{Member}
+use Rattle.coniks_tool.specs.declared.lines.printing.Member.TheVariants as named
+use Rattle.coniks_tool.specs.declared.run.reply.Reply.{Reply}
+use Rattle.coniks_tool.specs.declared.run.reply.Reply.TheVariants as reply
 
 -- what comes of a line: a reply in numbers, byte lists and the faults of batches
 pub data Outcome : Type 0 where

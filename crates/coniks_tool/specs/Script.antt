@@ -20,7 +20,7 @@ use Rattle.coniks_tool.specs.Operations.{operations_in}
 use Rattle.coniks_tool.specs.Paths.{path_to}
 use Rattle.coniks_tool.specs.Refusals.{Refusal, refusal, too_long, at, not_later, full}
 use Rattle.coniks_tool.specs.Replies.{Outcome, opened, installed, looked_up, unknown_epoch, bad_name_length, not_json, no_command, bad_member, bad_operation, not_open, already_open, batch_too_long, bad_batch, epoch_not_later, board_full, reply_text, is_accepted}
-use Rattle.coniks_tool.specs.declared.reply.Member.TheVariants.{Key, Nonce, Policy, Epoch, Ops, Name}
+use Rattle.coniks_tool.specs.declared.lines.printing.Member.TheVariants.{Key, Nonce, Policy, Epoch, Ops, Name}
 
 -- a directory that was opened: its key, nonce and policy, and its history
 pub record Opened : Type 0 where

@@ -7,8 +7,8 @@ use Rattle.coniks_directory.specs.State.{State as Directory, history_of}
 use Rattle.coniks_shared.specs.Boards.{Boarded, BoardEnd}
 use Rattle.coniks_tool.specs.Script.{Opened, State}
 use Rattle.coniks_tool.specs.Seal.{is_seal}
-use Rattle.coniks_tool.specs.declared.store.TheConstants.{BOARD_HEADS}
-use Rattle.coniks_tool.specs.declared.store.Service.{Service}
+use Rattle.coniks_tool.specs.declared.run.store.TheConstants.{BOARD_HEADS}
+use Rattle.coniks_tool.specs.declared.run.store.Service.{Service}
 
 -- a directory of a key, in this state
 abbrev pub opened_by : List ℕ → Directory → Opened

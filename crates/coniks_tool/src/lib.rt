@@ -9,47 +9,27 @@
 //! ```
 #![tactic(auto)]
 
-pub mod audit_laws;
-mod audit_reply;
-mod auditing;
-pub mod check_laws;
-mod check_reply;
-mod checking;
-mod choice;
-mod command;
-mod crew;
+mod audit;
+mod check;
 mod demo;
-mod ending;
-mod entries;
-mod expectation;
-mod help;
-mod members;
-pub mod monitor_laws;
-mod monitor_reply;
-mod monitoring;
-mod operations;
-mod proof_object;
-mod proof_text;
-mod question;
-mod reply;
-mod running;
-mod script;
-pub mod script_laws;
-mod seal;
-mod statuses;
-mod store;
-mod telling;
+mod lines;
+mod monitor;
+mod run;
 mod words;
 
-pub use auditing::run_audit;
-pub use checking::run_check;
-pub use choice::{Settings, Unread, WordsFault};
+pub use audit::laws as audit_laws;
+pub use audit::machine::run_audit;
+pub use check::laws as check_laws;
+pub use check::machine::run_check;
 pub use coniks_lines::{
     ByteIn, ByteOut, Failed, MemoryIn, MemoryOut, RunFault, SystemIn, SystemOut,
 };
-pub use demo::DemoIndex;
-pub use monitoring::run_monitor;
-pub use script::run_script;
-pub use seal::DemoSeal;
-pub use statuses::{program, unread_words};
-pub use words::settings;
+pub use demo::index::DemoIndex;
+pub use demo::seal::DemoSeal;
+pub use monitor::laws as monitor_laws;
+pub use monitor::machine::run_monitor;
+pub use run::laws as script_laws;
+pub use run::machine::run_script;
+pub use words::choice::{Settings, Unread, WordsFault};
+pub use words::settings::settings;
+pub use words::statuses::{program, unread_words};

@@ -1,0 +1,32 @@
+use Rattle.std.proofs.Common.{◌∙◌, map, sym}
+use Rattle.clap.specs.Words.{kind_of}
+use Rattle.coniks_tool.specs.Choice.{choice_of}
+use Rattle.coniks_tool.specs.Program.{AsksForBoard}
+use Rattle.std.specs.Prelude.{Some}
+use Rattle.coniks_tool.proofs.ProgramLemmas.{holds_if_refused, explained-ends_for, run-ends_for, run-isnt_refused, Clap-isnt-OutOfMemory, fails_with_no_board}
+use Rattle.coniks_tool.proofs.words.statuses.obey.Goals as goal
+
+pub returns-in-Ok-clause-found : goal.returns-in-Ok-clause-found
+returns-in-Ok-clause-found g c =
+    run-ends_for (map g.S.AsStr.text c.args.words.now) _ _ _ _ (choice_of c.in-Ok.settings) c.run_settings.result c.in-Ok.ensures.faultless c.in-Ok.ensures.ok c.run_settings.ensures.ends
+
+pub returns-in-Ok-clause-taken : goal.returns-in-Ok-clause-taken
+returns-in-Ok-clause-taken g c =
+    run-isnt_refused (map g.S.AsStr.text c.args.words.now) _ _ _ _ _ (Some (choice_of c.in-Ok.settings)) c.run_settings.result c.run_settings.ensures.ends
+
+pub returns-in-Err-Clap-clause-found : goal.returns-in-Err-Clap-clause-found
+returns-in-Err-Clap-clause-found g c =
+    explained-ends_for (map g.S.AsStr.text c.args.words.now) _ _ _ _ (kind_of c.in-Err-Clap.error) c.explain.result (rw c.in-Err-Clap.field-0-is at c.in-Err-Clap.ensures.refused) c.explain.ensures.kind
+
+pub returns-in-Err-Clap-clause-taken : goal.returns-in-Err-Clap-clause-taken
+returns-in-Err-Clap-clause-taken g c =
+    holds_if_refused c.explain.result (λ taken. Clap-isnt-OutOfMemory c.in-Err-Clap.error (sym c.in-Err-Clap.field-0-is ∙ c.in-Err-Clap.ensures.passes taken))
+
+pub returns-in-Ok-clause-unwritten : goal.returns-in-Ok-clause-unwritten
+returns-in-Ok-clause-unwritten g c =
+    run-isnt_refused (map g.S.AsStr.text c.args.words.now) _ _ _ _ _ (Some (choice_of c.in-Ok.settings)) c.run_settings.result c.run_settings.ensures.ends
+
+pub returns-in-Err-Clap-clause-fails : goal.returns-in-Err-Clap-clause-fails
+returns-in-Err-Clap-clause-fails g c =
+    let from = g.R.ByteIn.source c.args.reader.now in
+    fails_with_no_board (AsksForBoard (map g.S.AsStr.text c.args.words.now)) from from _ _ c.explain.result (c.explain.ensures.fails from)

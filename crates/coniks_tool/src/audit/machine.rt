@@ -1,0 +1,124 @@
+//! The machine of `audit`, and its engine.
+
+ghost use Rattle.std.specs.Prelude.{◌≡◌, ◌<◌, ◌+◌, ◌^◌, ◌↔◌, ℕ, List, IfOk, IfErr, OnOk, OnErr, Some, true};
+ghost use Rattle.coniks_lines.specs.Lines.{lines_of};
+ghost use Rattle.coniks_lines.specs.Machine.{output};
+ghost use Rattle.coniks_lines.specs.Runs.{AnswersAll, EndsBadly, EndsWell, WritesPart};
+ghost use Rattle.coniks_tool.specs.Audit.{AuditState, audit_answer, audit_turn, entry_turn, none_audited};
+ghost use Rattle.coniks_tool.specs.AuditChain.{HoldsGoodChain};
+ghost use Rattle.coniks_tool.specs.AuditReplies.{audit_outcome};
+
+use crate::audit::reply::{AuditReply, print_audit};
+use crate::demo::seal::DemoSeal;
+use crate::lines::entries::read_entry;
+use crate::lines::members::read_object;
+use coniks_chain::{Auditor, Entry};
+use coniks_lines::{ByteIn, ByteOut, LineMachine, RunFault, run_lines};
+use coniks_proof::{Head, Sha256Hash};
+use std::alloc::{AllocError, Global};
+
+/// Audits the entries of lines, each after the one that was accepted last.
+#[derive(Drop)]
+pub struct Auditing {
+    alloc: Global,
+    seal: DemoSeal,
+    auditor: Auditor<Sha256Hash>,
+}
+
+impl Auditing {
+    /// Audits under the seal of a key, and has accepted no entry.
+    fn new(alloc: Global, key: [u8; 32]) -> Auditing
+        ensures { record { key = result.seal.key; before = result.auditor.1 } ≡ none_audited key }
+    {
+        Auditing {
+            alloc,
+            seal: DemoSeal::new(key),
+            auditor: Auditor::new(Sha256Hash),
+        }
+    }
+
+    /// Feeds an entry to the auditor.
+    fn judge(&mut self, entry: &Entry) -> AuditReply
+        ensures reply { audit_outcome result ≡ (entry_turn (record { key = self.old.seal.key; before = self.old.auditor.1 }) (Some entry.now)).outcome }
+        ensures state { record { key = self.new.seal.key; before = self.new.auditor.1 } ≡ (entry_turn (record { key = self.old.seal.key; before = self.old.auditor.1 }) (Some entry.now)).state }
+    {
+        if let Err(fault) = self.auditor.feed(entry, &self.seal) {
+            return AuditReply::AtFault(fault);
+        }
+        let Some(Head { epoch, link }) = self.auditor.head() else {
+            unreachable!()
+        };
+        AuditReply::Audited { epoch, link }
+    }
+
+    fn reply(&mut self, line: &[u8]) -> Result<AuditReply, AllocError>
+        ensures reply { IfOk result (λ reply. audit_outcome reply ≡ (audit_turn (record { key = self.old.seal.key; before = self.old.auditor.1 }) line.now).outcome) }
+        ensures state { OnOk result (record { key = self.new.seal.key; before = self.new.auditor.1 } ≡ (audit_turn (record { key = self.old.seal.key; before = self.old.auditor.1 }) line.now).state) }
+    {
+        let Some(object) = read_object(self.alloc, line)? else {
+            return Ok(AuditReply::NotJson);
+        };
+        match read_entry(&object) {
+            Some(entry) => Ok(self.judge(&entry)),
+            None => Ok(AuditReply::NoEntry),
+        }
+    }
+}
+
+impl LineMachine for Auditing {
+    ghost use Rattle.coniks_tool.specs.Audit.{AuditState, audit_answer};
+
+    ghost State = { AuditState };
+
+    ghost state = { λ a. record { key = a.seal.key; before = a.auditor.1 } };
+
+    ghost answer = { audit_answer };
+
+    ghost Needs = { Unit {0} };
+
+    fn step(&mut self, line: &[u8], out: &mut Vec<u8>) -> Result<bool, AllocError> {
+        let reply = self.reply(line)?;
+        print_audit(self.alloc, &reply, out)?;
+        Ok(reply.is_accepted())
+    }
+}
+
+/// Audits the entries that the lines of the reader hold, under the demonstration seal of a key: each line is answered by
+/// one line and one flush, until a read answers 0. Tells whether each line was accepted.
+///
+/// An entry is compared with the last one that was accepted; a refused line changes nothing.
+///
+/// # Errors
+///
+/// Those of `run_lines`.
+pub fn run_audit<R: ByteIn, W: ByteOut>(
+    alloc: Global,
+    key: [u8; 32],
+    reader: &mut R,
+    writer: &mut W,
+) -> Result<bool, RunFault>
+    requires reads { (R.source reader.old).failed + 1 < 2 ^ 64 }
+    requires writes { (W.sink writer.old).failed + 1 < 2 ^ 64 }
+    ensures ok { IfOk result (λ all. (state : AuditState) × EndsWell audit_answer (none_audited key)
+        (R.source reader.old) (R.source reader.new)
+        (W.sink writer.old) (W.sink writer.new)
+        state all) }
+    ensures err { IfErr result (EndsBadly audit_answer (none_audited key)
+        (R.source reader.old) (R.source reader.new)
+        (W.sink writer.old) (W.sink writer.new)) }
+
+    // Where the reader tells its bytes: after Ok each of them is answered, and after a fault a beginning of what
+    // answers them was written. Each line is accepted exactly where the lines hold a good chain.
+    ensures all_of { (input : List ℕ) → (R.source reader.old).left ≡ Some input
+        → IfOk result (λ all. (state : AuditState) × AnswersAll audit_answer (none_audited key) input
+        (W.sink writer.old) (W.sink writer.new)
+        state all) }
+    ensures part_of { (input : List ℕ) → (R.source reader.old).left ≡ Some input
+        → OnErr result (WritesPart (output audit_answer (none_audited key) input)
+        (W.sink writer.old) (W.sink writer.new)) }
+    ensures chain { (input : List ℕ) → (R.source reader.old).left ≡ Some input
+        → IfOk result (λ all. (all ≡ true) ↔ HoldsGoodChain key (lines_of input)) }
+{
+    let mut auditing = Auditing::new(alloc, key);
+    run_lines(alloc, &mut auditing, reader, writer)
+}

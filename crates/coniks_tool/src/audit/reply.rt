@@ -1,0 +1,79 @@
+//! What `audit` answers to a line, and its text.
+
+ghost use Rattle.std.specs.Prelude.{◌≡◌, ◌++◌, IfOk, OnOk, OnErr};
+ghost use Rattle.serde_json.specs.View.{view};
+ghost use Rattle.coniks_tool.specs.AuditReplies.{audit_data, audit_fault_name, audit_outcome, audit_text, audited_data};
+
+use crate::lines::printing::{bad_member, fault, print_value};
+use coniks_chain::AuditFault;
+use coniks_proof::Digest;
+use serde_json::{Value, json};
+use std::alloc::{AllocError, Global};
+
+/// What `audit` answers to a line.
+#[derive(Clone, Copy)]
+pub enum AuditReply {
+    /// The entry follows the one that was accepted last.
+    Audited { epoch: u64, link: Digest },
+    /// The line isn't a JSON object.
+    NotJson,
+    /// The member `entry` is missing, of another kind or of a wrong text.
+    NoEntry,
+    /// The entry doesn't follow.
+    AtFault(AuditFault),
+}
+
+impl AuditReply {
+    ghost use Rattle.coniks_tool.specs.AuditReplies.{is_audited};
+
+    /// Whether the line was accepted.
+    pub fn is_accepted(&self) -> bool
+        ensures { result ≡ is_audited (audit_outcome self.now) }
+    {
+        match self {
+            AuditReply::Audited { .. } => true,
+            AuditReply::NotJson | AuditReply::NoEntry | AuditReply::AtFault(_) => false,
+        }
+    }
+}
+
+/// Adds the text of a reply, with no newline, as for the replies of `run`.
+pub fn print_audit(alloc: Global, reply: &AuditReply, out: &mut Vec<u8>) -> Result<(), AllocError>
+    ensures ok { OnOk result (out.new.items ≡ out.old.items ++ audit_text (audit_outcome reply.now)) }
+    ensures err { OnErr result (out.new.items ≡ out.old.items) }
+{
+    let value = value_of(alloc, reply)?;
+    print_value(alloc, &value, out)
+}
+
+fn value_of(alloc: Global, reply: &AuditReply) -> Result<Value, AllocError>
+    ensures { IfOk result (λ value. view value ≡ audit_data (audit_outcome reply.now)) }
+{
+    match reply {
+        AuditReply::Audited { epoch, link } => audited(alloc, *epoch, link),
+        AuditReply::NotJson => fault(alloc, "Json"),
+        AuditReply::NoEntry => bad_member(alloc, "entry"),
+        AuditReply::AtFault(found) => fault(alloc, audit_fault_text(*found)),
+    }
+}
+
+/// The name of a fault.
+pub fn audit_fault_text(fault: AuditFault) -> &'static str
+    ensures { result.now ≡ audit_fault_name fault }
+{
+    match fault {
+        AuditFault::Version => "Version",
+        AuditFault::FirstEpoch => "FirstEpoch",
+        AuditFault::NotLater => "NotLater",
+        AuditFault::PreviousEpoch => "PreviousEpoch",
+        AuditFault::PreviousLink => "PreviousLink",
+        AuditFault::NonceChanged => "NonceChanged",
+        AuditFault::Verdict => "Verdict",
+    }
+}
+
+fn audited(alloc: Global, epoch: u64, link: &Digest) -> Result<Value, AllocError>
+    ensures { IfOk result (λ value. view value ≡ audited_data epoch link.now.0) }
+{
+    json!(in alloc; {"epoch": epoch, "link": hex::encode(alloc, &link.0)?, "ok": "audit"})
+}

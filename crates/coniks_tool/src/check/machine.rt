@@ -1,0 +1,113 @@
+//! The machine of `check`, and its engine.
+
+ghost use Rattle.std.specs.Prelude.{◌≡◌, ◌<◌, ◌+◌, ◌^◌, ◌++◌, ℕ, List, Ok, IfOk, IfErr, OnOk, OnErr, Some};
+ghost use Rattle.serde_json.specs.View.{view};
+ghost use Rattle.coniks_lines.specs.Machine.{output};
+ghost use Rattle.coniks_lines.specs.Runs.{AnswersAll, EndsBadly, EndsWell, WritesPart};
+ghost use Rattle.coniks_tool.specs.Check.{Stateless, asked_by, asked_in, check_answer, question_outcome, stateless};
+ghost use Rattle.coniks_tool.specs.CheckReplies.{check_outcome, check_text, is_answered};
+
+use crate::check::question::{Question, read_question};
+use crate::check::reply::{CheckReply, print_check};
+use crate::lines::members::read_object;
+use coniks_lines::{ByteIn, ByteOut, LineMachine, RunFault, run_lines};
+use coniks_proof::{Sha256Hash, check};
+use serde_json::Value;
+use std::alloc::{AllocError, Global};
+
+/// Checks the proofs of lines, each by itself.
+#[derive(Drop)]
+pub struct Checking {
+    alloc: Global,
+}
+
+/// Judges the proof of a question.
+fn judge<'q>(question: &'q Question<'_>) -> CheckReply<'q>
+    ensures { check_outcome result ≡ question_outcome (Ok (asked_by question.now)) }
+{
+    match check(
+        &Sha256Hash,
+        &question.nonce,
+        &question.root,
+        &question.index,
+        question.name.as_bytes(),
+        &question.proof,
+    ) {
+        Ok(answer) => CheckReply::Answered(answer),
+        Err(fault) => CheckReply::AtFault(fault),
+    }
+}
+
+/// Adds a reply's text, and tells whether the line was accepted.
+fn reply(alloc: Global, reply: &CheckReply<'_>, out: &mut Vec<u8>) -> Result<bool, AllocError>
+    ensures text { OnOk result (out.new.items ≡ out.old.items ++ check_text (check_outcome reply.now)) }
+    ensures accepted { IfOk result (λ accepted. accepted ≡ is_answered (check_outcome reply.now)) }
+{
+    print_check(alloc, reply, out)?;
+    Ok(reply.is_accepted())
+}
+
+impl LineMachine for Checking {
+    ghost use Rattle.coniks_tool.specs.Check.{Stateless, check_answer, stateless};
+
+    ghost State = { Stateless };
+
+    ghost state = { λ c. stateless };
+
+    ghost answer = { check_answer };
+
+    ghost Needs = { Unit {0} };
+
+    fn step(&mut self, line: &[u8], out: &mut Vec<u8>) -> Result<bool, AllocError> {
+        let Some(object) = read_object(self.alloc, line)? else {
+            return reply(self.alloc, &CheckReply::NotJson, out);
+        };
+        answer(self.alloc, &object, out)
+    }
+}
+
+/// Answers a line that is an object.
+fn answer(alloc: Global, object: &Value, out: &mut Vec<u8>) -> Result<bool, AllocError>
+    ensures text { OnOk result (out.new.items ≡ out.old.items ++ check_text (question_outcome (asked_in (view object.now)))) }
+    ensures accepted { IfOk result (λ accepted. accepted ≡ is_answered (question_outcome (asked_in (view object.now)))) }
+{
+    match read_question(alloc, object)? {
+        Ok(question) => reply(alloc, &judge(&question), out),
+        Err(member) => reply(alloc, &CheckReply::NoMember(member), out),
+    }
+}
+
+/// Checks the proofs that the lines of the reader hold, each with its index, name, nonce and root: each line is
+/// answered by one line and one flush, until a read answers 0. Tells whether each line was accepted.
+///
+/// # Errors
+///
+/// Those of `run_lines`.
+pub fn run_check<R: ByteIn, W: ByteOut>(
+    alloc: Global,
+    reader: &mut R,
+    writer: &mut W,
+) -> Result<bool, RunFault>
+    requires reads { (R.source reader.old).failed + 1 < 2 ^ 64 }
+    requires writes { (W.sink writer.old).failed + 1 < 2 ^ 64 }
+    ensures ok { IfOk result (λ all. (state : Stateless) × EndsWell check_answer stateless
+        (R.source reader.old) (R.source reader.new)
+        (W.sink writer.old) (W.sink writer.new)
+        state all) }
+    ensures err { IfErr result (EndsBadly check_answer stateless
+        (R.source reader.old) (R.source reader.new)
+        (W.sink writer.old) (W.sink writer.new)) }
+
+    // Where the reader tells its bytes: after Ok each of them is answered, and after a fault a beginning of what
+    // answers them was written.
+    ensures all_of { (input : List ℕ) → (R.source reader.old).left ≡ Some input
+        → IfOk result (λ all. (state : Stateless) × AnswersAll check_answer stateless input
+        (W.sink writer.old) (W.sink writer.new)
+        state all) }
+    ensures part_of { (input : List ℕ) → (R.source reader.old).left ≡ Some input
+        → OnErr result (WritesPart (output check_answer stateless input)
+        (W.sink writer.old) (W.sink writer.new)) }
+{
+    let mut checking = Checking { alloc };
+    run_lines(alloc, &mut checking, reader, writer)
+}

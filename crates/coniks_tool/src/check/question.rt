@@ -1,0 +1,54 @@
+//! What a line asks of the checker.
+
+ghost use Rattle.std.specs.Prelude.{◌≡◌, IfOk};
+ghost use Rattle.serde_json.specs.View.{view};
+ghost use Rattle.coniks_tool.specs.Check.{asked_in, question_read};
+
+use crate::lines::members::{digits32, text};
+use crate::lines::printing::Member;
+use crate::lines::proof_object::read_proof;
+use coniks_proof::{Digest, Index, Nonce, Proof};
+use serde_json::Value;
+use std::alloc::{AllocError, Global};
+
+/// Whether a proof is accepted for a name and its index, under a root and a nonce.
+#[derive(Drop)]
+pub struct Question<'v> {
+    pub index: Index,
+    pub name: &'v str,
+    pub nonce: Nonce,
+    pub root: Digest,
+    pub proof: Proof,
+}
+
+/// The question of a line, or the first of its members that is missing, of another kind or of a
+/// wrong text: `index`, `name`, `nonce`, `root`, `proof`.
+pub fn read_question<'v>(
+    alloc: Global,
+    object: &'v Value,
+) -> Result<Result<Question<'v>, Member>, AllocError>
+    ensures { IfOk result (λ question. question_read question ≡ asked_in (view object.now)) }
+{
+    let Some(index) = digits32(object, "index") else {
+        return Ok(Err(Member::Index));
+    };
+    let Some(name) = text(object, "name") else {
+        return Ok(Err(Member::Name));
+    };
+    let Some(nonce) = digits32(object, "nonce") else {
+        return Ok(Err(Member::Nonce));
+    };
+    let Some(root) = digits32(object, "root") else {
+        return Ok(Err(Member::Root));
+    };
+    let Some(proof) = read_proof(alloc, object)? else {
+        return Ok(Err(Member::Proof));
+    };
+    Ok(Ok(Question {
+        index: Index(index),
+        name,
+        nonce: Nonce(nonce),
+        root: Digest(root),
+        proof,
+    }))
+}

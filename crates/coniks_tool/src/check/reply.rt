@@ -1,0 +1,97 @@
+//! What `check` answers to a line, and its text.
+
+ghost use Rattle.std.specs.Prelude.{◌≡◌, ◌++◌, IfOk, OnOk, OnErr};
+ghost use Rattle.serde_json.specs.View.{view};
+ghost use Rattle.coniks_proof.specs.Proofs.{said};
+ghost use Rattle.coniks_tool.specs.CheckReplies.{answer_data, key_data, check_data, check_fault_name, check_outcome, check_text};
+
+use crate::lines::printing::{Member, bad_member, fault, member_text, print_value};
+use base64::engine::general_purpose::STANDARD;
+use coniks_proof::{Answer, CheckFault};
+use serde_json::{Value, json};
+use std::alloc::{AllocError, Global};
+
+/// What `check` answers to a line.
+#[derive(Clone, Copy)]
+pub enum CheckReply<'a> {
+    /// The proof is accepted, and says this of the name.
+    Answered(Answer<'a>),
+    /// The line isn't a JSON object.
+    NotJson,
+    /// A member is missing, of another kind or of a wrong text.
+    NoMember(Member),
+    /// The proof isn't accepted.
+    AtFault(CheckFault),
+}
+
+impl CheckReply<'_> {
+    ghost use Rattle.coniks_tool.specs.CheckReplies.{is_answered};
+
+    /// Whether the line was accepted.
+    pub fn is_accepted(&self) -> bool
+        ensures { result ≡ is_answered (check_outcome self.now) }
+    {
+        match self {
+            CheckReply::Answered(_) => true,
+            CheckReply::NotJson | CheckReply::NoMember(_) | CheckReply::AtFault(_) => false,
+        }
+    }
+}
+
+/// Adds the text of a reply, with no newline, as for the replies of `run`.
+pub fn print_check(
+    alloc: Global,
+    reply: &CheckReply<'_>,
+    out: &mut Vec<u8>,
+) -> Result<(), AllocError>
+    ensures ok { OnOk result (out.new.items ≡ out.old.items ++ check_text (check_outcome reply.now)) }
+    ensures err { OnErr result (out.new.items ≡ out.old.items) }
+{
+    let value = value_of(alloc, reply)?;
+    print_value(alloc, &value, out)
+}
+
+fn value_of(alloc: Global, reply: &CheckReply<'_>) -> Result<Value, AllocError>
+    ensures { IfOk result (λ value. view value ≡ check_data (check_outcome reply.now)) }
+{
+    match reply {
+        CheckReply::Answered(answer) => answer_value(alloc, answer),
+        CheckReply::NotJson => fault(alloc, "Json"),
+        CheckReply::NoMember(member) => bad_member(alloc, member_text(*member)),
+        CheckReply::AtFault(found) => fault(alloc, check_fault_text(*found)),
+    }
+}
+
+fn answer_value(alloc: Global, answer: &Answer<'_>) -> Result<Value, AllocError>
+    ensures { IfOk result (λ value. view value ≡ answer_data (said answer.now)) }
+{
+    match answer {
+        Answer::Key(key) => key_value(alloc, *key),
+        Answer::Absent => json!(in alloc; {"answer": "absent", "ok": "check"}),
+    }
+}
+
+fn key_value(alloc: Global, key: &[u8]) -> Result<Value, AllocError>
+    ensures { IfOk result (λ value. view value ≡ key_data key.now) }
+{
+    json!(in alloc; {
+        "answer": "key",
+        "key": STANDARD.encode(alloc, key)?,
+        "ok": "check",
+    })
+}
+
+/// The name of a fault.
+pub fn check_fault_text(fault: CheckFault) -> &'static str
+    ensures { result.now ≡ check_fault_name fault }
+{
+    match fault {
+        CheckFault::TooDeep => "TooDeep",
+        CheckFault::NameLength => "NameLength",
+        CheckFault::KeyLength => "KeyLength",
+        CheckFault::WrongName => "WrongName",
+        CheckFault::OtherIsSame => "OtherIsSame",
+        CheckFault::OtherOffPath => "OtherOffPath",
+        CheckFault::RootMismatch => "RootMismatch",
+    }
+}

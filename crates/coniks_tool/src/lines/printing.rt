@@ -1,0 +1,65 @@
+//! Members of lines, and what all engines print.
+
+ghost use Rattle.std.specs.Prelude.{◌≡◌, ◌++◌, IfOk, OnOk, OnErr, false};
+ghost use Rattle.serde_json.specs.View.{view};
+ghost use Rattle.serde_json.specs.Written.{compact_text, has_float};
+ghost use Rattle.coniks_tool.specs.Replies.{bad_member_data, fault_data, member_name};
+
+use serde_json::{Value, json};
+use std::alloc::{AllocError, Global};
+
+/// A member of a line.
+#[derive(Clone, Copy)]
+pub enum Member {
+    Key,
+    Nonce,
+    Policy,
+    Epoch,
+    Ops,
+    Name,
+    Index,
+    Root,
+    Proof,
+    Entry,
+}
+
+/// The name of a member.
+pub(crate) fn member_text(member: Member) -> &'static str
+    ensures { result.now ≡ member_name member }
+{
+    match member {
+        Member::Key => "key",
+        Member::Nonce => "nonce",
+        Member::Policy => "policy",
+        Member::Epoch => "epoch",
+        Member::Ops => "ops",
+        Member::Name => "name",
+        Member::Index => "index",
+        Member::Root => "root",
+        Member::Proof => "proof",
+        Member::Entry => "entry",
+    }
+}
+
+/// Adds the text of a value.
+pub(crate) fn print_value(alloc: Global, value: &Value, out: &mut Vec<u8>) -> Result<(), AllocError>
+    ensures ok { has_float (view value.now) ≡ false → OnOk result (out.new.items ≡ out.old.items ++ compact_text (view value.now)) }
+    ensures err { OnErr result (out.new.items ≡ out.old.items) }
+{
+    let text = value.to_vec(alloc)?;
+    out.extend_from_slice(&text)
+}
+
+/// A refusal by its fault alone.
+pub(crate) fn fault(alloc: Global, name: &str) -> Result<Value, AllocError>
+    ensures { IfOk result (λ value. view value ≡ fault_data name.now) }
+{
+    json!(in alloc; {"fault": name})
+}
+
+/// The refusal of a line for one of its members.
+pub(crate) fn bad_member(alloc: Global, name: &str) -> Result<Value, AllocError>
+    ensures { IfOk result (λ value. view value ≡ bad_member_data name.now) }
+{
+    json!(in alloc; {"fault": "Member", "member": name})
+}

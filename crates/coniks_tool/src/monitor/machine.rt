@@ -1,0 +1,181 @@
+//! The machine of `monitor`, and its engine.
+
+ghost use Rattle.std.specs.Prelude.{◌≡◌, ◌<◌, ◌+◌, ◌^◌, ℕ, List, codes, IfOk, IfErr, OnOk, OnErr, Some};
+ghost use Rattle.serde_json.specs.View.{view};
+ghost use Rattle.coniks_lines.specs.Machine.{output};
+ghost use Rattle.coniks_lines.specs.Runs.{AnswersAll, EndsBadly, EndsWell, WritesPart};
+ghost use Rattle.coniks_tool.specs.EntryLines.{entry_in};
+ghost use Rattle.coniks_tool.specs.Expectations.{expected_in};
+ghost use Rattle.coniks_tool.specs.Members.{text_in};
+ghost use Rattle.coniks_tool.specs.Monitor.{MonitorState, expect_turn, is_expect, monitor_answer, monitor_turn, none_watched, object_turn, step_turn, watch_turn, watching};
+ghost use Rattle.coniks_tool.specs.MonitorReplies.{monitor_outcome};
+ghost use Rattle.coniks_tool.specs.ProofObjects.{proof_in};
+
+use crate::demo::index::DemoIndex;
+use crate::demo::seal::DemoSeal;
+use crate::lines::entries::read_entry;
+use crate::lines::members::{read_object, text};
+use crate::lines::printing::Member;
+use crate::lines::proof_object::read_proof;
+use crate::monitor::expectation::read_expectation;
+use crate::monitor::reply::{MonitorReply, print_monitor};
+use coniks_chain::{Entry, Monitor};
+use coniks_directory::IndexSource;
+use coniks_lines::{ByteIn, ByteOut, LineMachine, RunFault, run_lines};
+use coniks_proof::{Bytes, Proof, Sha256Hash};
+use serde_json::Value;
+use std::alloc::{AllocError, Global};
+
+/// Watches one name over the entries of lines, each with its proof.
+#[derive(Drop)]
+pub struct Monitoring {
+    alloc: Global,
+    seal: DemoSeal,
+    monitor: Monitor<Sha256Hash>,
+}
+
+impl Monitoring {
+    /// Watches a name under the seal and the index of a key, for a client that expects a key of it, or none. It has seen no entry.
+    fn new(alloc: Global, key: [u8; 32], name: Bytes, expected: Option<Bytes>) -> Monitoring
+        ensures { watching result.seal.key result.monitor ≡ none_watched key name expected }
+    {
+        let index = DemoIndex::new(key).index(name.as_slice());
+        Monitoring {
+            alloc,
+            seal: DemoSeal::new(key),
+            monitor: Monitor::new(Sha256Hash, name, index, expected),
+        }
+    }
+
+    /// Shows the monitor an entry and its proof.
+    fn judge(&mut self, entry: &Entry, proof: &Proof) -> MonitorReply
+        ensures reply { monitor_outcome result ≡ (step_turn (watching self.old.seal.key self.old.monitor) entry.now proof.now).outcome }
+        ensures state { watching self.new.seal.key self.new.monitor ≡ (step_turn (watching self.old.seal.key self.old.monitor) entry.now proof.now).state }
+    {
+        match self.monitor.step(entry, proof, &self.seal) {
+            Ok(seen) => MonitorReply::Watched {
+                epoch: entry.body.t,
+                seen,
+            },
+            Err(fault) => MonitorReply::AtFault(fault),
+        }
+    }
+
+    fn watch(&mut self, object: &Value) -> Result<MonitorReply, AllocError>
+        ensures reply { IfOk result (λ reply. monitor_outcome reply ≡ (watch_turn (watching self.old.seal.key self.old.monitor) (entry_in (view object.now)) (proof_in (view object.now))).outcome) }
+        ensures state { OnOk result (watching self.new.seal.key self.new.monitor ≡ (watch_turn (watching self.old.seal.key self.old.monitor) (entry_in (view object.now)) (proof_in (view object.now))).state) }
+    {
+        let Some(entry) = read_entry(object) else {
+            return Ok(MonitorReply::NoMember(Member::Entry));
+        };
+        match read_proof(self.alloc, object)? {
+            Some(proof) => Ok(self.judge(&entry, &proof)),
+            None => Ok(MonitorReply::NoMember(Member::Proof)),
+        }
+    }
+
+    fn expect(&mut self, object: &Value) -> Result<MonitorReply, AllocError>
+        ensures reply { IfOk result (λ reply. monitor_outcome reply ≡ (expect_turn (watching self.old.seal.key self.old.monitor) (expected_in (view object.now))).outcome) }
+        ensures state { OnOk result (watching self.new.seal.key self.new.monitor ≡ (expect_turn (watching self.old.seal.key self.old.monitor) (expected_in (view object.now))).state) }
+    {
+        match read_expectation(self.alloc, object)? {
+            Some(expected) => {
+                self.monitor.expect(expected);
+                Ok(MonitorReply::Expecting)
+            }
+            None => Ok(MonitorReply::NoMember(Member::Key)),
+        }
+    }
+
+    fn obey(&mut self, object: &Value) -> Result<MonitorReply, AllocError>
+        ensures reply { IfOk result (λ reply. monitor_outcome reply ≡ (object_turn (watching self.old.seal.key self.old.monitor) (view object.now)).outcome) }
+        ensures state { OnOk result (watching self.new.seal.key self.new.monitor ≡ (object_turn (watching self.old.seal.key self.old.monitor) (view object.now)).state) }
+    {
+        if is_expect(object) {
+            return self.expect(object);
+        }
+        self.watch(object)
+    }
+
+    fn reply(&mut self, line: &[u8]) -> Result<MonitorReply, AllocError>
+        ensures reply { IfOk result (λ reply. monitor_outcome reply ≡ (monitor_turn (watching self.old.seal.key self.old.monitor) line.now).outcome) }
+        ensures state { OnOk result (watching self.new.seal.key self.new.monitor ≡ (monitor_turn (watching self.old.seal.key self.old.monitor) line.now).state) }
+    {
+        match read_object(self.alloc, line)? {
+            Some(object) => self.obey(&object),
+            None => Ok(MonitorReply::NotJson),
+        }
+    }
+}
+
+/// Whether a line sets the expectation.
+fn is_expect(object: &Value) -> bool
+    ensures { result ≡ is_expect (text_in (codes "cmd") (view object.now)) }
+{
+    match text(object, "cmd") {
+        Some(command) => command == "expect",
+        None => false,
+    }
+}
+
+impl LineMachine for Monitoring {
+    ghost use Rattle.coniks_tool.specs.Monitor.{MonitorState, monitor_answer, watching};
+
+    ghost State = { MonitorState };
+
+    ghost state = { λ m. watching m.seal.key m.monitor };
+
+    ghost answer = { monitor_answer };
+
+    ghost Needs = { Unit {0} };
+
+    fn step(&mut self, line: &[u8], out: &mut Vec<u8>) -> Result<bool, AllocError> {
+        let reply = self.reply(line)?;
+        print_monitor(self.alloc, &reply, out)?;
+        Ok(reply.is_as_expected())
+    }
+}
+
+/// Watches a name over the entries that the lines of the reader hold, each with its proof, for a client that expects a
+/// key of it, or none: the entries are audited under the demonstration seal of a key, and the proofs checked at the
+/// name's demonstration index under it. Each line is answered by one line and one flush, until a read answers 0. Tells
+/// whether each line was accepted and showed what is expected.
+///
+/// A line whose `cmd` is `expect` sets what is expected from then on. A line that shows something else is kept as what
+/// the next entry is compared with; a refused line changes nothing. A name of no bytes or of more than 255 is taken, and
+/// then no proof is accepted.
+///
+/// # Errors
+///
+/// Those of `run_lines`.
+pub fn run_monitor<R: ByteIn, W: ByteOut>(
+    alloc: Global,
+    key: [u8; 32],
+    name: Bytes,
+    expected: Option<Bytes>,
+    reader: &mut R,
+    writer: &mut W,
+) -> Result<bool, RunFault>
+    requires reads { (R.source reader.old).failed + 1 < 2 ^ 64 }
+    requires writes { (W.sink writer.old).failed + 1 < 2 ^ 64 }
+    ensures ok { IfOk result (λ all. (state : MonitorState) × EndsWell monitor_answer (none_watched key name expected)
+        (R.source reader.old) (R.source reader.new)
+        (W.sink writer.old) (W.sink writer.new)
+        state all) }
+    ensures err { IfErr result (EndsBadly monitor_answer (none_watched key name expected)
+        (R.source reader.old) (R.source reader.new)
+        (W.sink writer.old) (W.sink writer.new)) }
+
+    // Where the reader tells its bytes: after Ok each of them is answered, and after a fault a beginning of what
+    // answers them was written.
+    ensures all_of { (input : List ℕ) → (R.source reader.old).left ≡ Some input
+        → IfOk result (λ all. (state : MonitorState) × AnswersAll monitor_answer (none_watched key name expected) input
+        (W.sink writer.old) (W.sink writer.new)
+        state all) }
+    ensures part_of { (input : List ℕ) → (R.source reader.old).left ≡ Some input
+        → OnErr result (WritesPart (output monitor_answer (none_watched key name expected) input)
+        (W.sink writer.old) (W.sink writer.new)) }
+{
+    let mut monitoring = Monitoring::new(alloc, key, name, expected);
+    run_lines(alloc, &mut monitoring, reader, writer)
+}

@@ -1,0 +1,98 @@
+//! What `monitor` answers to a line, and its text.
+
+ghost use Rattle.std.specs.Prelude.{◌≡◌, ◌++◌, IfOk, OnOk, OnErr};
+ghost use Rattle.serde_json.specs.View.{view};
+ghost use Rattle.coniks_tool.specs.MonitorReplies.{expecting_data, monitor_data, monitor_fault_name, monitor_outcome, monitor_text, seen_name, watched_data};
+
+use crate::audit::reply::audit_fault_text;
+use crate::check::reply::check_fault_text;
+use crate::lines::printing::{Member, bad_member, fault, member_text, print_value};
+use coniks_chain::{MonitorFault, Seen};
+use serde_json::{Value, json};
+use std::alloc::{AllocError, Global};
+
+/// What `monitor` answers to a line.
+#[derive(Clone, Copy)]
+pub enum MonitorReply {
+    /// Entry and proof are accepted: the entry's epoch, and what the proof says against the expectation.
+    Watched { epoch: u64, seen: Seen },
+    /// Another key is expected from now on, or none.
+    Expecting,
+    /// The line isn't a JSON object.
+    NotJson,
+    /// A member is missing, of another kind or of a wrong text.
+    NoMember(Member),
+    /// The entry doesn't follow, or the proof isn't accepted.
+    AtFault(MonitorFault),
+}
+
+impl MonitorReply {
+    ghost use Rattle.coniks_tool.specs.MonitorReplies.{is_as_expected};
+
+    /// Whether the line was accepted, and showed the expected answer where it holds a proof.
+    pub fn is_as_expected(&self) -> bool
+        ensures { result ≡ is_as_expected (monitor_outcome self.now) }
+    {
+        match self {
+            MonitorReply::Watched { epoch: _, seen } => matches!(seen, Seen::Same),
+            MonitorReply::Expecting => true,
+            MonitorReply::NotJson | MonitorReply::NoMember(_) | MonitorReply::AtFault(_) => false,
+        }
+    }
+}
+
+/// Adds the text of a reply, with no newline, as for the replies of `run`.
+pub fn print_monitor(
+    alloc: Global,
+    reply: &MonitorReply,
+    out: &mut Vec<u8>,
+) -> Result<(), AllocError>
+    ensures ok { OnOk result (out.new.items ≡ out.old.items ++ monitor_text (monitor_outcome reply.now)) }
+    ensures err { OnErr result (out.new.items ≡ out.old.items) }
+{
+    let value = value_of(alloc, reply)?;
+    print_value(alloc, &value, out)
+}
+
+fn value_of(alloc: Global, reply: &MonitorReply) -> Result<Value, AllocError>
+    ensures { IfOk result (λ value. view value ≡ monitor_data (monitor_outcome reply.now)) }
+{
+    match reply {
+        MonitorReply::Watched { epoch, seen } => watched(alloc, *epoch, seen_text(*seen)),
+        MonitorReply::Expecting => expecting(alloc),
+        MonitorReply::NotJson => fault(alloc, "Json"),
+        MonitorReply::NoMember(member) => bad_member(alloc, member_text(*member)),
+        MonitorReply::AtFault(found) => fault(alloc, monitor_fault_text(*found)),
+    }
+}
+
+fn watched(alloc: Global, epoch: u64, seen: &str) -> Result<Value, AllocError>
+    ensures { IfOk result (λ value. view value ≡ watched_data epoch seen.now) }
+{
+    json!(in alloc; {"epoch": epoch, "ok": "monitor", "seen": seen})
+}
+
+fn expecting(alloc: Global) -> Result<Value, AllocError>
+    ensures { IfOk result (λ value. view value ≡ expecting_data) }
+{
+    json!(in alloc; {"ok": "expect"})
+}
+
+fn seen_text(seen: Seen) -> &'static str
+    ensures { result.now ≡ seen_name seen }
+{
+    match seen {
+        Seen::Same => "same",
+        Seen::Changed => "changed",
+        Seen::Absent => "absent",
+    }
+}
+
+fn monitor_fault_text(fault: MonitorFault) -> &'static str
+    ensures { result.now ≡ monitor_fault_name fault }
+{
+    match fault {
+        MonitorFault::Audit(fault) => audit_fault_text(fault),
+        MonitorFault::Check(fault) => check_fault_text(fault),
+    }
+}

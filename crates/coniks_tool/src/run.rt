@@ -1,0 +1,8 @@
+//! The engine of `run`: a script's directory, and the answers to its lines.
+
+pub(crate) mod crew;
+pub mod laws;
+pub(crate) mod machine;
+pub(crate) mod operations;
+pub(crate) mod reply;
+pub(crate) mod store;

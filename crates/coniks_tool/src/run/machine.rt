@@ -1,0 +1,172 @@
+//! The machine of `run`, and its engine.
+
+ghost use Rattle.std.specs.Prelude.{◌≡◌, ◌<◌, ◌≤◌, ◌+◌, ◌^◌, ℕ, List, None, Some, IfOk, IfErr, OnOk, OnErr, codes};
+ghost use Rattle.serde_json.specs.View.{view};
+ghost use Rattle.coniks_directory.specs.Batches.{AreWorkers};
+ghost use Rattle.coniks_lines.specs.Machine.{output};
+ghost use Rattle.coniks_lines.specs.Runs.{AnswersAll, EndsWell, WritesPart};
+ghost use Rattle.coniks_work.specs.declared.jobs.TheConstants.{MAX_DEPTH};
+ghost use Rattle.coniks_tool.specs.Members.{array_in, digits_in, number_in, text_in};
+ghost use Rattle.coniks_tool.specs.Replies.{outcome_of};
+ghost use Rattle.coniks_tool.specs.Script.{State, ScriptFails, batch_turn, command_turn, lookup_outcome, open_turn, script_answer, turn};
+
+use crate::lines::members::{array, digits32, number, read_object, text};
+use crate::lines::printing::Member;
+use crate::run::crew::Crew;
+use crate::run::operations::read_ops;
+use crate::run::reply::{Reply, print};
+use crate::run::store::Store;
+use coniks_lines::{ByteIn, ByteOut, LineMachine, RunFault, run_lines};
+use serde_json::Value;
+use std::alloc::{AllocError, Global};
+use std::thread::Threads;
+
+/// Answers the lines of a script, with the crew that builds its epochs.
+#[derive(Drop)]
+pub struct Script<'r, T: Threads + Sync> {
+    alloc: Global,
+    crew: Crew<'r, T>,
+    store: Store,
+}
+
+impl<'r, T: Threads + Sync> Script<'r, T> {
+    fn open(&mut self, object: &Value) -> Reply
+        ensures reply { outcome_of result ≡ (open_turn self.old.store (digits_in 32 (codes "key") (view object.now))
+            (digits_in 32 (codes "nonce") (view object.now)) (digits_in 32 (codes "policy") (view object.now))).outcome }
+        ensures state { self.new.store ≡ (open_turn self.old.store (digits_in 32 (codes "key") (view object.now))
+            (digits_in 32 (codes "nonce") (view object.now)) (digits_in 32 (codes "policy") (view object.now))).state }
+    {
+        let Some(key) = digits32(object, "key") else {
+            return Reply::BadMember(Member::Key);
+        };
+        let Some(nonce) = digits32(object, "nonce") else {
+            return Reply::BadMember(Member::Nonce);
+        };
+        let Some(policy) = digits32(object, "policy") else {
+            return Reply::BadMember(Member::Policy);
+        };
+        self.store.open_with(key, nonce, policy)
+    }
+
+    fn batch(&mut self, object: &Value) -> Result<Reply, AllocError>
+        ensures reply { IfOk result (λ reply. outcome_of reply ≡ (batch_turn self.old.store (number_in (codes "epoch") (view object.now)) (array_in (codes "ops") (view object.now))).outcome) }
+        ensures state { OnOk result (self.new.store ≡ (batch_turn self.old.store (number_in (codes "epoch") (view object.now)) (array_in (codes "ops") (view object.now))).state) }
+    {
+        let Some(epoch) = number(object, "epoch") else {
+            return Ok(Reply::BadMember(Member::Epoch));
+        };
+        let Some(elements) = array(object, "ops") else {
+            return Ok(Reply::BadMember(Member::Ops));
+        };
+        match read_ops(self.alloc, elements)? {
+            Ok(ops) => self.store.install(&self.crew, epoch, &ops),
+            Err(place) => Ok(Reply::BadOperation(place)),
+        }
+    }
+
+    fn lookup(&self, object: &Value) -> Result<Reply, AllocError>
+        ensures { IfOk result (λ reply. outcome_of reply ≡ lookup_outcome self.now.store (number_in (codes "epoch") (view object.now)) (text_in (codes "name") (view object.now))) }
+    {
+        let Some(epoch) = number(object, "epoch") else {
+            return Ok(Reply::BadMember(Member::Epoch));
+        };
+        let Some(name) = text(object, "name") else {
+            return Ok(Reply::BadMember(Member::Name));
+        };
+        self.store.look_up(epoch, name)
+    }
+
+    fn command(&mut self, object: &Value) -> Result<Reply, AllocError>
+        ensures reply { IfOk result (λ reply. outcome_of reply ≡ (command_turn self.old.store (view object.now) (text_in (codes "cmd") (view object.now))).outcome) }
+        ensures state { OnOk result (self.new.store ≡ (command_turn self.old.store (view object.now) (text_in (codes "cmd") (view object.now))).state) }
+    {
+        let Some(name) = text(object, "cmd") else {
+            return Ok(Reply::NoCommand);
+        };
+        if name == "open" {
+            return Ok(self.open(object));
+        }
+        if name == "batch" {
+            return self.batch(object);
+        }
+        if name == "lookup" {
+            return self.lookup(object);
+        }
+        Ok(Reply::NoCommand)
+    }
+
+    fn reply(&mut self, line: &[u8]) -> Result<Reply, AllocError>
+        ensures reply { IfOk result (λ reply. outcome_of reply ≡ (turn self.old.store line.now).outcome) }
+        ensures state { OnOk result (self.new.store ≡ (turn self.old.store line.now).state) }
+    {
+        match read_object(self.alloc, line)? {
+            Some(object) => self.command(&object),
+            None => Ok(Reply::NotJson),
+        }
+    }
+}
+
+impl<'r, T: Threads + Sync> LineMachine for Script<'r, T> {
+    ghost use Rattle.std.specs.Thread.{IsSync};
+    ghost use Rattle.coniks_tool.specs.Script.{State, script_answer};
+
+    ghost State = { State };
+
+    ghost state = { λ s. s.store };
+
+    ghost answer = { script_answer };
+
+    ghost Needs = { IsSync T.row };
+
+    fn step(&mut self, line: &[u8], out: &mut Vec<u8>) -> Result<bool, AllocError> {
+        let reply = self.reply(line)?;
+        print(self.alloc, &reply, out)?;
+        Ok(reply.is_accepted())
+    }
+}
+
+/// Answers each line of the reader by one line and one flush, until a read answers 0: `open`, `batch` and `lookup` over
+/// one directory, whose epochs are built by `workers` workers, 1 to 64, over prefixes of `depth` bits, 0 to 8. No answer
+/// depends on either. Tells whether each line was accepted. It may wait, as it joins its workers.
+///
+/// # Errors
+///
+/// Those of `run_lines`, and `NoBoard` where the board for the directory's heads can't be had; nothing was read then.
+pub fn run_script<T: Threads + Sync, R: ByteIn, W: ByteOut>(
+    rt: &T,
+    alloc: Global,
+    reader: &mut R,
+    writer: &mut W,
+    workers: usize,
+    depth: usize,
+) -> Result<bool, RunFault>
+    requires workers { AreWorkers workers }
+    requires depth { depth ≤ MAX_DEPTH }
+    requires reads { (R.source reader.old).failed + 1 < 2 ^ 64 }
+    requires writes { (W.sink writer.old).failed + 1 < 2 ^ 64 }
+    ensures ok { IfOk result (λ all. (state : State) × EndsWell script_answer None
+        (R.source reader.old) (R.source reader.new)
+        (W.sink writer.old) (W.sink writer.new)
+        state all) }
+    ensures err { IfErr result (ScriptFails
+        (R.source reader.old) (R.source reader.new)
+        (W.sink writer.old) (W.sink writer.new)) }
+
+    // Where the reader tells its bytes: after Ok each of them is answered, and after a fault a beginning of what
+    // answers them was written.
+    ensures all_of { (input : List ℕ) → (R.source reader.old).left ≡ Some input
+        → IfOk result (λ all. (state : State) × AnswersAll script_answer None input
+        (W.sink writer.old) (W.sink writer.new)
+        state all) }
+    ensures part_of { (input : List ℕ) → (R.source reader.old).left ≡ Some input
+        → OnErr result (WritesPart (output script_answer None input)
+        (W.sink writer.old) (W.sink writer.new)) }
+{
+    let store = match Store::new(alloc) {
+        Ok(store) => store,
+        Err(_) => return Err(RunFault::NoBoard),
+    };
+    let crew = Crew { rt, workers, depth };
+    let mut script = Script { alloc, crew, store };
+    run_lines(alloc, &mut script, reader, writer)
+}

@@ -1,0 +1,64 @@
+//! The operations of a batch line.
+
+ghost use Rattle.std.specs.Prelude.{◌≡◌, IfOk, option_map};
+ghost use Rattle.serde_json.specs.View.{view, items_view};
+ghost use Rattle.coniks_directory.specs.Batches.{kind_of, operation_of};
+ghost use Rattle.coniks_tool.specs.Operations.{kind_in, operation_in, operations_in, operations_read};
+
+use crate::lines::members::{base64, digits32, text};
+use coniks_directory::{Op, OpKind};
+use coniks_proof::{Bytes, Opening};
+use serde_json::Value;
+use std::alloc::{AllocError, Global};
+
+/// The operations of the elements, or the place of the first element that is none: it isn't an
+/// object, or a member is missing, of another kind or of a wrong text. No length is refused here.
+pub fn read_ops(alloc: Global, list: &[Value]) -> Result<Result<Vec<Op>, usize>, AllocError>
+    ensures { IfOk result (λ ops. operations_read ops ≡ operations_in (items_view list.now)) }
+{
+    let mut found = Vec::with_capacity(alloc, list.len())?;
+    for (place, element) in list.iter().enumerate() {
+        match read_op(alloc, element)? {
+            Some(op) => found.push(op)?,
+            None => return Ok(Err(place)),
+        }
+    }
+    Ok(Ok(found))
+}
+
+fn read_op(alloc: Global, element: &Value) -> Result<Option<Op>, AllocError>
+    ensures { IfOk result (λ op. option_map operation_of op ≡ operation_in (view element.now)) }
+{
+    let Some(key) = base64(alloc, element, "key")? else {
+        return Ok(None);
+    };
+    let Some(name) = text(element, "name") else {
+        return Ok(None);
+    };
+    let Some(kind) = kind(element) else {
+        return Ok(None);
+    };
+    let Some(opening) = digits32(element, "opening") else {
+        return Ok(None);
+    };
+    let name = Bytes::copy_of(alloc, name.as_bytes())?;
+    Ok(Some(Op {
+        kind,
+        name,
+        key: Bytes::new(key),
+        opening: Opening(opening),
+    }))
+}
+
+fn kind(element: &Value) -> Option<OpKind>
+    ensures { option_map kind_of result ≡ kind_in (view element.now) }
+{
+    let name = text(element, "op")?;
+    if name == "register" {
+        return Some(OpKind::Register);
+    }
+    if name == "change" {
+        return Some(OpKind::Change);
+    }
+    None
+}

@@ -1,0 +1,196 @@
+//! What a line is answered by, and its text.
+
+ghost use Rattle.std.specs.Prelude.{◌≡◌, ◌++◌, IfOk, OnOk, OnErr, false};
+ghost use Rattle.serde_json.specs.View.{view};
+ghost use Rattle.serde_json.specs.Written.{compact_text, has_float};
+ghost use Rattle.coniks_directory.specs.Batches.{fault_is};
+ghost use Rattle.coniks_tool.specs.Paths.{path_of};
+ghost use Rattle.coniks_tool.specs.Replies.{outcome_of, reply_data, reply_text, member_name, fault_name, fault_data, placed_fault_data, looked_up_data, bad_member_data, bad_operation_data, epoch_not_later_data, opened_data, installed_data};
+
+use crate::lines::printing::{Member, bad_member, fault, member_text, print_value};
+use crate::lines::proof_text::proof_value;
+use coniks_chain::Entry;
+use coniks_directory::OpFault;
+use coniks_proof::{Digest, Index, Proof};
+use serde_json::{Value, json};
+use std::alloc::{AllocError, Global};
+
+/// What a line is answered by.
+#[derive(Drop)]
+pub enum Reply {
+    /// The registry is open.
+    Opened,
+    /// A batch was installed: the entry that it added to the chain, and the entry's link.
+    Installed {
+        entry: Entry,
+        link: Digest,
+    },
+    /// A lookup found the path to the name's index in the tree of the epoch with this entry.
+    LookedUp {
+        entry: Entry,
+        index: Index,
+        name: String,
+        proof: Proof,
+    },
+    /// The line isn't a JSON object.
+    NotJson,
+    /// The line has no known command.
+    NoCommand,
+    /// A member is missing, of another kind or of a wrong text.
+    BadMember(Member),
+    /// The element of `ops` at this place is no operation.
+    BadOperation(usize),
+    /// The registry isn't open yet.
+    NotOpen,
+    /// The registry is open already.
+    AlreadyOpen,
+    /// A batch has too many operations.
+    BatchTooLong,
+    /// The operation at this place is at fault.
+    BadBatch {
+        position: usize,
+        fault: OpFault,
+    },
+    /// The epoch isn't later than the latest one.
+    EpochNotLater {
+        latest: u64,
+    },
+    /// The board has no room for a further head.
+    BoardFull,
+    /// No epoch has exactly the number asked.
+    UnknownEpoch,
+    /// The name asked is empty or too long.
+    NameLength,
+}
+
+impl Reply {
+    ghost use Rattle.coniks_tool.specs.Replies.{is_accepted};
+
+    /// Whether the line was accepted.
+    pub fn is_accepted(&self) -> bool
+        ensures { result ≡ is_accepted (outcome_of self.now) }
+    {
+        match self {
+            Reply::Opened | Reply::Installed { .. } | Reply::LookedUp { .. } => true,
+            Reply::NotJson
+            | Reply::NoCommand
+            | Reply::BadMember(_)
+            | Reply::BadOperation(_)
+            | Reply::NotOpen
+            | Reply::AlreadyOpen
+            | Reply::BatchTooLong
+            | Reply::BadBatch { .. }
+            | Reply::EpochNotLater { .. }
+            | Reply::BoardFull
+            | Reply::UnknownEpoch
+            | Reply::NameLength => false,
+        }
+    }
+}
+
+/// Adds the text of a reply, with no newline: an object with its members in the order of their
+/// names' bytes, no white space, and lower case hexadecimal digits.
+pub fn print(alloc: Global, reply: &Reply, out: &mut Vec<u8>) -> Result<(), AllocError>
+    ensures ok { OnOk result (out.new.items ≡ out.old.items ++ reply_text (outcome_of reply.now)) }
+    ensures err { OnErr result (out.new.items ≡ out.old.items) }
+{
+    let value = value_of(alloc, reply)?;
+    print_value(alloc, &value, out)
+}
+
+fn value_of(alloc: Global, reply: &Reply) -> Result<Value, AllocError>
+    ensures { IfOk result (λ value. view value ≡ reply_data (outcome_of reply.now)) }
+{
+    match reply {
+        Reply::Opened => opened(alloc),
+        Reply::Installed { entry, link } => installed(alloc, entry, link),
+        Reply::LookedUp {
+            entry,
+            index,
+            name,
+            proof,
+        } => looked_up(alloc, entry, index, name.as_str(), proof),
+        Reply::NotJson => fault(alloc, "Json"),
+        Reply::NoCommand => fault(alloc, "Command"),
+        Reply::BadMember(member) => bad_member(alloc, member_text(*member)),
+        Reply::BadOperation(place) => bad_operation(alloc, *place),
+        Reply::NotOpen => fault(alloc, "NotOpen"),
+        Reply::AlreadyOpen => fault(alloc, "AlreadyOpen"),
+        Reply::BatchTooLong => fault(alloc, "BatchTooLong"),
+        Reply::BadBatch { position, fault } => placed_fault(alloc, fault_text(*fault), *position),
+        Reply::EpochNotLater { latest } => epoch_not_later(alloc, *latest),
+        Reply::BoardFull => fault(alloc, "BoardFull"),
+        Reply::UnknownEpoch => fault(alloc, "UnknownEpoch"),
+        Reply::NameLength => fault(alloc, "NameLength"),
+    }
+}
+
+fn fault_text(fault: OpFault) -> &'static str
+    ensures { result.now ≡ fault_name (fault_is fault) }
+{
+    match fault {
+        OpFault::NameLength => "NameLength",
+        OpFault::KeyLength => "KeyLength",
+        OpFault::NameTwice => "NameTwice",
+        OpFault::NameTaken => "NameTaken",
+        OpFault::NameUnknown => "NameUnknown",
+        OpFault::IndexClash => "IndexClash",
+    }
+}
+
+fn opened(alloc: Global) -> Result<Value, AllocError>
+    ensures { IfOk result (λ value. view value ≡ opened_data) }
+{
+    json!(in alloc; {"ok": "open"})
+}
+
+fn installed(alloc: Global, entry: &Entry, link: &Digest) -> Result<Value, AllocError>
+    ensures { IfOk result (λ value. view value ≡ installed_data entry.now link.now.0) }
+{
+    json!(in alloc; {
+        "entry": hex::encode(alloc, &entry.bytes())?,
+        "epoch": entry.body.t,
+        "link": hex::encode(alloc, &link.0)?,
+        "ok": "batch",
+        "root": hex::encode(alloc, &entry.body.root.0)?,
+    })
+}
+
+fn looked_up(
+    alloc: Global,
+    entry: &Entry,
+    index: &Index,
+    name: &str,
+    proof: &Proof,
+) -> Result<Value, AllocError>
+    ensures { IfOk result (λ value. view value ≡ looked_up_data entry.now index.now.0 name.now (path_of proof.now)) }
+{
+    json!(in alloc; {
+        "entry": hex::encode(alloc, &entry.bytes())?,
+        "epoch": entry.body.t,
+        "index": hex::encode(alloc, &index.0)?,
+        "name": name,
+        "nonce": hex::encode(alloc, &entry.body.nonce.0)?,
+        "ok": "lookup",
+        "proof": proof_value(alloc, proof)?,
+        "root": hex::encode(alloc, &entry.body.root.0)?,
+    })
+}
+
+fn placed_fault(alloc: Global, name: &str, position: usize) -> Result<Value, AllocError>
+    ensures { IfOk result (λ value. view value ≡ placed_fault_data name.now position) }
+{
+    json!(in alloc; {"fault": name, "position": position})
+}
+
+fn bad_operation(alloc: Global, position: usize) -> Result<Value, AllocError>
+    ensures { IfOk result (λ value. view value ≡ bad_operation_data position) }
+{
+    json!(in alloc; {"fault": "Member", "member": "ops", "position": position})
+}
+
+fn epoch_not_later(alloc: Global, latest: u64) -> Result<Value, AllocError>
+    ensures { IfOk result (λ value. view value ≡ epoch_not_later_data latest) }
+{
+    json!(in alloc; {"fault": "EpochNotLater", "latest": latest})
+}

@@ -1,0 +1,172 @@
+//! Runs what the words chose.
+
+ghost use Rattle.std.specs.Prelude.{◌≡◌, ◌<◌, ◌≤◌, ◌+◌, ◌^◌, IfOk, List, None, Some, option_map, ℕ, IfErr};
+ghost use Rattle.coniks_tool.specs.Choice.{audit, check, choice_of, key_in, monitor, run, IsWithin, Lacks};
+ghost use Rattle.coniks_tool.specs.Expectations.{expectation_in};
+ghost use Rattle.coniks_tool.specs.Program.{EndsBy, Fails, HasBoard};
+ghost use Rattle.coniks_directory.specs.Batches.{AreWorkers};
+ghost use Rattle.coniks_lines.specs.declared.fault.RunFault.TheVariants.{OutOfMemory};
+ghost use Rattle.coniks_work.specs.declared.jobs.TheConstants.{MAX_DEPTH};
+
+use crate::audit::machine::run_audit;
+use crate::check::machine::run_check;
+use crate::lines::members::bytes_of_digits;
+use crate::monitor::expectation::expectation;
+use crate::monitor::machine::run_monitor;
+use crate::run::machine::run_script;
+use crate::words::choice::Settings;
+use crate::words::ending::Ending;
+use coniks_lines::{ByteIn, ByteOut, RunFault};
+use coniks_proof::Bytes;
+use std::alloc::Global;
+use std::thread::Threads;
+
+/// Runs what the settings say, once the texts of a key and of an expectation were read.
+pub(crate) fn run_settings<T: Threads + Sync, R: ByteIn, W: ByteOut>(
+    rt: &T,
+    alloc: Global,
+    settings: Settings,
+    reader: &mut R,
+    writer: &mut W,
+) -> Result<Ending, RunFault>
+    requires within { IsWithin settings }
+    requires reads { (R.source reader.old).failed + 1 < 2 ^ 64 }
+    requires writes { (W.sink writer.old).failed + 1 < 2 ^ 64 }
+    ensures ends { IfOk result (EndsBy (Some (choice_of settings.entry)) (R.source reader.old) (R.source reader.new) (W.sink writer.old) (W.sink writer.new)) }
+    ensures idle_reader { Lacks (Some (choice_of settings.entry)) → R.source reader.new ≡ R.source reader.old }
+    ensures idle_writer { Lacks (Some (choice_of settings.entry)) → W.sink writer.new ≡ W.sink writer.old }
+    ensures fails { IfErr result (Fails (HasBoard (Some (choice_of settings.entry))) (R.source reader.old) (R.source reader.new) (W.sink writer.old) (W.sink writer.new)) }
+{
+    match settings {
+        Settings::Run { workers, depth } => {
+            answer_lines(rt, alloc, workers, depth, reader, writer)
+        }
+        Settings::Check => check_lines(alloc, reader, writer),
+        Settings::Audit { key } => audit_under(alloc, key, reader, writer),
+        Settings::Monitor { key, name, expect } => {
+            watch_under(alloc, key, name, expect, reader, writer)
+        }
+    }
+}
+
+/// Answers the lines by so many workers, over prefixes of so many bits.
+fn answer_lines<T: Threads + Sync, R: ByteIn, W: ByteOut>(
+    rt: &T,
+    alloc: Global,
+    workers: usize,
+    depth: usize,
+    reader: &mut R,
+    writer: &mut W,
+) -> Result<Ending, RunFault>
+    requires workers { AreWorkers workers }
+    requires depth { depth ≤ MAX_DEPTH }
+    requires reads { (R.source reader.old).failed + 1 < 2 ^ 64 }
+    requires writes { (W.sink writer.old).failed + 1 < 2 ^ 64 }
+    ensures ends { IfOk result (EndsBy (Some (run workers depth)) (R.source reader.old) (R.source reader.new) (W.sink writer.old) (W.sink writer.new)) }
+    ensures fails { IfErr result (Fails (Unit {0}) (R.source reader.old) (R.source reader.new) (W.sink writer.old) (W.sink writer.new)) }
+{
+    let all = run_script(rt, alloc, reader, writer, workers, depth)?;
+    Ok(Ending::Done(all))
+}
+
+/// Checks the proofs of the lines.
+fn check_lines<R: ByteIn, W: ByteOut>(
+    alloc: Global,
+    reader: &mut R,
+    writer: &mut W,
+) -> Result<Ending, RunFault>
+    requires reads { (R.source reader.old).failed + 1 < 2 ^ 64 }
+    requires writes { (W.sink writer.old).failed + 1 < 2 ^ 64 }
+    ensures ends { IfOk result (EndsBy (Some check) (R.source reader.old) (R.source reader.new) (W.sink writer.old) (W.sink writer.new)) }
+    ensures fails { IfErr result (Fails ⊥ (R.source reader.old) (R.source reader.new) (W.sink writer.old) (W.sink writer.new)) }
+{
+    Ok(Ending::Done(run_check(alloc, reader, writer)?))
+}
+
+/// Audits under the key of a text.
+fn audit_under<R: ByteIn, W: ByteOut>(
+    alloc: Global,
+    key: &str,
+    reader: &mut R,
+    writer: &mut W,
+) -> Result<Ending, RunFault>
+    requires reads { (R.source reader.old).failed + 1 < 2 ^ 64 }
+    requires writes { (W.sink writer.old).failed + 1 < 2 ^ 64 }
+    ensures ends { IfOk result (EndsBy (Some (audit key.now)) (R.source reader.old) (R.source reader.new) (W.sink writer.old) (W.sink writer.new)) }
+    ensures idle_reader { Lacks (Some (audit key.now)) → R.source reader.new ≡ R.source reader.old }
+    ensures idle_writer { Lacks (Some (audit key.now)) → W.sink writer.new ≡ W.sink writer.old }
+    ensures fails { IfErr result (Fails ⊥ (R.source reader.old) (R.source reader.new) (W.sink writer.old) (W.sink writer.new)) }
+{
+    let Some(key) = bytes_of_digits(key) else {
+        return Ok(Ending::BadKey);
+    };
+    Ok(Ending::Done(run_audit(alloc, key, reader, writer)?))
+}
+
+/// Watches a name under the key of a text.
+fn watch_under<R: ByteIn, W: ByteOut>(
+    alloc: Global,
+    key: &str,
+    name: &str,
+    expect: Option<&str>,
+    reader: &mut R,
+    writer: &mut W,
+) -> Result<Ending, RunFault>
+    requires reads { (R.source reader.old).failed + 1 < 2 ^ 64 }
+    requires writes { (W.sink writer.old).failed + 1 < 2 ^ 64 }
+    ensures ends { IfOk result (EndsBy (Some (monitor key.now name.now (option_map (λ text. text.now) expect.entry))) (R.source reader.old) (R.source reader.new) (W.sink writer.old) (W.sink writer.new)) }
+    ensures idle_reader { Lacks (Some (monitor key.now name.now (option_map (λ text. text.now) expect.entry))) → R.source reader.new ≡ R.source reader.old }
+    ensures idle_writer { Lacks (Some (monitor key.now name.now (option_map (λ text. text.now) expect.entry))) → W.sink writer.new ≡ W.sink writer.old }
+    ensures fails { IfErr result (Fails ⊥ (R.source reader.old) (R.source reader.new) (W.sink writer.old) (W.sink writer.new)) }
+{
+    match bytes_of_digits(key) {
+        Some(key) => watch(alloc, key, name, expect, reader, writer),
+        None => Ok(Ending::BadKey),
+    }
+}
+
+/// Watches a name under a key, once the text of an expectation was read.
+fn watch<R: ByteIn, W: ByteOut>(
+    alloc: Global,
+    key: [u8; 32],
+    name: &str,
+    expect: Option<&str>,
+    reader: &mut R,
+    writer: &mut W,
+) -> Result<Ending, RunFault>
+    requires reads { (R.source reader.old).failed + 1 < 2 ^ 64 }
+    requires writes { (W.sink writer.old).failed + 1 < 2 ^ 64 }
+    ensures ends { (digits : List ℕ) → key_in digits ≡ Some key → IfOk result (EndsBy (Some (monitor digits name.now (option_map (λ text. text.now) expect.entry))) (R.source reader.old) (R.source reader.new) (W.sink writer.old) (W.sink writer.new)) }
+    ensures idle_reader { expectation_in (option_map (λ text. text.now) expect.entry) ≡ None → R.source reader.new ≡ R.source reader.old }
+    ensures idle_writer { expectation_in (option_map (λ text. text.now) expect.entry) ≡ None → W.sink writer.new ≡ W.sink writer.old }
+    ensures fails { IfErr result (Fails ⊥ (R.source reader.old) (R.source reader.new) (W.sink writer.old) (W.sink writer.new)) }
+{
+    let Some(expected) = expectation_of(alloc, expect)? else {
+        return Ok(Ending::BadExpectation);
+    };
+    let name = copy_of(alloc, name)?;
+    let all = run_monitor(alloc, key, name, expected, reader, writer)?;
+    Ok(Ending::Done(all))
+}
+
+/// What the text of an expectation says, `None` where it isn't base64.
+fn expectation_of(alloc: Global, text: Option<&str>) -> Result<Option<Option<Bytes>>, RunFault>
+    ensures ok { IfOk result (λ expected. expected ≡ expectation_in (option_map (λ t. t.now) text.entry)) }
+    ensures fault { IfErr result (λ fault. fault ≡ OutOfMemory) }
+{
+    match expectation(alloc, text) {
+        Ok(expected) => Ok(expected),
+        Err(_) => Err(RunFault::OutOfMemory),
+    }
+}
+
+/// The bytes of a text.
+fn copy_of(alloc: Global, text: &str) -> Result<Bytes, RunFault>
+    ensures ok { IfOk result (λ copy. copy ≡ text.now) }
+    ensures fault { IfErr result (λ fault. fault ≡ OutOfMemory) }
+{
+    match Bytes::copy_of(alloc, text.as_bytes()) {
+        Ok(copy) => Ok(copy),
+        Err(_) => Err(RunFault::OutOfMemory),
+    }
+}

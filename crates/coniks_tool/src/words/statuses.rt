@@ -1,0 +1,140 @@
+//! The whole program over its streams.
+
+ghost use Rattle.std.specs.Prelude.{◌≡◌, ◌≢◌, ◌⊎◌, ◌<◌, ◌≤◌, ◌+◌, ◌^◌, IfErr, IfOk, false, map, true};
+ghost use Rattle.clap.specs.Words.{fault_of, kind_of, takes};
+ghost use Rattle.coniks_lines.specs.Known.{Source};
+ghost use Rattle.coniks_lines.specs.declared.fault.RunFault.{RunFault as Fault};
+ghost use Rattle.coniks_tool.specs.Keydir.{keydir};
+ghost use Rattle.coniks_tool.specs.Program.{bad_expectation_line, bad_key_line, fault_line, status_of, told_of, unread_line, unread_status, AsksForHelp, ChooseNoRun, EndsFor, HasBadExpectation, HasBadKey, HasBadText, HasMistake, IfRefused, IsExplained, RunsFor, Tells, TellsIf, AsksForBoard, Fails};
+
+use crate::words::choice::{Unread, WordsFault};
+use crate::words::ending::{Ending, fault_text, status, told};
+use crate::words::running::run_settings;
+use crate::words::settings::settings;
+use crate::words::telling::tell;
+use clap::Error;
+use coniks_lines::{ByteIn, ByteOut, RunFault};
+use std::alloc::Global;
+use std::convert::AsStr;
+use std::thread::Threads;
+
+/// Does what the words ask for, of which the first is the program's name, and answers the status.
+///
+/// 0: the run accepted every line, or help or the version was asked for, which goes to `writer`. 1: the run
+/// refused a line, or a proof showed something else than what is expected. 2: `clap` refused the words, and its text goes to `errors`; or the key that they
+/// give isn't 64 hexadecimal digits, or the key is one and the expectation that they give isn't
+/// base64, and `errors` gets a line that says so. 3: a read or a write failed, memory ran out, or `run` could have no
+/// board; `errors` gets a line that says which. A failure of `errors` changes no status.
+pub fn program<T: Threads + Sync, S: AsStr, R: ByteIn, W: ByteOut, E: ByteOut>(
+    rt: &T,
+    alloc: Global,
+    words: &[S],
+    reader: &mut R,
+    writer: &mut W,
+    errors: &mut E,
+) -> u8
+    requires reads { (R.source reader.old).failed + 1 < 2 ^ 64 }
+    requires writes { (W.sink writer.old).failed + 1 < 2 ^ 64 }
+    requires tells { (E.sink errors.old).failed + 1 < 2 ^ 64 }
+    ensures status { result ≤ 3 }
+
+    // What `clap` finds in the words decides between a run, help or the version, and a refusal. A run is that of what they choose, under
+    // the key and the expectation that they give, and the status is 0 or 1 as it accepted every line or not.
+    ensures done { result ≡ 0 → RunsFor (map S.text words.entry.now) (R.source reader.old) (R.source reader.new) (W.sink writer.old) (W.sink writer.new) true ⊎ AsksForHelp (fault_of keydir (map S.text words.entry.now)) }
+    ensures ran { result ≡ 1 → RunsFor (map S.text words.entry.now) (R.source reader.old) (R.source reader.new) (W.sink writer.old) (W.sink writer.new) false }
+    ensures refused { result ≡ 2 → HasMistake (fault_of keydir (map S.text words.entry.now)) ⊎ HasBadText (map S.text words.entry.now) }
+    ensures taken { takes keydir (map S.text words.entry.now) ≡ true → result ≡ 2 → HasBadText (map S.text words.entry.now) }
+    ensures bad_key { HasBadKey (map S.text words.entry.now) → 2 ≤ result }
+    ensures bad_expectation { HasBadExpectation (map S.text words.entry.now) → 2 ≤ result }
+
+    // Nothing is told where the run ends well. Words that choose no run leave the input alone, whatever the status: those of which
+    // `clap` refuses some or that ask for help, and those with a bad key or expectation. Refused words leave the output alone too.
+    ensures quiet { result ≤ 1 → E.sink errors.new ≡ E.sink errors.old }
+    ensures unread { result ≡ 2 → R.source reader.new ≡ R.source reader.old }
+    ensures unwritten { result ≡ 2 → W.sink writer.new ≡ W.sink writer.old }
+    ensures idle_reader { ChooseNoRun (map S.text words.entry.now) → R.source reader.new ≡ R.source reader.old }
+    ensures idle_writer { HasBadText (map S.text words.entry.now) → W.sink writer.new ≡ W.sink writer.old }
+    ensures bad_key_told { HasBadKey (map S.text words.entry.now) → result ≡ 2 → Tells (E.sink errors.old) bad_key_line (E.sink errors.new) }
+    ensures bad_expectation_told { HasBadExpectation (map S.text words.entry.now) → result ≡ 2 → Tells (E.sink errors.old) bad_expectation_line (E.sink errors.new) }
+    // At 3 the line that is told is that of the fault that ended the run, and of no other.
+    ensures told { result ≡ 3 → (fault : Fault) × (Tells (E.sink errors.old) (fault_line fault) (E.sink errors.new)
+        × Fails (AsksForBoard (map S.text words.entry.now)) (R.source reader.old) (R.source reader.new) (W.sink writer.old) (W.sink writer.new) fault) }
+{
+    let outcome = obey(rt, alloc, words, reader, writer);
+    conclude(&outcome, errors)
+}
+
+/// Tells what came of the words, and answers the status.
+fn conclude<E: ByteOut>(outcome: &Result<Ending, RunFault>, errors: &mut E) -> u8
+    requires { (E.sink errors.old).failed + 1 < 2 ^ 64 }
+    ensures status { result ≡ status_of outcome.now }
+    ensures told { TellsIf (told_of outcome.now) (E.sink errors.old) (E.sink errors.new) }
+{
+    if let Some(text) = told(outcome) {
+        let _ = tell(errors, text);
+    }
+    status(outcome)
+}
+
+/// Tells why there are no words to do anything about, and answers the status: 2 for a word that
+/// isn't UTF-8, 3 where memory ran out. A failure of `errors` changes no status.
+pub fn unread_words<E: ByteOut>(why: Unread, errors: &mut E) -> u8
+    requires { (E.sink errors.old).failed + 1 < 2 ^ 64 }
+    ensures status { result ≡ unread_status why }
+    ensures told { Tells (E.sink errors.old) (unread_line why) (E.sink errors.new) }
+{
+    let _ = tell(errors, unread_text(why));
+    match why {
+        Unread::NotText => 2,
+        Unread::OutOfMemory => 3,
+    }
+}
+
+fn unread_text(why: Unread) -> &'static str
+    ensures { result.now ≡ unread_line why }
+{
+    match why {
+        Unread::NotText => "keydir: a word is not UTF-8\n",
+        Unread::OutOfMemory => fault_text(RunFault::OutOfMemory),
+    }
+}
+
+fn obey<T: Threads + Sync, S: AsStr, R: ByteIn, W: ByteOut>(
+    rt: &T,
+    alloc: Global,
+    words: &[S],
+    reader: &mut R,
+    writer: &mut W,
+) -> Result<Ending, RunFault>
+    requires reads { (R.source reader.old).failed + 1 < 2 ^ 64 }
+    requires writes { (W.sink writer.old).failed + 1 < 2 ^ 64 }
+    ensures found { IfOk result (EndsFor (map S.text words.entry.now) (R.source reader.old) (R.source reader.new) (W.sink writer.old) (W.sink writer.new)) }
+    ensures taken { IfOk result (λ ending. IfRefused ending (takes keydir (map S.text words.entry.now) ≢ true)) }
+    ensures unwritten { IfOk result (λ ending. IfRefused ending (W.sink writer.new ≡ W.sink writer.old)) }
+    ensures idle_reader { ChooseNoRun (map S.text words.entry.now) → R.source reader.new ≡ R.source reader.old }
+    ensures idle_writer { HasBadText (map S.text words.entry.now) → W.sink writer.new ≡ W.sink writer.old }
+    ensures fails { IfErr result (Fails (AsksForBoard (map S.text words.entry.now)) (R.source reader.old) (R.source reader.new) (W.sink writer.old) (W.sink writer.new)) }
+{
+    match settings(alloc, words) {
+        Ok(settings) => run_settings(rt, alloc, settings, reader, writer),
+        Err(WordsFault::Clap(error)) => explain(alloc, error, writer),
+        Err(WordsFault::OutOfMemory) => Err(RunFault::OutOfMemory),
+    }
+}
+
+/// Shows help or the version, or says why the words are refused.
+fn explain<W: ByteOut>(alloc: Global, error: Error, writer: &mut W) -> Result<Ending, RunFault>
+    requires { (W.sink writer.old).failed + 1 < 2 ^ 64 }
+    ensures kind { IfOk result (IsExplained (kind_of error)) }
+    ensures unwritten { IfOk result (λ ending. IfRefused ending (W.sink writer.new ≡ W.sink writer.old)) }
+    ensures fails { (still : Source) → IfErr result (Fails ⊥ still still (W.sink writer.old) (W.sink writer.new)) }
+{
+    let Ok(text) = error.to_string(alloc) else {
+        return Err(RunFault::OutOfMemory);
+    };
+    if error.use_stderr() {
+        return Ok(Ending::Refused(text));
+    }
+    tell(writer, text.as_str())?;
+    Ok(Ending::Done(true))
+}
