@@ -3,6 +3,7 @@ mod LastLemmas
 mod StateLemmas
 mod MirrorLemmas
 mod HolderLemmas
+mod InstalledLemmas
 mod JudgeLemmas
 mod SeenLemmas
 mod OrderLemmas

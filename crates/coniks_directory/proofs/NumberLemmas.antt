@@ -3,6 +3,7 @@ use Rattle.std.proofs.Common.{◌≡◌, ◌==◌, ◌≢◌, ℕ, zero, suc, �
 use Rattle.std.specs.List.{find}
 use Rattle.std.specs.List.Sorted.{IsNonDecreasingBy, IsPartitionPoint}
 use Rattle.std.proofs.lemmas.Bool.Decides.{nat_tests}
+use Rattle.std.proofs.lemmas.Option.{get_or_from_slice_get, slice_get_within}
 use Rattle.coniks_directory.specs.History.{AreRising}
 
 module _ {T : Type 0} (number : T → ℕ) where
@@ -17,6 +18,19 @@ module _ {T : Type 0} (number : T → ℕ) where
   rising_from t [] j d up within = absurd (omega arith)
   rising_from t (x ∷ xs) zero d up within = up.0
   rising_from t (x ∷ xs) (suc j) d up within = let later = rising_from (number x) xs j d up.1 (omega arith) in let first = up.0 in omega arith
+
+  -- the element of a number, where its place is known
+  pub find_at : (t n k : ℕ) (xs : List T) (x : T) → AreRising t (map number xs) → slice_get xs k ≡ Some x → number x ≡ n → find (λ y. number y == n) xs ≡ Some x
+  find_at t n k [] x up at same = absurd (let never = at in cc)
+  find_at t n zero (y ∷ ys) x up at same =
+      let first : y ≡ x = cc in
+      let on : (number y == n) ≡ true = (let is = ap number first in grind (arith, nat_tests)) in
+      rw on (ap Some first)
+  find_at t n (suc k) (y ∷ ys) x up at same =
+      let here : get_or ys k x ≡ x = get_or_from_slice_get ys k x x at in
+      let later : number y < number (get_or ys k x) = rising_from (number y) ys k x up.1 (slice_get_within ys k x at) in
+      let off : (number y == n) ≡ false = (let is = ap number here in grind (arith, nat_tests)) in
+      rw off (find_at (number y) n k ys x up.1 at same)
 
   pub rising-sorted : (t : ℕ) (xs : List T) → AreRising t (map number xs) → IsNonDecreasingBy number xs
   rising-sorted t [] up i j d le within = absurd (omega arith)
@@ -46,12 +60,6 @@ module _ {T : Type 0} (number : T → ℕ) where
 
   module _ (t n place : ℕ) (xs : List T) (up : AreRising t (map number xs)) (less : (k : ℕ) (d : T) → k < place → k < length xs → number (get_or xs k d) < n)
       (more : (k : ℕ) (d : T) → place ≤ k → k < length xs → n ≤ number (get_or xs k d)) where
-    pub found_same : (x : T) → slice_get xs place ≡ Some x → number x ≡ n → find (λ y. number y == n) xs ≡ Some x
-    unfolding keep
-    found_same x at same =
-        let on : (number x == n) ≡ true = grind (arith, nat_tests) in
-        cut t n place xs up less more ∙ ap (keep n) at ∙ ap (λ b. cond b (Some x) None) on
-
     pub found_other : (x : T) → slice_get xs place ≡ Some x → number x ≢ n → find (λ y. number y == n) xs ≡ None
     unfolding keep
     found_other x at apart =

@@ -1,6 +1,8 @@
 -- A directory as contracts see it, and what is said of the whole of it.
-use Rattle.std.specs.Prelude.{◌≡◌, ℕ, List, Bool, Option, option_map}
+use Rattle.std.specs.Prelude.{◌≡◌, ◌==◌, ℕ, List, Bool, Option, option_map}
+use Rattle.std.specs.List.{find}
 use Rattle.coniks_chain.specs.Chain.{GoodChain}
+use Rattle.coniks_chain.specs.declared.entry.Entry.{Entry}
 use Rattle.coniks_proof.specs.Batches.{Operation}
 use Rattle.coniks_proof.specs.Registry.{Registry}
 use Rattle.coniks_proof.specs.declared.paths.Proof.{Proof}
@@ -22,6 +24,10 @@ history {H} {X} d = history_of d.state
 -- the registry of its latest epoch
 abbrev pub registry : {H X : Type 0} → View H X → Registry
 registry {H} {X} d = latest_registry (history_of d.state)
+
+-- the entry of the epoch of exactly this number
+abbrev pub entry : {H X : Type 0} → View H X → ℕ → Option Entry
+entry {H} {X} d t = find (λ (e : Entry). e.body.t == t) d.state.chain
 
 -- what is said of a directory by the digests of its hash and the indices of its source
 module _ {H X : Type 0} (digest : H → List ℕ → List ℕ) (index : X → List ℕ → List ℕ) (d : View H X) where

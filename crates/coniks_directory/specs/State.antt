@@ -1,5 +1,6 @@
 -- What a directory holds, what it shows of it, and what is true of it.
-use Rattle.std.specs.Prelude.{◌≡◌, ◌<◌, ◌≤◌, ℕ, List, [], ◌∷◌, length, map, take, slice_get, Some}
+use Rattle.std.specs.Prelude.{◌≡◌, ◌==◌, ◌<◌, ◌≤◌, ℕ, List, [], ◌∷◌, length, map, take, slice_get, Option, Some, None}
+use Rattle.std.specs.List.{find}
 use Rattle.coniks_proof.specs.Entries.{IsIn, backed_by}
 use Rattle.coniks_proof.specs.Maps.{IsMap, SameEntries}
 use Rattle.coniks_proof.specs.Registry.{Registered, Registry, overlaid, entries_of, AreWithin}
@@ -89,3 +90,8 @@ pub record Whole (hash of : List ℕ → List ℕ) (s : State) : Type 0 where
   pub last : last_count s.epochs ≡ length s.records
   pub rising : AreRising 0 (numbers_of (history_of s))
   pub chain : IsChainOf hash of s.policy (history_of s) s.chain
+
+-- the epoch of exactly this number and its entry, or none where there is no such epoch
+abbrev pub IsInstalled : State → ℕ → Option (Epoch × Entry) → Type 0
+IsInstalled s t None = find (λ (e : Epoch). e.t == t) s.epochs ≡ None
+IsInstalled s t (Some it) = (find (λ (e : Epoch). e.t == t) s.epochs ≡ Some it.0) × (find (λ (e : Entry). e.body.t == t) s.chain ≡ Some it.1)

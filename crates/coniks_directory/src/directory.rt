@@ -4,14 +4,14 @@ ghost use Rattle.std.specs.Prelude.{◌≡◌, ◌<◌, ◌≤◌, ◌+◌, ◌-
 ghost use Rattle.coniks_chain.specs.Entries.{body_bytes};
 ghost use Rattle.coniks_proof.specs.Batches.{after};
 ghost use Rattle.coniks_directory.specs.Batches.{most_nodes, operations};
-ghost use Rattle.coniks_directory.specs.Directories.{Accepts, Finds, HasGoodChain, HasItsChain, HasPrepared, IsAlike, Misses, Prepares, Refuses, Shows, heads, history, registry, root};
+ghost use Rattle.coniks_directory.specs.Directories.{Accepts, Finds, HasGoodChain, HasItsChain, HasPrepared, IsAlike, Misses, Prepares, Refuses, Shows, entry, heads, history, registry, root};
 ghost use Rattle.coniks_directory.specs.History.{AllHaveOwnIndices, AllUnder, AreRising, numbers_of};
 
 use crate::batch::{BatchFault, Op};
 use crate::held::Held;
 use crate::install::{enter, head_of, last_link, make_room, may_install, put_head, signed};
 use crate::lengths::is_length;
-use crate::lookup::LookupFault;
+use crate::lookup::{LookupFault, SignedProof};
 use crate::preparing::update_on;
 use crate::source::IndexSource;
 use crate::update::{CommitFault, InstallFault, Prepared};
@@ -82,8 +82,8 @@ impl<H: Hash32, X: IndexSource> Directory<H, X> {
     pub fn root_at(&self, t: u64) -> Option<Digest>
         ensures { option_map (λ (r : Digest). r.0) result ≡ root H.digest_of X.index_of self.now t }
     {
-        match self.held.epoch(t) {
-            Some(epoch) => Some(self.held.tree.node_hash(epoch.root)),
+        match self.held.installed(t) {
+            Some((epoch, _)) => Some(self.held.tree.node_hash(epoch.root)),
             None => None,
         }
     }
@@ -95,7 +95,19 @@ impl<H: Hash32, X: IndexSource> Directory<H, X> {
         ensures accepted { IfOk result (Shows H.digest_of X.index_of self.now t name.now) }
         ensures missed { IfErr result (Misses self.now t name.now) }
     {
-        let Some(epoch) = self.held.epoch(t) else {
+        Ok(self.signed_lookup(t, name)?.proof)
+    }
+
+    /// What `lookup` answers, with the epoch's entry, which holds the root and the nonce that the proof is checked against,
+    /// and the name's index. It waits for nobody.
+    pub fn signed_lookup(&self, t: u64, name: &[u8]) -> Result<SignedProof, LookupFault>
+        ensures entry { IfOk result (λ it. entry self.now t ≡ Some it.entry) }
+        ensures index { IfOk result (λ it. it.index.0 ≡ X.index_of self.now.index name.now) }
+        ensures ok { IfOk result (λ it. Finds H.digest_of X.index_of self.now t name.now it.proof) }
+        ensures accepted { IfOk result (λ it. Shows H.digest_of X.index_of self.now t name.now it.proof) }
+        ensures missed { IfErr result (Misses self.now t name.now) }
+    {
+        let Some((epoch, entry)) = self.held.installed(t) else {
             return Err(LookupFault::UnknownEpoch);
         };
         if !is_length(name, MAX_NAME) {
@@ -103,7 +115,11 @@ impl<H: Hash32, X: IndexSource> Directory<H, X> {
         }
         let index = self.source.index(name);
         match self.held.tree.path(epoch.root, &index) {
-            Ok(proof) => Ok(proof),
+            Ok(proof) => Ok(SignedProof {
+                entry,
+                index,
+                proof,
+            }),
             Err(_) => Err(LookupFault::OutOfMemory),
         }
     }

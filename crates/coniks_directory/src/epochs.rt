@@ -1,6 +1,6 @@
 //! Epochs, found by their numbers.
 
-ghost use Rattle.std.specs.Prelude.{◌≡◌, ◌==◌, ◌-◌, length, map, option_map, slice_get};
+ghost use Rattle.std.specs.Prelude.{◌≡◌, ◌==◌, ◌-◌, ℕ, IfSome, Some, length, map, option_map, slice_get};
 ghost use Rattle.std.specs.Option.{option_map_or};
 ghost use Rattle.std.specs.List.{find};
 ghost use Rattle.coniks_directory.specs.History.{AreRising, last_number};
@@ -26,13 +26,15 @@ pub struct Epoch {
 impl Epoch {
     ghost use Rattle.coniks_directory.specs.declared.epochs.Epoch.{Epoch};
 
-    /// The epoch of exactly this number, among epochs whose numbers rise. It halves the list until one is left.
-    pub(crate) fn of_number(epochs: &[Epoch], t: u64) -> Option<Epoch>
-        ensures { AreRising 0 (map (λ (e : Epoch). e.t) epochs.now) → result ≡ find (λ (e : Epoch). e.t == t) epochs.now }
+    /// The epoch of exactly this number with its place, among epochs whose numbers rise. It halves the list until one is
+    /// left.
+    pub(crate) fn of_number(epochs: &[Epoch], t: u64) -> Option<(usize, Epoch)>
+        ensures found { AreRising 0 (map (λ (e : Epoch). e.t) epochs.now) → option_map (λ (it : ℕ × Epoch). it.1) result ≡ find (λ (e : Epoch). e.t == t) epochs.now }
+        ensures there { IfSome result (λ it. (slice_get epochs.now it.0 ≡ Some it.1) × (it.1.t ≡ t)) }
     {
         let place = epochs.partition_point(|epoch| epoch.t < t);
         match Epoch::at(epochs, place) {
-            Some(epoch) if epoch.t == t => Some(epoch),
+            Some(epoch) if epoch.t == t => Some((place, epoch)),
             _ => None,
         }
     }

@@ -1,9 +1,7 @@
 //! What a directory holds.
 
-ghost use Rattle.std.specs.Prelude.{◌≡◌, ◌==◌, ◌-◌, [], length, slice_get};
-ghost use Rattle.std.specs.List.{find};
-ghost use Rattle.coniks_directory.specs.History.{AreRising, latest_epoch, numbers_of};
-ghost use Rattle.coniks_directory.specs.declared.epochs.Epoch.{Epoch};
+ghost use Rattle.std.specs.Prelude.{◌≡◌, ◌-◌, List, ℕ, [], length, slice_get};
+ghost use Rattle.coniks_directory.specs.History.{latest_epoch};
 
 use crate::epochs::Epoch;
 use coniks_chain::Entry;
@@ -23,7 +21,7 @@ pub(crate) struct Held {
 }
 
 impl Held {
-    ghost use Rattle.coniks_directory.specs.State.{history_of, opened, state_of};
+    ghost use Rattle.coniks_directory.specs.State.{IsInstalled, Whole, history_of, opened, state_of};
 
     /// No epochs and no names.
     pub(crate) fn new(alloc: Global, nonce: Nonce, policy: [u8; 32]) -> Self
@@ -59,10 +57,18 @@ impl Held {
         Epoch::last(&self.epochs)
     }
 
-    /// The epoch of exactly this number.
-    pub(crate) fn epoch(&self, t: u64) -> Option<Epoch>
-        ensures { AreRising 0 (numbers_of (history_of (state_of self.now))) → result ≡ find (λ (e : Epoch). e.t == t) (state_of self.now).epochs }
+    /// The epoch of exactly this number, with its entry.
+    pub(crate) fn installed(&self, t: u64) -> Option<(Epoch, Entry)>
+        ensures { (hash of : List ℕ → List ℕ) → Whole hash of (state_of self.now) → IsInstalled (state_of self.now) t result }
     {
-        Epoch::of_number(&self.epochs, t)
+        let (place, epoch) = Epoch::of_number(&self.epochs, t)?;
+        Some((epoch, self.entry(place)?))
+    }
+
+    /// The entry at a place, if there is one.
+    fn entry(&self, place: usize) -> Option<Entry>
+        ensures { result ≡ slice_get (state_of self.now).chain place }
+    {
+        self.chain.get(place).copied()
     }
 }

@@ -52,6 +52,6 @@ pub mod update;
 
 pub use batch::{BatchFault, Op, OpFault, OpKind};
 pub use directory::Directory;
-pub use lookup::LookupFault;
+pub use lookup::{LookupFault, SignedProof};
 pub use source::IndexSource;
 pub use update::{CommitFault, InstallFault, Prepared};

@@ -1,6 +1,17 @@
-//! Why a lookup isn't answered.
+//! What a lookup answers, and why one isn't answered.
 
+use coniks_chain::Entry;
+use coniks_proof::{Index, Proof};
 use thiserror::Error;
+
+/// What a client checks a proof against, with the proof: the entry of the epoch asked, which holds nonce and root, and the
+/// name's index.
+#[derive(Drop)]
+pub struct SignedProof {
+    pub entry: Entry,
+    pub index: Index,
+    pub proof: Proof,
+}
 
 /// Why a lookup isn't answered: of what applies, the first in this order.
 #[derive(Clone, Copy, Debug, Drop, PartialEq, Eq, Error)]

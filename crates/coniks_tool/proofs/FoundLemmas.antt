@@ -5,9 +5,7 @@ use Rattle.std.proofs.lemmas.Bool.{false≢true}
 use Rattle.coniks_chain.specs.Chain.{before_of}
 use Rattle.coniks_chain.specs.declared.auditor.Before.{Before}
 use Rattle.coniks_chain.specs.declared.entry.Entry.{Entry}
-use Rattle.coniks_directory.specs.Chain.{IsChainOf}
-use Rattle.coniks_directory.specs.History.{AreRising, Shown, numbers_of, shown_at}
-use Rattle.coniks_directory.proofs.Lemmas.{chain-rises}
+use Rattle.coniks_directory.specs.History.{Shown, shown_at}
 use Rattle.coniks_directory.specs.Lookups.{IsFound, IsMissed}
 use Rattle.coniks_directory.specs.declared.lookup.LookupFault.{LookupFault}
 use Rattle.coniks_directory.specs.declared.lookup.LookupFault.TheVariants.{NameLength, UnknownEpoch}
@@ -23,10 +21,6 @@ use Rattle.coniks_tool.specs.Replies.{bad_name_length, looked_up, unknown_epoch}
 use Rattle.coniks_tool.specs.Script.{Chained, Opened, epoch_at, epochs_of, lookup_at, lookup_with}
 use Rattle.coniks_tool.proofs.PathLemmas.{path_is}
 
--- the epochs of a directory's chain rise
-pub rises : (o : Opened) (same chain : List Entry) → same ≡ chain → IsChainOf sha256 (demo_index o.key) o.policy o.history chain → AreRising 0 (numbers_of o.history) → AreRising 0 (map (λ (e : Entry). e.body.t) same)
-rises o same chain is of_history up = subst (λ (es : List Entry). AreRising 0 (map (λ (e : Entry). e.body.t) es)) (sym is) (chain-rises sha256 (demo_index o.key) o.policy o.history chain of_history up)
-
 -- the entry of exactly this epoch
 abbrev pub entry_at : List Entry → ℕ → Option Entry
 entry_at chain epoch = find (λ (e : Entry). e.body.t == epoch) chain
@@ -40,10 +34,6 @@ abbrev pair_up : Option Shown → Option Entry → Option Chained
 pair_up None e = None
 pair_up (Some s) None = None
 pair_up (Some s) (Some e) = Some (record { shown = s; entry = e })
-
-no_entry : (s : Option Shown) → pair_up s None ≡ None
-no_entry None = refl
-no_entry (Some s) = refl
 
 module _ (key policy : List ℕ) (number : ℕ) where
   -- the search among epochs with their entries finds what the searches among both find
@@ -96,9 +86,6 @@ module _ (o : Opened) (epoch : ℕ) (name bytes : List ℕ) (same : bytes ≡ na
     here e at =
         ap (lookup_at (demo_index o.key) name) (both o.key o.policy epoch None o.history
         ∙ ap (pair_up (shown_at o.history epoch)) (sym (at ∙ ap (λ (es : List Entry). entry_at es epoch) is)))
-
-    pub none_there : None ≡ entry_at chain epoch → unknown_epoch ≡ lookup_with (Some o) epoch name
-    none_there none = sym (here None none ∙ ap (lookup_at (demo_index o.key) name) (no_entry (shown_at o.history epoch)))
 
     pub found_there : (entry : Entry) (text index : List ℕ) → Some entry ≡ entry_at chain epoch → text ≡ name → index ≡ demo_index o.key name → looked_up entry index text (path_of proof) ≡ lookup_with (Some o) epoch name
     found_there entry text index at text_is index_is =

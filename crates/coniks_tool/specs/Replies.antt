@@ -51,7 +51,7 @@ pub data Outcome : Type 0 where
 abbrev pub outcome_of : Reply → Outcome
 outcome_of reply.Opened = opened
 outcome_of (reply.Installed entry link) = installed entry link.0
-outcome_of (reply.LookedUp entry index name proof) = looked_up entry index.0 (string_bytes name) (path_of proof)
+outcome_of (reply.LookedUp name found) = looked_up found.entry found.index.0 (string_bytes name) (path_of found.proof)
 outcome_of reply.NotJson = not_json
 outcome_of reply.NoCommand = no_command
 outcome_of (reply.BadMember m) = bad_member m

@@ -22,10 +22,9 @@ abbrev pub state_of : Option Service → State
 state_of None = None
 state_of (Some s) = Some (opened_of s)
 
--- the directory's index source and its signer have one key, the signer made just the chain's entries, which are a good chain, and
--- the heads of the chain are those that are published
+-- the signer has the key of the directory's index source, it made just the chain's entries, which are a good chain, and the heads
+-- of the chain are those that are published
 pub record IsServed (published : BoardEnd) (s : Service) : Type 0 where
-  pub same_key : s.index ≡ s.directory.index
   pub verdicts : (bytes signature : List ℕ) → is_seal s.signer.key bytes signature ≡ is_seal s.directory.index bytes signature
   pub good : GoodChain sha256 (is_seal s.signer.key) s.directory.state.chain
   pub made : s.signer.made ≡ length s.directory.state.chain

@@ -10,8 +10,8 @@ ghost use Rattle.coniks_tool.specs.Replies.{outcome_of, reply_data, reply_text, 
 use crate::lines::printing::{Member, bad_member, fault, member_text, print_value};
 use crate::lines::proof_text::proof_value;
 use coniks_chain::Entry;
-use coniks_directory::OpFault;
-use coniks_proof::{Digest, Index, Proof};
+use coniks_directory::{OpFault, SignedProof};
+use coniks_proof::Digest;
 use serde_json::{Value, json};
 use std::alloc::{AllocError, Global};
 
@@ -21,17 +21,9 @@ pub enum Reply {
     /// The registry is open.
     Opened,
     /// A batch was installed: the entry that it added to the chain, and the entry's link.
-    Installed {
-        entry: Entry,
-        link: Digest,
-    },
+    Installed { entry: Entry, link: Digest },
     /// A lookup found the path to the name's index in the tree of the epoch with this entry.
-    LookedUp {
-        entry: Entry,
-        index: Index,
-        name: String,
-        proof: Proof,
-    },
+    LookedUp { name: String, found: SignedProof },
     /// The line isn't a JSON object.
     NotJson,
     /// The line has no known command.
@@ -47,14 +39,9 @@ pub enum Reply {
     /// A batch has too many operations.
     BatchTooLong,
     /// The operation at this place is at fault.
-    BadBatch {
-        position: usize,
-        fault: OpFault,
-    },
+    BadBatch { position: usize, fault: OpFault },
     /// The epoch isn't later than the latest one.
-    EpochNotLater {
-        latest: u64,
-    },
+    EpochNotLater { latest: u64 },
     /// The board has no room for a further head.
     BoardFull,
     /// No epoch has exactly the number asked.
@@ -104,12 +91,7 @@ fn value_of(alloc: Global, reply: &Reply) -> Result<Value, AllocError>
     match reply {
         Reply::Opened => opened(alloc),
         Reply::Installed { entry, link } => installed(alloc, entry, link),
-        Reply::LookedUp {
-            entry,
-            index,
-            name,
-            proof,
-        } => looked_up(alloc, entry, index, name.as_str(), proof),
+        Reply::LookedUp { name, found } => looked_up(alloc, name.as_str(), found),
         Reply::NotJson => fault(alloc, "Json"),
         Reply::NoCommand => fault(alloc, "Command"),
         Reply::BadMember(member) => bad_member(alloc, member_text(*member)),
@@ -156,24 +138,19 @@ fn installed(alloc: Global, entry: &Entry, link: &Digest) -> Result<Value, Alloc
     })
 }
 
-fn looked_up(
-    alloc: Global,
-    entry: &Entry,
-    index: &Index,
-    name: &str,
-    proof: &Proof,
-) -> Result<Value, AllocError>
-    ensures { IfOk result (λ value. view value ≡ looked_up_data entry.now index.now.0 name.now (path_of proof.now)) }
+fn looked_up(alloc: Global, name: &str, found: &SignedProof) -> Result<Value, AllocError>
+    ensures { IfOk result (λ value. view value ≡ looked_up_data found.now.entry found.now.index.0 name.now (path_of found.now.proof)) }
 {
+    let body = &found.entry.body;
     json!(in alloc; {
-        "entry": hex::encode(alloc, &entry.bytes())?,
-        "epoch": entry.body.t,
-        "index": hex::encode(alloc, &index.0)?,
+        "entry": hex::encode(alloc, &found.entry.bytes())?,
+        "epoch": body.t,
+        "index": hex::encode(alloc, &found.index.0)?,
         "name": name,
-        "nonce": hex::encode(alloc, &entry.body.nonce.0)?,
+        "nonce": hex::encode(alloc, &body.nonce.0)?,
         "ok": "lookup",
-        "proof": proof_value(alloc, proof)?,
-        "root": hex::encode(alloc, &entry.body.root.0)?,
+        "proof": proof_value(alloc, &found.proof)?,
+        "root": hex::encode(alloc, &body.root.0)?,
     })
 }
 

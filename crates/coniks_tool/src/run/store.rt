@@ -1,9 +1,8 @@
 //! The directory that a script opens, who signs its entries, and the board on which its heads are published.
 
-ghost use Rattle.std.specs.Prelude.{◌≡◌, ◌==◌, [], find, map, Option, None, Some, IfErr, IfOk, OnErr, OnOk, option_map, slice_get};
+ghost use Rattle.std.specs.Prelude.{◌≡◌, [], Option, None, Some, IfErr, IfOk, OnErr, OnOk, option_map};
 ghost use Rattle.coniks_chain.specs.Entries.{link_preimage};
 ghost use Rattle.coniks_directory.specs.Batches.{fault_is, operations};
-ghost use Rattle.coniks_directory.specs.History.{AreRising};
 ghost use Rattle.coniks_proof.specs.Sha256.{sha256};
 ghost use Rattle.coniks_directory.specs.Chain.{head_at};
 ghost use Rattle.coniks_shared.specs.Boards.{BoardEnd};
@@ -20,9 +19,7 @@ use crate::demo::seal::DemoSeal;
 use crate::run::crew::Crew;
 use crate::run::reply::Reply;
 use coniks_chain::Entry;
-use coniks_directory::{
-    BatchFault, CommitFault, Directory, IndexSource, InstallFault, LookupFault, Op,
-};
+use coniks_directory::{BatchFault, CommitFault, Directory, InstallFault, LookupFault, Op};
 use coniks_lines::RunFault;
 use coniks_proof::{Nonce, Sha256Hash};
 use coniks_shared::{Board, Publisher};
@@ -34,30 +31,11 @@ use std::thread::Threads;
 /// How many heads the board of a run takes, and so how many epochs a run may have.
 pub const BOARD_HEADS: usize = 1024;
 
-/// A directory that was opened, where its names' indices come from, and who signs its entries.
+/// A directory that was opened, and who signs its entries.
 #[derive(Drop)]
 pub struct Service {
-    index: DemoIndex,
     directory: Directory<Sha256Hash, DemoIndex>,
     signer: DemoSeal,
-}
-
-/// The entry at a place, if there is one.
-fn entry_in(chain: &[Entry], place: usize) -> Option<Entry>
-    ensures { result ≡ slice_get chain.now place }
-{
-    chain.get(place).copied()
-}
-
-/// The entry of exactly this epoch, in a chain whose epochs rise. It halves the chain until one entry is left.
-fn entry_of_epoch(chain: &[Entry], epoch: u64) -> Option<Entry>
-    ensures { AreRising 0 (map (λ (e : Entry). e.body.t) chain.now) → result ≡ find (λ (e : Entry). e.body.t == epoch) chain.now }
-{
-    let place = chain.partition_point(|entry| entry.body.t < epoch);
-    match entry_in(chain, place) {
-        Some(entry) if entry.body.t == epoch => Some(entry),
-        _ => None,
-    }
 }
 
 impl Service {
@@ -67,12 +45,9 @@ impl Service {
         ensures served { (published : BoardEnd) → published.heads ≡ [] → IsServed published result }
     {
         let index = DemoIndex::new(key);
-        let directory = Directory::open(alloc, Sha256Hash, index, Nonce(nonce), policy);
-        let signer = DemoSeal::new(key);
         Service {
-            index,
-            directory,
-            signer,
+            directory: Directory::open(alloc, Sha256Hash, index, Nonce(nonce), policy),
+            signer: DemoSeal::new(key),
         }
     }
 
@@ -116,23 +91,16 @@ impl Service {
         requires { (published : BoardEnd) × IsServed published self.now }
         ensures { IfOk result (λ reply. outcome_of reply ≡ lookup_with (Some (opened_of self.now)) epoch name.now) }
     {
-        let proof = match self.directory.lookup(epoch, name.as_bytes()) {
-            Ok(proof) => proof,
+        let found = match self.directory.signed_lookup(epoch, name.as_bytes()) {
+            Ok(found) => found,
             Err(LookupFault::UnknownEpoch) => return Ok(Reply::UnknownEpoch),
             Err(LookupFault::NameLength) => return Ok(Reply::NameLength),
             Err(LookupFault::OutOfMemory) => return Err(AllocError),
         };
-        let Some(entry) = entry_of_epoch(self.directory.chain(), epoch) else {
-            return Ok(Reply::UnknownEpoch);
-        };
-        let index = self.index.index(name.as_bytes());
+        // The directory tells what its chain is.
+        let _chain = self.directory.chain();
         let name = String::from_str(alloc, name)?;
-        Ok(Reply::LookedUp {
-            entry,
-            index,
-            name,
-            proof,
-        })
+        Ok(Reply::LookedUp { name, found })
     }
 }
 

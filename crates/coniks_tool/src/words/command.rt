@@ -1,13 +1,20 @@
 //! The command that reads the program's words.
 
 ghost use Rattle.std.specs.Prelude.{◌≡◌, IfOk, false, true};
-ghost use Rattle.clap.specs.Words.{app_of, with_rule, with_subcommand, App, Rule};
+ghost use Rattle.clap.specs.Words.{app_of, new_app, with_rule, with_subcommand, App, Rule};
 ghost use Rattle.clap.specs.declared.builder.command.Command.TheViews.{out-Command as fields_of};
 ghost use Rattle.coniks_tool.specs.Keydir.{audit_app, check_app, depth_rule, expect_rule, key_rule, keydir, keydir_top, monitor_app, name_rule, run_app, workers_rule, IsCommand, IsOption};
 
 use crate::words::help;
 use clap::{Arg, Command};
 use std::alloc::{AllocError, Global};
+
+/// A command of this name, with what its help says of it, and last.
+fn command<'a>(alloc: Global, name: &'a str, about: &'a str, last: &'a str) -> Command<'a>
+    ensures { IsCommand (new_app name.now) result }
+{
+    Command::new(alloc, name).about(about).after_help(last)
+}
 
 fn workers_option<'a>(alloc: Global) -> Arg<'a>
     ensures { IsOption workers_rule result }
@@ -34,19 +41,25 @@ fn depth_option<'a>(alloc: Global) -> Arg<'a>
 fn run_command<'a>(alloc: Global) -> Result<Command<'a>, AllocError>
     ensures { IfOk result (IsCommand run_app) }
 {
-    let command = Command::new(alloc, "run")
-        .about("Answers the lines of the standard input")
-        .after_help(help::OF_RUN);
-    let with_workers = with_option(Ok(command), workers_option(alloc));
+    let bare = command(
+        alloc,
+        "run",
+        "Answers the lines of the standard input",
+        help::OF_RUN,
+    );
+    let with_workers = with_option(Ok(bare), workers_option(alloc));
     with_option(with_workers, depth_option(alloc))
 }
 
 fn check_command<'a>(alloc: Global) -> Command<'a>
     ensures { IsCommand check_app result }
 {
-    Command::new(alloc, "check")
-        .about("Checks the proofs of the standard input")
-        .after_help(help::OF_CHECK)
+    command(
+        alloc,
+        "check",
+        "Checks the proofs of the standard input",
+        help::OF_CHECK,
+    )
 }
 
 fn key_option<'a>(alloc: Global) -> Arg<'a>
@@ -62,10 +75,13 @@ fn key_option<'a>(alloc: Global) -> Arg<'a>
 fn audit_command<'a>(alloc: Global) -> Result<Command<'a>, AllocError>
     ensures { IfOk result (IsCommand audit_app) }
 {
-    let command = Command::new(alloc, "audit")
-        .about("Audits the entries of the standard input")
-        .after_help(help::OF_AUDIT);
-    with_option(Ok(command), key_option(alloc))
+    let bare = command(
+        alloc,
+        "audit",
+        "Audits the entries of the standard input",
+        help::OF_AUDIT,
+    );
+    with_option(Ok(bare), key_option(alloc))
 }
 
 fn name_option<'a>(alloc: Global) -> Arg<'a>
@@ -90,10 +106,13 @@ fn expect_option<'a>(alloc: Global) -> Arg<'a>
 fn monitor_command<'a>(alloc: Global) -> Result<Command<'a>, AllocError>
     ensures { IfOk result (IsCommand monitor_app) }
 {
-    let command = Command::new(alloc, "monitor")
-        .about("Watches a name over the standard input")
-        .after_help(help::OF_MONITOR);
-    let with_key = with_option(Ok(command), key_option(alloc));
+    let bare = command(
+        alloc,
+        "monitor",
+        "Watches a name over the standard input",
+        help::OF_MONITOR,
+    );
+    let with_key = with_option(Ok(bare), key_option(alloc));
     let with_name = with_option(with_key, name_option(alloc));
     with_option(with_name, expect_option(alloc))
 }

@@ -1,13 +1,7 @@
-use Rattle.std.proofs.Common.{◌∙◌, ap, codes}
-use Rattle.clap.specs.Simple.{app_of_fields}
+use Rattle.std.proofs.Common.{codes}
 use Rattle.clap.specs.Words.{new_app}
-use Rattle.coniks_tool.specs.Keydir.{IsCommand, key_rule}
+use Rattle.coniks_tool.specs.Keydir.{key_rule}
 use Rattle.coniks_tool.proofs.words.command.audit_command.Goals as goal
 
 pub returns : goal.returns
-returns c =
-    let bare : IsCommand (new_app (codes "audit")) c.after_help-command.result = (
-      ap app_of_fields c.after_help-command.ensures ∙ ap app_of_fields c.about.ensures ∙ c.new.ensures.app,
-      ap (λ f. f.has_globals) c.after_help-command.ensures ∙ ap (λ f. f.has_globals) c.about.ensures ∙ c.new.ensures.local,
-    ) in
-    c.with_option.ensures (new_app (codes "audit")) key_rule bare c.key_option.ensures
+returns c = c.with_option.ensures (new_app (codes "audit")) key_rule c.command-bare.ensures c.key_option.ensures

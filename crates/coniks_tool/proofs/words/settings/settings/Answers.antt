@@ -5,6 +5,7 @@ use Rattle.coniks_tool.specs.Keydir.{keydir}
 use Rattle.coniks_tool.proofs.CommandLemmas.{keydir-is_simple}
 use Rattle.coniks_tool.proofs.LimitLemmas.{IsLimited, faultless-limited}
 use Rattle.coniks_tool.proofs.SubcommandLemmas.{IsChosen, faultless-chosen}
+use Rattle.coniks_tool.proofs.words.settings.settings.Given as given
 use Rattle.coniks_tool.proofs.words.settings.settings.Goals as goal
 
 -- what `clap` says of a command that is `keydir`
@@ -16,21 +17,18 @@ pub returns-in-Err-clause-passes : goal.returns-in-Err-clause-passes
 returns-in-Err-clause-passes g c =
     λ taken. c.refusal.ensures.memory (c.in-Err.ensures.passes (ap (λ (a : App). takes a (map g.S.AsStr.text c.args.words.now)) c.in-Ok.ensures.app ∙ taken))
 
+-- `clap` finds no fault, and so these are the subcommand and its rows
+taken : (g : given.Over) (c : goal.In-Some g) → (let words = map g.S.AsStr.text c.args.words.now in
+    (fault_of keydir words ≡ []) × (subcommand_of keydir words ≡ Some (c.in-Some.name.now, rows_of (found_of c.in-Some.found.now))))
+taken g c = (fault_is (app_of c.in-Ok.command) (map g.S.AsStr.text c.args.words.now) c.in-Ok.ensures.app c.in-Ok-try_get_matches_from.ensures.kinds, search rules)
+
 pub returns-clause-faultless : goal.returns-clause-faultless
-returns-clause-faultless g c =
-    let words = map g.S.AsStr.text c.args.words.now in
-    fault_is (app_of c.in-Ok.command) words c.in-Ok.ensures.app c.in-Ok-try_get_matches_from.ensures.kinds
+returns-clause-faultless g c = fault_is (app_of c.in-Ok.command) (map g.S.AsStr.text c.args.words.now) c.in-Ok.ensures.app c.in-Ok-try_get_matches_from.ensures.kinds
 
 pub settings_by-requires-clause-chosen : goal.settings_by-requires-clause-chosen
-settings_by-requires-clause-chosen g c =
-    let words = map g.S.AsStr.text c.args.words.now in
-    let none = fault_is (app_of c.in-Ok.command) words c.in-Ok.ensures.app c.in-Ok-try_get_matches_from.ensures.kinds in
-    let met : subcommand_of keydir words ≡ Some (c.in-Some.name.now, rows_of (found_of c.in-Some.found.now)) = search rules in
-    subst (λ (o : Option (List ℕ × List Row)). IfSome o IsChosen) met (faultless-chosen words none)
+settings_by-requires-clause-chosen g c = let is = taken g c in
+    subst (λ (o : Option (List ℕ × List Row)). IfSome o IsChosen) is.1 (faultless-chosen (map g.S.AsStr.text c.args.words.now) is.0)
 
 pub settings_by-requires-clause-limits : goal.settings_by-requires-clause-limits
-settings_by-requires-clause-limits g c =
-    let words = map g.S.AsStr.text c.args.words.now in
-    let none = fault_is (app_of c.in-Ok.command) words c.in-Ok.ensures.app c.in-Ok-try_get_matches_from.ensures.kinds in
-    let met : subcommand_of keydir words ≡ Some (c.in-Some.name.now, rows_of (found_of c.in-Some.found.now)) = search rules in
-    subst (λ (o : Option (List ℕ × List Row)). IfSome o IsLimited) met (faultless-limited words none)
+settings_by-requires-clause-limits g c = let is = taken g c in
+    subst (λ (o : Option (List ℕ × List Row)). IfSome o IsLimited) is.1 (faultless-limited (map g.S.AsStr.text c.args.words.now) is.0)

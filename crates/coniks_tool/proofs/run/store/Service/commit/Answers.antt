@@ -13,7 +13,6 @@ returns-clause-served g c =
     c.args.self.now.signer.made c.commit-committed.new.signer.made 0 0 c.args.epoch (length c.args.publisher.now.heads) c.args.board.now.capacity c.args.self.now.signer.last c.commit-committed.new.signer.last
     e.made e.chain e.may e.unsigned e.unchanged s.made s.room (as_many c.args.publisher.now.heads c.args.self.now.directory.state.chain s.heads) c.requires.capacity in
     record {
-      same_key = s.same_key ∙ sym e.same.index;
       verdicts = λ b x. e.verdicts_kept b x ∙ s.verdicts b x ∙ ap (λ (k : List ℕ). is_seal k b x) (sym e.same.index);
       good = e.good s.good;
       made = counts.0;
