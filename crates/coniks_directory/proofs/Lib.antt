@@ -18,4 +18,3 @@ mod InstallLemmas
 mod HeadLemmas
 mod PrepareLemmas
 mod RunLemmas
-pub mod Lemmas
