@@ -261,11 +261,11 @@ module _ {S : Type 0} (answer : S → List ℕ → Answer S) where
   )
 
   -- a fault in a later chunk
-  pub ends_in_chunk : (s t : S) (line bytes chunk : List ℕ) (from from' : Source) (old mid new : Sink) (a : Bool) (e : RunFault)
+  pub ends_in_chunk : {s t : S} {line bytes : List ℕ} (chunk : List ℕ) {from from' : Source} {old mid new : Sink} {a : Bool} {e : RunFault}
       → Takes from (bytes ++ chunk) from' → from'.failed ≡ from.failed
       → AnswersWhole answer s [] bytes old mid t line a → StopsFor answer t (whole_after line chunk) from from mid new e
       → EndsBadly answer s from from' old new e
-  ends_in_chunk s t line bytes chunk from from' old mid new a e took on p h =
+  ends_in_chunk {s} {t} {line} {bytes} chunk {from} {from'} {old} {mid} {new} {a} {e} took on p h =
       let first = whole_after [] bytes in
       let later = whole_after (rest_after [] bytes) chunk in
       let moved : StopsFor answer (state_after answer s first) later from from mid new e =
@@ -284,10 +284,11 @@ module _ {S : Type 0} (answer : S → List ℕ → Answer S) where
   lines_of-last line bytes some is = ap (λ (ls : List (List ℕ)). whole_after [] bytes ++ ls) (ap last_line (sym is) ∙ last_line-some line some)
 
   -- a fault at the last line
-  pub ends_at_last : (s t : S) (line bytes : List ℕ) (from from' : Source) (old mid new : Sink) (a : Bool) (e : RunFault)
-      → line ≢ [] → Takes from bytes from' → from'.failed ≡ from.failed → ComesToEnd from from' → AnswersWhole answer s [] bytes old mid t line a → StopsFor answer t (line ∷ []) from from mid new e
+  pub ends_at_last : {s t : S} {line bytes : List ℕ} {from from' : Source} {old mid new : Sink} {a : Bool} {e : RunFault}
+      → line ≢ [] → Takes from bytes from' → from'.failed ≡ from.failed → ComesToEnd from from'
+      → AnswersWhole answer s [] bytes old mid t line a → StopsFor answer t (line ∷ []) from from mid new e
       → EndsBadly answer s from from' old new e
-  ends_at_last s t line bytes from from' old mid new a e some took on ended p h =
+  ends_at_last {s} {t} {line} {bytes} {from} {from'} {old} {mid} {new} {a} {e} some took on ended p h =
       let first = whole_after [] bytes in
       let moved : StopsFor answer (state_after answer s first) (line ∷ []) from from mid new e = subst (λ (z : S). StopsFor answer z (line ∷ []) from from mid new e) p.state_is h in
       let all = StopsFor-then s first (line ∷ []) from old mid new e p.writes_on p.written p.flushes_is moved in
@@ -300,10 +301,10 @@ module _ {S : Type 0} (answer : S → List ℕ → Answer S) where
       }
 
   -- reads that failed, or met no end, after the whole lines were answered
-  pub ends_unread : (s t : S) (line bytes : List ℕ) (from from' : Source) (old new : Sink) (a : Bool)
+  pub ends_unread : {s t : S} {line bytes : List ℕ} {from from' : Source} {old new : Sink} {a : Bool}
       → Takes from bytes from' → CannotRead from from' → AnswersWhole answer s [] bytes old new t line a → EndsBadly answer s from from' old new Read
   unfolding Stops-between
-  ends_unread s t line bytes from from' old new a took why p = record {
+  ends_unread {s} {t} {line} {bytes} {from} {from'} {old} {new} {a} took why p = record {
     bytes = bytes;
     lines = whole_lines bytes;
     read = took;
@@ -323,9 +324,9 @@ module _ {S : Type 0} (answer : S → List ℕ → Answer S) where
   }
 
   -- the end, where nothing is held
-  pub ends_empty : (s t : S) (line bytes : List ℕ) (old new : Sink) (all : Bool)
+  pub ends_empty : {s t : S} {line bytes : List ℕ} {old new : Sink} {all : Bool}
       → line ≡ [] → AnswersWhole answer s [] bytes old new t line all → AnswersAll answer s bytes old new t all
-  ends_empty s t line bytes old new all none p =
+  ends_empty {s} {t} {line} {bytes} {old} {new} {all} none p =
       let first = whole_after [] bytes in
       let same : first ≡ lines_of bytes = sym (ap (λ (r : List ℕ). first ++ last_line r) (sym p.rest_is ∙ none) ∙ append-nil first) in
       record {
@@ -337,10 +338,10 @@ module _ {S : Type 0} (answer : S → List ℕ → Answer S) where
       }
 
   -- the end, where the last line was answered
-  pub ends_with_line : (s t u : S) (line bytes : List ℕ) (old mid new : Sink) (a accepted : Bool)
+  pub ends_with_line : {s t u : S} {line bytes : List ℕ} {old mid new : Sink} {a accepted : Bool}
       → line ≢ [] → AnswersWhole answer s [] bytes old mid t line a → AnswersLine answer t line mid new u accepted
       → AnswersAll answer s bytes old new u (a && accepted)
-  ends_with_line s t u line bytes old mid new a accepted some p q =
+  ends_with_line {s} {t} {u} {line} {bytes} {old} {mid} {new} {a} {accepted} some p q =
       let first = whole_after [] bytes in
       let from = state_after answer s first in
       let same : first ++ line ∷ [] ≡ lines_of bytes = sym (lines_of-last line bytes some p.rest_is) in
@@ -361,9 +362,9 @@ module _ {S : Type 0} (answer : S → List ℕ → Answer S) where
       }
 
   -- the same under other names
-  pub AnswersAll-same : (s t t' : S) (bytes : List ℕ) (old new new' : Sink) (a a' : Bool)
+  pub AnswersAll-same : {s t t' : S} {bytes : List ℕ} {old new new' : Sink} {a a' : Bool}
       → AnswersAll answer s bytes old new t a → t' ≡ t → new' ≡ new → a' ≡ a → AnswersAll answer s bytes old new' t' a'
-  AnswersAll-same s t t' bytes old new new' a a' p e_t e_new e_a =
+  AnswersAll-same {s} {t} {t'} {bytes} {old} {new} {new'} {a} {a'} p e_t e_new e_a =
       subst (λ (z : S). AnswersAll answer s bytes old new' z a') (sym e_t)
       (subst (λ (z : Sink). AnswersAll answer s bytes old z t a') (sym e_new) (subst (λ (z : Bool). AnswersAll answer s bytes old new t z) (sym e_a) p))
 

@@ -42,16 +42,6 @@ under_none p = go 0 p
     go level (true ∷ bits) = go (suc level) bits
     go level (false ∷ bits) = go (suc level) bits
 
--- lists with a last element
-pub last_same : (xs ys : List Part) (x y : Part) → xs ++ x ∷ [] ≡ ys ++ y ∷ [] → (xs ≡ ys) × (x ≡ y)
-last_same [] [] x y e = (refl, cc)
-last_same [] (z ∷ ys) x y e = absurd (omega (arith, ap length e, length-append ys (y ∷ [])))
-last_same (w ∷ xs) [] x y e = absurd (omega (arith, ap length e, length-append xs (x ∷ [])))
-last_same (w ∷ xs) (z ∷ ys) x y e =
-    let rest = last_same xs ys x y (ap (drop 1) e) in
-    let first : w ≡ z = cc in
-    (ap (λ l. w ∷ l) rest.0 ∙ ap (λ v. v ∷ ys) first, rest.1)
-
 some_same : {x y : Job} → Some x ≡ Some y → x ≡ y
 some_same e = cc
 
@@ -176,23 +166,37 @@ module _ (hash : List ℕ → List ℕ) (nonce : List ℕ) (nodes : List Node) (
       let none : depth - length p ≡ zero = omega arith in
       subst (λ h. AreGrown hash nonce nodes records root h p (e ∷ es) xs) none g
 
-  -- above it there are those of one side, and then of the other
-  pub grown_sides : (depth : ℕ) (p : List Bool) (es : List Numbered) (xs : List Part) → length p < depth → 0 < length es → AreGrown hash nonce nodes records root (depth - length p) p es xs
-      → (left : List Part) × (right : List Part) × (xs ≡ left ++ right)
-      × AreGrown hash nonce nodes records root (depth - length (child p false)) (child p false) (side false (length p) es) left
-      × AreGrown hash nonce nodes records root (depth - length (child p true)) (child p true) (side true (length p) es) right
-  grown_sides depth p [] xs less some g = absurd (omega arith)
-  grown_sides depth p (e ∷ es) xs less some g =
+  -- the parts of a prefix above the cutting depth, after those before: those of its left side, and then those of its right side
+  pub record OnSides (depth : ℕ) (p : List Bool) (es : List Numbered) (before mine : List Part) : Type 0 where
+    pub left : List Part
+    pub right : List Part
+    pub above : length p < depth
+    pub parts : before ++ mine ≡ before ++ left ++ right
+    pub on_left : AreGrown hash nonce nodes records root (depth - length (child p false)) (child p false) (side false (length p) es) left
+    pub on_right : AreGrown hash nonce nodes records root (depth - length (child p true)) (child p true) (side true (length p) es) right
+
+  pub grown_sides : (depth : ℕ) (p : List Bool) (es : List Numbered) (before mine : List Part) → length p < depth → 0 < length es
+      → AreGrown hash nonce nodes records root (depth - length p) p es mine → OnSides depth p es before mine
+  grown_sides depth p [] before mine above some g = absurd (omega arith)
+  grown_sides depth p (e ∷ es) before mine above some g =
       let here : depth - length p ≡ suc (depth - suc (length p)) = omega arith in
-      let s = subst (λ h. AreGrown hash nonce nodes records root h p (e ∷ es) xs) here g in
-      let left : depth - suc (length p) ≡ depth - length (child p false) = ap (λ k. depth - k) (sym (length-child p false)) in
-      let right : depth - suc (length p) ≡ depth - length (child p true) = ap (λ k. depth - k) (sym (length-child p true)) in (
-        s.0,
-        s.1,
-        s.2,
-        subst (λ h. AreGrown hash nonce nodes records root h (child p false) (side false (length p) (e ∷ es)) s.0) left s.3,
-        subst (λ h. AreGrown hash nonce nodes records root h (child p true) (side true (length p) (e ∷ es)) s.1) right s.4,
-      )
+      let s = subst (λ h. AreGrown hash nonce nodes records root h p (e ∷ es) mine) here g in
+      record {
+        left = s.0;
+        right = s.1;
+        above = above;
+        parts = ap (λ xs. before ++ xs) s.2 ∙ sym (append_assoc before s.0 s.1);
+        on_left = rw (length-child p false) s.3;
+        on_right = rw (length-child p true) s.4;
+      }
+
+  -- the parts of a side, by the prefix and the entries that code has computed
+  pub grown_as : (b : Bool) (depth : ℕ) (p : List Bool) (es : List Numbered) (xs : List Part) {level : ℕ} {q : List Bool} {some : List Numbered}
+      → level ≡ length p → q ≡ child p b → some ≡ side b level es
+      → AreGrown hash nonce nodes records root (depth - length (child p b)) (child p b) (side b (length p) es) xs → AreGrown hash nonce nodes records root (depth - length q) q some xs
+  grown_as b depth p es xs {level} {q} {some} level-is q-is some-is g =
+      subst (λ z. AreGrown hash nonce nodes records root (depth - length z) z some xs) (sym q-is)
+      (subst (λ l. AreGrown hash nonce nodes records root (depth - length (child p b)) (child p b) l xs) (sym (some-is ∙ ap (λ k. side b k es) level-is)) g)
 
   -- the parts of the jobs, by their numbers
   module _ (cs : List Change) (jobs : List Job) (part : ℕ → Part → Type 0)
@@ -221,26 +225,6 @@ module _ (hash : List ℕ → List ℕ) (nonce : List ℕ) (nodes : List Node) (
   parts_ready depth p es js made xs p-is js-is made-is done =
       subst (λ z. AreGrown hash nonce nodes records root (depth - length z) z es xs) (sym p-is)
       (let whole : depth ≡ depth - 0 = omega arith in subst (λ h. AreGrown hash nonce nodes records root h [] es xs) whole (done_grown depth [] 0 es es xs (at_start es) (subst (λ l. AreDone hash nonce nodes records root es l xs) (js-is ∙ made-is) done)))
-
-  -- the parts of the two sides
-  pub rise_sides : (depth level : ℕ) (p q r : List Bool) (es ls rs : List Numbered) (xs : List Part) → level ≡ length p → length p < depth → 0 < length es
-      → q ≡ child p false → r ≡ child p true → ls ≡ side false level es → rs ≡ side true level es → AreGrown hash nonce nodes records root (depth - length p) p es xs
-      → (left : List Part) × (right : List Part) × (xs ≡ left ++ right) × AreGrown hash nonce nodes records root (depth - length q) q ls left × AreGrown hash nonce nodes records root (depth - length r) r rs right
-  rise_sides depth level p q r es ls rs xs level-is less some q-is r-is ls-is rs-is grown =
-      let s = grown_sides depth p es xs less some grown in
-      (s.0, s.1, s.2, there false q ls s.0 q-is ls-is s.3, there true r rs s.1 r-is rs-is s.4)
-    where
-      there : (b : Bool) (z : List Bool) (zs : List Numbered) (ys : List Part) → z ≡ child p b → zs ≡ side b level es
-          → AreGrown hash nonce nodes records root (depth - length (child p b)) (child p b) (side b (length p) es) ys → AreGrown hash nonce nodes records root (depth - length z) z zs ys
-      there b z zs ys z-is zs-is h =
-          subst (λ q. AreGrown hash nonce nodes records root (depth - length q) q zs ys) (sym z-is)
-          (subst (λ l. AreGrown hash nonce nodes records root (depth - length (child p b)) (child p b) l ys) (sym (zs-is ∙ ap (λ k. side b k es) level-is)) h)
-
-  -- a part of one side
-  pub side_of : (b : Bool) (level : ℕ) (p q : List Bool) (es some : List Numbered) (x : Part) → level ≡ length p → q ≡ child p b → some ≡ side b level es → IsGrown hash nonce nodes records root q some x
-      → IsGrown hash nonce nodes records root (child p b) (side b (length p) es) x
-  side_of b level p q es some x level-is q-is some-is h =
-      subst (λ l. IsGrown hash nonce nodes records root (child p b) l x) (some-is ∙ ap (λ k. side b k es) level-is) (subst (λ z. IsGrown hash nonce nodes records root z some x) q-is h)
 
   -- without changes
   pub unchanged_stands : (cs : List Change) (entries : List Numbered) (part : Part) → part ≡ unchanged root → length cs ≡ 0 → IsOldMap hash nonce nodes records root entries

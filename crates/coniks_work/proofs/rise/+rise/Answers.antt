@@ -1,103 +1,89 @@
-use Rattle.std.proofs.Common.{◌≡◌, ◌<◌, ◌-◌, ◌++◌, [], length, ap, sym, subst, ◌∙◌, append_assoc, arith, true, false}
+use Rattle.std.proofs.Common.{◌≡◌, ◌<◌, ◌≤◌, ◌-◌, ◌++◌, ℕ, List, [], length, ap, sym, ◌∙◌, arith, true, false}
 use Rattle.std.proofs.lemmas.Bool.Decides.{nat_tests}
-use Rattle.std.proofs.lemmas.List.{nil_from_length, length-map}
+use Rattle.std.proofs.lemmas.List.{nil_from_length, length-map, same_from_push}
 use Rattle.coniks_proof.proofs.Lemmas.{length-child}
 use Rattle.coniks_tree.specs.Parts.{entries_of, entry_of_change}
-use Rattle.coniks_work.specs.Grown.{IsGrown}
-use Rattle.coniks_work.proofs.GrownLemmas.{old_grown, grown_one, joined_grown, last_same, rise_sides, side_of}
+use Rattle.coniks_tree.specs.declared.part.Part.{Part}
+use Rattle.coniks_work.specs.Grown.{AreGrown}
+use Rattle.coniks_work.proofs.GrownLemmas.{OnSides, grown_as, grown_one, grown_sides, joined_grown, old_grown}
+use Rattle.coniks_work.proofs.rise.+rise.Given as given
 use Rattle.coniks_work.proofs.rise.+rise.Goals as goal
+use Rattle.coniks_work.proofs.rise.+rise.Goals.{After-sides}
+
+-- ---- no changes, or the cutting depth
 
 pub returns-then-is_empty-clause-grown : goal.returns-then-is_empty-clause-grown
 returns-then-is_empty-clause-grown g t c =
-    let hash = g.H.Hash32.digest_of c.args.h.now in
-    let nonce = c.args.nonce.now.0 in
-    let nodes = c.args.tree.now.nodes.items in
-    let records = c.args.tree.now.records.items in
     let none : c.args.changes.now ≡ [] = nil_from_length c.args.changes.now (grind (arith, nat_tests, c.is_empty.ensures, c.if-is_empty.true)) in
     let old = c.old_part.ensures in
-    subst (λ cs. IsGrown hash nonce nodes records c.args.root c.args.prefix.now (entries_of cs) c.old_part.result) (sym none)
-    (old_grown hash nonce nodes records c.args.root c.args.prefix.now c.old_part.result old.fits old.count old.placed (old.stands hash nonce))
+    rw none (old_grown _ _ _ _ _ c.args.prefix.now c.old_part.result old.fits old.count old.placed (old.stands (g.H.Hash32.digest_of c.args.h.now) c.args.nonce.now.0))
 
 pub returns-then-level-depth-clause-grown : goal.returns-then-level-depth-clause-grown
 returns-then-level-depth-clause-grown g t c =
-    let hash = g.H.Hash32.digest_of c.args.h.now in
-    let nonce = c.args.nonce.now.0 in
-    let nodes = c.args.tree.now.nodes.items in
-    let records = c.args.tree.now.records.items in
     let p = c.args.prefix.now in
-    let es = entries_of c.args.changes.now in
-    let some : 0 < length es = grind (arith, nat_tests, c.is_empty.ensures, c.if-is_empty.false, length-map c.args.changes.now entry_of_change) in
+    let some : 0 < length (entries_of c.args.changes.now) =
+    grind (arith, nat_tests, c.is_empty.ensures, c.if-is_empty.false, length-map c.args.changes.now entry_of_change) in
     let same : length p ≡ c.args.depth = omega (arith, c.len-level.ensures.len, c.if-level-depth.true) in
     let r = c.requires.parts in
-    let one = grown_one hash nonce nodes records c.args.root c.args.depth p es r.1 same some r.3 in
-    let last = last_same r.0 c.last_part.new.parts.items one.0 c.last_part.result (sym (r.2 ∙ ap (λ l. r.0 ++ l) one.1) ∙ c.last_part.ensures) in
-    subst (λ x. IsGrown hash nonce nodes records c.args.root p es x) last.1 one.2
+    -- the prefix has one part, which is the last one
+    let one = grown_one (g.H.Hash32.digest_of c.args.h.now) c.args.nonce.now.0 c.args.tree.now.nodes.items c.args.tree.now.records.items c.args.root
+    c.args.depth p (entries_of c.args.changes.now) r.1 same some r.3 in
+    let last = same_from_push r.0 c.last_part.new.parts.items one.0 c.last_part.result (sym (r.2 ∙ ap (λ l. r.0 ++ l) one.1) ∙ c.last_part.ensures) in
+    rw (← last.1) one.2
+
+-- ---- above it: the parts of the right side are taken first, and then those of the left one
+
+on_sides : (g : given.Over) (t : ℕ) (c : goal.After-sides g t) (before mine : List Part)
+    → AreGrown (g.H.Hash32.digest_of c.args.h.now) c.args.nonce.now.0 c.args.tree.now.nodes.items c.args.tree.now.records.items c.args.root
+    (c.args.depth - length c.args.prefix.now) c.args.prefix.now (entries_of c.args.changes.now) mine
+    → OnSides (g.H.Hash32.digest_of c.args.h.now) c.args.nonce.now.0 c.args.tree.now.nodes.items c.args.tree.now.records.items c.args.root
+    c.args.depth c.args.prefix.now (entries_of c.args.changes.now) before mine
+on_sides g t c before mine grown =
+    let some : 0 < length (entries_of c.args.changes.now) =
+    grind (arith, nat_tests, c.is_empty.ensures, c.if-is_empty.false, length-map c.args.changes.now entry_of_change) in
+    let above : length c.args.prefix.now < c.args.depth = omega (arith, c.len-level.ensures.len, c.if-level-depth.false, c.requires.depth.0) in
+    grown_sides _ _ _ _ _ c.args.depth c.args.prefix.now (entries_of c.args.changes.now) before mine above some grown
 
 pub rise-requires : goal.rise-requires
 rise-requires g t c κs within =
-    let hash = g.H.Hash32.digest_of c.args.h.now in
-    let nonce = c.args.nonce.now.0 in
-    let nodes = c.args.tree.now.nodes.items in
-    let records = c.args.tree.now.records.items in
-    let p = c.args.prefix.now in
-    let es = entries_of c.args.changes.now in
-    let some : 0 < length es = grind (arith, nat_tests, c.is_empty.ensures, c.if-is_empty.false, length-map c.args.changes.now entry_of_change) in
-    let less : length p < c.args.depth = omega (arith, c.len-level.ensures.len, c.if-level-depth.false, c.requires.depth.0) in
-    let deeper = ap length c.child-below_right.ensures ∙ length-child p true in
-    let q = Rattle.coniks_proof.specs.Bits.child p false in
     let r = c.requires.parts in
-    let level = c.len-level.result in
-    let s = rise_sides hash nonce nodes records c.args.root c.args.depth level p q c.child-below_right.result es (entries_of c.sides.result.0.now) (entries_of c.sides.result.1.now) r.1
-    c.len-level.ensures.len less some Rattle.std.proofs.Common.refl c.child-below_right.ensures c.sides.ensures.left c.sides.ensures.right r.3 in
-    (omega (arith, deeper), (within, (c.requires.root, ((omega (arith, deeper), c.requires.depth.1), (r.0 ++ s.0, s.1, r.2 ∙ ap (λ l. r.0 ++ l) s.2 ∙ sym (append_assoc r.0 s.0 s.1), s.4)))))
+    let s = on_sides g t (goal.at.rise-requires g t c).After-sides r.0 r.1 r.3 in
+    let deeper = ap length c.child-below_right.ensures ∙ length-child c.args.prefix.now true in
+    let mine = grown_as _ _ _ _ _ true c.args.depth c.args.prefix.now (entries_of c.args.changes.now) s.right
+    c.len-level.ensures.len c.child-below_right.ensures c.sides.ensures.right s.on_right in
+    let short : length c.child-below_right.result ≤ c.args.depth = omega (arith, deeper, s.above) in
+    (omega (arith, deeper, s.above), (within, (c.requires.root, ((short, c.requires.depth.1), (r.0 ++ s.left, s.right, r.2 ∙ s.parts, mine)))))
 
 pub rise-requires-2 : goal.rise-requires-2
 rise-requires-2 g t c κs within =
-    let hash = g.H.Hash32.digest_of c.args.h.now in
-    let nonce = c.args.nonce.now.0 in
-    let nodes = c.args.tree.now.nodes.items in
-    let records = c.args.tree.now.records.items in
-    let p = c.args.prefix.now in
-    let es = entries_of c.args.changes.now in
-    let some : 0 < length es = grind (arith, nat_tests, c.is_empty.ensures, c.if-is_empty.false, length-map c.args.changes.now entry_of_change) in
-    let less : length p < c.args.depth = omega (arith, c.len-level.ensures.len, c.if-level-depth.false, c.requires.depth.0) in
-    let deeper = ap length c.child-below_left.ensures ∙ length-child p false in
     let r = c.requires.parts in
-    let level = c.len-level.result in
-    let s = rise_sides hash nonce nodes records c.args.root c.args.depth level p c.child-below_left.result c.child-below_right.result es (entries_of c.sides.result.0.now) (entries_of c.sides.result.1.now) r.1
-    c.len-level.ensures.len less some c.child-below_left.ensures c.child-below_right.ensures c.sides.ensures.left c.sides.ensures.right r.3 in
-    let left = c.in_ok-right.ensures.taken (r.0 ++ s.0) s.1 (r.2 ∙ ap (λ l. r.0 ++ l) s.2 ∙ sym (append_assoc r.0 s.0 s.1)) s.4 in
-    (omega (arith, deeper), (within, (c.requires.root, ((omega (arith, deeper), c.requires.depth.1), (r.0, s.0, left, s.3)))))
+    let s = on_sides g t (goal.at.rise-requires-2 g t c).After-sides r.0 r.1 r.3 in
+    let deeper = ap length c.child-below_left.ensures ∙ length-child c.args.prefix.now false in
+    let taken = c.in_ok-right.ensures.taken (r.0 ++ s.left) s.right (r.2 ∙ s.parts)
+    (grown_as _ _ _ _ _ true c.args.depth c.args.prefix.now (entries_of c.args.changes.now) s.right
+    c.len-level.ensures.len c.child-below_right.ensures c.sides.ensures.right s.on_right) in
+    let mine = grown_as _ _ _ _ _ false c.args.depth c.args.prefix.now (entries_of c.args.changes.now) s.left
+    c.len-level.ensures.len c.child-below_left.ensures c.sides.ensures.left s.on_left in
+    (omega (arith, deeper, s.above), (within, (c.requires.root, ((omega (arith, deeper, s.above), c.requires.depth.1), (r.0, s.left, taken, mine)))))
 
 pub returns-clause-taken : goal.returns-clause-taken
 returns-clause-taken g t c = λ before mine is grown.
-    let hash = g.H.Hash32.digest_of c.args.h.now in
-    let nonce = c.args.nonce.now.0 in
-    let nodes = c.args.tree.now.nodes.items in
-    let records = c.args.tree.now.records.items in
-    let p = c.args.prefix.now in
-    let es = entries_of c.args.changes.now in
-    let some : 0 < length es = grind (arith, nat_tests, c.is_empty.ensures, c.if-is_empty.false, length-map c.args.changes.now entry_of_change) in
-    let less : length p < c.args.depth = omega (arith, c.len-level.ensures.len, c.if-level-depth.false, c.requires.depth.0) in
-    let level = c.len-level.result in
-    let s = rise_sides hash nonce nodes records c.args.root c.args.depth level p c.child-below_left.result c.child-below_right.result es (entries_of c.sides.result.0.now) (entries_of c.sides.result.1.now) mine
-    c.len-level.ensures.len less some c.child-below_left.ensures c.child-below_right.ensures c.sides.ensures.left c.sides.ensures.right grown in
-    let left = c.in_ok-right.ensures.taken (before ++ s.0) s.1 (is ∙ ap (λ l. before ++ l) s.2 ∙ sym (append_assoc before s.0 s.1)) s.4 in
-    c.in_ok-left.ensures.taken before s.0 left s.3
+    let s = on_sides g t (goal.at.returns-clause-taken g t c).After-sides before mine grown in
+    let taken = c.in_ok-right.ensures.taken (before ++ s.left) s.right (is ∙ s.parts)
+    (grown_as _ _ _ _ _ true c.args.depth c.args.prefix.now (entries_of c.args.changes.now) s.right
+    c.len-level.ensures.len c.child-below_right.ensures c.sides.ensures.right s.on_right) in
+    c.in_ok-left.ensures.taken before s.left taken
+    (grown_as _ _ _ _ _ false c.args.depth c.args.prefix.now (entries_of c.args.changes.now) s.left
+    c.len-level.ensures.len c.child-below_left.ensures c.sides.ensures.left s.on_left)
 
+-- both sides have grown, and they are joined
 pub returns-clause-grown : goal.returns-clause-grown
 returns-clause-grown g t c =
-    let hash = g.H.Hash32.digest_of c.args.h.now in
-    let nonce = c.args.nonce.now.0 in
-    let nodes = c.args.tree.now.nodes.items in
-    let records = c.args.tree.now.records.items in
     let p = c.args.prefix.now in
     let es = entries_of c.args.changes.now in
     let some : 0 < length es = grind (arith, nat_tests, c.is_empty.ensures, c.if-is_empty.false, length-map c.args.changes.now entry_of_change) in
-    let level = c.len-level.result in
-    let at = c.len-level.ensures.len in
-    let short : length p < 256 = omega (arith, at, c.if-level-depth.false, c.requires.depth.0, c.requires.depth.1) in
-    let left = side_of hash nonce nodes records c.args.root false level p c.child-below_left.result es (entries_of c.sides.result.0.now) c.in_ok-left.left at c.child-below_left.ensures c.sides.ensures.left c.in_ok-left.ensures.grown in
-    let right = side_of hash nonce nodes records c.args.root true level p c.child-below_right.result es (entries_of c.sides.result.1.now) c.in_ok-right.right at c.child-below_right.ensures c.sides.ensures.right c.in_ok-right.ensures.grown in
+    let short : length p < 256 = omega (arith, c.len-level.ensures.len, c.if-level-depth.false, c.requires.depth.0, c.requires.depth.1) in
+    let left = rw (c.child-below_left.ensures, c.sides.ensures.left, c.len-level.ensures.len) at c.in_ok-left.ensures.grown in
+    let right = rw (c.child-below_right.ensures, c.sides.ensures.right, c.len-level.ensures.len) at c.in_ok-right.ensures.grown in
     let joined = c.in_ok-join.ensures in
-    joined_grown hash nonce nodes records c.args.root p es c.in_ok-left.left c.in_ok-right.right c.in_ok-join.field-0 short some left right joined.fits joined.count joined.placed joined.stands
+    joined_grown _ _ _ _ _ p es c.in_ok-left.left c.in_ok-right.right c.in_ok-join.field-0 short some left right joined.fits joined.count joined.placed joined.stands
