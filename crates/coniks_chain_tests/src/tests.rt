@@ -287,6 +287,31 @@ fn refused_chains(rt: HostRuntime) {
     assert_eq!(rt; refused, Err((1, AuditFault::Verdict)));
 }
 
+/// Where a chain is refused under any signature, and why.
+fn refusal(chain: &[Entry]) -> Option<(usize, AuditFault)> {
+    audit(&Sha256Hash, chain, &Yes).err()
+}
+
+/// A good chain with its entries exchanged, doubled or left out, or the first of them as another signer signs it.
+#[test]
+fn hostile_chains(rt: HostRuntime) {
+    let [one, two, three] = good_chain(&rt);
+    let early = AuditFault::PreviousEpoch;
+    assert_eq!(rt; refusal(&[two, one, three]), Some((0, early)));
+    assert_eq!(rt; refusal(&[one, three, two]), Some((1, early)));
+    assert_eq!(rt; refusal(&[one, one, two]), Some((1, AuditFault::NotLater)));
+    assert_eq!(rt; refusal(&[one, two, two]), Some((2, AuditFault::NotLater)));
+    assert_eq!(rt; refusal(&[one, two, one]), Some((2, AuditFault::NotLater)));
+    assert_eq!(rt; refusal(&[one, three]), Some((1, early)));
+    assert_eq!(rt; refusal(&[two, three]), Some((0, early)));
+    let mut other = one;
+    other.signature.0[0] ^= 1;
+    assert_eq!(rt;
+        refusal(&[other, two, three]),
+        Some((1, AuditFault::PreviousLink))
+    );
+}
+
 /// What an auditor says of an entry whose signature is taken, or isn't.
 fn fed(
     auditor: &mut Auditor<Sha256Hash>,
@@ -581,6 +606,46 @@ fn histories(rt: HostRuntime) {
     assert!(rt; give(&rt, alloc, &[one], &[other], of_one, of_other));
     assert!(rt; give(&rt, alloc, &[one, two], &[other, two], of_one, of_other));
     assert!(rt; give(&rt, alloc, &[one], &[one, two], of_one, of_two));
+}
+
+/// Whether two histories under the flat hash were refused memory, and then gave what they give without.
+fn refused_once(
+    rt: &impl Abort,
+    alloc: Global,
+    a: &[Entry],
+    b: &[Entry],
+    x: &str,
+    y: &str,
+) -> bool {
+    match extract_history(alloc, &Flat, a, b) {
+        Ok(found) => {
+            let found = found.expect(rt, "two texts");
+            assert!(rt; are(rt, found.x.as_slice(), x) && are(rt, found.y.as_slice(), y));
+            false
+        }
+        Err(_) => {
+            assert!(rt; give(rt, alloc, a, b, x, y));
+            true
+        }
+    }
+}
+
+/// What histories give, whether or not memory is refused; where they give nothing, none is asked for. `faults/run` refuses
+/// each request for memory in turn, and is told by what the test writes whether it was one of `extract_history`.
+#[test]
+fn refused(rt: HostRuntime) {
+    let alloc = rt.alloc();
+    let one = flat_entry(1, 0, 0);
+    let other = flat_entry(1, 0, 1);
+    let two = flat_entry(2, 1, 0);
+    let [of_one, of_other, of_two] = PREIMAGES;
+    assert!(rt; give_nothing(&rt, alloc, &Flat, &[one], &[one]));
+    assert!(rt; give_nothing(&rt, alloc, &Flat, &[], &[one]));
+    let first = refused_once(&rt, alloc, &[one], &[other], of_one, of_other);
+    let below = refused_once(&rt, alloc, &[one, two], &[other, two], of_one, of_other);
+    let shorter = refused_once(&rt, alloc, &[one], &[one, two], of_one, of_two);
+    let is_refused = first || below || shorter;
+    let _ = println!(rt; "{}", if is_refused { "refused" } else { "answered" });
 }
 
 /// Histories that are the same, or of which one has no entry, or under SHA-256, of which no collision is known.

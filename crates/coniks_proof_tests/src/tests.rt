@@ -49,18 +49,29 @@ fn repeated(rt: &impl Abort, alloc: Global, letter: u8, count: usize) -> Vec<u8>
     vec![in alloc; letter; count].expect(rt, "memory")
 }
 
+/// A copy of a name or a key, asked for once more where memory is refused.
+fn copied(rt: &impl Abort, alloc: Global, bytes: &[u8]) -> Bytes {
+    match Bytes::copy_of(alloc, bytes) {
+        Ok(copy) => copy,
+        Err(_) => Bytes::copy_of(alloc, bytes).expect(rt, "memory"),
+    }
+}
+
 /// The end of a proof of presence.
 fn here(rt: &impl Abort, alloc: Global, name: &[u8], key: &[u8]) -> End {
     End::Here {
-        name: Bytes::copy_of(alloc, name).expect(rt, "memory"),
-        key: Bytes::copy_of(alloc, key).expect(rt, "memory"),
+        name: copied(rt, alloc, name),
+        key: copied(rt, alloc, key),
         opening: OPENING,
     }
 }
 
-/// A proof with these siblings.
+/// A proof with these siblings, asked for once more where memory is refused.
 fn proof_of(rt: &impl Abort, alloc: Global, siblings: &[Digest], end: End) -> Proof {
-    let siblings = Vec::from_slice(alloc, siblings).expect(rt, "memory");
+    let siblings = match Vec::from_slice(alloc, siblings) {
+        Ok(siblings) => siblings,
+        Err(_) => Vec::from_slice(alloc, siblings).expect(rt, "memory"),
+    };
     Proof {
         siblings: Digests::new(siblings),
         end,

@@ -1,5 +1,6 @@
 mod failing;
 mod program;
+mod refused;
+mod scripts;
 mod seals;
-mod slow;
 mod streams;

@@ -332,7 +332,7 @@ pub fn prepared<H: Hash32 + Sync, R: Threads + Sync>(
 }
 
 /// Takes steps with the clerk of a new directory, whose board takes so many heads, at least 1, and whose signer refuses the
-/// call of this number.
+/// call of this number. The board is asked for once more where memory is refused.
 pub fn with_clerk<T, F: FnOnce(&mut Clerk<Sha256Hash>) -> T>(
     rt: &impl Abort,
     alloc: Global,
@@ -343,7 +343,11 @@ pub fn with_clerk<T, F: FnOnce(&mut Clerk<Sha256Hash>) -> T>(
     requires { F.IsAlwaysCallable steps }
 {
     assert!(rt; 1 <= heads && heads <= MAX_HEADS);
-    let (board, publisher) = Board::new(alloc, heads).expect(rt, "a board");
+    let made = match Board::new(alloc, heads) {
+        Err(_) => Board::new(alloc, heads),
+        made => made,
+    };
+    let (board, publisher) = made.expect(rt, "a board");
     let mut clerk = Clerk::new(alloc, Sha256Hash, &board, publisher, refused_call);
     steps(&mut clerk)
 }

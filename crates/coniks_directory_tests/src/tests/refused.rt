@@ -1,84 +1,186 @@
-//! Memory that is refused.
+//! Memory that is refused. `faults/run` refuses each request for memory in turn: what comes before the call is asked for
+//! until it is had, and the call answers what it does with ample memory, or its own `OutOfMemory`. Then all is as it was,
+//! and the same call answers as if nothing had been. Each test writes whether its call was refused.
 
-use crate::tests::answers::{Told, asked};
-use crate::tests::clerk::{Clerk, Written};
+ghost use Rattle.std.specs.Prelude.{◌≡◌};
+ghost use Rattle.coniks_directory_tests.specs.Letters.{index_of_letter};
+ghost use Rattle.coniks_directory.specs.Updates.{IsUpdateOf};
+
+use crate::tests::answers::{Told, asked, digest};
+use crate::tests::clerk::{Clerk, Written, ops_of, with_clerk};
+use coniks_chain::Entry;
 use coniks_directory::OpKind::{Change, Register};
-use coniks_directory::{BatchFault, CommitFault, InstallFault, LookupFault};
-use coniks_proof::Sha256Hash;
-use coniks_shared::Board;
+use coniks_directory::{BatchFault, InstallFault, LookupFault, Op, Prepared};
+use coniks_proof::{Digest, Hash32, Head, Sha256Hash};
+use coniks_work::Open;
 use std::process::Abort;
 use std::thread::Threads;
 
-/// Whether memory was refused: in a commit, or to the clerk for the operations.
-fn is_memory(fault: &CommitFault) -> bool {
-    matches!(
-        fault,
-        CommitFault::Batch(BatchFault::OutOfMemory)
-            | CommitFault::Batch(BatchFault::BatchTooLong)
-            | CommitFault::Install(InstallFault::OutOfMemory)
-    )
+const FIRST: [Written; 2] = [(Register, b'a', b'k'), (Register, b'b', b'k')];
+
+/// A change on each side of the root, so that there are two jobs at depth 1.
+const SECOND: [Written; 2] = [(Change, b'b', b'l'), (Register, b'c', b'k')];
+
+/// The link of the second entry.
+const LINK: &str = "d60b4104456202ba0c3ab12eeb8dad9fc6cc779a45b12326cf7595b703401fa9";
+
+/// What is seen of a directory, its board and its signer.
+#[derive(Clone, Copy, PartialEq, Eq)]
+struct Snapshot {
+    nodes: usize,
+    entries: usize,
+    last: Option<Entry>,
+    root: Option<Digest>,
+    published: usize,
+    head: Option<Head>,
+    signed: (u64, u64),
 }
 
-/// What a refusal leaves as it was: nodes, entries and heads.
-fn sizes(clerk: &Clerk<Sha256Hash>) -> (usize, usize, usize) {
-    let published = clerk.publisher.published();
-    (
-        clerk.directory.nodes(),
-        clerk.directory.chain().len(),
-        published,
-    )
+fn seen(clerk: &Clerk<Sha256Hash>) -> Snapshot {
+    let chain = clerk.directory.chain();
+    Snapshot {
+        nodes: clerk.directory.nodes(),
+        entries: chain.len(),
+        last: chain.last().copied(),
+        root: clerk.directory.root_at(1),
+        published: clerk.publisher.published(),
+        head: clerk.publisher.last(),
+        signed: (clerk.signer.times_made(), clerk.signer.times_refused()),
+    }
 }
 
-/// Commits a batch, once more where memory is refused. It is false where another fault comes, or where the refusal leaves
-/// something else than what was.
-fn commits<R: Threads + Sync>(
+/// Commits the first epoch, and once more where memory is refused.
+fn commit_first<R: Threads + Sync + Abort>(rt: &R, clerk: &mut Clerk<Sha256Hash>) {
+    if clerk.commit(rt, 1, &FIRST).is_err() {
+        assert!(rt; clerk.commit(rt, 1, &FIRST).is_ok());
+    }
+}
+
+/// The operations of the second batch, asked for once more where memory is refused.
+fn second_batch(rt: &impl Abort, clerk: &Clerk<Sha256Hash>) -> Vec<Op> {
+    match ops_of(clerk.alloc, &SECOND) {
+        Ok(ops) => ops,
+        Err(_) => ops_of(clerk.alloc, &SECOND).expect(rt, "memory"),
+    }
+}
+
+/// Prepares a batch at depth 1 by so many workers, once more where memory is refused, and says whether it was.
+fn prepare_at_last<R: Threads + Sync + Abort>(
     rt: &R,
-    clerk: &mut Clerk<Sha256Hash>,
-    t: u64,
-    written: &[Written],
-) -> bool {
-    let before = sizes(clerk);
-    match clerk.commit(rt, t, written) {
-        Ok(_) => true,
+    clerk: &Clerk<Sha256Hash>,
+    ops: &[Op],
+    workers: usize,
+) -> (Prepared, bool)
+    ensures { IsUpdateOf (⟦<Sha256Hash as Hash32>⟧.digest_of clerk.now.directory.hash) index_of_letter clerk.now.directory.state result.0 }
+{
+    let before = seen(clerk);
+    match clerk.directory.prepare(rt, ops, 1, workers, &Open) {
+        Ok(update) => (update, false),
         Err(fault) => {
-            is_memory(&fault) && before == sizes(clerk) && clerk.commit(rt, t, written).is_ok()
+            assert!(rt; fault == BatchFault::OutOfMemory, "{fault}");
+            assert!(rt; seen(clerk) == before);
+            let again = clerk.directory.prepare(rt, ops, 1, workers, &Open);
+            (again.expect(rt, "an update"), true)
         }
     }
 }
 
-/// Looks a name up, once more where memory is refused.
-fn asked_again(clerk: &Clerk<Sha256Hash>, t: u64, name: &str) -> Told {
-    match asked(&clerk.directory, t, name) {
-        Told::Missed(LookupFault::OutOfMemory) => asked(&clerk.directory, t, name),
-        told => told,
-    }
-}
-
-/// Commits two batches, and looks at what they leave.
-fn commit_both<R: Threads + Sync + Abort>(rt: &R, clerk: &mut Clerk<Sha256Hash>) {
-    let first = [(Register, b'a', b'k'), (Register, b'b', b'k')];
-    assert!(rt; commits(rt, clerk, 1, &first));
-    let second = [(Change, b'b', b'l'), (Register, b'c', b'k')];
-    assert!(rt; commits(rt, clerk, 2, &second));
-    assert!(rt; sizes(clerk) == (8, 2, 2));
-}
-
-/// Looks names up in both epochs.
-fn ask_both(rt: &impl Abort, clerk: &Clerk<Sha256Hash>) {
-    assert!(rt; asked_again(clerk, 1, "b") == Told::Key(1, b'k'));
-    assert!(rt; asked_again(clerk, 2, "b") == Told::Key(1, b'l'));
-    assert!(rt; asked_again(clerk, 2, "d") == Told::Absent(2));
-}
-
-/// Each growth can be made to fail by `rt try --test --fail-alloc`: the same call then does what it did without.
-#[test]
-fn refused_in_turn(rt: HostRuntime) {
-    let made = match Board::new(rt.alloc(), 4) {
-        Err(_) => Board::new(rt.alloc(), 4),
-        made => made,
+/// Installs an update at epoch 2, once more where memory is refused and it is handed back, and says whether it was.
+fn install_at_last(rt: &impl Abort, clerk: &mut Clerk<Sha256Hash>, update: Prepared) -> bool
+    requires { IsUpdateOf (⟦<Sha256Hash as Hash32>⟧.digest_of clerk.old.directory.hash) index_of_letter clerk.old.directory.state update }
+{
+    let before = seen(clerk);
+    let Err((fault, update)) = clerk.install(update, 2) else {
+        return false;
     };
-    let (board, publisher) = made.expect(&rt, "a board");
-    let mut clerk = Clerk::new(rt.alloc(), Sha256Hash, &board, publisher, u64::MAX);
-    commit_both(&rt, &mut clerk);
-    ask_both(&rt, &clerk);
+    assert!(rt; fault == InstallFault::OutOfMemory, "{fault}");
+    assert!(rt; seen(clerk) == before);
+    assert!(rt; clerk.install(update, 2).is_ok());
+    true
+}
+
+/// Prepares and installs the second batch, and says which of the two was refused memory.
+fn second_epoch<R: Threads + Sync + Abort>(
+    rt: &R,
+    clerk: &mut Clerk<Sha256Hash>,
+    workers: usize,
+) -> (bool, bool) {
+    commit_first(rt, clerk);
+    let ops = second_batch(rt, clerk);
+    let (update, prepare) = prepare_at_last(rt, clerk, &ops, workers);
+    assert!(rt; update.new_nodes() == 5);
+    let install = install_at_last(rt, clerk, update);
+    let head = Head {
+        epoch: 2,
+        link: digest(rt, LINK),
+    };
+    assert!(rt; clerk.publisher.last() == Some(head));
+    (prepare, install)
+}
+
+/// Writes whether the call was refused memory.
+fn tell(rt: &HostRuntime, is_refused: bool) {
+    let _ = println!(rt; "{}", if is_refused { "refused" } else { "answered" });
+}
+
+/// Where a lone worker builds the epoch, each refusal is the call's.
+#[test]
+fn prepare_by_one(rt: HostRuntime) {
+    let refused = with_clerk(&rt, rt.alloc(), 4, u64::MAX, |clerk| {
+        second_epoch(&rt, clerk, 1).0
+    });
+    tell(&rt, refused);
+}
+
+/// With three workers a refusal in a job of either is the call's, and one that only costs a worker changes no answer.
+#[test]
+fn prepare_by_three(rt: HostRuntime) {
+    let refused = with_clerk(&rt, rt.alloc(), 4, u64::MAX, |clerk| {
+        second_epoch(&rt, clerk, 3).0
+    });
+    tell(&rt, refused);
+}
+
+#[test]
+fn install(rt: HostRuntime) {
+    let refused = with_clerk(&rt, rt.alloc(), 4, u64::MAX, |clerk| {
+        second_epoch(&rt, clerk, 1).1
+    });
+    tell(&rt, refused);
+}
+
+/// Looks a name up at an epoch, once more where memory is refused, and says whether it was.
+fn asked_at_last(
+    rt: &impl Abort,
+    clerk: &Clerk<Sha256Hash>,
+    t: u64,
+    name: &str,
+    want: Told,
+) -> bool {
+    let before = seen(clerk);
+    let told = asked(&clerk.directory, t, name);
+    assert!(rt; seen(clerk) == before);
+    if told == want {
+        return false;
+    }
+    assert!(rt; told == Told::Missed(LookupFault::OutOfMemory), "{told:?}");
+    assert!(rt; asked(&clerk.directory, t, name) == want);
+    true
+}
+
+/// Looks up a key, a key of an older epoch and an absence, and says whether one of them was refused memory.
+fn look_up_three<R: Threads + Sync + Abort>(rt: &R, clerk: &mut Clerk<Sha256Hash>) -> bool {
+    second_epoch(rt, clerk, 1);
+    let now = asked_at_last(rt, clerk, 2, "b", Told::Key(1, b'l'));
+    let before = asked_at_last(rt, clerk, 1, "b", Told::Key(1, b'k'));
+    let absent = asked_at_last(rt, clerk, 2, "d", Told::Absent(2));
+    now || before || absent
+}
+
+#[test]
+fn lookup(rt: HostRuntime) {
+    let refused = with_clerk(&rt, rt.alloc(), 4, u64::MAX, |clerk| {
+        look_up_three(&rt, clerk)
+    });
+    tell(&rt, refused);
 }

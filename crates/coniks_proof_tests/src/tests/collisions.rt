@@ -149,6 +149,43 @@ fn one_not_accepted(rt: HostRuntime) {
     assert!(rt; give_nothing(&rt, alloc, &named, &asked));
 }
 
+/// What two proofs of the name `a` give, asked for once more where memory is refused, and whether it was.
+fn found_at_last(
+    rt: &impl Abort,
+    alloc: Global,
+    a: &Proof,
+    b: &Proof,
+) -> (Option<Collision>, bool) {
+    let index = index_of(0);
+    match extract(alloc, &Flat, &NONCE, &ZERO, &index, (b"a", a), (b"a", b)) {
+        Ok(given) => (given, false),
+        Err(_) => (found(rt, alloc, a, b), true),
+    }
+}
+
+/// Two proofs with what they give, whether or not memory is refused. `faults/run` refuses each request for memory in turn,
+/// and is told by what the test writes whether it was one of `extract`.
+#[test]
+fn refused(rt: HostRuntime) {
+    let alloc = rt.alloc();
+    let k = shaped(&rt, alloc, ending(Some(ONES), Some(b'k')));
+    let l = shaped(&rt, alloc, ending(Some(ONES), Some(b'l')));
+    let beside = shaped(&rt, alloc, ending(Some(ONES), None));
+    let above = shaped(&rt, alloc, ending(None, None));
+    let mut is_refused = false;
+    for (other, x, y) in [
+        (&l, Hashed::Commitment(b'k'), Hashed::Commitment(b'l')),
+        (&beside, Hashed::Leaf(1), Hashed::Empty(1)),
+        (&above, Hashed::Inner(ONES), Hashed::Empty(0)),
+    ] {
+        let (given, refused) = found_at_last(&rt, alloc, &k, other);
+        let given = given.expect(&rt, "a collision");
+        assert!(rt; is_text(given.x.as_slice(), x) && is_text(given.y.as_slice(), y));
+        is_refused = is_refused || refused;
+    }
+    let _ = println!(rt; "{}", if is_refused { "refused" } else { "answered" });
+}
+
 /// Under SHA-256 the two proofs of one name don't meet in one root.
 #[test]
 fn no_collision_known(rt: HostRuntime) {

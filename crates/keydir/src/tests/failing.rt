@@ -1,65 +1,53 @@
-//! Streams that fail: each status, and what is told. The lines and what answers them were computed by another program.
+//! Streams that fail: each status, and what is told.
 
-use crate::tests::program::{are_unread, ends_untold, run_of, status_after_cuts};
+use crate::tests::program::{Cut, Way, ends_untold, run_of, status_after_cuts, status_cut};
+use crate::tests::scripts::{
+    ANSWERED, AUDIT, AUDITED, CHANGED, CHECKED, ENTRIES, LOOKUP, MONITOR, SCRIPT,
+};
 use std::alloc::Global;
 use std::process::Abort;
 use std::thread::Threads;
 
-const ZEROS: &str = "0000000000000000000000000000000000000000000000000000000000000000";
+/// Words, input, and what answers it with status 1.
+const SCRIPTS: [(&[&str], &str, &str); 4] = [
+    (&["keydir", "run"], SCRIPT, ANSWERED),
+    (&["keydir", "check"], LOOKUP, CHECKED),
+    (&AUDIT, ENTRIES, AUDITED),
+    (&MONITOR, LOOKUP, CHANGED),
+];
 
-const AUDIT: [&str; 4] = ["keydir", "audit", "--key", ZEROS];
-
-/// The words of a monitor that expects no key.
-const MONITOR: [&str; 6] = ["keydir", "monitor", "--key", ZEROS, "--name", "a"];
-
-/// The entry of an empty batch at epoch 1, and the answer to it.
-const ENTRY: &str =
-    "{\"entry\":\"01000000000000000100000000000000001aa9b40c9d34d625d7329003c097925b7d4c7809b864b047b71defb140aca216000000000000000000000000000000000000000000000000000000000000000011111111111111111111111111111111111111111111111111111111111111113333333333333333333333333333333333333333333333333333333333333333ae9682aec203eb680ce14cbd31a5a2681c03a354e3547be4380b2395c04d53f3504b9e0a20a3b47553f91f4dc70ae65654d8dab064060782b030be26232859e8\"}\n";
-
-const AUDITED: &str =
-    "{\"epoch\":1,\"link\":\"d87d9ee85e421cb7c8a5324caf11dcf32e482758aabdac5a142b5c44f5601613\",\"ok\":\"audit\"}\n";
-
-/// The lookup of `a` at epoch 1, which shows the key `k`; what `check` answers, and what a monitor that expects no key does.
-const LOOKUP: &str =
-    "{\"entry\":\"01000000000000000100000000000000008c33c01f7c7464c4c6e45d59306e11d36aa55c793d59ab9963bbb1f48e58a7fc00000000000000000000000000000000000000000000000000000000000000001111111111111111111111111111111111111111111111111111111111111111333333333333333333333333333333333333333333333333333333333333333352580478c2e0556c626b32e263c339b262ec04384ea79f70afe2f48fc04ebfdade32febdc542d7ba6ca63a72833bb5a6324817fb1dedf7c579e0f5006eaa74fa\",\"epoch\":1,\"index\":\"b446d103998d549b0acb89e4d02276ed0c828740436366a157bea1a8a63de531\",\"name\":\"a\",\"nonce\":\"1111111111111111111111111111111111111111111111111111111111111111\",\"ok\":\"lookup\",\"proof\":{\"end\":{\"key\":\"aw==\",\"kind\":\"here\",\"name\":\"a\",\"opening\":\"2222222222222222222222222222222222222222222222222222222222222222\"},\"siblings\":[]},\"root\":\"8c33c01f7c7464c4c6e45d59306e11d36aa55c793d59ab9963bbb1f48e58a7fc\"}\n";
-
-const CHECKED: &str = "{\"answer\":\"key\",\"key\":\"aw==\",\"ok\":\"check\"}\n";
-
-const CHANGED: &str = "{\"epoch\":1,\"ok\":\"monitor\",\"seen\":\"changed\"}\n";
-
+/// Each read fails in turn, then each write or flush, and then each write takes 0 bytes, until a run meets none.
 #[test]
-fn failing_reads(rt: HostRuntime) {
-    const CASES: [&[&str]; 4] = [&["keydir", "run"], &["keydir", "check"], &AUDIT, &MONITOR];
-    for words in &CASES {
-        assert!(rt; are_unread(&rt, rt.alloc(), *words), "{words:?}");
+fn one_failing_call(rt: HostRuntime) {
+    for (words, input, whole) in &SCRIPTS {
+        for way in [Way::Reads, Way::Writes, Way::Stalls] {
+            let (input, whole) = (input.as_bytes(), whole.as_bytes());
+            let found = status_after_cuts(&rt, rt.alloc(), *words, input, whole, way);
+            assert!(rt; found == Some(1), "{words:?}, {way:?}");
+        }
     }
 }
 
-/// Each call on the output fails in turn, until none does.
+/// A reader of one byte a call and a writer of one byte a call.
 #[test]
-fn failing_writes(rt: HostRuntime) {
-    const CASES: [(&[&str], &str, &str, u8); 4] = [
-        (
-            &["keydir", "run"],
-            "[1]\n\n",
-            "{\"fault\":\"Json\"}\n{\"fault\":\"Json\"}\n",
-            1,
-        ),
-        (&["keydir", "check"], LOOKUP, CHECKED, 0),
-        (&AUDIT, ENTRY, AUDITED, 0),
-        (&MONITOR, LOOKUP, CHANGED, 1),
-    ];
-    for (words, input, whole, status) in &CASES {
-        let found = status_after_cuts(&rt, rt.alloc(), *words, input.as_bytes(), whole.as_bytes());
-        assert!(rt; found == Some(*status), "{words:?}");
+fn byte_by_byte(rt: HostRuntime) {
+    for (words, input, whole) in &SCRIPTS {
+        let cut = Cut {
+            way: Way::Reads,
+            call: u64::MAX,
+            piece: 1,
+        };
+        let (input, whole) = (input.as_bytes(), whole.as_bytes());
+        let found = status_cut(&rt, rt.alloc(), *words, input, whole, cut);
+        assert!(rt; found == Some(1), "{words:?}");
     }
 }
 
-/// The status of the first run that doesn't fail where each call on the output fails in turn, and help is asked for.
+/// The status of the first run that meets no failure where each call on the output fails in turn, and help is asked for.
 fn status_of_help_cut(rt: &(impl Threads + Abort + Sync), alloc: Global) -> Option<u8> {
     const WORDS: [&str; 2] = ["keydir", "help"];
     let help = run_of(rt, alloc, &WORDS, b"");
-    status_after_cuts(rt, alloc, &WORDS, b"", help.output.bytes())
+    status_after_cuts(rt, alloc, &WORDS, b"", help.output.bytes(), Way::Writes)
 }
 
 #[test]

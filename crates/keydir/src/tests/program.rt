@@ -1,6 +1,6 @@
 //! Runs of the program over streams, and words that no file of cases can hold.
 
-use crate::tests::streams::{FailIn, ShortOut};
+use crate::tests::streams::{FailIn, FailOut, Stop};
 use coniks_tool::{MemoryIn, MemoryOut, Unread, program, unread_words};
 use std::alloc::Global;
 use std::process::Abort;
@@ -46,17 +46,8 @@ pub(crate) fn are_refused(
         && told.ends_with(b"\n")
 }
 
-/// Whether a run whose reads fail ends with status 3, writes nothing and tells of the read.
-pub(crate) fn are_unread(rt: &(impl Threads + Sync), alloc: Global, words: &[&str]) -> bool {
-    let mut reader = FailIn { failures: 0 };
-    let mut output = MemoryOut::new(alloc);
-    let mut errors = MemoryOut::new(alloc);
-    let status = program(rt, alloc, words, &mut reader, &mut output, &mut errors);
-    status == 3 && output.bytes().is_empty() && errors.bytes() == "keydir: read failed\n".as_bytes()
-}
-
-/// Whether a run whose reads fail ends with this status where the standard error takes so many calls, one byte a call,
-/// and takes them all.
+/// Whether a run whose first read fails ends with this status where the standard error takes so many calls, one byte a
+/// call, and takes them all.
 pub(crate) fn ends_untold(
     rt: &(impl Threads + Sync),
     alloc: Global,
@@ -64,55 +55,91 @@ pub(crate) fn ends_untold(
     calls: u64,
     status: u8,
 ) -> bool {
-    let mut reader = FailIn { failures: 0 };
+    let mut reader = FailIn::new(Vec::new(alloc), 1, 0);
     let mut output = MemoryOut::new(alloc);
-    let mut errors = ShortOut {
-        bytes: Vec::new(alloc),
-        calls_left: calls,
-        failures: 0,
-        flushes: 0,
-    };
+    let mut errors = FailOut::new(Vec::new(alloc), 1, calls, Stop::Fails);
     let ended = program(rt, alloc, words, &mut reader, &mut output, &mut errors);
     ended == status && errors.bytes.len() as u64 == calls
 }
 
-/// The status of a run whose output takes so many calls. With status 3 it writes a beginning of its whole output and
-/// tells of the write, with another one it writes the whole and tells nothing; no status where it doesn't.
+/// Which calls are counted, of which one fails.
+#[derive(Clone, Copy, Debug, PartialEq, Eq)]
+pub(crate) enum Way {
+    /// Reads.
+    Reads,
+    /// Writes and flushes.
+    Writes,
+    /// Writes, of which one takes 0 bytes.
+    Stalls,
+}
+
+/// What a failure is told by.
+fn text_of(way: Way) -> &'static str {
+    match way {
+        Way::Reads => "keydir: read failed\n",
+        Way::Writes | Way::Stalls => "keydir: write failed\n",
+    }
+}
+
+/// Whether what was written is a beginning of the whole, and whole lines of it where no write failed.
+fn is_part(output: &[u8], whole: &[u8], way: Way) -> bool {
+    whole.starts_with(output) && (way != Way::Reads || output.is_empty() || output.ends_with(b"\n"))
+}
+
+/// The call that fails, by its number from 0, and how many bytes a call moves at most.
+#[derive(Clone, Copy)]
+pub(crate) struct Cut {
+    pub(crate) way: Way,
+    pub(crate) call: u64,
+    pub(crate) piece: usize,
+}
+
+/// The status of a run that is cut. Where it meets the failure it ends with status 3, has written a part of its whole output
+/// and tells of the failure; else it writes the whole and tells nothing. No status where it doesn't.
 pub(crate) fn status_cut(
     rt: &(impl Threads + Abort + Sync),
     alloc: Global,
     words: &[&str],
     input: &[u8],
     whole: &[u8],
-    calls: u64,
+    cut: Cut,
 ) -> Option<u8> {
-    let mut reader = MemoryIn::new(Vec::from_slice(alloc, input).expect(rt, "memory"));
-    let mut output = ShortOut {
-        bytes: Vec::new(alloc),
-        calls_left: calls,
-        failures: 0,
-        flushes: 0,
+    let (reads, writes, stop) = match cut.way {
+        Way::Reads => (cut.call, u64::MAX, Stop::Fails),
+        Way::Writes => (u64::MAX, cut.call, Stop::Fails),
+        Way::Stalls => (u64::MAX, cut.call, Stop::Stalls),
     };
+    let input = Vec::from_slice(alloc, input).expect(rt, "memory");
+    let mut reader = FailIn::new(input, cut.piece, reads);
+    let mut output = FailOut::new(Vec::new(alloc), cut.piece, writes, stop);
     let mut errors = MemoryOut::new(alloc);
     let status = program(rt, alloc, words, &mut reader, &mut output, &mut errors);
-    let is_so = if status == 3 {
-        whole.starts_with(&output.bytes) && errors.bytes() == "keydir: write failed\n".as_bytes()
+    let is_so = if reader.is_met() || output.is_met() {
+        let is_told = errors.bytes() == text_of(cut.way).as_bytes();
+        status == 3 && is_told && is_part(&output.bytes, whole, cut.way)
     } else {
         output.bytes.as_slice() == whole && errors.bytes().is_empty()
     };
     is_so.then_some(status)
 }
 
-/// The status of the first run that doesn't fail where each call on the output fails in turn.
+/// The status of the first run that meets no failure where the first call fails, then the second, and so on, and each
+/// moves at most 64 bytes.
 pub(crate) fn status_after_cuts(
     rt: &(impl Threads + Abort + Sync),
     alloc: Global,
     words: &[&str],
     input: &[u8],
     whole: &[u8],
+    way: Way,
 ) -> Option<u8> {
-    for calls in 0..2000 {
-        let status = status_cut(rt, alloc, words, input, whole, calls);
+    for call in 0..1000 {
+        let cut = Cut {
+            way,
+            call,
+            piece: 64,
+        };
+        let status = status_cut(rt, alloc, words, input, whole, cut);
         if status != Some(3) {
             return status;
         }

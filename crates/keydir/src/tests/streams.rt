@@ -1,24 +1,65 @@
-//! Streams that fail or give little.
+//! Streams that fail and give little.
 
 ghost use Rattle.std.specs.Prelude.{◌≡◌};
 
 use coniks_tool::{ByteIn, ByteOut, Failed};
 
-/// Each read fails.
+/// Gives at most so many bytes a read, and fails at one read. It tells contracts nothing of its bytes.
 #[derive(Drop)]
 pub(crate) struct FailIn {
-    pub(crate) failures: u64,
+    bytes: Vec<u8>,
+    at: usize,
+    piece: usize,
+    failing: u64,
+    reads: u64,
+    failures: u64,
+    ends: u64,
+}
+
+impl FailIn {
+    /// A reader of these bytes that gives at most so many a read, at least one, and fails at the read of this number,
+    /// counted from 0.
+    pub(crate) fn new(bytes: Vec<u8>, piece: usize, failing: u64) -> Self
+        ensures { (⟦<FailIn as ByteIn>⟧.source result).failed ≡ 0 }
+    {
+        FailIn {
+            bytes,
+            at: 0,
+            piece,
+            failing,
+            reads: 0,
+            failures: 0,
+            ends: 0,
+        }
+    }
+
+    /// Whether a read has failed.
+    pub(crate) fn is_met(&self) -> bool {
+        self.failures > 0
+    }
 }
 
 impl ByteIn for FailIn {
     ghost use Rattle.std.specs.Prelude.{None};
     ghost use Rattle.coniks_lines.specs.Known.{Source};
 
-    ghost source = { λ s. record { left = None; reads = s.failures; failed = s.failures; ends = 0 } };
+    ghost source = { λ s. record { left = None; reads = s.reads; failed = s.failures; ends = s.ends } };
 
-    fn read(&mut self, _buffer: &mut [u8]) -> Result<usize, Failed> {
-        self.failures += 1;
-        Err(Failed)
+    fn read(&mut self, buffer: &mut [u8]) -> Result<usize, Failed> {
+        let fails = self.reads == self.failing;
+        self.reads = self.reads.wrapping_add(1);
+        if fails {
+            self.failures += 1;
+            return Err(Failed);
+        }
+        let rest = self.bytes.get(self.at..).unwrap_or(&[]);
+        let count = rest.len().min(buffer.len()).min(self.piece);
+        buffer[..count].copy_from_slice(&rest[..count]);
+        self.at = self.at.saturating_add(count);
+        if count == 0 {
+            self.ends = self.ends.wrapping_add(1);
+        }
+        Ok(count)
     }
 
     fn failures(&self) -> u64 {
@@ -26,89 +67,92 @@ impl ByteIn for FailIn {
     }
 }
 
-/// Takes one byte a write, and fails after so many calls.
-#[derive(Drop)]
-pub(crate) struct ShortOut {
-    pub(crate) bytes: Vec<u8>,
-    pub(crate) calls_left: u64,
-    pub(crate) failures: u64,
-    pub(crate) flushes: u64,
+/// What a writer does at one call.
+#[derive(Clone, Copy, PartialEq, Eq)]
+pub(crate) enum Stop {
+    /// The write or flush fails.
+    Fails,
+    /// The write takes 0 bytes.
+    Stalls,
 }
 
-impl ByteOut for ShortOut {
+/// Takes at most so many bytes a write, and stops at one call.
+#[derive(Drop)]
+pub(crate) struct FailOut {
+    pub(crate) bytes: Vec<u8>,
+    piece: usize,
+    stopped: u64,
+    stop: Stop,
+    calls: u64,
+    failures: u64,
+    stalls: u64,
+    flushes: u64,
+}
+
+impl FailOut {
+    /// A writer that puts what it takes after these bytes, at most so many a write, at least one, and stops at the write or
+    /// flush of this number, or where it stalls at the write of this number, counted from 0.
+    pub(crate) fn new(bytes: Vec<u8>, piece: usize, stopped: u64, stop: Stop) -> Self
+        ensures { (⟦<FailOut as ByteOut>⟧.sink result).failed ≡ 0 }
+    {
+        FailOut {
+            bytes,
+            piece,
+            stopped,
+            stop,
+            calls: 0,
+            failures: 0,
+            stalls: 0,
+            flushes: 0,
+        }
+    }
+
+    /// Whether a call has failed, or taken 0 bytes.
+    pub(crate) fn is_met(&self) -> bool {
+        self.failures > 0 || self.stalls > 0
+    }
+}
+
+impl ByteOut for FailOut {
     ghost use Rattle.std.specs.Prelude.{Some};
     ghost use Rattle.coniks_lines.specs.Known.{Sink};
 
-    ghost sink = { λ s. record { written = Some s.bytes.items; failed = s.failures; stalls = 0; flushes = s.flushes } };
+    ghost sink = { λ s. record { written = Some s.bytes.items; failed = s.failures; stalls = s.stalls; flushes = s.flushes } };
 
     fn write(&mut self, bytes: &[u8]) -> Result<usize, Failed> {
-        if self.calls_left == 0 || self.bytes.push(bytes[0]).is_err() {
+        let stops = self.calls == self.stopped;
+        self.calls = self.calls.wrapping_add(1);
+        let count = if stops {
+            0
+        } else {
+            bytes.len().min(self.piece)
+        };
+        if stops && self.stop == Stop::Fails
+            || self.bytes.extend_from_slice(&bytes[..count]).is_err()
+        {
             self.failures += 1;
             return Err(Failed);
         }
-        self.calls_left -= 1;
-        Ok(1)
+        if count == 0 {
+            self.stalls = self.stalls.wrapping_add(1);
+        }
+        Ok(count)
     }
 
     fn flush(&mut self) -> Result<(), Failed> {
-        if self.calls_left == 0 {
-            self.failures += 1;
-            return Err(Failed);
+        if self.stop == Stop::Fails {
+            let fails = self.calls == self.stopped;
+            self.calls = self.calls.wrapping_add(1);
+            if fails {
+                self.failures += 1;
+                return Err(Failed);
+            }
         }
-        self.calls_left -= 1;
         self.flushes = self.flushes.wrapping_add(1);
         Ok(())
     }
 
     fn failures(&self) -> u64 {
         self.failures
-    }
-}
-
-/// Gives one byte a read, and tells contracts nothing of its bytes.
-#[derive(Drop)]
-pub(crate) struct OneByteIn {
-    bytes: Vec<u8>,
-    at: usize,
-    reads: u64,
-    ends: u64,
-}
-
-impl OneByteIn {
-    pub(crate) fn new(bytes: Vec<u8>) -> Self
-        ensures { (⟦<OneByteIn as ByteIn>⟧.source result).failed ≡ 0 }
-    {
-        OneByteIn {
-            bytes,
-            at: 0,
-            reads: 0,
-            ends: 0,
-        }
-    }
-}
-
-impl ByteIn for OneByteIn {
-    ghost use Rattle.std.specs.Prelude.{None};
-    ghost use Rattle.coniks_lines.specs.Known.{Source};
-
-    ghost source = { λ s. record { left = None; reads = s.reads; failed = 0; ends = s.ends } };
-
-    fn read(&mut self, buffer: &mut [u8]) -> Result<usize, Failed> {
-        self.reads = self.reads.wrapping_add(1);
-        match self.bytes.get(self.at) {
-            Some(byte) => {
-                buffer[0] = *byte;
-                self.at += 1;
-                Ok(1)
-            }
-            None => {
-                self.ends = self.ends.wrapping_add(1);
-                Ok(0)
-            }
-        }
-    }
-
-    fn failures(&self) -> u64 {
-        0
     }
 }
