@@ -1,8 +1,8 @@
 -- What a part and the records of a batch leave.
 use Rattle.std.proofs.Common.{◌≡◌, ℕ, suc, ◌+◌, List, [], ◌∷◌, ◌++◌, length, map, arith, false, refl, sym, ap, subst, ◌∙◌, inl, inr, Option, Some, None, slice_get}
-use Rattle.coniks_directory.proofs.Words.{AllPlaced, AreApart, AreChangesOf, AreInOrder, AreSeen, BTreeMap, Change, Entry, Extends, IsBuilt}
+use Rattle.coniks_directory.proofs.Words.{AllPlaced, AreApart, AreChangesOf, AreInOrder, AreDrafts, BTreeMap, Change, Entry, Extends, IsBuilt}
 use Rattle.coniks_directory.proofs.Words.{IsIn, IsLength, IsOldMap, IsStored, MAX_KEY, MAX_NAME, Mirrors, Node, Numbered, Operation, Part}
-use Rattle.coniks_directory.proofs.Words.{Placed, Record, Registered, Registry, Root, Seen, ShowsLatest, Stands, backed_by, bound_by}
+use Rattle.coniks_directory.proofs.Words.{Placed, Record, Registered, Registry, Root, Drafts, ShowsLatest, Stands, backed_by, bound_by}
 use Rattle.coniks_directory.proofs.Words.{entries_of, entry_of, entry_of_change, entry_of_record, false_from_ne_true, first_fault}
 use Rattle.coniks_directory.proofs.Words.{has_index, has_name, length-map, overlaid, overwritten, registered_at, registered_by}
 use Rattle.coniks_directory.proofs.Words.{registered_of}
@@ -12,7 +12,7 @@ use Rattle.coniks_tree.proofs.Lemmas.{Extends-append}
 use Rattle.coniks_directory.proofs.MirrorLemmas.{registered_at-extended}
 use Rattle.coniks_directory.proofs.HolderLemmas.{backed_in, in_backed}
 use Rattle.coniks_directory.proofs.OverlaidLemmas.{ArePart, IsMap-overlaid, IsMap-overwritten, in_overwritten, index_there, once, overlaid_new, overlaid_old, overwritten_new, overwritten_old, part, there_index, within-overlaid}
-use Rattle.coniks_directory.proofs.SeenLemmas.{in_records, record_in}
+use Rattle.coniks_directory.proofs.DraftLemmas.{in_records, record_in}
 
 -- what stands in a list stands that much further on where it follows another
 get-behind : {T : Type 0} (xs ys : List T) (n : ℕ) → slice_get (xs ++ ys) (length xs + n) ≡ slice_get ys n
@@ -20,7 +20,7 @@ get-behind [] ys n = let start : 0 + n ≡ n = omega arith in ap (slice_get ys) 
 get-behind (x ∷ xs) ys n = let step : suc (length xs) + n ≡ suc (length xs + n) = omega arith in ap (slice_get (x ∷ (xs ++ ys))) step ∙ get-behind xs ys n
 
 module _ (hash of : List ℕ → List ℕ) (old : List Record) (es : List Numbered) (registry : Registry) (m : Mirrors hash of old es registry)
-    (bs : List Registered) (new : List Record) (numbers : BTreeMap (List ℕ) ℕ) (s : AreSeen hash of bs new numbers)
+    (bs : List Registered) (new : List Record) (numbers : BTreeMap (List ℕ) ℕ) (s : AreDrafts hash of bs new numbers)
     (cs : List Numbered) (c : AreChangesOf (length old) new cs) (apart : ArePart of registry bs) where
   -- what the record of a number binds, of all records
   binding : ℕ → Registered
@@ -138,7 +138,7 @@ old_map hash of nonce nodes records None registry none = (
 -- the part that `build` makes of the changes of a batch without fault
 pub built : (hash of : List ℕ → List ℕ) (nonce : List ℕ) (nodes : List Node) (records : List Record) (root : Option Root) (registry : Registry) (ops : List Operation)
     (new : List Record) (numbers : BTreeMap (List ℕ) ℕ) (changes : List Change) (base : ℕ) (p : Part)
-    → ShowsLatest hash of nonce nodes records root registry → first_fault of registry ops ≡ None → AreSeen hash of (map bound_by ops) new numbers → base ≡ length records → AreChangesOf base new (entries_of_changes changes)
+    → ShowsLatest hash of nonce nodes records root registry → first_fault of registry ops ≡ None → AreDrafts hash of (map bound_by ops) new numbers → base ≡ length records → AreChangesOf base new (entries_of_changes changes)
     → ((all : List Record) → Extends records all → AllPlaced all changes → Placed all p)
     → ((entries : List Numbered) → IsOldMap hash nonce nodes records root entries → AreInOrder 0 (entries_of_changes changes) → AreApart 0 (overwritten entries (entries_of_changes changes))
     → Stands hash nonce nodes records p [] (overwritten entries (entries_of_changes changes)))
@@ -159,13 +159,13 @@ built hash of nonce nodes records root registry ops new numbers changes base p s
     }
 
 -- the changes of the records that were judged, behind a view of them
-module _ (hash of : List ℕ → List ℕ) (ops : List Operation) (seen : Seen) (base : ℕ) (made changes : List Change) (same : changes ≡ made)
-    (are : AreChangesOf base seen.records.items (entries_of_changes made)) where
-  pub seen_changes : AreChangesOf base seen.records.items (entries_of_changes changes)
-  seen_changes = subst (λ (cs : List Change). AreChangesOf base seen.records.items (entries_of_changes cs)) (sym same) are
+module _ (hash of : List ℕ → List ℕ) (ops : List Operation) (drafts : Drafts) (base : ℕ) (made changes : List Change) (same : changes ≡ made)
+    (are : AreChangesOf base drafts.records.items (entries_of_changes made)) where
+  pub drafts_changes : AreChangesOf base drafts.records.items (entries_of_changes changes)
+  drafts_changes = subst (λ (cs : List Change). AreChangesOf base drafts.records.items (entries_of_changes cs)) (sym same) are
 
   -- they are as many as the operations
-  pub as_many : AreSeen hash of (map bound_by ops) seen.records.items seen.numbers → length changes ≡ length ops
+  pub as_many : AreDrafts hash of (map bound_by ops) drafts.records.items drafts.numbers → length changes ≡ length ops
   as_many s =
-      ap length same ∙ sym (length-map made entry_of_change) ∙ are.counted ∙ sym (length-map seen.records.items registered_of)
+      ap length same ∙ sym (length-map made entry_of_change) ∙ are.counted ∙ sym (length-map drafts.records.items registered_of)
       ∙ ap length s.binds ∙ length-map ops bound_by

@@ -5,7 +5,7 @@ mod MirrorLemmas
 mod HolderLemmas
 mod InstalledLemmas
 mod JudgeLemmas
-mod SeenLemmas
+mod DraftLemmas
 mod OrderLemmas
 mod OverlaidLemmas
 mod BuiltLemmas

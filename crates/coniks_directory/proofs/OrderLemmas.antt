@@ -1,6 +1,6 @@
 -- The changes of a batch, in the order of the map of their records.
 use Rattle.std.proofs.Common.{◌≡◌, ℕ, zero, suc, ◌+◌, ◌<◌, List, [], ◌∷◌, ◌++◌, length, map, arith, true, false, refl, sym, ap, subst, ◌∙◌, inl, inr, cond, slice_index, slice_index_or, Option, Some, None, slice_get}
-use Rattle.coniks_directory.proofs.Words.{All, All-found, AllAfter, AllByRecursion, AreChangesOf, AreIncreasing, AreSeen, BTreeMap, Bor}
+use Rattle.coniks_directory.proofs.Words.{All, All-found, AllAfter, AllByRecursion, AreChangesOf, AreIncreasing, AreDrafts, BTreeMap, Bor}
 use Rattle.coniks_directory.proofs.Words.{IsBefore, IsIn, IsIndex, IsSealed, IsStrictlySortedBy, Less, Numbered, Record, Registered}
 use Rattle.coniks_directory.proofs.Words.{by_ranked, deref, entry_of_record, is_at, is_eq, keys_of, length-map, lookup, map-append, nat_cmp}
 use Rattle.coniks_directory.proofs.Words.{nat_list_cmp_total, number_at, ranked, slice_cmp, slice_get_within, values, values_of}
@@ -108,7 +108,7 @@ each base records (p ∷ ps) index n some =
       | false ↦ λ h. inr (each base records ps index n h)
     ]) some
 
-pub changes : (hash of : List ℕ → List ℕ) (bound : List Registered) (base : ℕ) (records : List Record) (numbers : BTreeMap (List ℕ) ℕ) (entries : List Numbered) → AreSeen hash of bound records numbers
+pub changes : (hash of : List ℕ → List ℕ) (bound : List Registered) (base : ℕ) (records : List Record) (numbers : BTreeMap (List ℕ) ℕ) (entries : List Numbered) → AreDrafts hash of bound records numbers
     → entries ≡ map (entry_at base records) (values numbers) → AreChangesOf base records entries
 changes hash of bound base records numbers entries s are =
     let found = found_all records numbers numbers.entries s.kept (All-found nat_list_cmp_total numbers s.ordered) in
@@ -125,5 +125,5 @@ found_within records (p ∷ ps) found zero d below = slice_get_within records p.
 found_within records (p ∷ ps) found (suc k) d below = found_within records ps found.1 k d (omega arith)
 
 -- each number is that of a record
-pub numbers_within : (hash of : List ℕ → List ℕ) (bound : List Registered) (records : List Record) (numbers : BTreeMap (List ℕ) ℕ) → AreSeen hash of bound records numbers → All (λ n. n < length records) (values numbers)
+pub numbers_within : (hash of : List ℕ → List ℕ) (bound : List Registered) (records : List Record) (numbers : BTreeMap (List ℕ) ℕ) → AreDrafts hash of bound records numbers → All (λ n. n < length records) (values numbers)
 numbers_within hash of bound records numbers s = found_within records numbers.entries (found_all records numbers numbers.entries s.kept (All-found nat_list_cmp_total numbers s.ordered))

@@ -55,12 +55,12 @@ pub use Rattle.coniks_directory.specs.Directories.{HasGoodChain, HasPrepared, he
 pub use Rattle.coniks_directory.specs.History.{AllHaveOwnIndices, AllUnder, AreRising, Shown, last_number, latest_epoch, latest_nonce, latest_registry, numbers_of, root_at, shown_at}
 pub use Rattle.coniks_directory.specs.Holders.{HolderIs, IsHeld, ShowsLatest}
 pub use Rattle.coniks_directory.specs.Installed.{IsEntered, IsNext, IsSigned, Leaves}
-pub use Rattle.coniks_directory.specs.Judged.{AreChangesOf, AreSeen, IsJudged, IsJudgedFault, IsSealed, number_at}
+pub use Rattle.coniks_directory.specs.Judged.{AreChangesOf, AreDrafts, IsJudged, IsJudgedFault, IsSealed, number_at}
 pub use Rattle.coniks_directory.specs.Lookups.{IsAcceptedAt, IsFound}
 pub use Rattle.coniks_directory.specs.Runs.{AreAccepted, AreAcceptedFrom, Batch, Run, committed, defined, epochs_from, installed, opened, stayed}
 pub use Rattle.coniks_directory.specs.State.{HoldsEpoch, IsStored, Mirrors, ShowsRegistry, State, View, Whole, history_of, last_count, registered_of, shown_of, state_of}
 unfoldable pub use Rattle.coniks_directory.specs.State.{registry_at}
 pub use Rattle.coniks_directory.specs.Updates.{Grows, IsUpdate, IsUpdateOf, MayInstall, records_after, registry_after, shown_after}
 pub use Rattle.coniks_directory.specs.declared.epochs.Epoch.{Epoch}
-pub use Rattle.coniks_directory.specs.declared.seen.Seen.{Seen}
+pub use Rattle.coniks_directory.specs.declared.drafts.Drafts.{Drafts}
 pub use Rattle.coniks_directory.specs.declared.update.Prepared.{Prepared}

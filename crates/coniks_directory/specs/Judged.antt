@@ -29,7 +29,7 @@ abbrev pub number_at : BTreeMap (List ℕ) ℕ → List ℕ → Option ℕ
 number_at numbers index = get (slice_cmp nat_cmp) numbers index
 
 -- the records are those of the bindings, in their order, with indices of their own, and the map finds each by its index, and no other
-pub record AreSeen (hash of : List ℕ → List ℕ) (bound : List Registered) (records : List Record) (numbers : BTreeMap (List ℕ) ℕ) : Type 0 where
+pub record AreDrafts (hash of : List ℕ → List ℕ) (bound : List Registered) (records : List Record) (numbers : BTreeMap (List ℕ) ℕ) : Type 0 where
   pub binds : map registered_of records ≡ bound
   pub sealed : (n : ℕ) (r : Record) → slice_get records n ≡ Some r → IsSealed hash of r
   pub kept : (index : List ℕ) (n : ℕ) → number_at numbers index ≡ Some n → (r : Record) × (slice_get records n ≡ Some r) × (r.index.0 ≡ index)

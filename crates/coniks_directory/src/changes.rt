@@ -5,9 +5,9 @@ ghost use Rattle.std.specs.BTreeMap.{values};
 ghost use Rattle.coniks_proof.specs.Registry.{Registered};
 ghost use Rattle.coniks_tree.specs.Parts.{entries_of, entry_of_change};
 ghost use Rattle.coniks_tree.specs.Table.{entry_of_record};
-ghost use Rattle.coniks_directory.specs.Judged.{AreChangesOf, AreSeen};
+ghost use Rattle.coniks_directory.specs.Judged.{AreChangesOf, AreDrafts};
 
-use crate::seen::Seen;
+use crate::drafts::Drafts;
 use coniks_tree::{Change, Record, RecordNo};
 use std::alloc::{AllocError, Global};
 
@@ -23,15 +23,19 @@ fn change_to(place: usize, new: &Record) -> Change
 }
 
 /// The changes that put the records into the tree, which are to stand from a place on, in increasing order of index.
-pub(crate) fn changes_of(alloc: Global, base: usize, seen: &Seen) -> Result<Vec<Change>, AllocError>
-    requires numbered { All (λ n. n < length seen.now.records.items) (values seen.now.numbers) }
-    requires fits { base + length seen.now.records.items < 2 ^ 64 }
-    ensures { IfOk result (λ changes. (hash of : List ℕ → List ℕ) (bound : List Registered) → AreSeen hash of bound seen.now.records.items seen.now.numbers
-        → AreChangesOf base seen.now.records.items (entries_of changes.items)) }
+pub(crate) fn changes_of(
+    alloc: Global,
+    base: usize,
+    drafts: &Drafts,
+) -> Result<Vec<Change>, AllocError>
+    requires numbered { All (λ n. n < length drafts.now.records.items) (values drafts.now.numbers) }
+    requires fits { base + length drafts.now.records.items < 2 ^ 64 }
+    ensures { IfOk result (λ changes. (hash of : List ℕ → List ℕ) (bound : List Registered) → AreDrafts hash of bound drafts.now.records.items drafts.now.numbers
+        → AreChangesOf base drafts.now.records.items (entries_of changes.items)) }
 {
-    let mut changes = Vec::with_capacity(alloc, seen.records.len())?;
-    for &number in seen.numbers.values() {
-        changes.push(change_to(base + number, &seen.records[number]))?;
+    let mut changes = Vec::with_capacity(alloc, drafts.records.len())?;
+    for &number in drafts.numbers.values() {
+        changes.push(change_to(base + number, &drafts.records[number]))?;
     }
     Ok(changes)
 }

@@ -5,11 +5,11 @@ ghost use Rattle.coniks_proof.specs.Batches.{bound_by, fault_of, first_fault};
 ghost use Rattle.coniks_proof.specs.Registry.{Registered, Registry};
 ghost use Rattle.coniks_directory.specs.Batches.{fault_is, operation_of, operations};
 ghost use Rattle.coniks_directory.specs.Holders.{ShowsLatest};
-ghost use Rattle.coniks_directory.specs.Judged.{AreSeen, IsJudgedFault};
+ghost use Rattle.coniks_directory.specs.Judged.{AreDrafts, IsJudgedFault};
 
 use crate::batch::{BatchFault, Op, OpFault};
+use crate::drafts::{Drafts, record_of};
 use crate::lengths::length_fault;
-use crate::seen::{Seen, record_of};
 use crate::source::IndexSource;
 use crate::stand::{holder_at, op_fault};
 use coniks_proof::Hash32;
@@ -23,28 +23,28 @@ fn judge_one<H: Hash32, X: IndexSource>(
     source: &X,
     tree: &Tree,
     root: Option<Root>,
-    seen: &mut Seen,
+    drafts: &mut Drafts,
     op: &Op,
 ) -> Result<Option<OpFault>, AllocError>
     requires { IfSome root (λ r. r.0 < length tree.now.nodes.items) }
     ensures fault { IfOk result (λ fault. (nonce : List ℕ) (registry : Registry) (bound : List Registered)
         → ShowsLatest (H.digest_of h.now) (X.index_of source.now) nonce tree.now.nodes.items tree.now.records.items root registry
-        → AreSeen (H.digest_of h.now) (X.index_of source.now) bound seen.old.records.items seen.old.numbers
+        → AreDrafts (H.digest_of h.now) (X.index_of source.now) bound drafts.old.records.items drafts.old.numbers
         → option_map fault_is fault ≡ fault_of (X.index_of source.now) registry bound (operation_of op.now)) }
-    ensures seen { result ≡ Ok None → (bound : List Registered) → AreSeen (H.digest_of h.now) (X.index_of source.now) bound seen.old.records.items seen.old.numbers
-        → AreSeen (H.digest_of h.now) (X.index_of source.now) (bound ++ bound_by (operation_of op.now) ∷ []) seen.new.records.items seen.new.numbers }
+    ensures drafts { result ≡ Ok None → (bound : List Registered) → AreDrafts (H.digest_of h.now) (X.index_of source.now) bound drafts.old.records.items drafts.old.numbers
+        → AreDrafts (H.digest_of h.now) (X.index_of source.now) (bound ++ bound_by (operation_of op.now) ∷ []) drafts.new.records.items drafts.new.numbers }
 {
     if let Some(fault) = length_fault(op) {
         return Ok(Some(fault));
     }
     let index = source.index(op.name.as_slice());
     let present = holder_at(tree, root, &index);
-    let earlier = seen.holder(&index);
+    let earlier = drafts.holder(&index);
     if let Some(fault) = op_fault(op, present, earlier) {
         return Ok(Some(fault));
     }
     let made = record_of(alloc, h, index, op)?;
-    seen.add(made)?;
+    drafts.add(made)?;
     Ok(None)
 }
 
@@ -56,9 +56,9 @@ pub(crate) fn judged<H: Hash32, X: IndexSource>(
     tree: &Tree,
     root: Option<Root>,
     ops: &[Op],
-) -> Result<Seen, BatchFault>
+) -> Result<Drafts, BatchFault>
     requires { IfSome root (λ r. r.0 < length tree.now.nodes.items) }
-    ensures seen { IfOk result (λ seen. AreSeen (H.digest_of h.now) (X.index_of source.now) (map bound_by (operations ops.now)) seen.records.items seen.numbers) }
+    ensures drafts { IfOk result (λ drafts. AreDrafts (H.digest_of h.now) (X.index_of source.now) (map bound_by (operations ops.now)) drafts.records.items drafts.numbers) }
     ensures faultless { OnOk result ((nonce : List ℕ) (registry : Registry)
         → ShowsLatest (H.digest_of h.now) (X.index_of source.now) nonce tree.now.nodes.items tree.now.records.items root registry
         → first_fault (X.index_of source.now) registry (operations ops.now) ≡ None) }
@@ -66,15 +66,15 @@ pub(crate) fn judged<H: Hash32, X: IndexSource>(
         → ShowsLatest (H.digest_of h.now) (X.index_of source.now) nonce tree.now.nodes.items tree.now.records.items root registry
         → IsJudgedFault (X.index_of source.now) registry (operations ops.now) fault) }
 {
-    let Ok(mut seen) = Seen::new(alloc, ops.len()) else {
+    let Ok(mut drafts) = Drafts::new(alloc, ops.len()) else {
         return Err(BatchFault::OutOfMemory);
     };
     for (position, op) in ops.iter().enumerate() {
-        match judge_one(alloc, h, source, tree, root, &mut seen, op) {
+        match judge_one(alloc, h, source, tree, root, &mut drafts, op) {
             Ok(None) => {}
             Ok(Some(fault)) => return Err(BatchFault::At { position, fault }),
             Err(_) => return Err(BatchFault::OutOfMemory),
         }
     }
-    Ok(seen)
+    Ok(drafts)
 }

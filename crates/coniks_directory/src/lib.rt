@@ -37,6 +37,7 @@
 pub mod batch;
 mod changes;
 pub mod directory;
+mod drafts;
 pub mod epochs;
 mod held;
 mod install;
@@ -45,7 +46,6 @@ pub mod laws;
 mod lengths;
 pub mod lookup;
 mod preparing;
-mod seen;
 pub mod source;
 mod stand;
 pub mod update;

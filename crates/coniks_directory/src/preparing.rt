@@ -11,10 +11,10 @@ ghost use Rattle.coniks_directory.specs.Updates.{IsUpdate, nodes_added, registry
 
 use crate::batch::{BatchFault, Op};
 use crate::changes::changes_of;
+use crate::drafts::Drafts;
 use crate::epochs::Epoch;
 use crate::held::Held;
 use crate::judge::judged;
-use crate::seen::Seen;
 use crate::source::IndexSource;
 use crate::update::Prepared;
 use coniks_proof::{Hash32, MAX_OPERATIONS, Nonce};
@@ -24,17 +24,17 @@ use std::alloc::Global;
 use std::thread::Threads;
 
 /// The update of a part that was built of the records, when there were `base` epochs.
-fn update_of(tree: &Tree, base: usize, nonce: Nonce, part: Part, seen: Seen) -> Prepared
+fn update_of(tree: &Tree, base: usize, nonce: Nonce, part: Part, drafts: Drafts) -> Prepared
     requires fits { Fits (length tree.now.nodes.items) 0 part }
     requires few { node_count part < 2 ^ 64 - 1 }
     ensures base { result.base ≡ base }
     ensures version { result.version ≡ 1 }
     ensures nonce { result.nonce ≡ nonce }
     ensures part { result.part ≡ part }
-    ensures records { result.records ≡ seen.records }
+    ensures records { result.records ≡ drafts.records }
 {
     let new_nodes = tree.new_nodes(&part);
-    let Seen { records, .. } = seen;
+    let Drafts { records, .. } = drafts;
     Prepared {
         base,
         version: 1,
@@ -72,14 +72,14 @@ pub(crate) fn update_on<H: Hash32 + Sync, X: IndexSource, G: Gate + Sync, R: Thr
     let root = Epoch::root_of(last);
     let nonce = Epoch::nonce_of(last, held.nonce);
     let tree = &held.tree;
-    let seen = judged(alloc, h, source, tree, root, ops)?;
-    let Ok(changes) = changes_of(alloc, tree.records(), &seen) else {
+    let drafts = judged(alloc, h, source, tree, root, ops)?;
+    let Ok(changes) = changes_of(alloc, tree.records(), &drafts) else {
         return Err(BatchFault::OutOfMemory);
     };
     match build(
         rt, alloc, h, &nonce, tree, root, &changes, depth, workers, gate,
     ) {
-        Ok(part) => Ok(update_of(tree, held.count(), nonce, part, seen)),
+        Ok(part) => Ok(update_of(tree, held.count(), nonce, part, drafts)),
         Err(_) => Err(BatchFault::OutOfMemory),
     }
 }

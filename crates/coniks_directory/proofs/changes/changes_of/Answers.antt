@@ -9,7 +9,7 @@ loop-number-init c = ap entries_of c.in_ok-changes.ensures.items
 
 pub loop-number-preserved : goal.loop-number-preserved
 loop-number-preserved c =
-    let records = c.args.seen.now.records.items in
+    let records = c.args.drafts.now.records.items in
     let n = c.in-Some.field-0.now in
     let r = c.index.result.now in
     let start = c.into_iter-number-iterator.ensures.into_iter_gives ∙ c.values-number-items.ensures.rest in
@@ -21,9 +21,9 @@ loop-number-preserved c =
 
 pub returns : goal.returns
 returns c = λ hash of bound s.
-    let all = values c.args.seen.now.numbers in
-    let records = c.args.seen.now.records.items in
+    let all = values c.args.drafts.now.numbers in
+    let records = c.args.drafts.now.records.items in
     let start = c.into_iter-number-iterator.ensures.into_iter_gives ∙ c.values-number-items.ensures.rest in
     let end = iter_end deref all c.loop-number.yielded c.into_iter-number-iterator.result c.loop-number.number-iterator c.next.new.self c.next.result start c.loop-number.yielded_by c.in-None.is c.next.ensures.steps in
-    changes hash of bound c.args.base records c.args.seen.now.numbers (entries_of c.loop-number.changes.items) s
+    changes hash of bound c.args.base records c.args.drafts.now.numbers (entries_of c.loop-number.changes.items) s
     (c.loop-number.invariant ∙ map-map (entry_at c.args.base records) c.loop-number.yielded ∙ ap (map (entry_at c.args.base records)) end.0)

@@ -4,4 +4,4 @@ use Rattle.coniks_directory.proofs.OrderLemmas.{entry_at}
 use Rattle.coniks_directory.proofs.changes.changes_of.Given as goal
 
 abbrev pub invariant-loop-number : goal.invariant-loop-number
-invariant-loop-number l = entries_of l.changes.items ≡ map (λ number. entry_at l.base l.seen.records.items number.now) l.yielded
+invariant-loop-number l = entries_of l.changes.items ≡ map (λ number. entry_at l.base l.drafts.records.items number.now) l.yielded

@@ -1,7 +1,7 @@
 use Rattle.std.proofs.Common.{◌≡◌, ◌<◌, ◌≤◌, ◌+◌, ◌*◌, IfSome, Vec, Global, ap, arith, length, map, rules, refl, ◌∙◌}
 use Rattle.coniks_directory.proofs.Words.{IsBuilt, IsJudgedFault, Record, ShowsLatest, bound_by, history_of, latest_registry, length-map}
 use Rattle.coniks_directory.proofs.Words.{most_nodes, node_count, operation_of, operations, registered_of, state_of}
-use Rattle.coniks_directory.proofs.BuiltLemmas.{as_many, built, seen_changes}
+use Rattle.coniks_directory.proofs.BuiltLemmas.{as_many, built, drafts_changes}
 use Rattle.coniks_directory.proofs.OrderLemmas.{numbers_within}
 use Rattle.coniks_directory.proofs.PrepareLemmas.{AreFound, answered, few_added, is_update, known_root, none_added, registry_is, shown_now}
 use Rattle.coniks_directory.proofs.preparing.update_on.Goals.{After-nonce_of-nonce}
@@ -23,16 +23,16 @@ known_in g c = known_root (g.H.Hash32.digest_of c.args.h.now) (g.X.IndexSource.i
 pub judged-requires : goal.judged-requires
 judged-requires g c = known_in g (goal.at.judged-requires g c).After-nonce_of-nonce
 
-pub returns-in_err-seen-clause-fault : goal.returns-in_err-seen-clause-fault
-returns-in_err-seen-clause-fault g c =
+pub returns-in_err-drafts-clause-fault : goal.returns-in_err-drafts-clause-fault
+returns-in_err-drafts-clause-fault g c =
     let registry = latest_registry (history_of (state_of c.args.held.now)) in
-    answered c.from_residual.result c.in_err-seen.field-0.0 (IsJudgedFault (g.X.IndexSource.index_of c.args.source.now) registry (operations c.args.ops.now)) (search rules)
-    (c.in_err-seen.ensures.fault c.nonce_of-nonce.result.0 registry (shown_in g (goal.at.returns-in_err-seen-clause-fault g c).After-nonce_of-nonce))
+    answered c.from_residual.result c.in_err-drafts.field-0.0 (IsJudgedFault (g.X.IndexSource.index_of c.args.source.now) registry (operations c.args.ops.now)) (search rules)
+    (c.in_err-drafts.ensures.fault c.nonce_of-nonce.result.0 registry (shown_in g (goal.at.returns-in_err-drafts-clause-fault g c).After-nonce_of-nonce))
 
 pub changes_of-requires-clause-numbered : goal.changes_of-requires-clause-numbered
 changes_of-requires-clause-numbered g c =
-    let seen = c.in_ok-seen.seen in
-    numbers_within (g.H.Hash32.digest_of c.args.h.now) (g.X.IndexSource.index_of c.args.source.now) (map bound_by (operations c.args.ops.now)) seen.records.items seen.numbers c.in_ok-seen.ensures.seen
+    let drafts = c.in_ok-drafts.drafts in
+    numbers_within (g.H.Hash32.digest_of c.args.h.now) (g.X.IndexSource.index_of c.args.source.now) (map bound_by (operations c.args.ops.now)) drafts.records.items drafts.numbers c.in_ok-drafts.ensures.drafts
 
 pub build-requires-clause-root : goal.build-requires-clause-root
 build-requires-clause-root g c κs within = known_in g (goal.at.build-requires-clause-root g c).After-nonce_of-nonce
@@ -43,8 +43,8 @@ as_many_in g c =
     let hash = g.H.Hash32.digest_of c.args.h.now in
     let of = g.X.IndexSource.index_of c.args.source.now in
     let ops = operations c.args.ops.now in
-    as_many hash of ops c.in_ok-seen.seen c.records.result c.in-Ok.changes.items c.deref.result.now c.deref.ensures.value
-    (c.in-Ok.ensures hash of (map bound_by ops) c.in_ok-seen.ensures.seen) c.in_ok-seen.ensures.seen
+    as_many hash of ops c.in_ok-drafts.drafts c.records.result c.in-Ok.changes.items c.deref.result.now c.deref.ensures.value
+    (c.in-Ok.ensures hash of (map bound_by ops) c.in_ok-drafts.ensures.drafts) c.in_ok-drafts.ensures.drafts
     ∙ length-map c.args.ops.now operation_of
 
 -- without them the part is what was there
@@ -64,14 +64,14 @@ returns-in-Ok-build-clause-update g c =
     let ops = operations c.args.ops.now in
     let nonce = c.nonce_of-nonce.result in
     let now = (goal.at.returns-in-Ok-build-clause-update g c).After-nonce_of-nonce in
-    let seen = c.in_ok-seen.seen in
+    let drafts = c.in_ok-drafts.drafts in
     let p = c.update_of.result in
     let e = c.update_of.ensures in
     -- the changes are those of the records, and the part is built of them
-    let these = seen_changes hash of ops seen c.records.result c.in-Ok.changes.items c.deref.result.now c.deref.ensures.value (c.in-Ok.ensures hash of (map bound_by ops) c.in_ok-seen.ensures.seen) in
-    let b : IsBuilt hash of nonce.0 s.nodes s.records registry ops c.in-Ok-build.part seen.records.items =
-    built hash of nonce.0 s.nodes s.records c.root_of-root.result registry ops seen.records.items seen.numbers c.deref.result.now c.records.result c.in-Ok-build.part (shown_in g now)
-    (c.in_ok-seen.ensures.faultless nonce.0 registry (shown_in g now)) c.in_ok-seen.ensures.seen c.records.ensures these c.in-Ok-build.ensures.placed c.in-Ok-build.ensures.stands in
+    let these = drafts_changes hash of ops drafts c.records.result c.in-Ok.changes.items c.deref.result.now c.deref.ensures.value (c.in-Ok.ensures hash of (map bound_by ops) c.in_ok-drafts.ensures.drafts) in
+    let b : IsBuilt hash of nonce.0 s.nodes s.records registry ops c.in-Ok-build.part drafts.records.items =
+    built hash of nonce.0 s.nodes s.records c.root_of-root.result registry ops drafts.records.items drafts.numbers c.deref.result.now c.records.result c.in-Ok-build.part (shown_in g now)
+    (c.in_ok-drafts.ensures.faultless nonce.0 registry (shown_in g now)) c.in_ok-drafts.ensures.drafts c.records.ensures these c.in-Ok-build.ensures.placed c.in-Ok-build.ensures.stands in
     -- and both are the update's
     let r : IsBuilt hash of nonce.0 s.nodes s.records registry ops p.part p.records.items = rw (e.part, e.records) b in
     is_update hash of s c.requires.whole _ _ _ _ (found_in g now) p ops (e.base ∙ c.count.ensures) e.version e.nonce (rw e.part c.in-Ok-build.ensures.fits) r
@@ -79,7 +79,7 @@ returns-in-Ok-build-clause-update g c =
 pub returns-in-Ok-build-clause-registry : goal.returns-in-Ok-build-clause-registry
 returns-in-Ok-build-clause-registry g c =
     registry_is (g.H.Hash32.digest_of c.args.h.now) (g.X.IndexSource.index_of c.args.source.now) (state_of c.args.held.now) c.requires.whole c.update_of.result (operations c.args.ops.now)
-    (ap (λ (v : Vec Record Global). map registered_of v.items) c.update_of.ensures.records ∙ c.in_ok-seen.ensures.seen.binds)
+    (ap (λ (v : Vec Record Global). map registered_of v.items) c.update_of.ensures.records ∙ c.in_ok-drafts.ensures.drafts.binds)
 
 pub returns-in-Ok-build-clause-few : goal.returns-in-Ok-build-clause-few
 returns-in-Ok-build-clause-few g c =
@@ -95,5 +95,5 @@ returns-in-Ok-build-clause-none g c = none_in g c (found_in g (goal.at.returns-i
 
 pub returns-in-Ok-build-clause-faultless : goal.returns-in-Ok-build-clause-faultless
 returns-in-Ok-build-clause-faultless g c =
-    c.in_ok-seen.ensures.faultless c.nonce_of-nonce.result.0 (latest_registry (history_of (state_of c.args.held.now)))
+    c.in_ok-drafts.ensures.faultless c.nonce_of-nonce.result.0 (latest_registry (history_of (state_of c.args.held.now)))
     (shown_in g (goal.at.returns-in-Ok-build-clause-faultless g c).After-nonce_of-nonce)

@@ -1,12 +1,12 @@
 use Rattle.std.proofs.Common.{◌≡◌, List, Option, None, Some, MatchOption, slice_get, subst, sym}
 use Rattle.coniks_directory.proofs.Words.{Bor, HolderIs, Record, number_at}
-use Rattle.coniks_directory.proofs.SeenLemmas.{seen_free, seen_held}
-use Rattle.coniks_directory.proofs.seen.Seen.holder.Goals as goal
+use Rattle.coniks_directory.proofs.DraftLemmas.{drafts_free, drafts_held}
+use Rattle.coniks_directory.proofs.drafts.Drafts.holder.Goals as goal
 
 pub returns-in_err-number : goal.returns-in_err-number
 returns-in_err-number c = λ hash of bound s.
     let none : number_at c.args.self.now.numbers c.args.index.now.0 ≡ None = sym c.in_err-number.ensures.value in
-    subst (λ f. HolderIs of bound c.args.index.now.0 f) (sym c.from_residual.ensures) (seen_free hash of bound c.args.self.now.records.items c.args.self.now.numbers s c.args.index.now.0 none)
+    subst (λ f. HolderIs of bound c.args.index.now.0 f) (sym c.from_residual.ensures) (drafts_free hash of bound c.args.self.now.records.items c.args.self.now.numbers s c.args.index.now.0 none)
 
 pub returns : goal.returns
 returns c = λ hash of bound s.
@@ -19,6 +19,6 @@ returns c = λ hash of bound s.
     let held : (o : Option (Bor Record)) → MatchOption o (slice_get c.deref.result.now n ≡ None) (λ found. slice_get c.deref.result.now n ≡ Some found.now) → HolderIs of bound i o = λ o.
     elim o as (λ v. MatchOption v (slice_get c.deref.result.now n ≡ None) (λ found. slice_get c.deref.result.now n ≡ Some found.now) → HolderIs of bound i v) [
       | None ↦ λ gone. absurd (let there = k.1 in let same = c.deref.ensures.value in cc)
-      | Some r ↦ λ at. seen_held hash of bound records numbers s i n r.now some (subst (λ (xs : List Record). slice_get xs n ≡ Some r.now) c.deref.ensures.value at)
+      | Some r ↦ λ at. drafts_held hash of bound records numbers s i n r.now some (subst (λ (xs : List Record). slice_get xs n ≡ Some r.now) c.deref.ensures.value at)
     ] in
     held c.record_at.result c.record_at.ensures

@@ -5,7 +5,7 @@ ghost use Rattle.coniks_proof.specs.Batches.{bound_by};
 ghost use Rattle.coniks_proof.specs.Registry.{IsFree, IsLength, Registered};
 ghost use Rattle.coniks_directory.specs.Batches.{operation_of};
 ghost use Rattle.coniks_directory.specs.Holders.{HolderIs};
-ghost use Rattle.coniks_directory.specs.Judged.{AreSeen, IsSealed};
+ghost use Rattle.coniks_directory.specs.Judged.{AreDrafts, IsSealed};
 ghost use Rattle.coniks_directory.specs.State.{registered_of};
 
 use crate::batch::Op;
@@ -16,17 +16,17 @@ use std::collections::BTreeMap;
 
 /// The records of the operations that were judged, in their order, and the number of the record at each index.
 #[derive(Drop)]
-pub(crate) struct Seen {
+pub(crate) struct Drafts {
     pub(crate) records: Vec<Record>,
     pub(crate) numbers: BTreeMap<[u8; 32], usize>,
 }
 
-impl Seen {
+impl Drafts {
     /// No operations, with room for the records of so many.
-    pub(crate) fn new(alloc: Global, operations: usize) -> Result<Seen, AllocError>
-        ensures { IfOk result (λ seen. (hash of : List ℕ → List ℕ) → AreSeen hash of [] seen.records.items seen.numbers) }
+    pub(crate) fn new(alloc: Global, operations: usize) -> Result<Drafts, AllocError>
+        ensures { IfOk result (λ drafts. (hash of : List ℕ → List ℕ) → AreDrafts hash of [] drafts.records.items drafts.numbers) }
     {
-        Ok(Seen {
+        Ok(Drafts {
             records: Vec::with_capacity(alloc, operations)?,
             numbers: BTreeMap::new(alloc),
         })
@@ -34,7 +34,7 @@ impl Seen {
 
     /// The record at an index, if one of the operations has it.
     pub(crate) fn holder(&self, index: &Index) -> Option<&Record>
-        ensures { (hash of : List ℕ → List ℕ) (bound : List Registered) → AreSeen hash of bound self.now.records.items self.now.numbers
+        ensures { (hash of : List ℕ → List ℕ) (bound : List Registered) → AreDrafts hash of bound self.now.records.items self.now.numbers
             → HolderIs of bound index.now.0 result }
     {
         let number = self.numbers.get(&index.0)?;
@@ -43,9 +43,9 @@ impl Seen {
 
     /// Adds the record of the next operation, at whose index there is none.
     pub(crate) fn add(&mut self, made: Record) -> Result<(), AllocError>
-        ensures { OnOk result ((hash of : List ℕ → List ℕ) (bound : List Registered) → AreSeen hash of bound self.old.records.items self.old.numbers
+        ensures { OnOk result ((hash of : List ℕ → List ℕ) (bound : List Registered) → AreDrafts hash of bound self.old.records.items self.old.numbers
             → IsSealed hash of made → IsFree of bound made.index.0
-            → AreSeen hash of (bound ++ registered_of made ∷ []) self.new.records.items self.new.numbers) }
+            → AreDrafts hash of (bound ++ registered_of made ∷ []) self.new.records.items self.new.numbers) }
     {
         let index = made.index.0;
         let number = self.records.len();

@@ -1,6 +1,6 @@
 -- The records of the operations that were judged, and one more.
 use Rattle.std.proofs.Common.{◌≡◌, ◌≢◌, ℕ, zero, suc, ◌+◌, List, [], ◌∷◌, ◌++◌, length, map, arith, length-append, true, false, refl, sym, ap, subst, ◌∙◌, cond, ◌⊎◌, inl, inr, Some, None, slice_get}
-use Rattle.coniks_directory.proofs.Words.{AreSeen, BTreeMap, IsFree, IsHeld, IsIn, IsIndex, IsOrdered, IsSealed, Record, Registered}
+use Rattle.coniks_directory.proofs.Words.{AreDrafts, BTreeMap, IsFree, IsHeld, IsIn, IsIndex, IsOrdered, IsSealed, Record, Registered}
 use Rattle.coniks_directory.proofs.Words.{btree_map_len, bytes_eq, bytes_eq-Decides, false_from_ne_true, has_name, is_eq, is_eq-slice_cmp}
 use Rattle.coniks_directory.proofs.Words.{map-append, nat_cmp, number_at, registered_of, slice_cmp}
 use Rattle.coniks_tree.proofs.Lemmas.{Extends-append, get-last, get-push}
@@ -17,7 +17,7 @@ record_in [] n r at = absurd (let never = at in cc)
 record_in (x ∷ xs) zero r at = let same : x ≡ r = cc in inl (ap registered_of same)
 record_in (x ∷ xs) (suc n) r at = inr (record_in xs n r at)
 
-module _ (hash of : List ℕ → List ℕ) (bound : List Registered) (records : List Record) (numbers : BTreeMap (List ℕ) ℕ) (s : AreSeen hash of bound records numbers) where
+module _ (hash of : List ℕ → List ℕ) (bound : List Registered) (records : List Record) (numbers : BTreeMap (List ℕ) ℕ) (s : AreDrafts hash of bound records numbers) where
   -- the record of a name that is bound
   bound_record : (name : List ℕ) → has_name bound name ≡ true → (n : ℕ) × (r : Record) × (slice_get records n ≡ Some r) × (r.binding.name ≡ name)
   bound_record name h =
@@ -28,15 +28,15 @@ module _ (hash of : List ℕ → List ℕ) (bound : List Registered) (records : 
   has_record : (n : ℕ) (r : Record) → slice_get records n ≡ Some r → has_name bound r.binding.name ≡ true
   has_record n r at = has_of bound r.binding.name (registered_of r) (subst (λ (bs : List Registered). IsIn (registered_of r) bs) s.binds (record_in records n r at)) refl
 
-  pub seen_free : (i : List ℕ) → number_at numbers i ≡ None → IsFree of bound i
-  seen_free i none = λ name at. false_from_ne_true (has_name bound name) (λ h.
+  pub drafts_free : (i : List ℕ) → number_at numbers i ≡ None → IsFree of bound i
+  drafts_free i none = λ name at. false_from_ne_true (has_name bound name) (λ h.
       let k = bound_record name h in
       let index-is : k.1.index.0 ≡ i = (s.sealed k.0 k.1 k.2).indexed ∙ ap of k.3 ∙ at in
       let some : number_at numbers i ≡ Some k.0 = subst (λ x. number_at numbers x ≡ Some k.0) index-is (s.all k.0 k.1 k.2) in
       cc)
 
-  pub seen_held : (i : List ℕ) (n : ℕ) (r : Record) → number_at numbers i ≡ Some n → slice_get records n ≡ Some r → IsHeld of bound i (registered_of r)
-  seen_held i n r some at =
+  pub drafts_held : (i : List ℕ) (n : ℕ) (r : Record) → number_at numbers i ≡ Some n → slice_get records n ≡ Some r → IsHeld of bound i (registered_of r)
+  drafts_held i n r some at =
       let k = s.kept i n some in
       let k-at = k.1 in
       let same : k.0 ≡ r = cc in
@@ -66,10 +66,10 @@ module _ (hash of : List ℕ → List ℕ) (bound : List Registered) (records : 
   ]) refl
 
   -- one record more
-  pub seen_next : (records' : List Record) (numbers' : BTreeMap (List ℕ) ℕ) (r : Record) → IsSealed hash of r → IsFree of bound r.index.0 → records' ≡ records ++ r ∷ []
+  pub drafts_next : (records' : List Record) (numbers' : BTreeMap (List ℕ) ℕ) (r : Record) → IsSealed hash of r → IsFree of bound r.index.0 → records' ≡ records ++ r ∷ []
       → ((i : List ℕ) → number_at numbers' i ≡ cond (is_eq (slice_cmp nat_cmp r.index.0 i)) (Some (length records)) (number_at numbers i))
-      → IsOrdered (slice_cmp nat_cmp) numbers' → btree_map_len numbers' ≡ btree_map_len numbers + 1 → AreSeen hash of (bound ++ registered_of r ∷ []) records' numbers'
-  seen_next records' numbers' r sealed free items updates ordered longer =
+      → IsOrdered (slice_cmp nat_cmp) numbers' → btree_map_len numbers' ≡ btree_map_len numbers + 1 → AreDrafts hash of (bound ++ registered_of r ∷ []) records' numbers'
+  drafts_next records' numbers' r sealed free items updates ordered longer =
       let here : number_at numbers' r.index.0 ≡ Some (length records) =
       updates r.index.0 ∙ ap (λ b. cond b (Some (length records)) (number_at numbers r.index.0)) (is_eq-slice_cmp r.index.0 r.index.0 ∙ eq_same r.index.0 r.index.0 refl) in
       let other : (i : List ℕ) → r.index.0 ≢ i → number_at numbers' i ≡ number_at numbers i =
