@@ -64,9 +64,10 @@ impl IndexSource for Letters {
     }
 }
 
-/// Signs with 64 bytes 55, and refuses the call of one number, counted from 0.
+/// Signs with 64 bytes 55, or of another letter, and refuses the call of one number, counted from 0.
 #[derive(Drop)]
 pub struct Stamp {
+    pub letter: u8,
     made: u64,
     refused: u64,
     last: Option<Entry>,
@@ -80,6 +81,7 @@ impl Stamp {
         ensures refused { result.refused ≡ 0 }
     {
         Stamp {
+            letter: 0x55,
             made: 0,
             refused: 0,
             last: None,
@@ -102,10 +104,10 @@ impl Verify for Stamp {
     ghost use Rattle.std.specs.Prelude.{replicate};
     ghost use Rattle.std.specs.Str.{bytes_eq};
 
-    ghost verdict_of = { λ _ body signature. bytes_eq signature (replicate 64 0x55) };
+    ghost verdict_of = { λ stamp body signature. bytes_eq signature (replicate 64 stamp.letter) };
 
     fn verdict(&self, _body: &[u8; 145], signature: &Signature) -> bool {
-        signature.0 == [0x55; 64]
+        signature.0 == [self.letter; 64]
     }
 }
 
@@ -121,7 +123,7 @@ impl Sign for Stamp {
             self.refused += 1;
             return None;
         }
-        let signature = Signature([0x55; 64]);
+        let signature = Signature([self.letter; 64]);
         self.made += 1;
         self.last = Some(Entry {
             body: Body::read(body),

@@ -46,10 +46,11 @@ fn shown_by<R: Threads + Sync + Abort>(rt: &R, clerk: &mut Clerk<Flat>, key: u8)
     }
 }
 
-/// What a directory over a flat hash that binds `a` to a key shows a client.
-fn showing<R: Threads + Sync + Abort>(rt: &R, alloc: Global, key: u8) -> Shown {
+/// What a directory over a flat hash that binds `a` to a key shows a client, where its signer signs with this letter.
+fn showing<R: Threads + Sync + Abort>(rt: &R, alloc: Global, key: u8, letter: u8) -> Shown {
     let (board, publisher) = Board::new(alloc, 1).expect(rt, "a board");
     let mut clerk = Clerk::new(alloc, Flat, &board, publisher, u64::MAX);
+    clerk.signer.letter = letter;
     shown_by(rt, &mut clerk, key)
 }
 
@@ -72,12 +73,32 @@ fn gives(rt: &impl Abort, alloc: Global, one: &Shown, other: &Shown, x: &str, y:
 /// the two commitment preimages.
 #[test]
 fn two_clients(rt: HostRuntime) {
-    let one = showing(&rt, rt.alloc(), b'k');
-    let other = showing(&rt, rt.alloc(), b'l');
+    let one = showing(&rt, rt.alloc(), b'k', 0x55);
+    let other = showing(&rt, rt.alloc(), b'l', 0x55);
     assert!(rt; is_one_history(&rt, rt.alloc(), &one, &other));
     let k = "432222222222222222222222222222222222222222222222222222222222222222000161000000016b";
     let l = "432222222222222222222222222222222222222222222222222222222222222222000161000000016c";
     assert!(rt; gives(&rt, rt.alloc(), &one, &other, k, l));
+}
+
+/// Whether bytes are what is hashed to the link of the first entry, signed with a letter.
+fn is_preimage(rt: &impl Abort, bytes: &[u8], letter: u8) -> bool {
+    let body: [u8; 146] = decoded(
+        rt,
+        "5301000000000000000100000000000000000000000000000000000000000000000000000000000000000000000000000000000000000000000000000000000000000000000000000000000000000000000011111111111111111111111111111111111111111111111111111111111111113333333333333333333333333333333333333333333333333333333333333333",
+    );
+    bytes.strip_prefix(body.as_slice()) == Some([letter; 64].as_slice())
+}
+
+/// Where the two have signers of different signatures, their entries give what is hashed to the two links.
+#[test]
+fn two_signers(rt: HostRuntime) {
+    let one = showing(&rt, rt.alloc(), b'k', 0x55);
+    let other = showing(&rt, rt.alloc(), b'l', 0x66);
+    let found = extract_history(rt.alloc(), &Flat, &one.chain, &other.chain);
+    let found = found.expect(&rt, "memory").expect(&rt, "a collision");
+    assert!(rt; is_preimage(&rt, found.x.as_slice(), 0x55));
+    assert!(rt; is_preimage(&rt, found.y.as_slice(), 0x66));
 }
 
 /// What two lookups of `a` at epoch 1 give.

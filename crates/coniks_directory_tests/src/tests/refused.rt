@@ -21,8 +21,11 @@ const FIRST: [Written; 2] = [(Register, b'a', b'k'), (Register, b'b', b'k')];
 /// A change on each side of the root, so that there are two jobs at depth 1.
 const SECOND: [Written; 2] = [(Change, b'b', b'l'), (Register, b'c', b'k')];
 
-/// The link of the second entry.
-const LINK: &str = "d60b4104456202ba0c3ab12eeb8dad9fc6cc779a45b12326cf7595b703401fa9";
+/// The links of the two entries.
+const LINKS: [&str; 2] = [
+    "9efd9e7911a2ebeef55ec07b8784e4a86ec0ffd7569f4d6aefdbc195087a1298",
+    "d60b4104456202ba0c3ab12eeb8dad9fc6cc779a45b12326cf7595b703401fa9",
+];
 
 /// What is seen of a directory, its board and its signer.
 #[derive(Clone, Copy, PartialEq, Eq)]
@@ -49,18 +52,11 @@ fn seen(clerk: &Clerk<Sha256Hash>) -> Snapshot {
     }
 }
 
-/// Commits the first epoch, and once more where memory is refused.
-fn commit_first<R: Threads + Sync + Abort>(rt: &R, clerk: &mut Clerk<Sha256Hash>) {
-    if clerk.commit(rt, 1, &FIRST).is_err() {
-        assert!(rt; clerk.commit(rt, 1, &FIRST).is_ok());
-    }
-}
-
-/// The operations of the second batch, asked for once more where memory is refused.
-fn second_batch(rt: &impl Abort, clerk: &Clerk<Sha256Hash>) -> Vec<Op> {
-    match ops_of(clerk.alloc, &SECOND) {
+/// The operations of a batch, asked for once more where memory is refused.
+fn batch(rt: &impl Abort, clerk: &Clerk<Sha256Hash>, written: &[Written]) -> Vec<Op> {
+    match ops_of(clerk.alloc, written) {
         Ok(ops) => ops,
-        Err(_) => ops_of(clerk.alloc, &SECOND).expect(rt, "memory"),
+        Err(_) => ops_of(clerk.alloc, written).expect(rt, "memory"),
     }
 }
 
@@ -85,37 +81,48 @@ fn prepare_at_last<R: Threads + Sync + Abort>(
     }
 }
 
-/// Installs an update at epoch 2, once more where memory is refused and it is handed back, and says whether it was.
-fn install_at_last(rt: &impl Abort, clerk: &mut Clerk<Sha256Hash>, update: Prepared) -> bool
+/// Installs an update, once more where memory is refused and it is handed back, and says whether it was.
+fn install_at_last(rt: &impl Abort, clerk: &mut Clerk<Sha256Hash>, update: Prepared, t: u64) -> bool
     requires { IsUpdateOf (⟦<Sha256Hash as Hash32>⟧.digest_of clerk.old.directory.hash) index_of_letter clerk.old.directory.state update }
 {
     let before = seen(clerk);
-    let Err((fault, update)) = clerk.install(update, 2) else {
+    let Err((fault, update)) = clerk.install(update, t) else {
         return false;
     };
     assert!(rt; fault == InstallFault::OutOfMemory, "{fault}");
     assert!(rt; seen(clerk) == before);
-    assert!(rt; clerk.install(update, 2).is_ok());
+    assert!(rt; clerk.install(update, t).is_ok());
     true
 }
 
-/// Prepares and installs the second batch, and says which of the two was refused memory.
+/// Whether the last head is that of an epoch with this link.
+fn ends_with(rt: &impl Abort, clerk: &Clerk<Sha256Hash>, epoch: u64, link: &str) -> bool {
+    let link = digest(rt, link);
+    clerk.publisher.last() == Some(Head { epoch, link })
+}
+
+/// Prepares and installs the first batch, and says whether the install was refused memory.
+fn first_epoch<R: Threads + Sync + Abort>(rt: &R, clerk: &mut Clerk<Sha256Hash>) -> bool {
+    let ops = batch(rt, clerk, &FIRST);
+    let (update, _) = prepare_at_last(rt, clerk, &ops, 1);
+    let refused = install_at_last(rt, clerk, update, 1);
+    assert!(rt; ends_with(rt, clerk, 1, LINKS[0]));
+    refused
+}
+
+/// Prepares the second batch by so many workers, says whether that was refused memory, and installs it.
 fn second_epoch<R: Threads + Sync + Abort>(
     rt: &R,
     clerk: &mut Clerk<Sha256Hash>,
     workers: usize,
-) -> (bool, bool) {
-    commit_first(rt, clerk);
-    let ops = second_batch(rt, clerk);
-    let (update, prepare) = prepare_at_last(rt, clerk, &ops, workers);
+) -> bool {
+    first_epoch(rt, clerk);
+    let ops = batch(rt, clerk, &SECOND);
+    let (update, refused) = prepare_at_last(rt, clerk, &ops, workers);
     assert!(rt; update.new_nodes() == 5);
-    let install = install_at_last(rt, clerk, update);
-    let head = Head {
-        epoch: 2,
-        link: digest(rt, LINK),
-    };
-    assert!(rt; clerk.publisher.last() == Some(head));
-    (prepare, install)
+    install_at_last(rt, clerk, update, 2);
+    assert!(rt; ends_with(rt, clerk, 2, LINKS[1]));
+    refused
 }
 
 /// Writes whether the call was refused memory.
@@ -127,7 +134,7 @@ fn tell(rt: &HostRuntime, is_refused: bool) {
 #[test]
 fn prepare_by_one(rt: HostRuntime) {
     let refused = with_clerk(&rt, rt.alloc(), 4, u64::MAX, |clerk| {
-        second_epoch(&rt, clerk, 1).0
+        second_epoch(&rt, clerk, 1)
     });
     tell(&rt, refused);
 }
@@ -136,15 +143,16 @@ fn prepare_by_one(rt: HostRuntime) {
 #[test]
 fn prepare_by_three(rt: HostRuntime) {
     let refused = with_clerk(&rt, rt.alloc(), 4, u64::MAX, |clerk| {
-        second_epoch(&rt, clerk, 3).0
+        second_epoch(&rt, clerk, 3)
     });
     tell(&rt, refused);
 }
 
+/// Room for the first nodes, records, epochs and entries.
 #[test]
 fn install(rt: HostRuntime) {
     let refused = with_clerk(&rt, rt.alloc(), 4, u64::MAX, |clerk| {
-        second_epoch(&rt, clerk, 1).1
+        first_epoch(&rt, clerk)
     });
     tell(&rt, refused);
 }

@@ -31,7 +31,8 @@ fn commit_around<R: Threads + Sync + Abort>(rt: &R, clerk: &mut Clerk<Sha256Hash
     assert!(rt; clerk.register_a(rt, 1).is_ok());
     let stale = InstallFault::Stale { latest: 5 };
     assert!(rt; faults_of_second(rt, clerk) == Some((stale, stale)));
-    assert!(rt; clerk.commit(rt, 6, &CHANGE).is_ok());
+    let anew = clerk.prepare(rt, &CHANGE).expect(rt, "an update");
+    assert!(rt; clerk.install(anew, 6).is_ok());
     are_told(
         rt,
         &clerk.directory,

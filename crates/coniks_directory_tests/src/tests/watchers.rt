@@ -33,17 +33,17 @@ fn keep(watch: &mut Watch, answer: Option<Head>)
     }
 }
 
-fn look_often(watch: &mut Watch, board: &Board)
+fn look_often(watch: &mut Watch, board: &Board, looks: usize)
     requires { watch.old.watcher.table ≡ board.now.table }
     ensures { watch.new.watcher.table ≡ watch.old.watcher.table }
 {
-    for _ in 0..1000usize {
+    for _ in 0..looks {
         let answer = watch.watcher.latest(board);
         keep(watch, answer);
     }
 }
 
-fn watch_each<R: Threads + Sync>(rt: &R, board: &Board, watches: &mut [Watch])
+fn watch_each<R: Threads + Sync>(rt: &R, board: &Board, watches: &mut [Watch], looks: usize)
     requires own { All (λ w. w.watcher.table ≡ board.now.table) watches.old }
     requires some { 0 < length watches.old }
     ensures { All (λ w. w.watcher.table ≡ board.now.table) watches.new }
@@ -57,7 +57,7 @@ fn watch_each<R: Threads + Sync>(rt: &R, board: &Board, watches: &mut [Watch])
             requires { one.now.watcher.table ≡ board.now.table }
             ensures { one.exit.now.watcher.table ≡ one.entry.now.watcher.table }
         {
-            look_often(one, board);
+            look_often(one, board, looks);
         },
     );
 }
@@ -135,14 +135,17 @@ fn commit_beside<R: Threads + Sync>(
 ) -> bool
     requires own { All (λ w. w.watcher.table ≡ board.now.table) watches.old }
     requires some { 0 < length watches.old }
+    ensures own { All (λ w. w.watcher.table ≡ board.now.table) watches.new }
+    ensures board { clerk.new.board.now.table ≡ clerk.old.board.now.table }
 {
     let (right, _) = thread::join_mut(
         rt,
         &mut || commit_forty(rt, clerk),
         &mut ||
             requires { (0 < length watches.now) × All (λ w. w.watcher.table ≡ board.now.table) watches.now }
+            ensures { All (λ w. w.watcher.table ≡ board.entry.now.table) watches.exit.now }
         {
-            watch_each(rt, board, watches);
+            watch_each(rt, board, watches, 1000);
         },
     );
     right
@@ -204,13 +207,41 @@ fn all_right(watches: &[Watch], chain: &[Entry]) -> bool {
     right
 }
 
-/// Commits forty epochs beside four watchers.
+/// Whether a watcher that is asked once more answers the last of forty heads, and then meets the publisher.
+fn ends_with_last(watcher: &mut Watcher, publisher: &mut Publisher, board: &Board) -> bool
+    requires watcher { watcher.old.table ≡ board.now.table }
+    requires publisher { publisher.old.table ≡ board.now.table }
+    ensures watcher { watcher.new.table ≡ watcher.old.table }
+    ensures publisher { publisher.new ≡ publisher.old }
+{
+    let answer = watcher.latest(board);
+    publisher.meet(board, watcher);
+    match answer {
+        Some(head) => head.epoch == 40 && answer == publisher.last(),
+        None => false,
+    }
+}
+
+/// Whether the last answer of each watcher is the last of forty heads.
+fn all_end_with_last(watches: &[Watch]) -> bool {
+    let mut right = true;
+    for one in watches {
+        let last = one.answers.last().map(|head| head.epoch);
+        right = right && last == Some(40);
+    }
+    right
+}
+
+/// Commits forty epochs beside four watchers, and makes a fifth one after them.
 fn commit_watched<R: Threads + Sync + Abort>(rt: &R, clerk: &mut Clerk<Sha256Hash>) {
     let board = clerk.board;
     let mut watches = watches_of(rt, clerk.alloc, 4, &mut clerk.publisher, board);
     assert!(rt; commit_beside(rt, board, clerk, watches.as_mut_slice()));
-    assert!(rt; clerk.publisher.published() == 40);
+    watch_each(rt, board, watches.as_mut_slice(), 1);
     assert!(rt; all_right(&watches, clerk.directory.chain()));
+    assert!(rt; all_end_with_last(&watches));
+    let mut late = clerk.watcher(rt);
+    assert!(rt; ends_with_last(&mut late, &mut clerk.publisher, board));
 }
 
 #[test]
