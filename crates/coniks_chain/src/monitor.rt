@@ -104,7 +104,7 @@ impl<H: Hash32 + Drop> Monitor<H> {
     }
 
     /// Steps over entries with their proofs, and counts what was seen; or stops at the first that isn't accepted, with
-    /// its place, from 0, and its fault. It takes no memory.
+    /// its place, from 0, and its fault; then the monitor is as it was after the steps before. It takes no memory.
     pub fn run<V: Verify>(
         &mut self,
         items: &[(Entry, Proof)],

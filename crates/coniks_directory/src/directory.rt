@@ -89,7 +89,7 @@ impl<H: Hash32, X: IndexSource> Directory<H, X> {
     }
 
     /// The path to a name's index in the tree of an epoch, which shows the name's key or its absence (CONIKS, section
-    /// 3.1). It waits for nobody.
+    /// 3.1). It waits for nobody. A refusal leaves the directory as it was, and the same call can be made again.
     pub fn lookup(&self, t: u64, name: &[u8]) -> Result<Proof, LookupFault>
         ensures ok { IfOk result (Finds H.digest_of X.index_of self.now t name.now) }
         ensures accepted { IfOk result (Shows H.digest_of X.index_of self.now t name.now) }
@@ -196,7 +196,7 @@ impl<H: Hash32 + Sync, X: IndexSource> Directory<H, X> {
     /// as it joins its workers.
     ///
     /// `workers` is 1 to 64, and `depth`, the length in bits of the prefixes that are built apart, 0 to 8. The update is
-    /// the same for every choice of them.
+    /// the same for every choice of them. After a refusal nothing is left of the batch, and the same call can be made again.
     pub fn prepare<G: Gate + Sync, R: Threads + Sync>(
         &self,
         rt: &R,
@@ -234,8 +234,8 @@ impl<H: Hash32 + Sync, X: IndexSource> Directory<H, X> {
         )?)
     }
 
-    /// Prepares a batch and installs its update: `prepare`, then `install`. A refused update is dropped. It may wait, as
-    /// `prepare` may. The conditions of `install` are its own.
+    /// Prepares a batch and installs its update: `prepare`, then `install`. A refused update is dropped, and directory and
+    /// board are as they were. It may wait, as `prepare` may. The conditions of `install` are its own.
     #[tactic(auto, using(crate::proofs::FreshLemmas::growth))]
     pub fn commit<S: Sign, G: Gate + Sync, R: Threads + Sync>(
         &mut self,

@@ -89,7 +89,8 @@ impl Tree {
     }
 
     /// The authentication path to an index, present or not (CONIKS, section 3.1): 0 to 256 siblings, and the end. It
-    /// copies the name and the key of its end and no other, and hashes nothing.
+    /// copies the name and the key of its end and no other, and hashes nothing. The tree is only read, also where memory is
+    /// refused.
     pub fn path(&self, root: Root, index: &Index) -> Result<Proof, OutOfMemory>
         requires { root.0 < length self.now.nodes.items }
         ensures { IfOk result (λ path. (hash : List ℕ → List ℕ) (nonce : List ℕ) (entries : List Numbered)
@@ -125,7 +126,8 @@ impl Tree {
     }
 
     /// Two parts of neighbouring prefixes, the left one first, as the part of the prefix above, which is given. One entry
-    /// and nothing are that entry; two or more entries are a new subtree, whose node is hashed here, once.
+    /// and nothing are that entry; two or more entries are a new subtree, whose node is hashed here, once. After a refusal
+    /// the tree is as it was, and both parts are gone.
     pub fn join<H: Hash32>(
         &self,
         h: &H,
