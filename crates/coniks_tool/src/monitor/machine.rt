@@ -35,7 +35,8 @@ pub struct Monitoring {
 }
 
 impl Monitoring {
-    /// Watches a name under the seal and the index of a key, for a client that expects a key of it, or none. It has seen no entry.
+    /// Watches a name under the seal and the index of a key, for a client that expects a key of it, or none. It has seen no
+    /// entry.
     fn new(alloc: Global, key: [u8; 32], name: Bytes, expected: Option<Bytes>) -> Monitoring
         ensures { watching result.seal.key result.monitor ≡ none_watched key name expected }
     {
