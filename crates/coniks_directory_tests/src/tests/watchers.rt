@@ -222,14 +222,17 @@ fn ends_with_last(watcher: &mut Watcher, publisher: &mut Publisher, board: &Boar
     }
 }
 
-/// Whether the last answer of each watcher is the last of forty heads.
-fn all_end_with_last(watches: &[Watch]) -> bool {
-    let mut right = true;
-    for one in watches {
-        let last = one.answers.last().map(|head| head.epoch);
-        right = right && last == Some(40);
-    }
-    right
+/// Whether each watcher that is asked once more answers the last of forty heads, and then meets the publisher.
+fn all_end_with_last(watches: &mut Vec<Watch>, publisher: &mut Publisher, board: &Board) -> bool
+    requires own { All (λ w. w.watcher.table ≡ board.now.table) watches.old.items }
+    requires publisher { publisher.old.table ≡ board.now.table }
+    ensures { publisher.new ≡ publisher.old }
+{
+    let Some(mut watch) = watches.pop() else {
+        return true;
+    };
+    let right = ends_with_last(&mut watch.watcher, publisher, board);
+    all_end_with_last(watches, publisher, board) && right
 }
 
 /// Commits forty epochs beside four watchers, and makes a fifth one after them.
@@ -237,9 +240,8 @@ fn commit_watched<R: Threads + Sync + Abort>(rt: &R, clerk: &mut Clerk<Sha256Has
     let board = clerk.board;
     let mut watches = watches_of(rt, clerk.alloc, 4, &mut clerk.publisher, board);
     assert!(rt; commit_beside(rt, board, clerk, watches.as_mut_slice()));
-    watch_each(rt, board, watches.as_mut_slice(), 1);
     assert!(rt; all_right(&watches, clerk.directory.chain()));
-    assert!(rt; all_end_with_last(&watches));
+    assert!(rt; all_end_with_last(&mut watches, &mut clerk.publisher, board));
     let mut late = clerk.watcher(rt);
     assert!(rt; ends_with_last(&mut late, &mut clerk.publisher, board));
 }
