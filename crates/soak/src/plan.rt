@@ -1,0 +1,65 @@
+//! How many there are of each.
+
+ghost use Rattle.std.specs.Prelude.{◌≡◌, ◌≤◌, IfOk};
+
+use anyhow::{Context, Result, ensure};
+use coniks_proof::MAX_OPERATIONS;
+use coniks_shared::MAX_HEADS;
+use coniks_work::MAX_WORKERS;
+
+/// How many epochs, names in each, workers, watchers, readers, and lookups of each reader in an epoch.
+#[derive(Drop)]
+pub struct Plan {
+    pub epochs: usize,
+    pub batch: usize,
+    pub workers: usize,
+    pub watchers: usize,
+    pub readers: usize,
+    pub lookups: usize,
+    /// Whether what differs from run to run is printed.
+    pub is_measured: bool,
+    ghost some: { (1 ≤ epochs) × (epochs ≤ 65536) },
+    ghost crew: { (1 ≤ workers) × (workers ≤ 64) },
+    ghost watched: { 1 ≤ watchers },
+}
+
+/// A number in decimal digits, from 1 to the most.
+fn number_of(word: &str, most: usize) -> Result<usize>
+    ensures { IfOk result (λ number. (1 ≤ number) × (number ≤ most)) }
+{
+    let number = word
+        .parse::<usize>()
+        .context(format_args!("reading {word:?}"))?;
+    ensure!(1 <= number && number <= most, "from 1 to {most}: {number}");
+    Ok(number)
+}
+
+/// The plan that the words of the command line name, the program's own name first.
+pub fn plan_of(words: &[String]) -> Result<Plan> {
+    match words {
+        [_, epochs, batch, workers, watchers, readers, lookups] => Ok(Plan {
+            epochs: number_of(epochs, MAX_HEADS)?,
+            batch: number_of(batch, MAX_OPERATIONS)?,
+            workers: number_of(workers, MAX_WORKERS)?,
+            watchers: number_of(watchers, 1000)?,
+            readers: number_of(readers, 1000)?,
+            lookups: number_of(lookups, 1_000_000)?,
+            is_measured: true,
+        }),
+        _ => {
+            ensure!(
+                words.len() <= 1,
+                "usage: soak [EPOCHS BATCH WORKERS WATCHERS READERS LOOKUPS]"
+            );
+            Ok(Plan {
+                epochs: 20,
+                batch: 16,
+                workers: 3,
+                watchers: 4,
+                readers: 2,
+                lookups: 50,
+                is_measured: false,
+            })
+        }
+    }
+}

@@ -1,0 +1,63 @@
+//! Readers, and what they are told.
+
+use crate::names::name_of;
+use crate::provider::{NONCE, Names, source};
+use coniks_directory::IndexSource;
+use coniks_proof::{Answer, Sha256Hash, check};
+
+/// Numbers that look random, one after another.
+#[derive(Clone, Copy)]
+struct Numbers(u64);
+
+impl Numbers {
+    /// The next number below a bound; 0 where that is 0.
+    fn below(&mut self, bound: u64) -> u64 {
+        self.0 = self
+            .0
+            .wrapping_mul(6_364_136_223_846_793_005)
+            .wrapping_add(1_442_695_040_888_963_407);
+        (self.0 >> 33).checked_rem(bound).unwrap_or(0)
+    }
+}
+
+/// Whether a lookup of a name at an epoch is answered by a proof that is accepted with the name's key where the name is
+/// bound there, and as absence where it isn't.
+fn is_told(directory: &Names, t: u64, number: u64, is_bound: bool) -> bool {
+    let name = name_of(number);
+    let (Some(root), Ok(proof)) = (directory.root_at(t), directory.lookup(t, &name)) else {
+        return false;
+    };
+    match check(
+        &Sha256Hash,
+        &NONCE,
+        &root,
+        &source().index(&name),
+        &name,
+        &proof,
+    ) {
+        Ok(Answer::Key(key)) => is_bound && key == name.as_slice(),
+        Ok(Answer::Absent) => !is_bound,
+        Err(_) => false,
+    }
+}
+
+/// How many of so many lookups are wrong, at epochs from 1 to the latest one, each of which binds so many names more.
+pub fn wrong_lookups(
+    directory: &Names,
+    reader: u64,
+    latest: u64,
+    batch: u64,
+    lookups: usize,
+) -> u64 {
+    let mut numbers = Numbers(latest.wrapping_mul(1000).wrapping_add(reader));
+    let mut wrong = 0u64;
+    for _ in 0..lookups {
+        let t = numbers.below(latest).wrapping_add(1);
+        let number = numbers.below(latest.wrapping_mul(batch));
+        let is_bound = number < t.wrapping_mul(batch);
+        if !is_told(directory, t, number, is_bound) {
+            wrong = wrong.wrapping_add(1);
+        }
+    }
+    wrong
+}

@@ -1,0 +1,139 @@
+//! The rounds: in each a batch is prepared while readers look names up, and then it is installed.
+
+ghost use Rattle.std.specs.Prelude.{◌≡◌, ◌<◌, ◌≤◌, length, All};
+
+use crate::names::registrations;
+use crate::plan::Plan;
+use crate::provider::{Names, Provider, prepared};
+use crate::reading::wrong_lookups;
+use crate::watching::{Watch, looks_and_wrong, watch_each, watches_of};
+use anyhow::Result;
+use coniks_directory::{Op, Prepared};
+use coniks_shared::Board;
+use std::alloc::{AllocError, Global};
+use std::sync::atomic::{AtomicU64, Ordering};
+use std::thread;
+use std::thread::Threads;
+
+/// What came of it.
+#[derive(Clone, Copy)]
+pub struct Counts {
+    pub installs: u64,
+    pub looks: u64,
+    pub lookups: u64,
+    pub wrong: u64,
+}
+
+/// How many lookups are wrong, of so many readers on threads of their own. Before the first epoch they look nothing up.
+fn wrong_of_readers<R: Threads + Sync>(
+    rt: &R,
+    alloc: Global,
+    directory: &Names,
+    latest: u64,
+    plan: &Plan,
+) -> Result<u64, AllocError> {
+    if latest == 0 {
+        return Ok(0);
+    }
+    let (batch, lookups) = (plan.batch as u64, plan.lookups);
+    let each = thread::map_indices(
+        rt,
+        alloc,
+        plan.readers,
+        &|reader| { wrong_lookups(directory, reader as u64, latest, batch, lookups) },
+    )?;
+    let mut wrong = 0u64;
+    for one in &each {
+        wrong = wrong.wrapping_add(*one);
+    }
+    Ok(wrong)
+}
+
+/// Prepares the batch of an epoch while readers look names up, and installs it. How much of it is wrong.
+fn round<R: Threads + Sync>(
+    rt: &R,
+    alloc: Global,
+    provider: &mut Provider<'_>,
+    t: u64,
+    plan: &Plan,
+    ops: &[Op],
+) -> u64
+    ensures { provider.new.board.now.table ≡ provider.old.board.now.table }
+{
+    let directory = &provider.directory;
+    let (update, wrong) = thread::join(
+        rt,
+        || prepared(rt, directory, ops, plan.workers),
+        || wrong_of_readers(rt, alloc, directory, t.wrapping_sub(1), plan).unwrap_or(1),
+    );
+    match update {
+        Some(update) => wrong.wrapping_add(provider.install(update, t).is_none() as u64),
+        None => wrong.wrapping_add(1),
+    }
+}
+
+/// Commits all epochs, and says then that all is over. How much of it is wrong.
+fn commit_all<R: Threads + Sync>(
+    rt: &R,
+    alloc: Global,
+    provider: &mut Provider<'_>,
+    plan: &Plan,
+    over: &AtomicU64,
+) -> u64
+    ensures { provider.new.board.now.table ≡ provider.old.board.now.table }
+{
+    let mut wrong = 0u64;
+    for place in 0..plan.epochs as u64 {
+        let first = place.wrapping_mul(plan.batch as u64);
+        let of_round = match registrations(alloc, first, plan.batch) {
+            Ok(ops) => round(rt, alloc, provider, place.wrapping_add(1), plan, &ops),
+            Err(_) => 1,
+        };
+        wrong = wrong.wrapping_add(of_round);
+    }
+    over.store(1, Ordering::SeqCst);
+    wrong
+}
+
+/// Commits all epochs beside the watchers. How much of it is wrong.
+fn commit_watched<R: Threads + Sync>(
+    rt: &R,
+    alloc: Global,
+    provider: &mut Provider<'_>,
+    plan: &Plan,
+    watches: &mut [Watch],
+) -> u64
+    requires own { All (λ w. w.watcher.table ≡ provider.old.board.now.table) watches.old }
+    requires some { 0 < length watches.old }
+{
+    let over = AtomicU64::new(0);
+    let board = provider.board;
+    let (wrong, _) = thread::join_mut(
+        rt,
+        &mut || commit_all(rt, alloc, provider, plan, &over),
+        &mut ||
+            requires { (0 < length watches.now) × All (λ w. w.watcher.table ≡ board.now.table) watches.now }
+        {
+            watch_each(rt, board, watches, &over);
+        },
+    );
+    wrong
+}
+
+/// Commits the epochs of a plan beside its watchers and readers.
+pub fn soak<R: Threads + Sync>(rt: &R, alloc: Global, plan: &Plan) -> Result<Counts> {
+    let (board, publisher) = Board::new(alloc, plan.epochs)?;
+    let mut provider = Provider::new(alloc, &board, publisher);
+    let mut watches = watches_of(alloc, plan.watchers, &mut provider.publisher, &board)?;
+    let wrong = commit_watched(rt, alloc, &mut provider, plan, watches.as_mut_slice());
+    let chain = provider.directory.chain();
+    let (looks, of_watchers) = looks_and_wrong(&watches, chain);
+    let rounds = (plan.epochs as u64).saturating_sub(1);
+    let each = (plan.readers as u64).wrapping_mul(plan.lookups as u64);
+    Ok(Counts {
+        installs: chain.len() as u64,
+        looks,
+        lookups: rounds.wrapping_mul(each),
+        wrong: wrong.wrapping_add(of_watchers),
+    })
+}

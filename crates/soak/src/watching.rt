@@ -1,0 +1,137 @@
+//! Watchers, and what they answer.
+
+ghost use Rattle.std.specs.Prelude.{◌≡◌, ◌<◌, length, All, IfOk};
+
+use coniks_chain::{Entry, link};
+use coniks_proof::{Head, Sha256Hash};
+use coniks_shared::{Board, Publisher, Watcher};
+use std::alloc::{AllocError, Global};
+use std::sync::atomic::{AtomicU64, Ordering};
+use std::thread;
+use std::thread::Threads;
+
+/// More often than a watcher looks.
+const MANY: u64 = 1 << 40;
+
+/// A watcher with its answers, each once, and how often it looked.
+#[derive(Drop)]
+pub struct Watch {
+    watcher: Watcher,
+    answers: Vec<Head>,
+    looks: u64,
+    wrong: u64,
+}
+
+/// So many watchers of a board, each with no answers.
+pub fn watches_of(
+    alloc: Global,
+    count: usize,
+    publisher: &mut Publisher,
+    board: &Board,
+) -> Result<Vec<Watch>, AllocError>
+    requires { publisher.old.table ≡ board.now.table }
+    ensures own { IfOk result (λ v. All (λ w. w.watcher.table ≡ board.now.table) v.items) }
+    ensures some { IfOk result (λ v. length v.items ≡ count) }
+    ensures same { publisher.new ≡ publisher.old }
+{
+    let mut watches = Vec::new(alloc);
+    for _ in 0..count {
+        let Ok(watcher) = publisher.watcher(board) else {
+            return Err(AllocError);
+        };
+        watches.push(Watch {
+            watcher,
+            answers: Vec::new(alloc),
+            looks: 0,
+            wrong: 0,
+        })?;
+    }
+    Ok(watches)
+}
+
+/// Keeps an answer that isn't the last one.
+fn keep(watch: &mut Watch, answer: Option<Head>)
+    ensures { watch.new.watcher ≡ watch.old.watcher }
+{
+    watch.looks = watch.looks.wrapping_add(1);
+    let Some(head) = answer else {
+        return;
+    };
+    if watch.answers.last() == Some(&head) {
+        return;
+    }
+    if watch.answers.push(head).is_err() {
+        watch.wrong = watch.wrong.wrapping_add(1);
+    }
+}
+
+/// Looks until all is over, and once more then.
+fn look_until(watch: &mut Watch, board: &Board, over: &AtomicU64)
+    requires { watch.old.watcher.table ≡ board.now.table }
+    ensures { watch.new.watcher.table ≡ watch.old.watcher.table }
+{
+    for _ in 0..MANY {
+        let is_over = over.load(Ordering::SeqCst) == 1;
+        let answer = watch.watcher.latest(board);
+        keep(watch, answer);
+        if is_over {
+            return;
+        }
+    }
+}
+
+/// Has each watcher look, on a thread of its own, until all is over.
+pub fn watch_each<R: Threads + Sync>(rt: &R, board: &Board, watches: &mut [Watch], over: &AtomicU64)
+    requires own { All (λ w. w.watcher.table ≡ board.now.table) watches.old }
+    requires some { 0 < length watches.old }
+    ensures { All (λ w. w.watcher.table ≡ board.now.table) watches.new }
+{
+    let threads = watches.len();
+    thread::for_each_mut(
+        rt,
+        watches,
+        threads,
+        &|_place, one: &mut Watch|
+            requires { one.now.watcher.table ≡ board.now.table }
+            ensures { one.exit.now.watcher.table ≡ one.entry.now.watcher.table }
+        {
+            look_until(one, board, over);
+        },
+    );
+}
+
+/// Whether a head is that of the chain's entry of its epoch, where the epochs are 1, 2 and so on.
+fn is_of_chain(head: &Head, chain: &[Entry]) -> bool {
+    let place = head.epoch.wrapping_sub(1) as usize;
+    match chain.get(place) {
+        Some(entry) => entry.body.t == head.epoch && link(&Sha256Hash, entry) == head.link,
+        None => false,
+    }
+}
+
+/// How many answers are no head of the chain, or before an earlier one.
+fn wrong_answers(answers: &[Head], chain: &[Entry]) -> u64 {
+    let mut last = 0;
+    let mut wrong = 0u64;
+    for head in answers {
+        if head.epoch < last || !is_of_chain(head, chain) {
+            wrong = wrong.wrapping_add(1);
+        }
+        last = head.epoch;
+    }
+    wrong
+}
+
+/// How often the watchers looked, and how much of what they answered is wrong.
+pub fn looks_and_wrong(watches: &[Watch], chain: &[Entry]) -> (u64, u64) {
+    let (mut looks, mut wrong) = (0u64, 0u64);
+    for one in watches {
+        looks = looks.wrapping_add(one.looks);
+        wrong = wrong
+            .wrapping_add(one.wrong)
+            .wrapping_add(wrong_answers(&one.answers, chain));
+        let ends = one.answers.last().map(|head| head.epoch) == Some(chain.len() as u64);
+        wrong = wrong.wrapping_add(!ends as u64);
+    }
+    (looks, wrong)
+}
