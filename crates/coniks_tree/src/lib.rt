@@ -30,6 +30,7 @@
 #![tactic(auto)]
 
 mod attach;
+mod entries;
 mod growth;
 mod halving;
 pub mod laws;

@@ -6,7 +6,7 @@ ghost use Rattle.coniks_tree.specs.Parts.{AllPlaced, Fits, Placed};
 ghost use Rattle.coniks_tree.specs.declared.table.Record.{Record};
 
 use coniks_proof::{
-    Answer, Digest, Hash32, Index, MAX_LEVEL, Prefix, Proof, Sha256Hash, bit, check,
+    Answer, Digest, Hash32, Index, MAX_LEVEL, Nonce, Prefix, Proof, Sha256Hash, bit, check,
 };
 use coniks_samples::{Added, Bound, NONCE, add, changes_to, records_of};
 use coniks_tree::{Change, OutOfMemory, Part, Root, Tree};
@@ -142,6 +142,25 @@ impl<H: Hash32> Epochs<H> {
         } else {
             Err(OutOfMemory)
         }
+    }
+
+    /// The changes that build what a root shows, which the tree has.
+    pub fn entries(&self, root: Root) -> Result<Vec<Change>, OutOfMemory> {
+        if root.0 < self.tree.nodes() {
+            Ok(self.tree.entries(root)?)
+        } else {
+            Err(OutOfMemory)
+        }
+    }
+
+    /// The hash that what a root shows has under a nonce, where it is built again from nothing.
+    pub fn hash_under(&self, root: Root, nonce: &Nonce) -> Result<Digest, OutOfMemory> {
+        let changes = self.entries(root)?;
+        let top = Prefix::root();
+        let part = self
+            .tree
+            .grow(&self.h, nonce, Part::Nothing, &top, &changes)?;
+        Ok(self.tree.part_hash(&self.h, nonce, &part))
     }
 
     /// The key at an index, if there is a record of it.
