@@ -2,7 +2,7 @@
 
 use crate::tests::epochs::{Epochs, digest};
 use coniks_proof::{Index, Nonce, Sha256Hash};
-use coniks_samples::index_of;
+use coniks_samples::{Bound, index_of};
 use coniks_tree::Root;
 use std::alloc::Global;
 use std::process::Abort;
@@ -29,10 +29,16 @@ fn shows(
     assert_eq!(rt; hash, digest(rt, other_hash));
 }
 
+/// The one epoch that binds these, and its root.
+fn epoch_of(rt: &impl Abort, alloc: Global, bindings: &[Bound]) -> (Epochs<Sha256Hash>, Root) {
+    let mut epochs = Epochs::new(alloc, Sha256Hash);
+    let root = epochs.add(None, 0, bindings).expect(rt, "memory").root;
+    (epochs, root)
+}
+
 #[test]
 fn of_nothing(rt: HostRuntime) {
-    let mut epochs = Epochs::new(rt.alloc(), Sha256Hash);
-    let none = epochs.add(None, 0, &[]).expect(&rt, "memory").root;
+    let (epochs, none) = epoch_of(&rt, rt.alloc(), &[]);
     let hash = "10032aae51c8a9b410332570096ed8927f25d70b2c36ba727ecb5562e103a120";
     shows(&rt, rt.alloc(), &epochs, none, &[], hash);
 }
@@ -40,13 +46,18 @@ fn of_nothing(rt: HostRuntime) {
 #[test]
 fn of_one(rt: HostRuntime) {
     let a = index_of(0, 0);
-    let mut epochs = Epochs::new(rt.alloc(), Sha256Hash);
-    let one = epochs
-        .add(None, 0, &[(a, b'a', b'k')])
-        .expect(&rt, "memory")
-        .root;
+    let (epochs, one) = epoch_of(&rt, rt.alloc(), &[(a, b'a', b'k')]);
     let hash = "6338aa7289d6c1f65454717e092ca236dbb7b0a2cb8662de8a311e0d2c868cbb";
     shows(&rt, rt.alloc(), &epochs, one, &[(a, 0)], hash);
+}
+
+/// Two indices that differ in their last bit alone.
+#[test]
+fn of_the_deepest_level(rt: HostRuntime) {
+    let (a, z) = (index_of(0, 0), index_of(0, 1));
+    let (epochs, both) = epoch_of(&rt, rt.alloc(), &[(a, b'a', b'k'), (z, b'z', b'k')]);
+    let hash = "510cf131f437493cfe404d890a87be3f10c9ad24f5324cfd90844fedec11d326";
+    shows(&rt, rt.alloc(), &epochs, both, &[(a, 0), (z, 1)], hash);
 }
 
 /// An older root shows what it showed, and a newer one the newer record of the key that was changed.
@@ -54,8 +65,7 @@ fn of_one(rt: HostRuntime) {
 fn of_two_epochs(rt: HostRuntime) {
     let (a, c, b) = (index_of(0, 0), index_of(0x40, 0), index_of(0x80, 0));
     let names = [(a, b'a', b'k'), (c, b'c', b'k'), (b, b'b', b'k')];
-    let mut epochs = Epochs::new(rt.alloc(), Sha256Hash);
-    let first = epochs.add(None, 0, &names).expect(&rt, "memory").root;
+    let (mut epochs, first) = epoch_of(&rt, rt.alloc(), &names);
     let changed = [(c, b'c', b'l')];
     let second = epochs
         .add(Some(first), 0, &changed)
@@ -79,15 +89,4 @@ fn of_two_epochs(rt: HostRuntime) {
         &[(a, 0), (c, 3), (b, 2)],
         newer,
     );
-}
-
-/// Two indices that differ in their last bit alone.
-#[test]
-fn of_the_deepest_level(rt: HostRuntime) {
-    let (a, z) = (index_of(0, 0), index_of(0, 1));
-    let names = [(a, b'a', b'k'), (z, b'z', b'k')];
-    let mut epochs = Epochs::new(rt.alloc(), Sha256Hash);
-    let both = epochs.add(None, 0, &names).expect(&rt, "memory").root;
-    let hash = "510cf131f437493cfe404d890a87be3f10c9ad24f5324cfd90844fedec11d326";
-    shows(&rt, rt.alloc(), &epochs, both, &[(a, 0), (z, 1)], hash);
 }
