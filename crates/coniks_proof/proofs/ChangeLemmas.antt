@@ -47,7 +47,8 @@ swap_step p q r agree x xs true false pe qe ih = let re : r x ≡ false = agree 
 swap_step p q r agree x xs false true pe qe ih = simp (pe, qe, ih)
 swap_step p q r agree x xs false false pe qe ih = simp (pe, qe, ih)
 
-filters_swap : {B : Type 0} (p q r : Entry B → Bool) → ((x : Entry B) → p x ≡ true → r x ≡ q x) → (xs : List (Entry B)) → filter p (filter q xs) ≡ filter r (filter p xs)
+-- two filters in the other order, where `r` tells of what passes `p` what `q` tells
+pub filters_swap : {B : Type 0} (p q r : Entry B → Bool) → ((x : Entry B) → p x ≡ true → r x ≡ q x) → (xs : List (Entry B)) → filter p (filter q xs) ≡ filter r (filter p xs)
 filters_swap p q r agree [] = refl
 filters_swap p q r agree (x ∷ xs) = swap_step p q r agree x xs (p x) (q x) refl refl (filters_swap p q r agree xs)
 

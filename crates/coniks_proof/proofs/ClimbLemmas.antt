@@ -29,22 +29,23 @@ Climbs hash nonce p j es =
 climbs-few : {B : Type 0} (hash : List ℕ → List ℕ) (nonce : List ℕ) (p : List Bool) (j : List ℕ) (es : List (Entry B)) → siblings hash nonce p j es ≡ [] → end_of p j es ≡ es → Climbs hash nonce p j es
 climbs-few hash nonce p j es none end = rw (none, end) refl
 
+-- what is climbed below a level is the node of the side on the way
+climb-below : {B : Type 0} (hash : List ℕ → List ℕ) (nonce : List ℕ) (p : List Bool) (j : List ℕ) (es : List (Entry B)) (b : Bool) → bit_at j (length p) ≡ b → Climbs hash nonce (child p b) j (half b (length p) es)
+    → let ss = siblings hash nonce (child p b) j (half b (length p) es) in
+    climb hash j (suc (length p)) ss (node hash nonce (onwards (child p (bit_at j (length p))) j (length ss)) (end_of (child p b) j (half b (length p) es))) ≡ node hash nonce (child p b) (half b (length p) es)
+climb-below hash nonce p j es b is ih =
+    let ss = siblings hash nonce (child p b) j (half b (length p) es) in
+    let at : (k : ℕ) (c : Bool) → List ℕ = λ k c. climb hash j k ss (node hash nonce (onwards (child p c) j (length ss)) (end_of (child p b) j (half b (length p) es))) in
+    ap (at (suc (length p))) is ∙ ap (λ k. at k b) (sym (length-child p b)) ∙ ih
+
 climbs-many : {B : Type 0} (hash : List ℕ → List ℕ) (nonce : List ℕ) (p : List Bool) (j : List ℕ) (es : List (Entry B)) (b : Bool) → bit_at j (length p) ≡ b → length p < 256 → 2 ≤ length es
     → Climbs hash nonce (child p b) j (half b (length p) es) → Climbs hash nonce p j es
 climbs-many hash nonce p j es true is short many ih =
-    let inner = node-inner hash nonce p es short many in
-    let ss = siblings hash nonce (child p true) j (half true (length p) es) in
-    let at : (k : ℕ) (b : Bool) → List ℕ = λ k b. climb hash j k ss (node hash nonce (onwards (child p b) j (length ss)) (end_of (child p true) j (half true (length p) es))) in
-    let below : at (suc (length p)) (bit_at j (length p)) ≡ node hash nonce (child p true) (half true (length p) es) =
-    ap (at (suc (length p))) is ∙ ap (λ k. at k true) (sym (length-child p true)) ∙ ih in
-    rw (siblings-inner hash nonce p j es true is short many, end_of-inner p j es true is short many, is, inner) (ap (λ x. hash (inner_preimage (node hash nonce (child p false) (half false (length p) es)) x)) below)
+    rw (siblings-inner hash nonce p j es true is short many, end_of-inner p j es true is short many, is, node-inner hash nonce p es short many)
+    (ap (λ x. hash (inner_preimage (node hash nonce (child p false) (half false (length p) es)) x)) (climb-below hash nonce p j es true is ih))
 climbs-many hash nonce p j es false is short many ih =
-    let inner = node-inner hash nonce p es short many in
-    let ss = siblings hash nonce (child p false) j (half false (length p) es) in
-    let at : (k : ℕ) (b : Bool) → List ℕ = λ k b. climb hash j k ss (node hash nonce (onwards (child p b) j (length ss)) (end_of (child p false) j (half false (length p) es))) in
-    let below : at (suc (length p)) (bit_at j (length p)) ≡ node hash nonce (child p false) (half false (length p) es) =
-    ap (at (suc (length p))) is ∙ ap (λ k. at k false) (sym (length-child p false)) ∙ ih in
-    rw (siblings-inner hash nonce p j es false is short many, end_of-inner p j es false is short many, is, inner) (ap (λ x. hash (inner_preimage x (node hash nonce (child p true) (half true (length p) es)))) below)
+    rw (siblings-inner hash nonce p j es false is short many, end_of-inner p j es false is short many, is, node-inner hash nonce p es short many)
+    (ap (λ x. hash (inner_preimage x (node hash nonce (child p true) (half true (length p) es)))) (climb-below hash nonce p j es false is ih))
 
 pub climbs : {B : Type 0} (hash : List ℕ → List ℕ) (nonce : List ℕ) (h : ℕ) (p : List Bool) (j : List ℕ) (es : List (Entry B)) → length p + h ≡ 256 → AreApart (length p) es → Climbs hash nonce p j es
 climbs {B} hash nonce h p j [] full apart = climbs-few {B = B} hash nonce p j [] (siblings-empty _ hash nonce p j) (end_of-empty p j)

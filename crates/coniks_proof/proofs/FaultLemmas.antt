@@ -96,30 +96,22 @@ end_sound index name level (Other other c) none = (none OtherIsSame, elim (same_
 end_sound index name level (Here here key o) none =
     (stable here name (none WrongName), some_there (length key) (λ e. none KeyLength (inl e)), at_most 4096 (length key) (λ e. none KeyLength (inr e)))
 
+-- no end is too deep, nor has it a fault of the asked name's length or of the root
+end_has_none : (index name : List ℕ) (level : ℕ) (end : End)
+    → (EndHas index name level end TooDeep → ⊥) × (EndHas index name level end NameLength → ⊥) × (EndHas index name level end RootMismatch → ⊥)
+end_has_none index name level Empty = ((λ has. has), (λ has. has), λ has. has)
+end_has_none index name level (Other other c) = ((λ has. has), (λ has. has), λ has. has)
+end_has_none index name level (Here here key o) = ((λ has. has), (λ has. has), λ has. has)
+
 end_none : (hash : List ℕ → List ℕ) (nonce root index name : List ℕ) (proof : Proof) → ((fault : CheckFault) → Has hash nonce root index name proof fault → ⊥)
     → (fault : CheckFault) → EndHas index name (length proof.siblings) proof.end fault → ⊥
 end_none hash nonce root index name proof none KeyLength has = none KeyLength has
 end_none hash nonce root index name proof none WrongName has = none WrongName has
 end_none hash nonce root index name proof none OtherIsSame has = none OtherIsSame has
 end_none hash nonce root index name proof none OtherOffPath has = none OtherOffPath has
-end_none hash nonce root index name proof none TooDeep has = no_such proof.end TooDeep has
-  where
-    no_such : (a : End) (fault : CheckFault) → EndHas index name (length proof.siblings) a TooDeep → ⊥
-    no_such Empty fault has = has
-    no_such (Other other c) fault has = has
-    no_such (Here n k o) fault has = has
-end_none hash nonce root index name proof none NameLength has = no_such proof.end NameLength has
-  where
-    no_such : (a : End) (fault : CheckFault) → EndHas index name (length proof.siblings) a NameLength → ⊥
-    no_such Empty fault has = has
-    no_such (Other other c) fault has = has
-    no_such (Here n k o) fault has = has
-end_none hash nonce root index name proof none RootMismatch has = no_such proof.end RootMismatch has
-  where
-    no_such : (a : End) (fault : CheckFault) → EndHas index name (length proof.siblings) a RootMismatch → ⊥
-    no_such Empty fault has = has
-    no_such (Other other c) fault has = has
-    no_such (Here n k o) fault has = has
+end_none hash nonce root index name proof none TooDeep has = (end_has_none index name (length proof.siblings) proof.end).0 has
+end_none hash nonce root index name proof none NameLength has = (end_has_none index name (length proof.siblings) proof.end).1 has
+end_none hash nonce root index name proof none RootMismatch has = (end_has_none index name (length proof.siblings) proof.end).2 has
 
 -- a proof with no fault is accepted
 pub no_fault-accepts : (hash : List ℕ → List ℕ) (nonce root index name : List ℕ) (proof : Proof) → ((fault : CheckFault) → Has hash nonce root index name proof fault → ⊥)

@@ -1,5 +1,6 @@
 -- Maps: two indices part within 256 bits, and a node depends on the entries and not on their order.
-use Rattle.std.proofs.Common.{◌≡◌, ℕ, zero, suc, ◌+◌, ◌-◌, ◌*◌, ◌/◌, ◌%◌, ◌==◌, ◌<◌, ◌≢◌, ◌⊎◌, List, [], ◌∷◌, length, Bool, true, false, refl, sym, ap, subst, ◌∙◌, arith, not, cond, slice_index, inl, inr, nat_lt}
+use Rattle.std.proofs.Common.{◌≡◌, ◌≢◌, ◌⊎◌, ℕ, zero, suc, ◌+◌, ◌-◌, ◌*◌, ◌/◌, ◌%◌, ◌==◌, ◌<◌, nat_lt, List, [], ◌∷◌, ◌++◌, length, slice_index, Bool, true, false, cond, not}
+use Rattle.std.proofs.Common.{refl, sym, ap, subst, ◌∙◌, arith, inl, inr}
 use Rattle.std.specs.List.{filter}
 use Rattle.std.specs.Int as int
 use Rattle.std.proofs.lemmas.Nat.Bits.{same_from_bits_below, bit_at-lt}
@@ -155,6 +156,39 @@ same_entry (x ∷ es) e f m (inl one) (inl two) same = sym one ∙ two
 same_entry {B} (x ∷ es) e f m (inl one) (inr two) same = absurd (new_apart x.index f es m.1 two (ap (λ (y : Entry B). y.index) one ∙ same))
 same_entry {B} (x ∷ es) e f m (inr one) (inl two) same = absurd (new_apart x.index e es m.1 one (ap (λ (y : Entry B). y.index) two ∙ sym same))
 same_entry (x ∷ es) e f m (inr one) (inr two) same = same_entry es e f m.2 one two same
+
+-- ---- entries that follow others
+
+pub IsIn-append_left : {T : Type 0} (x : T) (xs ys : List T) → IsIn x xs → IsIn x (xs ++ ys)
+IsIn-append_left x [] ys there = absurd there
+IsIn-append_left x (y ∷ xs) ys (inl here) = inl here
+IsIn-append_left x (y ∷ xs) ys (inr later) = inr (IsIn-append_left x xs ys later)
+
+pub IsIn-append_right : {T : Type 0} (x : T) (xs ys : List T) → IsIn x ys → IsIn x (xs ++ ys)
+IsIn-append_right x [] ys there = there
+IsIn-append_right x (y ∷ xs) ys there = inr (IsIn-append_right x xs ys there)
+
+pub IsIn-append : {T : Type 0} (x : T) (xs ys : List T) → IsIn x (xs ++ ys) → IsIn x xs ⊎ IsIn x ys
+IsIn-append x [] ys there = inr there
+IsIn-append x (y ∷ xs) ys (inl here) = inl (inl here)
+IsIn-append x (y ∷ xs) ys (inr later) = elim (IsIn-append x xs ys later) [ inl left ↦ inl (inr left) | inr right ↦ inr right ]
+
+IsNew-append : {B : Type 0} (index : List ℕ) (es fs : List (Entry B)) → IsNew index es → IsNew index fs → IsNew index (es ++ fs)
+IsNew-append index [] fs one two = two
+IsNew-append index (e ∷ es) fs one two = (one.0, IsNew-append index es fs one.1 two)
+
+new_from : {B : Type 0} (index : List ℕ) (es : List (Entry B)) → ((e : Entry B) → IsIn e es → index ≢ e.index) → IsNew index es
+new_from index [] apart = tt
+new_from index (e ∷ es) apart = (apart e (inl refl), new_from index es (λ x there. apart x (inr there)))
+
+-- two maps with no index of both are a map
+pub IsMap-append : {B : Type 0} (es fs : List (Entry B)) → IsMap es → IsMap fs → ((e f : Entry B) → IsIn e es → IsIn f fs → e.index ≢ f.index) → IsMap (es ++ fs)
+IsMap-append [] fs one two apart = two
+IsMap-append (e ∷ es) fs one two apart = (
+  one.0,
+  IsNew-append e.index es fs one.1 (new_from e.index fs (λ f there. apart e f (inl refl) there)),
+  IsMap-append es fs one.2 two (λ x f there. apart x f (inr there)),
+)
 
 pub same_as_none : {B : Type 0} (fs : List (Entry B)) → SameEntries [] fs → fs ≡ []
 same_as_none [] same = refl

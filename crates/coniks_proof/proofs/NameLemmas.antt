@@ -8,7 +8,7 @@ use Rattle.coniks_proof.specs.Entries.{IsIn}
 use Rattle.coniks_proof.specs.Maps.{IsIndex, IsNew, IsMap}
 use Rattle.coniks_proof.specs.Registry.{Registered, Registry, has_name, rebound, overlaid, entries_of}
 use Rattle.coniks_proof.specs.Batches.{clashes}
-use Rattle.coniks_proof.proofs.MapLemmas.{IsIn-filter, of_filter, passes}
+use Rattle.coniks_proof.proofs.MapLemmas.{IsIn-append_left, IsIn-filter, of_filter, passes}
 use Rattle.coniks_proof.proofs.RegistryLemmas.{named_in}
 
 pub eq_same : (x y : List ℕ) → x ≡ y → bytes_eq x y ≡ true
@@ -34,11 +34,6 @@ pub has_of : (registry : Registry) (name : List ℕ) (b : Registered) → IsIn b
 has_of registry name b there same = subst (λ n. has_name registry n ≡ true) same (named_in b registry there)
 
 -- ---- rebound
-
-IsIn-append_left : {T : Type 0} (x : T) (xs ys : List T) → IsIn x xs → IsIn x (xs ++ ys)
-IsIn-append_left x [] ys there = absurd there
-IsIn-append_left x (z ∷ xs) ys (inl here) = inl here
-IsIn-append_left x (z ∷ xs) ys (inr later) = inr (IsIn-append_left x xs ys later)
 
 IsIn-last : {T : Type 0} (x : T) (xs : List T) → IsIn x (xs ++ x ∷ [])
 IsIn-last x [] = inl refl

@@ -28,6 +28,14 @@ pub fn index_of(first: u8, last: u8) -> Index {
     Index(bytes)
 }
 
+/// The index with these first two bytes, and zeros after them.
+pub fn index_below(first: u8, second: u8) -> Index {
+    let mut bytes = [0; 32];
+    bytes[0] = first;
+    bytes[1] = second;
+    Index(bytes)
+}
+
 /// The record that binds a name to a key, at an index.
 pub fn record_of<H: Hash32>(
     alloc: Global,

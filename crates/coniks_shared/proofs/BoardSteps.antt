@@ -25,6 +25,11 @@ fits_set F views id w mine others j u e = ⊎_elim (λ (x : (j ≡ id) × (w ≡
 same : (c writer : ℕ) (log : List (List ℕ)) (pending rest words words' : List ℕ) (views views' : List BoardView) → HoldsBoard c writer log pending rest words views → words ≡ words' → views ≡ views' → HoldsBoard c writer log pending rest words' views'
 same c writer log pending rest words words' views views' h e f = subst (λ (y : List ℕ × List BoardView). HoldsBoard c writer log pending rest y.0 y.1) (λ i. (e i, f i)) h
 
+-- the board holds the same for other views, where each of them fits
+reseated : (c writer : ℕ) (log : List (List ℕ)) (pending rest words : List ℕ) (views views' : List BoardView) → HoldsBoard c writer log pending rest words views → AllFit c writer log pending views'
+    → HoldsBoard c writer log pending rest words views'
+reseated c writer log pending rest words views views' laid each = record { rows = laid.rows; long = laid.long; full = laid.full; fives = laid.fives; each = each }
+
 -- the publisher stores one word of the next block
 pub puts : (c slots id : ℕ) (me : Me ℕ BoardView) (i x : ℕ) → me.0.writes ≡ true → me.0.live ≡ true → i ≡ 5 * length me.0.blocks + length me.0.pending + 1 → length me.0.pending < 5 → length me.0.blocks < c
     → Allows (IsByBoard c) slots id me i (λ _. x) (λ _. Stored (step slots i x 0 none) me x)
@@ -147,13 +152,7 @@ witnesses c id v live s kept at =
       log,
       P,
       rest,
-      record {
-        rows = laid.rows;
-        long = laid.long;
-        full = laid.full;
-        fives = laid.fives;
-        each = λ j w e. ⊎_elim (λ (x : get_elem? (set s.views id v) j ≡ some w). laid.each j w (ap (λ (k : List BoardView). get_elem? k j) (sym same_views) ∙ x)) (λ (x : r ≡ w). subst (FitsBoard c writer log P j) x (fr j)) (at_snoc (set s.views id v) r w j e);
-      },
+      reseated c writer log P rest s.words s.views _ laid (λ j w e. ⊎_elim (λ (x : get_elem? (set s.views id v) j ≡ some w). laid.each j w (ap (λ (k : List BoardView). get_elem? k j) (sym same_views) ∙ x)) (λ (x : r ≡ w). subst (FitsBoard c writer log P j) x (fr j)) (at_snoc (set s.views id v) r w j e)),
     )
 
 -- a seat is told of what another has seen
@@ -171,13 +170,8 @@ tells c id v other u s kept at apart there =
       log,
       P,
       rest,
-      record {
-        rows = laid.rows;
-        long = laid.long;
-        full = laid.full;
-        fives = laid.fives;
-        each = fits_set (FitsBoard c writer log P) (set s.views id both) other spent_view fn (λ j w _ e. fits_set (FitsBoard c writer log P) s.views id both fb (λ j w _ e. laid.each j w e) j w e);
-      },
+      reseated c writer log P rest s.words s.views _ laid (fits_set (FitsBoard c writer log P) (set s.views id both) other spent_view fn
+          (λ j w _ e. fits_set (FitsBoard c writer log P) s.views id both fb (λ j w _ e. laid.each j w e) j w e)),
     )
 
 -- an empty board

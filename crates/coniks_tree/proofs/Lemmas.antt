@@ -2,3 +2,4 @@
 pub use Rattle.coniks_tree.proofs.TableLemmas.{Shows-extended}
 pub use Rattle.coniks_tree.proofs.PartLemmas.{AllPlaced-drop, AllPlaced-next, AllPlaced-take}
 pub use Rattle.coniks_tree.proofs.PushLemmas.{Extends-append, Extends-trans, Fits-more, Stands-extended, get-last, get-push}
+pub use Rattle.coniks_tree.proofs.EntriesLemmas.{Lists-apart, Lists-stands}

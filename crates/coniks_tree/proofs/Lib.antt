@@ -2,4 +2,5 @@ mod TableLemmas
 mod PartLemmas
 mod PushLemmas
 mod PathLemmas
+mod EntriesLemmas
 pub mod Lemmas

@@ -1,3 +1,4 @@
 pub mod Table
 pub mod Parts
 pub mod Paths
+pub mod Entries

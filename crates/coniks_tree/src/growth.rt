@@ -8,25 +8,10 @@ ghost use Rattle.coniks_tree.specs.declared.part.Part.{Entry};
 ghost use Rattle.coniks_tree.specs.Parts.{Stands, Fits, Placed, AllPlaced, node_count, is_made, entries_of, entry_of_change};
 
 use crate::halving::opened;
-use crate::part::{Change, Part, join_parts};
+use crate::part::{Change, Part, join_parts, lefts};
 use crate::table::{Node, Record};
-use coniks_proof::{Hash32, Index, MAX_LEVEL, Nonce, Prefix, bit};
+use coniks_proof::{Hash32, Index, MAX_LEVEL, Nonce, Prefix};
 use std::alloc::{AllocError, Global};
-
-/// How many changes go left at a level.
-pub(crate) fn lefts(changes: &[Change], level: usize) -> usize
-    requires { level < 256 }
-    ensures within { result ≤ length changes.now }
-    ensures count { result ≡ length (half false level (entries_of changes.now)) }
-{
-    let mut count = 0;
-    for change in changes {
-        if !bit(&change.index, level) {
-            count += 1;
-        }
-    }
-    count
-}
 
 /// The changes that go left at a level, and those that go right.
 pub(crate) fn sides(changes: &[Change], level: usize) -> (&[Change], &[Change])

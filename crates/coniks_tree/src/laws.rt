@@ -1,8 +1,11 @@
 //! Laws of what nodes show and parts stand for, each the contract of a function that does nothing.
 
-ghost use Rattle.std.specs.Prelude.{List, ℕ, Bool};
+ghost use Rattle.std.specs.Prelude.{[], List, ℕ, Bool};
+ghost use Rattle.coniks_proof.specs.Changes.{AreApart, overwritten};
 ghost use Rattle.coniks_proof.specs.Maps.{IsMap, SameEntries};
-ghost use Rattle.coniks_tree.specs.Parts.{Stands};
+ghost use Rattle.coniks_tree.specs.Entries.{Lists};
+ghost use Rattle.coniks_tree.specs.Parts.{Stands, entries_of};
+ghost use Rattle.coniks_tree.specs.declared.part.Change.{Change};
 ghost use Rattle.coniks_tree.specs.Table.{Extends, Numbered, Shows};
 ghost use Rattle.coniks_tree.specs.declared.part.Part.{Part};
 
@@ -27,4 +30,13 @@ pub fn order_is_of_no_account()
     ensures stands { (hash : List ℕ → List ℕ) (nonce : List ℕ) (nodes : List Node) (records : List Record) (part : Part) (prefix : List Bool) (es fs : List Numbered)
         → IsMap es → IsMap fs → SameEntries es fs
         → Stands hash nonce nodes records part prefix es → Stands hash nonce nodes records part prefix fs }
+{}
+
+/// What `Tree::entries` gives builds the map again, under any nonce: its indices part, as `Tree::grow` asks, and a part that
+/// was grown from nothing by it stands for the map.
+pub fn what_is_listed_is_built_again()
+    ensures apart { (changes : List Change) (entries : List Numbered) → Lists changes entries → AreApart 0 (overwritten [] (entries_of changes)) }
+    ensures stands { (hash : List ℕ → List ℕ) (nonce : List ℕ) (nodes : List Node) (records : List Record) (part : Part) (changes : List Change) (entries : List Numbered)
+        → IsMap entries → Lists changes entries
+        → Stands hash nonce nodes records part [] (overwritten [] (entries_of changes)) → Stands hash nonce nodes records part [] entries }
 {}

@@ -30,6 +30,7 @@
 #![tactic(auto)]
 
 mod attach;
+mod entries;
 mod growth;
 mod halving;
 pub mod laws;
@@ -41,6 +42,6 @@ pub mod table;
 pub mod tree;
 
 pub use memory::OutOfMemory;
-pub use part::{Change, Part, Subtree};
+pub use part::{Change, Part, Subtree, lefts};
 pub use table::{Record, RecordNo, Root};
 pub use tree::Tree;

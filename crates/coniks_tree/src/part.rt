@@ -5,10 +5,10 @@ ghost use Rattle.coniks_proof.specs.Bits.{child};
 ghost use Rattle.coniks_proof.specs.Entries.{half};
 ghost use Rattle.coniks_proof.specs.Tree.{node};
 ghost use Rattle.coniks_tree.specs.Table.{Numbered};
-ghost use Rattle.coniks_tree.specs.Parts.{Stands, Fits, Placed, node_count, weight_of};
+ghost use Rattle.coniks_tree.specs.Parts.{Stands, Fits, Placed, entries_of, node_count, weight_of};
 
 use crate::table::{Node, Record, RecordNo, Root, node_of};
-use coniks_proof::{Digest, Hash32, Index, Nonce, Prefix, empty_hash, inner_hash, leaf_hash};
+use coniks_proof::{Digest, Hash32, Index, Nonce, Prefix, bit, empty_hash, inner_hash, leaf_hash};
 use std::alloc::{AllocError, Global};
 
 /// A commitment that is to stand at an index, and the number of the record behind it.
@@ -17,6 +17,21 @@ pub struct Change {
     pub index: Index,
     pub commitment: Digest,
     pub place: RecordNo,
+}
+
+/// How many changes go left at a level.
+pub fn lefts(changes: &[Change], level: usize) -> usize
+    requires { level < 256 }
+    ensures within { result ≤ length changes.now }
+    ensures count { result ≡ length (half false level (entries_of changes.now)) }
+{
+    let mut count = 0;
+    for change in changes {
+        if !bit(&change.index, level) {
+            count += 1;
+        }
+    }
+    count
 }
 
 /// What is to stand under one prefix, in a tree that has it only once it is attached.
@@ -65,47 +80,6 @@ pub(crate) fn hash_at<H: Hash32>(
     }
 }
 
-/// A part of two neighbouring parts.
-pub(crate) fn made<H: Hash32>(
-    alloc: Global,
-    nodes: &[Node],
-    h: &H,
-    nonce: &Nonce,
-    prefix: &Prefix,
-    left: Part,
-    right: Part,
-) -> Result<Part, AllocError>
-    requires short { length prefix.now < 256 }
-    requires left { Fits (length nodes.now) (length prefix.now + 1) left }
-    requires right { Fits (length nodes.now) (length prefix.now + 1) right }
-    ensures fits { IfOk result (λ part. Fits (length nodes.now) (length prefix.now) part) }
-    ensures count { IfOk result (λ part. node_count part ≡ node_count left + node_count right + 1) }
-    ensures placed { IfOk result (λ part. (all : List Record) → Placed all left → Placed all right → Placed all part) }
-    ensures stands { IfOk result (λ part. (records : List Record) (entries : List Numbered)
-        → 2 ≤ length entries
-        → Stands (H.digest_of h.now) nonce.now.0 nodes.now records left (child prefix.now false) (half false (length prefix.now) entries)
-        → Stands (H.digest_of h.now) nonce.now.0 nodes.now records right (child prefix.now true) (half true (length prefix.now) entries)
-        → Stands (H.digest_of h.now) nonce.now.0 nodes.now records part prefix.now entries) }
-{
-    let left_hash = hash_at(nodes, h, nonce, &prefix.child(false), &left);
-    let right_hash = hash_at(nodes, h, nonce, &prefix.child(true), &right);
-    let hash = inner_hash(h, &left_hash, &right_hash);
-    let count = new_nodes(&left)
-        .saturating_add(new_nodes(&right))
-        .saturating_add(1);
-    Ok(Part::Made(Box::new(
-        alloc,
-        Subtree {
-            hash,
-            left_hash,
-            right_hash,
-            count,
-            left,
-            right,
-        },
-    )?))
-}
-
 /// How many nodes it takes to attach a part.
 pub(crate) fn new_nodes(part: &Part) -> usize
     ensures { (n level : ℕ) → Fits n level part.now → result ≡ min (node_count part.now) (2 ^ 64 - 1) }
@@ -152,11 +126,27 @@ pub(crate) fn join_parts<H: Hash32>(
         → Stands (H.digest_of h.now) nonce.now.0 nodes.now records part prefix.now entries) }
 {
     let weight_left = weight(&left);
-    if weight_left + weight(&right) >= 2 {
-        Ok(made(alloc, nodes, h, nonce, prefix, left, right)?)
-    } else if weight_left == 1 {
-        Ok(left)
-    } else {
-        Ok(right)
+    if weight_left + weight(&right) < 2 {
+        if weight_left == 1 {
+            return Ok(left);
+        }
+        return Ok(right);
     }
+    let left_hash = hash_at(nodes, h, nonce, &prefix.child(false), &left);
+    let right_hash = hash_at(nodes, h, nonce, &prefix.child(true), &right);
+    let hash = inner_hash(h, &left_hash, &right_hash);
+    let count = new_nodes(&left)
+        .saturating_add(new_nodes(&right))
+        .saturating_add(1);
+    Ok(Part::Made(Box::new(
+        alloc,
+        Subtree {
+            hash,
+            left_hash,
+            right_hash,
+            count,
+            left,
+            right,
+        },
+    )?))
 }

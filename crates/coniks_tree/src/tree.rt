@@ -6,11 +6,13 @@ ghost use Rattle.coniks_proof.specs.Entries.{backed_by, half, under};
 ghost use Rattle.coniks_proof.specs.Changes.{overwritten, AreApart, AreInOrder};
 ghost use Rattle.coniks_proof.specs.Paths.{IsPath};
 ghost use Rattle.coniks_proof.specs.Tree.{node};
+ghost use Rattle.coniks_tree.specs.Entries.{Lists};
 ghost use Rattle.coniks_tree.specs.Table.{Extends, IsTable, Numbered, Shows, registered_at};
 ghost use Rattle.coniks_tree.specs.Parts.{Stands, Fits, Placed, AllPlaced, node_count, is_made, entries_of};
 ghost use Rattle.coniks_tree.specs.Paths.{Finds};
 
 use crate::attach::append;
+use crate::entries::entries_from;
 use crate::growth::grow_part;
 use crate::memory::OutOfMemory;
 use crate::part::{Change, Part, hash_at, join_parts, new_nodes};
@@ -98,6 +100,17 @@ impl Tree {
             → IsPath hash nonce (map (backed_by (registered_at self.now.records.items)) entries) index.now.0 path) }
     {
         Ok(path_from(self.alloc, &self.nodes, &self.records, root.0, index)?)
+    }
+
+    /// The map that a root shows, as the changes that build it from nothing: in increasing order of index, each with the
+    /// number of its record. It hashes nothing. The tree is only read, also where memory is refused.
+    pub fn entries(&self, root: Root) -> Result<Vec<Change>, OutOfMemory>
+        requires { root.0 < length self.now.nodes.items }
+        ensures placed { IfOk result (λ changes. (all : List Record) → Extends self.now.records.items all → AllPlaced all changes.items) }
+        ensures lists { IfOk result (λ changes. (hash : List ℕ → List ℕ) (nonce : List ℕ) (entries : List Numbered)
+            → Shows hash nonce self.now.nodes.items self.now.records.items root.0 [] entries → Lists changes.items entries) }
+    {
+        Ok(entries_from(self.alloc, &self.nodes, &self.records, root.0)?)
     }
 
     /// The part of the entries that a root shows under a prefix; at the empty prefix it is the root itself, kept. It takes

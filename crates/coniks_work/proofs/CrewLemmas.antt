@@ -125,3 +125,18 @@ module _ {A : Type 0} where
   -- a vector whose elements were lent and written
   pub written : (xs ys : List A) (k : ℕ) → length xs ≡ length ys → k ≡ length ys → take k (xs ++ drop (length xs) ys) ≡ xs
   written xs ys k e n = ap (λ (l : List A). take k (xs ++ l)) (drop_all ys (length xs) (omega arith)) ∙ take_all xs k (omega arith)
+
+-- the crew that is collected after its work: all have ended, and the first drawer is among theirs
+pub crew_ended : (claims : Claimed) (part : ℕ → Part → Type 0) (lent vs ws : List Worker) (k : ℕ)
+    → lent ≡ vs → length ws ≡ length lent → k ≡ length vs
+    → (0 < length vs) × AllFresh claims claims.limit vs → HasFirst (drawers_of vs) (length vs) → AllWorked part lent ws
+    → let left = take k (ws ++ drop (length ws) vs) in AllFinished claims part left × ((0 < length left) × HasFirst (drawers_of left) (length left))
+crew_ended claims part lent vs ws k was len k-is fresh first all =
+    let same : length ws ≡ length vs = len ∙ ap length was in
+    let worked = subst (λ (l : List Worker). AllWorked part l ws) was all in
+    let ended : List Worker → Type 0 = λ l. AllFinished claims part l × ((0 < length l) × HasFirst (drawers_of l) (length l)) in
+    let some = fresh.0 in
+    subst ended (sym (written ws vs k same k-is)) (
+      after_labour claims part vs ws same fresh.1 worked,
+      (omega (arith, same, some), first_after part vs ws (length ws) same worked (subst (HasFirst (drawers_of vs)) (sym same) first)),
+    )

@@ -5,13 +5,12 @@ ghost use Rattle.coniks_proof.specs.Changes.{overwritten, AreApart, AreInOrder};
 ghost use Rattle.coniks_tree.specs.Table.{Extends, Numbered};
 ghost use Rattle.coniks_tree.specs.Parts.{Stands, Fits, Placed, AllPlaced, node_count, entries_of};
 ghost use Rattle.coniks_tree.specs.declared.table.Record.{Record};
-ghost use Rattle.coniks_work.specs.Grown.{IsOldMap, IsGrown, AreDone, unchanged};
-ghost use Rattle.coniks_work.specs.Jobs.{LieWithin};
+ghost use Rattle.coniks_work.specs.Grown.{IsOldMap, unchanged};
 
 use crate::crew::all_parts;
 use crate::gate::Gate;
 use crate::growing::Growing;
-use crate::jobs::{Job, MAX_DEPTH, all_jobs};
+use crate::jobs::{MAX_DEPTH, all_jobs};
 use crate::rise::rise;
 use coniks_proof::{Hash32, Nonce, Prefix};
 use coniks_tree::{Change, OutOfMemory, Part, Root, Tree};
@@ -69,34 +68,16 @@ pub fn build<H: Hash32 + Sync, G: Gate + Sync, R: Threads + Sync>(
     if changes.is_empty() {
         return Ok(unchanged_part(root));
     }
-    Ok(changed_part(
-        rt, alloc, h, nonce, tree, root, changes, depth, workers, gate,
-    )?)
-}
-
-/// The part of changes, of which there is one at least.
-fn changed_part<H: Hash32 + Sync, G: Gate + Sync, R: Threads + Sync>(
-    rt: &R,
-    alloc: Global,
-    h: &H,
-    nonce: &Nonce,
-    tree: &Tree,
-    root: Option<Root>,
-    changes: &[Change],
-    depth: usize,
-    workers: usize,
-    gate: &G,
-) -> Result<Part, OutOfMemory>
-    requires root { IfSome root (λ r. r.0 < length tree.now.nodes.items) }
-    requires depth { depth ≤ MAX_DEPTH }
-    requires workers { (1 ≤ workers) × (workers ≤ MAX_WORKERS) }
-    requires some { 0 < length changes.now }
-    ensures { IfOk result (λ part. IsGrown (H.digest_of h.now) nonce.now.0 tree.now.nodes.items tree.now.records.items root [] (entries_of changes.now) part) }
-{
     let jobs = all_jobs(alloc, changes, depth)?;
-    let mut parts = jobs_done(
-        rt, alloc, h, nonce, tree, root, changes, &jobs, workers, gate,
-    )?;
+    let growing = Growing {
+        tree,
+        h,
+        nonce,
+        root,
+        changes,
+        jobs: &jobs,
+    };
+    let mut parts = all_parts(rt, alloc, jobs.len(), workers, &growing, gate)?;
     Ok(rise(
         tree,
         h,
@@ -107,34 +88,4 @@ fn changed_part<H: Hash32 + Sync, G: Gate + Sync, R: Threads + Sync>(
         changes,
         &mut parts,
     )?)
-}
-
-/// The parts of the jobs, in their order.
-fn jobs_done<H: Hash32 + Sync, G: Gate + Sync, R: Threads + Sync>(
-    rt: &R,
-    alloc: Global,
-    h: &H,
-    nonce: &Nonce,
-    tree: &Tree,
-    root: Option<Root>,
-    changes: &[Change],
-    jobs: &[Job],
-    workers: usize,
-    gate: &G,
-) -> Result<Vec<Part>, OutOfMemory>
-    requires root { IfSome root (λ r. r.0 < length tree.now.nodes.items) }
-    requires workers { (1 ≤ workers) × (workers ≤ MAX_WORKERS) }
-    requires few { length jobs.now ≤ 256 }
-    requires within { LieWithin (length changes.now) jobs.now }
-    ensures { IfOk result (λ parts. AreDone (H.digest_of h.now) nonce.now.0 tree.now.nodes.items tree.now.records.items root (entries_of changes.now) jobs.now parts.items) }
-{
-    let growing = Growing {
-        tree,
-        h,
-        nonce,
-        root,
-        changes,
-        jobs,
-    };
-    Ok(all_parts(rt, alloc, jobs.len(), workers, &growing, gate)?)
 }

@@ -15,6 +15,13 @@ use std::alloc::{AllocError, Global};
 use std::cmp::min;
 use std::thread::Threads;
 
+/// How many workers are hired: as many as are asked for, and no more than there are jobs.
+fn crew_size(workers: usize, count: usize) -> usize
+    ensures { (result ≤ workers) × (result ≤ count) }
+{
+    min(workers, count)
+}
+
 /// A crew of as many workers as can be had, the first drawer's among them, at the last place.
 fn hire(
     alloc: Global,
@@ -112,7 +119,7 @@ pub(crate) fn all_parts<W: Work + Sync, G: Gate + Sync, R: Threads + Sync>(
     requires count { (count ≡ W.count work.now) × (count ≤ 4096) }
     ensures { IfOk result (λ v. AllFrom (W.part work.now) 0 v.items × (length v.items ≡ count)) }
 {
-    let workers = min(workers, count);
+    let workers = crew_size(workers, count);
     if workers <= 1 {
         return Ok(alone(alloc, count, work, gate)?);
     }

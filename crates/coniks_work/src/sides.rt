@@ -1,27 +1,11 @@
 //! Changes, which are in the order of their indices, cut in two at a level.
 
-ghost use Rattle.std.specs.Prelude.{◌≡◌, ◌<◌, ◌≤◌, ◌+◌, length, false, true};
+ghost use Rattle.std.specs.Prelude.{◌≡◌, ◌<◌, ◌+◌, length, false, true};
 ghost use Rattle.coniks_proof.specs.Entries.{half};
 ghost use Rattle.coniks_tree.specs.Parts.{entries_of};
-ghost use Rattle.coniks_work.specs.Sides.{lefts, side};
+ghost use Rattle.coniks_work.specs.Sides.{side};
 
-use coniks_proof::bit;
-use coniks_tree::Change;
-
-/// How many changes go left at a level.
-fn lefts(changes: &[Change], level: usize) -> usize
-    requires { level < 256 }
-    ensures within { result ≤ length changes.now }
-    ensures count { result ≡ length (half false level (entries_of changes.now)) }
-{
-    let mut count = 0;
-    for change in changes {
-        if !bit(&change.index, level) {
-            count += 1;
-        }
-    }
-    count
-}
+use coniks_tree::{Change, lefts};
 
 /// The changes that go left at a level, and those that go right.
 pub(crate) fn sides(changes: &[Change], level: usize) -> (&[Change], &[Change])

@@ -1,15 +1,15 @@
 //! A tree to which tests add epochs.
 
-ghost use Rattle.std.specs.Prelude.{◌<◌, ◌≤◌, List, length, IfOk};
+ghost use Rattle.std.specs.Prelude.{List, length, IfOk};
 ghost use Rattle.coniks_tree.specs.Table.{Extends};
 ghost use Rattle.coniks_tree.specs.Parts.{AllPlaced, Fits, Placed};
 ghost use Rattle.coniks_tree.specs.declared.table.Record.{Record};
 
 use coniks_proof::{
-    Answer, Digest, Hash32, Index, MAX_LEVEL, Prefix, Proof, Sha256Hash, bit, check,
+    Answer, Digest, Hash32, Index, MAX_LEVEL, Nonce, Prefix, Proof, Sha256Hash, check,
 };
 use coniks_samples::{Added, Bound, NONCE, add, changes_to, records_of};
-use coniks_tree::{Change, OutOfMemory, Part, Root, Tree};
+use coniks_tree::{Change, OutOfMemory, Part, Root, Tree, lefts};
 use std::alloc::Global;
 use std::process::Abort;
 
@@ -18,19 +18,6 @@ pub fn digest(rt: &impl Abort, digits: &str) -> Digest {
     let mut bytes = [0; 32];
     hex::decode_to_slice(digits, &mut bytes).expect(rt, "64 digits");
     Digest(bytes)
-}
-
-/// How many changes, which are in the order of their indices, go left at a level.
-fn lefts(changes: &[Change], level: usize) -> usize
-    requires { level < 256 }
-    ensures { result ≤ length changes.now }
-{
-    for (place, change) in changes.iter().enumerate() {
-        if bit(&change.index, level) {
-            return place;
-        }
-    }
-    changes.len()
 }
 
 /// What an older root shows under a prefix, or nothing where there is none, overwritten by changes: by one growth, or by
@@ -142,6 +129,25 @@ impl<H: Hash32> Epochs<H> {
         } else {
             Err(OutOfMemory)
         }
+    }
+
+    /// The changes that build what a root shows, which the tree has.
+    pub fn entries(&self, root: Root) -> Result<Vec<Change>, OutOfMemory> {
+        if root.0 < self.tree.nodes() {
+            Ok(self.tree.entries(root)?)
+        } else {
+            Err(OutOfMemory)
+        }
+    }
+
+    /// The hash that what a root shows has under a nonce, where it is built again from nothing.
+    pub fn hash_under(&self, root: Root, nonce: &Nonce) -> Result<Digest, OutOfMemory> {
+        let changes = self.entries(root)?;
+        let top = Prefix::root();
+        let part = self
+            .tree
+            .grow(&self.h, nonce, Part::Nothing, &top, &changes)?;
+        Ok(self.tree.part_hash(&self.h, nonce, &part))
     }
 
     /// The key at an index, if there is a record of it.

@@ -2,16 +2,13 @@
 
 use crate::tests::epochs::Epochs;
 use coniks_proof::{Flat, Index};
-use coniks_samples::Bound;
+use coniks_samples::{Bound, index_below};
 use std::alloc::{AllocError, Global};
 
 /// The index that begins with the two bytes of a number, and has zeros after them.
 fn index_of_number(number: u16) -> Index {
     let [high, low] = number.to_be_bytes();
-    let mut bytes = [0; 32];
-    bytes[0] = high;
-    bytes[1] = low;
-    Index(bytes)
+    index_below(high, low)
 }
 
 /// A name for each two bytes, in the order of their indices.

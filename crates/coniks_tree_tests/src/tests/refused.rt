@@ -29,7 +29,16 @@ fn siblings_of_a(rt: &impl Abort, epochs: &Epochs<Sha256Hash>, root: Root) -> us
     path.siblings.as_slice().len()
 }
 
-/// An epoch or a path that is refused memory leaves the tree as it was, and can be had then. Each growth can be made to fail by
+/// How many entries a root shows. Where memory is refused they can be had then.
+fn entries_of(rt: &impl Abort, epochs: &Epochs<Sha256Hash>, root: Root) -> usize {
+    let entries = match epochs.entries(root) {
+        Ok(entries) => entries,
+        Err(_) => epochs.entries(root).expect(rt, "memory"),
+    };
+    entries.len()
+}
+
+/// An epoch, a path or the entries that are refused memory leave the tree as it was, and can be had then. Each growth can be made to fail by
 /// `rt try --test --fail-alloc`.
 #[test]
 fn as_it_was(rt: HostRuntime) {
@@ -39,6 +48,7 @@ fn as_it_was(rt: HostRuntime) {
     let both = with_c(&rt, &mut epochs, first);
     assert_eq!(rt; epochs.sizes(), (6, 2));
     assert_eq!(rt; siblings_of_a(&rt, &epochs, both), 2);
+    assert_eq!(rt; entries_of(&rt, &epochs, both), 2);
     let root = "cedf53d7b5eac39a73da7f3fd65c38a4c7cf69a351dfde142aa469ba07e25efd";
     assert_eq!(rt; epochs.hash(both), digest(&rt, root));
 }

@@ -1,13 +1,14 @@
 //! Indices as a hash gives them, beside roots and counts that a recursion over the list gave in another language.
 
 use crate::tests::epochs::{Epochs, digest};
-use coniks_proof::{Hash32, Index, Sha256Hash};
+use coniks_proof::{Digest, Hash32, Index, Sha256Hash};
 use coniks_samples::Bound;
 use coniks_tree::Root;
 use std::alloc::Global;
 use std::process::Abort;
 
-/// An epoch over the one before: it binds these numbers' indices to a key, takes so many nodes, and has this root.
+/// An epoch over the one before: it binds these numbers' indices to a key, takes so many nodes, and has this root, whose
+/// entries have this hash.
 #[derive(Clone, Copy)]
 struct Step {
     from: u32,
@@ -15,6 +16,7 @@ struct Step {
     key: u8,
     nodes: usize,
     root: &'static str,
+    entries: &'static str,
 }
 
 const STEPS: [Step; 3] = [
@@ -24,6 +26,7 @@ const STEPS: [Step; 3] = [
         key: b'k',
         nodes: 547,
         root: "887bf325c2de4f155838b57aeffac4d536e4a91d7b25b00e1ae1c5decd407d9d",
+        entries: "fba27a8a84fa4c72746ed04d4f042a83ad5b2139c03e75837125a638ec171055",
     },
     Step {
         from: 200,
@@ -31,6 +34,7 @@ const STEPS: [Step; 3] = [
         key: b'k',
         nodes: 539,
         root: "e8edd2894db487be4a205e4e09402b506a29988cdb2e5703e04dbae2be47bf6d",
+        entries: "b2fac2df2a4e117d4ad8e3f0626dcbeaea70b34989c98270008f4c7228826e81",
     },
     Step {
         from: 100,
@@ -38,6 +42,7 @@ const STEPS: [Step; 3] = [
         key: b'l',
         nodes: 350,
         root: "590c613c14f9b6e9fabe6bc79de4a1613f7dbad5bc55af1b25e172e7ab171163",
+        entries: "f38c6c587d6eacedae6e0fcb0d09bae9141179c64c6bfb42bc29f5d10b981fe8",
     },
 ];
 
@@ -50,6 +55,23 @@ fn scattered(rt: &impl Abort, alloc: Global, step: &Step) -> Vec<Bound> {
     }
     bindings.sort().expect(rt, "memory");
     bindings
+}
+
+/// SHA-256 of the hashes in a row of what stands under a root, each of an index, its commitment and its record's number in
+/// eight bytes.
+fn hash_of_entries(
+    rt: &impl Abort,
+    alloc: Global,
+    epochs: &Epochs<Sha256Hash>,
+    root: Root,
+) -> Digest {
+    let mut bytes = Vec::new(alloc);
+    for change in epochs.entries(root).expect(rt, "memory") {
+        let number = change.place.0.to_be_bytes();
+        let entry = Sha256Hash.hash(&[&change.index.0, &change.commitment.0, &number]);
+        bytes.extend_from_slice(&entry.0).expect(rt, "memory");
+    }
+    Sha256Hash.hash(&[&bytes])
 }
 
 /// Adds the epoch of a step.
@@ -65,6 +87,8 @@ fn add_step(
     let added = epochs.add(older, depth, &bindings).expect(rt, "memory");
     assert_eq!(rt; added.nodes, step.nodes);
     assert_eq!(rt; epochs.hash(added.root), digest(rt, step.root));
+    let entries = hash_of_entries(rt, alloc, epochs, added.root);
+    assert_eq!(rt; entries, digest(rt, step.entries));
     added.root
 }
 

@@ -5,7 +5,7 @@ use crate::jobs::split;
 use crate::tests::batches::{changes_of, digest, first_epoch, four};
 use crate::tests::gates::{Counts, Meeting};
 use coniks_proof::Index;
-use coniks_samples::{Bound, index_of};
+use coniks_samples::{Bound, index_below, index_of};
 use std::alloc::{AllocError, Global};
 
 const OF_FOUR: &str = "0d10d652bba80545e24f4d5e24bf33580588fb0d17ee964d3213748e6d7e6145";
@@ -79,14 +79,6 @@ fn jobs_of_four(rt: HostRuntime) {
     }
     let none = split(rt.alloc(), &[], 8).expect(&rt, "memory");
     assert_eq!(rt; none.len(), 0);
-}
-
-/// The index with these first two bytes, and zeros after them.
-fn index_below(first: u8, second: u8) -> Index {
-    let mut bytes = [0; 32];
-    bytes[0] = first;
-    bytes[1] = second;
-    Index(bytes)
 }
 
 /// Sixteen names below each first byte, as many as a batch has, in the order of their indices.

@@ -4,6 +4,12 @@ use crate::tests::batches::digest;
 use crate::tests::epochs::Epochs;
 use coniks_samples::index_of;
 
+/// The root over three names with another key on the right.
+const OF_RIGHT: &str = "3561a57a963e7a5b825887fc338f85e89b699fc6361bcb0f383fa49ae4b04042";
+
+/// The root over three names with another key on the left.
+const OF_LEFT: &str = "b5063d4525c3124b7a8d522defec315c34c57cdf81a8bc137f90e8bf66663f79";
+
 /// Over three names a change on the right, one on the left, and none: how many nodes each takes at each depth.
 #[test]
 fn second_epochs(rt: HostRuntime) {
@@ -15,18 +21,16 @@ fn second_epochs(rt: HostRuntime) {
         let three = [(a, b'a', b'k'), (c, b'c', b'k'), (b, b'b', b'k')];
         let first = epochs.add(&rt, None, depth, &three).expect(&rt, "memory");
         assert_eq!(rt; first.nodes, 5);
-        let right = epochs
-            .add(&rt, Some(first.root), depth, &[(b, b'b', b'l')])
-            .expect(&rt, "memory");
-        assert_eq!(rt; right.nodes, 2);
-        let want = "3561a57a963e7a5b825887fc338f85e89b699fc6361bcb0f383fa49ae4b04042";
-        assert_eq!(rt; epochs.hash_of(right.root), Some(digest(&rt, want)));
-        let left = epochs
-            .add(&rt, Some(first.root), depth, &[(a, b'a', b'l')])
-            .expect(&rt, "memory");
-        assert_eq!(rt; left.nodes, 5);
-        let want = "b5063d4525c3124b7a8d522defec315c34c57cdf81a8bc137f90e8bf66663f79";
-        assert_eq!(rt; epochs.hash_of(left.root), Some(digest(&rt, want)));
+        for (changed, nodes, root) in [
+            ((b, b'b', b'l'), 2, OF_RIGHT),
+            ((a, b'a', b'l'), 5, OF_LEFT),
+        ] {
+            let added = epochs
+                .add(&rt, Some(first.root), depth, &[changed])
+                .expect(&rt, "memory");
+            assert_eq!(rt; added.nodes, nodes);
+            assert_eq!(rt; epochs.hash_of(added.root), Some(digest(&rt, root)));
+        }
         let same = epochs
             .add(&rt, Some(first.root), depth, &[])
             .expect(&rt, "memory");

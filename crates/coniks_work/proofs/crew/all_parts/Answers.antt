@@ -1,35 +1,18 @@
-use Rattle.std.proofs.Common.{rules, arith, sym, ap, ◌∙◌, subst, ◌≡◌, ℕ, ◌<◌, length, List, Option}
-use Rattle.coniks_shared.specs.Drawers.{HasFirst}
+use Rattle.std.proofs.Common.{rules, arith, sym, ap, ◌∙◌, subst, ◌≡◌, ℕ, length, List, Option}
 use Rattle.coniks_tree.specs.declared.part.Part.{Part}
-use Rattle.coniks_work.specs.declared.worker.Worker.{Worker}
-use Rattle.coniks_work.specs.Crews.{AllWorked, AllFinished, drawers_of}
 use Rattle.coniks_work.specs.Places.{StandsAt}
-use Rattle.coniks_work.proofs.CrewLemmas.{written, after_labour, first_after}
+use Rattle.coniks_work.proofs.CrewLemmas.{crew_ended, written}
 use Rattle.coniks_work.proofs.crew.all_parts.Goals as goal
 
 pub collect-requires-clause-parts : goal.collect-requires-clause-parts
 collect-requires-clause-parts g c =
-    let part : ℕ → Part → Type 0 = g.W.Work.part c.args.work.now in
-    let vs = c.in-Ok-hire.crew.items in
-    let ws = c.labour_all.new.crew in
-    let was : c.as_mut_slice.result.now ≡ vs = c.as_mut_slice.ensures.value in
-    let len : length ws ≡ length vs = c.labour_all.ensures.len ∙ ap length was in
-    let k : c.in-Ok-hire.crew.len ≡ length vs = search rules in
-    let worked = subst (λ (l : List Worker). AllWorked part l ws) was c.labour_all.ensures.all in
-    subst (AllFinished c.in-Ok.claims part) (sym (written ws vs c.in-Ok-hire.crew.len len k)) (after_labour c.in-Ok.claims part vs ws len c.in-Ok-hire.ensures.fresh.1 worked)
+    (crew_ended c.in-Ok.claims (g.W.Work.part c.args.work.now) c.as_mut_slice.result.now c.in-Ok-hire.crew.items c.labour_all.new.crew c.in-Ok-hire.crew.len
+    c.as_mut_slice.ensures.value c.labour_all.ensures.len (search rules) c.in-Ok-hire.ensures.fresh c.in-Ok-hire.ensures.first c.labour_all.ensures.all).0
 
 pub collect-requires-clause-first : goal.collect-requires-clause-first
 collect-requires-clause-first g c =
-    let part : ℕ → Part → Type 0 = g.W.Work.part c.args.work.now in
-    let vs = c.in-Ok-hire.crew.items in
-    let ws = c.labour_all.new.crew in
-    let was : c.as_mut_slice.result.now ≡ vs = c.as_mut_slice.ensures.value in
-    let len : length ws ≡ length vs = c.labour_all.ensures.len ∙ ap length was in
-    let k : c.in-Ok-hire.crew.len ≡ length vs = search rules in
-    let worked = subst (λ (l : List Worker). AllWorked part l ws) was c.labour_all.ensures.all in
-    let some = c.in-Ok-hire.ensures.fresh.0 in
-    subst (λ (l : List Worker). (0 < length l) × HasFirst (drawers_of l) (length l)) (sym (written ws vs c.in-Ok-hire.crew.len len k))
-    (omega arith, first_after part vs ws (length ws) len worked (subst (HasFirst (drawers_of vs)) (sym len) c.in-Ok-hire.ensures.first))
+    (crew_ended c.in-Ok.claims (g.W.Work.part c.args.work.now) c.as_mut_slice.result.now c.in-Ok-hire.crew.items c.labour_all.new.crew c.in-Ok-hire.crew.len
+    c.as_mut_slice.ensures.value c.labour_all.ensures.len (search rules) c.in-Ok-hire.ensures.fresh c.in-Ok-hire.ensures.first c.labour_all.ensures.all).1
 
 pub unwrapped-requires : goal.unwrapped-requires
 unwrapped-requires g c j less =

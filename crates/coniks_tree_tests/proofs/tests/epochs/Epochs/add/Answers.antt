@@ -1,12 +1,8 @@
-use Rattle.std.proofs.Common.{sym, subst, ◌++◌}
-use Rattle.coniks_tree.specs.Parts.{AllPlaced}
-use Rattle.coniks_tree.proofs.Lemmas.{Extends-append}
+use Rattle.std.proofs.Common.{sym}
+use Rattle.coniks_samples.proofs.Lemmas.{part_placed}
 use Rattle.coniks_tree_tests.proofs.tests.epochs.Epochs.add.Goals as goal
 
 pub add-requires-clause-placed : goal.add-requires-clause-placed
 add-requires-clause-placed g c =
     let old = c.args.self.now.tree.records.items in
-    let new = c.in_ok-records.records.items in
-    let changes = c.in_ok-changes.changes.items in
-    let each : AllPlaced (old ++ new) changes = subst (λ rs. AllPlaced (old ++ rs) changes) c.deref.ensures.value (c.in_ok-changes.ensures old (sym c.records.ensures)) in
-    c.in_ok-part.ensures.placed (old ++ new) (Extends-append old new) (subst (AllPlaced (old ++ new)) (sym c.deref-2.ensures.value) each)
+    part_placed old _ _ _ _ _ c.deref.ensures.value c.deref-2.ensures.value (c.in_ok-changes.ensures old (sym c.records.ensures)) c.in_ok-part.ensures.placed

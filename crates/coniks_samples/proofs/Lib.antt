@@ -1,0 +1,2 @@
+mod PlacedLemmas
+pub mod Lemmas

@@ -1,0 +1,240 @@
+-- The entries of a map as a list in the order of their indices.
+use Rattle.std.proofs.Common.{◌≡◌, ◌≢◌, ℕ, zero, suc, ◌+◌, ◌-◌, ◌<◌, ◌≤◌, List, [], ◌∷◌, ◌++◌, length, Some, slice_get, Bool, true, false, cond, not}
+use Rattle.std.proofs.Common.{refl, sym, ap, subst, ◌∙◌, arith, inl, inr, append_assoc, append-nil}
+use Rattle.std.proofs.lemmas.List.Elements.{filter-append}
+use Rattle.std.proofs.lemmas.List.{map-append}
+use Rattle.coniks_proof.specs.Bits.{bit_at, child, turns}
+use Rattle.coniks_proof.specs.Entries.{IsIn, half}
+use Rattle.coniks_proof.specs.Maps.{IsMap}
+use Rattle.coniks_proof.specs.Changes.{ApartWithin, AreApart, AreInOrder, InOrderWithin, overwritten}
+use Rattle.coniks_proof.proofs.Lemmas.{IsIn-append, IsIn-append_left, IsIn-append_right, IsIn-filter, IsMap-append, IsMap-filter, SameEntries-sym, of_filter, passes}
+use Rattle.coniks_proof.proofs.Lemmas.{all_left, all_right, filters_swap, length-halves, overwritten-empty}
+use Rattle.coniks_proof.specs.declared.values.Digest.{Digest}
+use Rattle.coniks_tree.specs.Entries.{Lists, in_order, in_order_within}
+use Rattle.coniks_tree.specs.Parts.{Stands, entries_of, entry_of_change}
+use Rattle.coniks_tree.proofs.PushLemmas.{Stands-same}
+use Rattle.coniks_tree.specs.Table.{Numbered, Shows, shows_empty, shows_leaf, shows_inner, entry_of_record}
+use Rattle.coniks_tree.specs.declared.part.Change.{Change}
+use Rattle.coniks_tree.specs.declared.part.Part.{Part}
+use Rattle.coniks_tree.specs.declared.table.Node.{Node}
+use Rattle.coniks_tree.specs.declared.table.Node.TheVariants.{Empty, Leaf, Inner}
+use Rattle.coniks_tree.specs.declared.table.Record.{Record}
+use Rattle.coniks_tree.specs.declared.table.RecordNo.{RecordNo}
+
+-- ---- the list, level by level
+
+halves-few : (k : ℕ) (es : List Numbered) → length es ≤ 1 → half false k es ++ half true k es ≡ es
+halves-few k [] few = refl
+halves-few k (e ∷ []) few = elim (bit_at e.index k) as (λ b. cond (not b) (e ∷ []) [] ++ cond b (e ∷ []) [] ≡ e ∷ []) [ true ↦ refl | false ↦ refl ]
+halves-few k (e ∷ f ∷ es) few = absurd (omega arith)
+
+within-few : (h k : ℕ) (es : List Numbered) → length es ≤ 1 → in_order_within h k es ≡ es
+unfolding in_order_within
+within-few zero k es few = refl
+within-few (suc h) k es few =
+    let all = length-halves k es in
+    let left = within-few h (suc k) (half false k es) (omega (arith, all, few)) in
+    let right = within-few h (suc k) (half true k es) (omega (arith, all, few)) in
+    ap (λ xs. xs ++ in_order_within h (suc k) (half true k es)) left ∙ ap (λ xs. half false k es ++ xs) right ∙ halves-few k es few
+
+-- one entry or none is its own list
+in_order-few : (k : ℕ) (es : List Numbered) → length es ≤ 1 → in_order k es ≡ es
+unfolding in_order
+in_order-few k es few = within-few (256 - k) k es few
+
+-- the list of the left side, and then that of the right one
+in_order-inner : (k : ℕ) (es : List Numbered) → k < 256 → in_order k es ≡ in_order (k + 1) (half false k es) ++ in_order (k + 1) (half true k es)
+unfolding in_order in_order_within
+in_order-inner k es short =
+    let here : 256 - k ≡ suc (255 - k) = omega arith in
+    let below : 255 - k ≡ 256 - suc k = omega arith in
+    let deeper : suc k ≡ k + 1 = omega arith in
+    ap (λ n. in_order_within n k es) here
+    ∙ ap (λ n. in_order_within n (suc k) (half false k es) ++ in_order_within n (suc k) (half true k es)) below
+    ∙ ap (λ n. in_order n (half false k es) ++ in_order n (half true k es)) deeper
+
+-- ---- the list of what a node shows
+
+-- what an interior node shows lies under its two nodes
+pub record ShowsBelow (hash : List ℕ → List ℕ) (nonce : List ℕ) (nodes : List Node) (records : List Record) (l r : ℕ) (p : List Bool) (es : List Numbered) : Type 0 where
+  pub short : length p < 256
+  pub left : Shows hash nonce nodes records l (child p false) (half false (length p) es)
+  pub right : Shows hash nonce nodes records r (child p true) (half true (length p) es)
+
+pub Shows-below : (hash : List ℕ → List ℕ) (nonce : List ℕ) (nodes : List Node) (records : List Record) (n l r : ℕ) (p : List Bool) (es : List Numbered) (d : Digest)
+    → slice_get nodes n ≡ Some (Inner l r d) → Shows hash nonce nodes records n p es → ShowsBelow hash nonce nodes records l r p es
+Shows-below hash nonce nodes records _ l r _ _ d here (shows_empty n p es d' at none is) = cc
+Shows-below hash nonce nodes records _ l r _ _ d here (shows_leaf n p es d' place rec at stored one is) = cc
+Shows-below hash nonce nodes records _ l r _ _ d here (shows_inner n p es d' l' r' at short many is left right) =
+    let l-is : l' ≡ l = cc in
+    let r-is : r' ≡ r = cc in
+    record {
+      short = short;
+      left = subst (λ k. Shows hash nonce nodes records k (child p false) (half false (length p) es)) l-is left;
+      right = subst (λ k. Shows hash nonce nodes records k (child p true) (half true (length p) es)) r-is right;
+    }
+
+-- an empty node shows nothing
+pub Shows-none : (hash : List ℕ → List ℕ) (nonce : List ℕ) (nodes : List Node) (records : List Record) (n : ℕ) (p : List Bool) (es : List Numbered) (d : Digest)
+    → slice_get nodes n ≡ Some (Empty d) → Shows hash nonce nodes records n p es → es ≡ []
+Shows-none hash nonce nodes records _ _ _ d here (shows_empty n p es d' at none is) = none
+Shows-none hash nonce nodes records _ _ _ d here (shows_leaf n p es d' place rec at stored one is) = cc
+Shows-none hash nonce nodes records _ _ _ d here (shows_inner n p es d' l r at short many is left right) = cc
+
+-- a leaf shows the entry of its record
+pub Shows-one : (hash : List ℕ → List ℕ) (nonce : List ℕ) (nodes : List Node) (records : List Record) (n : ℕ) (p : List Bool) (es : List Numbered) (place : RecordNo) (d : Digest) (e : Numbered)
+    → slice_get nodes n ≡ Some (Leaf place d) → ((r : Record) → slice_get records place.0 ≡ Some r → e ≡ entry_of_record place.0 r)
+    → Shows hash nonce nodes records n p es → es ≡ e ∷ []
+Shows-one hash nonce nodes records _ _ _ place d e here is-of (shows_empty n p es d' at none is) = cc
+Shows-one hash nonce nodes records _ _ _ place d e here is-of (shows_inner n p es d' l r at short many is left right) = cc
+Shows-one hash nonce nodes records _ _ _ place d e here is-of (shows_leaf n p es d' place' r at stored one is) =
+    let same : place' ≡ place = cc in
+    let entry : (q : RecordNo) → List Numbered = λ q. entry_of_record q.0 r ∷ [] in
+    one ∙ ap entry same ∙ ap (λ x. x ∷ []) (sym (is-of r (subst (λ (q : RecordNo). slice_get records q.0 ≡ Some r) same stored)))
+
+-- ---- the list, one part after another
+
+-- the list goes on with nothing
+pub listed-none : (old : List Numbered) (k : ℕ) (es : List Numbered) → es ≡ [] → old ≡ old ++ in_order k es
+listed-none old k es none =
+    let nothing : in_order k es ≡ [] = in_order-few k es (omega (arith, ap length none)) ∙ none in
+    sym (append-nil old) ∙ ap (λ xs. old ++ xs) (sym nothing)
+
+-- the list goes on with one entry
+pub listed-one : (cs new : List Change) (c : Change) (k : ℕ) (es : List Numbered) → new ≡ cs ++ c ∷ [] → es ≡ entry_of_change c ∷ [] → entries_of new ≡ entries_of cs ++ in_order k es
+listed-one cs new c k es new-is one =
+    let all : in_order k es ≡ entry_of_change c ∷ [] = in_order-few k es (omega (arith, ap length one)) ∙ one in
+    ap entries_of new-is ∙ map-append entry_of_change cs (c ∷ []) ∙ ap (λ xs. entries_of cs ++ xs) (sym all)
+
+-- the list goes on with two sides
+pub listed-both : (old middle new : List Numbered) (k : ℕ) (es : List Numbered) → k < 256
+    → middle ≡ old ++ in_order (k + 1) (half false k es) → new ≡ middle ++ in_order (k + 1) (half true k es) → new ≡ old ++ in_order k es
+listed-both old middle new k es short left right =
+    right ∙ ap (λ xs. xs ++ in_order (k + 1) (half true k es)) left
+    ∙ append_assoc old (in_order (k + 1) (half false k es)) (in_order (k + 1) (half true k es))
+    ∙ ap (λ xs. old ++ xs) (sym (in_order-inner k es short))
+
+-- ---- the whole list
+
+-- nothing goes both ways
+neither : (k : ℕ) (es : List Numbered) → (half false k (half true k es) ≡ []) × (half true k (half false k es) ≡ [])
+neither k [] = (refl, refl)
+neither k (e ∷ es) =
+    let rest = neither k es in
+    (elim (bit_at e.index k) as (λ b. bit_at e.index k ≡ b
+    → (half false k (cond b (e ∷ half true k es) (half true k es)) ≡ []) × (half true k (cond (not b) (e ∷ half false k es) (half false k es)) ≡ [])) [
+      | true ↦ λ right. (rw right rest.0, rest.1)
+      | false ↦ λ left. (rest.0, rw left rest.1)
+    ]) refl
+
+-- the list of a side is that side of the list
+within-half : (b : Bool) (j h k : ℕ) (es : List Numbered) → half b j (in_order_within h k es) ≡ in_order_within h k (half b j es)
+unfolding in_order_within
+within-half b j zero k es = refl
+within-half b j (suc h) k es =
+    let goes : Numbered → Bool = λ e. turns b j e.index in
+    let swapped : (c : Bool) → half b j (half c k es) ≡ half c k (half b j es) = λ c. filters_swap goes (λ e. turns c k e.index) (λ e. turns c k e.index) (λ _ _. refl) es in
+    let side : (c : Bool) → half b j (in_order_within h (suc k) (half c k es)) ≡ in_order_within h (suc k) (half c k (half b j es)) =
+    λ c. within-half b j h (suc k) (half c k es) ∙ ap (in_order_within h (suc k)) (swapped c) in
+    filter-append goes (in_order_within h (suc k) (half false k es)) (in_order_within h (suc k) (half true k es))
+    ∙ ap (λ xs. xs ++ half b j (in_order_within h (suc k) (half true k es))) (side false)
+    ∙ ap (λ xs. in_order_within h (suc k) (half false k (half b j es)) ++ xs) (side true)
+
+-- at a level the list's sides are the lists of the sides
+within-sides : (h k : ℕ) (es : List Numbered)
+    → (half false k (in_order_within (suc h) k es) ≡ in_order_within h (suc k) (half false k es)) × (half true k (in_order_within (suc h) k es) ≡ in_order_within h (suc k) (half true k es))
+unfolding in_order_within
+within-sides h k es =
+    let none = neither k es in
+    let list = in_order_within h (suc k) in
+    let nothing : list [] ≡ [] = within-few h (suc k) [] (omega arith) in
+    let left : list (half false k (half false k es)) ++ list (half true k (half false k es)) ≡ list (half false k es) =
+    ap (λ xs. list xs ++ list (half true k (half false k es))) (all_left k (half false k es) none.1)
+    ∙ ap (λ xs. list (half false k es) ++ list xs) none.1 ∙ ap (λ xs. list (half false k es) ++ xs) nothing ∙ append-nil (list (half false k es)) in
+    let right : list (half false k (half true k es)) ++ list (half true k (half true k es)) ≡ list (half true k es) =
+    ap (λ xs. list xs ++ list (half true k (half true k es))) none.0
+    ∙ ap (λ xs. list [] ++ list xs) (all_right k (half true k es) none.0) ∙ ap (λ xs. xs ++ list (half true k es)) nothing in
+    (within-half false k (suc h) k es ∙ left, within-half true k (suc h) k es ∙ right)
+
+-- the list is in order
+within-ordered : (h k : ℕ) (es : List Numbered) → ApartWithin h k es → InOrderWithin h k (in_order_within h k es)
+unfolding ApartWithin InOrderWithin in_order_within
+within-ordered zero k es apart = apart
+within-ordered (suc h) k es apart =
+    let sides = within-sides h k es in
+    let list = in_order_within h (suc k) in (
+      ap (λ xs. xs ++ list (half true k es)) (sym sides.0) ∙ ap (λ xs. half false k (in_order_within (suc h) k es) ++ xs) (sym sides.1),
+      subst (InOrderWithin h (suc k)) (sym sides.0) (within-ordered h (suc k) (half false k es) apart.0),
+      subst (InOrderWithin h (suc k)) (sym sides.1) (within-ordered h (suc k) (half true k es) apart.1),
+    )
+
+-- the list has the entries of the map
+within-there : (h k : ℕ) (es : List Numbered) (e : Numbered) → IsIn e es → IsIn e (in_order_within h k es)
+unfolding in_order_within
+within-there zero k es e there = there
+within-there (suc h) k es e there =
+    let list = in_order_within h (suc k) in
+    (elim (bit_at e.index k) as (λ b. bit_at e.index k ≡ b → IsIn e (list (half false k es) ++ list (half true k es))) [
+      | true ↦ λ right. IsIn-append_right e (list (half false k es)) (list (half true k es))
+          (within-there h (suc k) (half true k es) e (IsIn-filter e (λ x. turns true k x.index) es right there))
+      | false ↦ λ left. IsIn-append_left e (list (half false k es)) (list (half true k es))
+          (within-there h (suc k) (half false k es) e (IsIn-filter e (λ x. turns false k x.index) es (ap not left) there))
+    ]) refl
+
+-- and no others
+within-back : (h k : ℕ) (es : List Numbered) (e : Numbered) → IsIn e (in_order_within h k es) → IsIn e es
+unfolding in_order_within
+within-back zero k es e there = there
+within-back (suc h) k es e there =
+    let list = in_order_within h (suc k) in
+    elim (IsIn-append e (list (half false k es)) (list (half true k es)) there) [
+      | inl left ↦ of_filter e (λ x. turns false k x.index) es (within-back h (suc k) (half false k es) e left)
+      | inr right ↦ of_filter e (λ x. turns true k x.index) es (within-back h (suc k) (half true k es) e right)
+    ]
+
+-- those of the two sides have different indices
+sides_part : (k : ℕ) (es : List Numbered) (e f : Numbered) → IsIn e (half false k es) → IsIn f (half true k es) → e.index ≢ f.index
+sides_part k es e f left right same =
+    let on : bit_at e.index k ≡ true = ap (λ i. bit_at i k) same ∙ passes f (λ x. turns true k x.index) es right in
+    let off : not (bit_at e.index k) ≡ true = passes e (λ x. turns false k x.index) es left in cc
+
+-- the list of a map is a map
+within-map : (h k : ℕ) (es : List Numbered) → IsMap es → IsMap (in_order_within h k es)
+unfolding in_order_within
+within-map zero k es map = map
+within-map (suc h) k es map =
+    IsMap-append (in_order_within h (suc k) (half false k es)) (in_order_within h (suc k) (half true k es))
+    (within-map h (suc k) (half false k es) (IsMap-filter (λ e. turns false k e.index) es map))
+    (within-map h (suc k) (half true k es) (IsMap-filter (λ e. turns true k e.index) es map))
+    (λ e f left right. sides_part k es e f (within-back h (suc k) (half false k es) e left) (within-back h (suc k) (half true k es) f right))
+
+-- changes whose entries are the list
+pub in_order-Lists : (changes : List Change) (es : List Numbered) → AreApart 0 es → entries_of changes ≡ in_order 0 es → Lists changes es
+unfolding AreApart AreInOrder in_order
+in_order-Lists changes es apart is = record {
+  order = subst (InOrderWithin 256 0) (sym is) (within-ordered 256 0 es apart);
+  same = record {
+    there = λ e there. subst (IsIn e) (sym is) (within-there 256 0 es e there);
+    back = λ e there. within-back 256 0 es e (subst (IsIn e) is there);
+  };
+  once = λ map. subst IsMap (sym is) (within-map 256 0 es map);
+}
+
+-- ---- what is listed, built again
+
+ordered-apart : (h k : ℕ) (es : List Numbered) → InOrderWithin h k es → ApartWithin h k es
+unfolding ApartWithin InOrderWithin
+ordered-apart zero k es order = order
+ordered-apart (suc h) k es order = (ordered-apart h (suc k) (half false k es) order.1, ordered-apart h (suc k) (half true k es) order.2)
+
+-- the changes part within the bits of an index
+pub Lists-apart : (changes : List Change) (es : List Numbered) → Lists changes es → AreApart 0 (overwritten [] (entries_of changes))
+unfolding AreApart AreInOrder
+Lists-apart changes es lists = subst (AreApart 0) (sym (overwritten-empty (entries_of changes))) (ordered-apart 256 0 (entries_of changes) lists.order)
+
+-- what stands for the changes alone stands for the map
+pub Lists-stands : (hash : List ℕ → List ℕ) (nonce : List ℕ) (nodes : List Node) (records : List Record) (part : Part) (changes : List Change) (es : List Numbered)
+    → IsMap es → Lists changes es → Stands hash nonce nodes records part [] (overwritten [] (entries_of changes)) → Stands hash nonce nodes records part [] es
+Lists-stands hash nonce nodes records part changes es map lists s =
+    Stands-same hash nonce nodes records part [] (entries_of changes) es (lists.once map) map (SameEntries-sym es (entries_of changes) lists.same)
+    (subst (Stands hash nonce nodes records part []) (overwritten-empty (entries_of changes)) s)

@@ -1,0 +1,9 @@
+use Rattle.coniks_tree.proofs.EntriesLemmas.{Lists-apart, Lists-stands}
+use Rattle.coniks_tree.proofs.laws.what_is_listed_is_built_again.Goals as goal
+
+pub returns-clause-apart : goal.returns-clause-apart
+returns-clause-apart c = λ changes entries lists. Lists-apart changes entries lists
+
+pub returns-clause-stands : goal.returns-clause-stands
+returns-clause-stands c = λ hash nonce nodes records part changes entries map lists s.
+    Lists-stands hash nonce nodes records part changes entries map lists s
