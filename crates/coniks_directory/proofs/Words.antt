@@ -1,7 +1,7 @@
 -- The words of the library, of the crates below and of this one that the proofs speak in, passed on to them.
 pub use Rattle.std.proofs.lemmas.Bool.{false_from_ne_true, not-true, or_cases, or_parts, or_right}
 pub use Rattle.std.proofs.lemmas.Cmp.{by_ranked, nat_list_cmp_total, ranked}
-pub use Rattle.std.proofs.lemmas.List.{append-nil, drop_more, length-map, length-take-le, map-append, nil_from_length, take-append-drop, take-append-le, take_all, take_more}
+pub use Rattle.std.proofs.lemmas.List.{append-nil, at_drop_all, at_drop_more, length-map, length-take-le, map-append, nil_from_length, take-append-drop, take-append-le, take_all, take_more}
 pub use Rattle.std.proofs.lemmas.Map.Iter.{iter_end}
 pub use Rattle.std.proofs.lemmas.Map.Text.{is_eq-slice_cmp}
 pub use Rattle.std.proofs.lemmas.Map.Views.{All-found, All-turn}
@@ -60,7 +60,7 @@ pub use Rattle.coniks_directory.specs.Lookups.{IsAcceptedAt, IsFound}
 pub use Rattle.coniks_directory.specs.Runs.{AreAccepted, AreAcceptedFrom, Batch, Run, committed, defined, epochs_from, installed, opened, stayed}
 pub use Rattle.coniks_directory.specs.State.{HoldsEpoch, IsStored, Mirrors, ShowsRegistry, State, View, Whole, history_of, last_count, registered_of, shown_of, state_of}
 unfoldable pub use Rattle.coniks_directory.specs.State.{registry_at}
-pub use Rattle.coniks_directory.specs.Updates.{Grows, IsUpdate, IsUpdateOf, MayInstall, records_after, registry_after, shown_after}
+pub use Rattle.coniks_directory.specs.Updates.{Grows, IsUpdate, IsUpdateOf, MayInstall, records_after, registry_after, shown_after, shown_next}
 pub use Rattle.coniks_directory.specs.declared.epochs.Epoch.{Epoch}
 pub use Rattle.coniks_directory.specs.declared.drafts.Drafts.{Drafts}
 pub use Rattle.coniks_directory.specs.declared.update.Prepared.{Prepared}

@@ -1,8 +1,7 @@
-use Rattle.std.proofs.Common.{◌≡◌, ◌==◌, ℕ, List, None, Some, ap, subst, sym, ◌∙◌, slice_get}
+use Rattle.std.proofs.Common.{◌≡◌, ◌==◌, List, None, Some, ap, subst, sym, ◌∙◌, slice_get}
 use Rattle.std.specs.List.{find}
-use Rattle.coniks_chain.specs.declared.entry.Entry.{Entry}
 use Rattle.coniks_directory.specs.History.{AreRising, numbers_of}
-use Rattle.coniks_directory.specs.State.{IsInstalled, Whole, history_of, state_of}
+use Rattle.coniks_directory.specs.State.{IsInstalled, history_of, state_of}
 use Rattle.coniks_directory.specs.declared.epochs.Epoch.{Epoch}
 use Rattle.coniks_directory.specs.declared.held.Held.{Held}
 use Rattle.coniks_directory.proofs.EpochLemmas.{numbers}
