@@ -1,8 +1,8 @@
 -- Registries, as the log of records leaves them, and the history of a state.
-use Rattle.std.proofs.Common.{◌≡◌, ℕ, ◌-◌, ◌≤◌, List, [], ◌∷◌, ◌++◌, length, map, refl, sym, ap, ◌∙◌, arith, Some, slice_get}
+use Rattle.std.proofs.Common.{◌≡◌, ℕ, ◌-◌, ◌≤◌, List, [], ◌∷◌, ◌++◌, length, map, refl, sym, ap, ◌∙◌, arith, Some, None, slice_get}
 use Rattle.coniks_directory.proofs.Words.{Epoch, Record, State, Whole, history_of, last_count, latest_nonce, latest_registry, overlaid}
 use Rattle.coniks_directory.proofs.Words.{registered_of, registry_at, shown_of, take-append-le, take_all}
-use Rattle.coniks_directory.proofs.LastLemmas.{last_found}
+use Rattle.coniks_directory.proofs.LastLemmas.{last_found, none_last}
 
 -- a registry doesn't depend on later records
 pub registry_at-append : (records more : List Record) (n : ℕ) → n ≤ length records → registry_at (records ++ more) n ≡ registry_at records n
@@ -34,3 +34,6 @@ latest-last s e at = last_found (λ es. latest_registry (map (shown_of s.records
 -- and the latest nonce is its
 pub nonce-last : (s : State) (e : Epoch) → slice_get s.epochs (length s.epochs - 1) ≡ Some e → latest_nonce s.nonce (history_of s) ≡ e.nonce.0
 nonce-last s e at = last_found (λ es. latest_nonce s.nonce (map (shown_of s.records) es)) (λ x. x.nonce.0) (λ x. refl) (λ x y xs. refl) s.epochs e at
+
+pub nonce-none : (s : State) → slice_get s.epochs (length s.epochs - 1) ≡ None → latest_nonce s.nonce (history_of s) ≡ s.nonce
+nonce-none s at = rw (none_last s.epochs at) refl

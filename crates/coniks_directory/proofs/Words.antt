@@ -49,11 +49,11 @@ pub use Rattle.coniks_chain.specs.Entries.{body_bytes}
 pub use Rattle.coniks_chain.specs.declared.auditor.Before.{Before}
 pub use Rattle.coniks_chain.specs.declared.entry.Body.{Body}
 pub use Rattle.coniks_directory.specs.Batches.{IsAccepted, fault_is, kind_of, most_nodes, operation_of, operations}
-pub use Rattle.coniks_directory.specs.Built.{IsBuilt}
+pub use Rattle.coniks_directory.specs.Built.{IsBuilt, IsUpdateBy}
 pub use Rattle.coniks_directory.specs.Chain.{IsChainOf, body_of, heads_of}
 pub use Rattle.coniks_directory.specs.Directories.{HasGoodChain, HasPrepared, heads, history}
 pub use Rattle.coniks_directory.specs.History.{AllHaveOwnIndices, AllUnder, AreRising, Shown, last_number, latest_epoch, latest_nonce, latest_registry, numbers_of, root_at, shown_at}
-pub use Rattle.coniks_directory.specs.Holders.{HolderIs, IsHeld, ShowsLatest}
+pub use Rattle.coniks_directory.specs.Holders.{HolderIs, IsHeld, IsLatestRoot, ShowsLatest}
 pub use Rattle.coniks_directory.specs.Installed.{IsEntered, IsNext, IsSigned, Leaves}
 pub use Rattle.coniks_directory.specs.Judged.{AreChangesOf, AreDrafts, IsJudged, IsJudgedFault, IsSealed, number_at}
 pub use Rattle.coniks_directory.specs.Lookups.{IsAcceptedAt, IsFound}
@@ -61,6 +61,7 @@ pub use Rattle.coniks_directory.specs.Runs.{AreAccepted, AreAcceptedFrom, Batch,
 pub use Rattle.coniks_directory.specs.State.{HoldsEpoch, IsStored, Mirrors, ShowsRegistry, State, View, Whole, history_of, last_count, registered_of, shown_of, state_of}
 unfoldable pub use Rattle.coniks_directory.specs.State.{registry_at}
 pub use Rattle.coniks_directory.specs.Updates.{Grows, IsUpdate, IsUpdateOf, MayInstall, records_after, registry_after, shown_after, shown_next}
+pub use Rattle.coniks_directory.specs.declared.batch.Op.{Op}
 pub use Rattle.coniks_directory.specs.declared.epochs.Epoch.{Epoch}
 pub use Rattle.coniks_directory.specs.declared.drafts.Drafts.{Drafts}
 pub use Rattle.coniks_directory.specs.declared.update.Prepared.{Prepared}
