@@ -5,6 +5,8 @@ pub use Rattle.std.proofs.lemmas.List.{append-nil, at_drop_all, at_drop_more, le
 pub use Rattle.std.proofs.lemmas.Map.Iter.{iter_end}
 pub use Rattle.std.proofs.lemmas.Map.Text.{is_eq-slice_cmp}
 pub use Rattle.std.proofs.lemmas.Map.Views.{All-found, All-turn}
+pub use Rattle.std.proofs.lemmas.List.Elements.{All-map}
+pub use Rattle.std.proofs.lemmas.Simd.{map-map}
 pub use Rattle.std.proofs.lemmas.Option.{get_or_from_slice_get, same_Some, slice_get-get_or, slice_get-map, slice_get_cases, slice_get_read, slice_get_within}
 pub use Rattle.std.proofs.lemmas.Slice.Eq.{bytes_eq-Decides}
 pub use Rattle.std.specs.BTreeMap.{BTreeMap, IsOrdered, btree_map_len, is_at, values}
