@@ -3,7 +3,6 @@ mod LastLemmas
 mod StateLemmas
 mod MirrorLemmas
 mod HolderLemmas
-mod InstalledLemmas
 mod JudgeLemmas
 mod DraftLemmas
 mod OrderLemmas

@@ -60,7 +60,7 @@ pub use Rattle.coniks_directory.specs.Installed.{IsEntered, IsNext, IsSigned, Le
 pub use Rattle.coniks_directory.specs.Judged.{AreChangesOf, AreDrafts, IsJudged, IsJudgedFault, IsSealed, number_at}
 pub use Rattle.coniks_directory.specs.Lookups.{IsAcceptedAt, IsFound}
 pub use Rattle.coniks_directory.specs.Runs.{AreAccepted, AreAcceptedFrom, Batch, Run, committed, defined, epochs_from, installed, opened, stayed}
-pub use Rattle.coniks_directory.specs.State.{HoldsEpoch, IsStored, Mirrors, ShowsRegistry, State, View, Whole, history_of, last_count, registered_of, shown_of, state_of}
+pub use Rattle.coniks_directory.specs.State.{HoldsEpoch, IsAt, IsInstalled, IsStored, Mirrors, ShowsRegistry, State, View, Whole, history_of, last_count, registered_of, shown_of, state_of}
 unfoldable pub use Rattle.coniks_directory.specs.State.{registry_at}
 pub use Rattle.coniks_directory.specs.Updates.{Grows, IsUpdate, IsUpdateOf, MayInstall, records_after, registry_after, shown_after, shown_next}
 pub use Rattle.coniks_directory.specs.declared.batch.Op.{Op}

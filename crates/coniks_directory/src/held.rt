@@ -80,7 +80,7 @@ impl Held {
 
     /// The epoch of exactly this number, with its entry.
     pub(crate) fn installed(&self, t: u64) -> Option<(Epoch, Entry)>
-        ensures { (hash of : List ℕ → List ℕ) → Whole hash of (state_of self.now) → IsInstalled (state_of self.now) t result }
+        ensures { (hash of : List ℕ → List ℕ) → Whole hash of (state_of self.now) → IsInstalled hash of (state_of self.now) t result }
     {
         let (place, epoch) = Epoch::of_number(&self.epochs, t)?;
         Some((epoch, self.entry(place)?))
