@@ -4,20 +4,6 @@ use Rattle.coniks_directory.proofs.Words.{Grows, IsUpdate, IsUpdateOf, Prepared,
 use Rattle.coniks_directory.proofs.Words.{registry_after, registry_at, shown_of}
 use Rattle.coniks_tree.proofs.Lemmas.{Extends-trans, Fits-more, Stands-extended}
 
--- more nodes, another policy and another chain are of no account to an update
-onto : (hash of : List ℕ → List ℕ) (s t : State) (p : Prepared) → t.nonce ≡ s.nonce → t.records ≡ s.records → t.epochs ≡ s.epochs → Grows s t → IsUpdate hash of s p → IsUpdate hash of t p
-onto hash of s t p nonce records epochs grows u = record {
-  base = u.base ∙ sym (ap length epochs);
-  counted = rw (epochs, records) u.counted;
-  version = u.version;
-  nonce = rw (nonce, records, epochs) u.nonce;
-  fits = Fits-more (length s.nodes) (length t.nodes) 0 p.part grows.longer u.fits;
-  placed = rw records u.placed;
-  entries = u.entries;
-  stands = rw records (Stands-extended hash p.nonce.0 s.nodes t.nodes s.records grows.nodes p.part [] u.entries u.stands);
-  mirrors = rw records u.mirrors;
-}
-
 -- where no epoch came since, neither did records: the update is one of the later state
 module _ (hash of : List ℕ → List ℕ) (s t : State) (p : Prepared) (grows : Grows s t) (u : IsUpdate hash of s p) (base : p.base ≡ length t.epochs) where
   none_since : grows.more_epochs ≡ []
@@ -30,7 +16,17 @@ module _ (hash of : List ℕ → List ℕ) (s t : State) (p : Prepared) (grows :
   same_records = grows.records ∙ ap (λ rs. s.records ++ rs) (grows.still none_since) ∙ append-nil s.records
 
   pub fresh_update : IsUpdate hash of t p
-  fresh_update = onto hash of s t p grows.nonce same_records same_epochs grows u
+  fresh_update = record {
+    base = base;
+    counted = rw (same_epochs, same_records) u.counted;
+    version = u.version;
+    nonce = rw (grows.nonce, same_records, same_epochs) u.nonce;
+    fits = Fits-more (length s.nodes) (length t.nodes) 0 p.part grows.longer u.fits;
+    placed = rw same_records u.placed;
+    entries = u.entries;
+    stands = rw same_records (Stands-extended hash p.nonce.0 s.nodes t.nodes s.records grows.nodes p.part [] u.entries u.stands);
+    mirrors = rw same_records u.mirrors;
+  }
 
   -- and the directory shows what it showed, and the update leaves what it left
   pub fresh_history : history_of t ≡ history_of s

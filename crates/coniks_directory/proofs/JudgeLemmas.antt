@@ -2,26 +2,19 @@
 use Rattle.std.proofs.Common.{◌<◌, ◌≤◌, get_or, ◌≡◌, ℕ, ◌+◌, List, [], ◌∷◌, ◌++◌, length, map, take, drop, Bool, true, false, sym, ap, ◌∙◌, ◌||◌, cond, refl, Option, Some, None, option_map, slice_get}
 use Rattle.coniks_directory.proofs.Words.{Fault, IsJudged, MAX_KEY, MAX_NAME, Operation, Registered, Registry, at_drop_all, at_drop_more}
 use Rattle.coniks_directory.proofs.Words.{bound_by, clashes, fault_from, fault_of, first_fault, fits, get_or_from_slice_get, has_name}
-use Rattle.coniks_directory.proofs.Words.{index_clash, kind_fault, map-append, name_twice, operation_of, operations, placed, slice_get-map}
+use Rattle.coniks_directory.proofs.Words.{index_clash, kind_fault, map-append, operation_of, operations, placed, slice_get-map}
 use Rattle.coniks_directory.proofs.Words.{slice_get_read, slice_get_within, take_all}
 use Rattle.coniks_directory.specs.declared.batch.Op.{Op}
 use Rattle.coniks_proof.proofs.Lemmas.{clashes-append}
 use Rattle.coniks_directory.proofs.LastLemmas.{take_next}
 
--- ---- the first fault that applies to an operation
-
-module _ (of : List ℕ → List ℕ) (registry : Registry) (before : List Registered) (op : Operation) (named : fits MAX_NAME op.name ≡ true) (keyed : fits MAX_KEY op.key ≡ true) where
-  pub at_twice : has_name before op.name ≡ true → fault_of of registry before op ≡ Some name_twice
-  at_twice twice = rw (named, keyed, twice) refl
-
-  pub at_kind : (fault : Fault) → has_name before op.name ≡ false → kind_fault op.kind (has_name registry op.name) ≡ Some fault → fault_of of registry before op ≡ Some fault
-  at_kind fault once kind = rw (named, keyed, once, kind) refl
-
-  pub at_clash : (a b clash : Bool) → has_name before op.name ≡ false → kind_fault op.kind (has_name registry op.name) ≡ None → clashes of registry op.name ≡ a → clashes of before op.name ≡ b
-      → a || b ≡ clash → fault_of of registry before op ≡ cond clash (Some index_clash) None
-  at_clash a b clash once kind ha hb either =
-      let all : clashes of (registry ++ before) op.name ≡ clash = clashes-append of registry before op.name ∙ ap (λ v. v || clashes of before op.name) ha ∙ ap (λ v. a || v) hb ∙ either in
-      rw (named, keyed, once, kind, all) refl
+-- a name that isn't among the earlier ones, and whose kind has no fault, is left with a clash or none
+pub at_clash : (of : List ℕ → List ℕ) (registry : Registry) (before : List Registered) (op : Operation) → fits MAX_NAME op.name ≡ true → fits MAX_KEY op.key ≡ true
+    → (a b clash : Bool) → has_name before op.name ≡ false → kind_fault op.kind (has_name registry op.name) ≡ None → clashes of registry op.name ≡ a → clashes of before op.name ≡ b
+    → a || b ≡ clash → fault_of of registry before op ≡ cond clash (Some index_clash) None
+at_clash of registry before op named keyed a b clash once kind ha hb either =
+    let all = clashes-append of registry before op.name in
+    rw (named, keyed, once, kind, all, ha, hb, either) refl
 
 -- ---- the operations in turn
 

@@ -9,7 +9,6 @@ mod OrderLemmas
 mod OverlaidLemmas
 mod BuiltLemmas
 mod NumberLemmas
-mod EpochLemmas
 mod LookupLemmas
 mod FreshLemmas
 mod ChainLemmas

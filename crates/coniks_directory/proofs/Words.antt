@@ -52,7 +52,7 @@ pub use Rattle.coniks_chain.specs.declared.auditor.Before.{Before}
 pub use Rattle.coniks_chain.specs.declared.entry.Body.{Body}
 pub use Rattle.coniks_directory.specs.Batches.{IsAccepted, fault_is, kind_of, most_nodes, operation_of, operations}
 pub use Rattle.coniks_directory.specs.Built.{IsBuilt, IsUpdateBy}
-pub use Rattle.coniks_directory.specs.Chain.{IsChainOf, body_of, heads_of}
+pub use Rattle.coniks_directory.specs.Chain.{IsChainOf, body_of, head_at, heads_of}
 pub use Rattle.coniks_directory.specs.Directories.{HasGoodChain, HasPrepared, heads, history}
 pub use Rattle.coniks_directory.specs.History.{AllHaveOwnIndices, AllUnder, AreRising, Shown, last_number, latest_epoch, latest_nonce, latest_registry, numbers_of, root_at, shown_at}
 pub use Rattle.coniks_directory.specs.Holders.{HolderIs, IsHeld, IsLatestRoot, ShowsLatest}
