@@ -71,18 +71,15 @@ there_index (c ∷ cs) index h = elim (or_cases (bytes_eq c.index index) (has_in
   | inr later ↦ let k = there_index cs index later in (k.0, inr k.1, k.2)
 ]
 
-new_from : {B : Type 0} (index : List ℕ) (es : List (Entry B)) → ((e : Entry B) → IsIn e es → index ≢ e.index) → IsNew index es
-new_from index [] apart = tt
-new_from index (e ∷ es) apart = (apart e (inl refl), new_from index es (λ x there. apart x (inr there)))
-
-new_append : {B : Type 0} (index : List ℕ) (es fs : List (Entry B)) → IsNew index es → IsNew index fs → IsNew index (es ++ fs)
-new_append index [] fs one two = two
-new_append index (e ∷ es) fs one two = (one.0, new_append index es fs one.1 two)
+new_append : {B : Type 0} (index : List ℕ) (es fs : List (Entry B)) → IsNew index es → ((f : Entry B) → IsIn f fs → index ≢ f.index) → IsNew index (es ++ fs)
+new_append index [] [] one apart = tt
+new_append index [] (f ∷ fs) one apart = (apart f (inl refl), new_append index [] fs tt (λ x there. apart x (inr there)))
+new_append index (e ∷ es) fs one apart = (one.0, new_append index es fs one.1 apart)
 
 map_append : {B : Type 0} (es fs : List (Entry B)) → IsMap es → IsMap fs → ((e f : Entry B) → IsIn e es → IsIn f fs → e.index ≢ f.index) → IsMap (es ++ fs)
 map_append [] fs one two apart = two
 map_append (e ∷ es) fs one two apart =
-    (one.0, new_append e.index es fs one.1 (new_from e.index fs (λ f there. apart e f (inl refl) there)), map_append es fs one.2 two (λ x f there. apart x f (inr there)))
+    (one.0, new_append e.index es fs one.1 (λ f there. apart e f (inl refl) there), map_append es fs one.2 two (λ x f there. apart x f (inr there)))
 
 module _ {B : Type 0} (es cs : List (Entry B)) where
   -- what stays of the old entries

@@ -17,13 +17,7 @@ pub record IsDefined (of : List ℕ → List ℕ) (nonce policy : List ℕ) (bat
   accepts : (more : List Batch) → AreAcceptedFrom of (latest_epoch (history_of s)) (latest_registry (history_of s)) more → AreAccepted of (batches ++ more)
 
 module _ (of : List ℕ → List ℕ) (nonce policy : List ℕ) (batches : List Batch) (s : State) (d : IsDefined of nonce policy batches s) where
-  pub history_defined : history_of s ≡ defined nonce batches
-  history_defined = sym (ap (defined nonce) (sym (append-nil batches)) ∙ d.epochs [] ∙ append-nil (history_of s))
-
-  pub all_accepted : AreAccepted of batches
-  all_accepted = subst (AreAccepted of) (append-nil batches) (d.accepts [] tt)
-
-  -- and so is a later one with the epoch of one more batch
+  -- a later state with the epoch of one more batch is so too
   next : (b : Batch) (later : State) (shown : Shown) (depth workers : ℕ) → later.nonce ≡ s.nonce → later.policy ≡ s.policy → IsAccepted of (latest_registry (history_of s)) b.ops depth workers
       → latest_epoch (history_of s) < b.t → history_of later ≡ history_of s ++ shown ∷ [] → shown ≡ shown_next s b.ops b.t → IsDefined of nonce policy (batches ++ b ∷ []) later
   next b later shown depth workers nonce-is policy-is a rises history shown-is =
@@ -53,3 +47,10 @@ defined_by hash of nonce policy _ _ (installed batches b earlier s later update 
     let accepted = subst (λ ss. IsAccepted of (latest_registry ss) b.ops depth workers) (sym same) prepared.accepted in
     next of nonce policy batches s (defined_by hash of nonce policy batches s run) b later _ depth workers grows.nonce grows.policy accepted may.later history
     (rw (u.version, u.nonce, registry) refl)
+
+module _ (hash of : List ℕ → List ℕ) (nonce policy : List ℕ) (batches : List Batch) (s : State) (run : Run hash of nonce policy batches s) where
+  pub history_by : history_of s ≡ defined nonce batches
+  history_by = sym (ap (defined nonce) (sym (append-nil batches)) ∙ (defined_by hash of nonce policy batches s run).epochs [] ∙ append-nil (history_of s))
+
+  pub accepted_by : AreAccepted of batches
+  accepted_by = subst (AreAccepted of) (append-nil batches) ((defined_by hash of nonce policy batches s run).accepts [] tt)
