@@ -1,14 +1,13 @@
 -- What an install leaves.
 use Rattle.std.proofs.Common.{◌≡◌, ℕ, suc, ◌<◌, ◌≤◌, List, [], ◌∷◌, ◌++◌, length, map, Bool, true, refl, sym, ap, subst, ◌∙◌, arith, inl, inr, Some, None, slice_get, length-append}
-use Rattle.coniks_directory.proofs.Words.{AllUnder, Body, Digest, Epoch, Extends, GoodChain, HasGoodChain, HasPrepared, Head, HoldsEpoch}
-use Rattle.coniks_directory.proofs.Words.{IsEntered, IsNext, IsSigned, IsUpdate, Leaves, MayInstall, Node, Numbered, Prepared, Record, Root}
-use Rattle.coniks_directory.proofs.Words.{Shown, Shows, Stands, State, View, Whole, before_at, body_bytes, heads}
-use Rattle.coniks_directory.proofs.Words.{heads_of, history_of, last_count, latest_epoch, latest_nonce, link_before, map-append, node}
+use Rattle.coniks_directory.proofs.Words.{AllUnder, Body, Digest, Epoch, Extends, GoodChain, HoldsEpoch}
+use Rattle.coniks_directory.proofs.Words.{IsNext, IsUpdate, Leaves, Node, Numbered, Prepared, Record, Root}
+use Rattle.coniks_directory.proofs.Words.{Shown, Shows, Stands, State, Whole, before_at, body_bytes}
+use Rattle.coniks_directory.proofs.Words.{history_of, last_count, latest_epoch, latest_nonce, link_before, map-append, node}
 use Rattle.coniks_directory.proofs.Words.{numbers_of, records_after, registry_after, shown_after, shown_of}
 use Rattle.coniks_chain.specs.declared.entry.Entry.{Entry}
 use Rattle.coniks_chain.proofs.Lemmas.{good_push, good_same_verdict}
 use Rattle.coniks_tree.proofs.Lemmas.{Extends-append, Shows-extended, get-push}
-use Rattle.coniks_directory.proofs.FreshLemmas.{fresh}
 use Rattle.coniks_directory.proofs.ChainLemmas.{chain-push, follows_next, is_last, rising-push}
 use Rattle.coniks_directory.proofs.LastLemmas.{at_end, get-mapped}
 use Rattle.coniks_directory.proofs.MirrorLemmas.{Mirrors-extended, mirrored_root}
@@ -137,28 +136,3 @@ body_is hash of s p t latest root previous u whole latest-is root-is previous-is
     let rooted = ap digest (root-is u.entries u.stands ∙ mirrored_root hash of p.nonce.0 (records_after s p) u.entries (registry_after s p) u.mirrors) in
     let linked = ap digest previous-is in
     cc
-
--- ---- through the view: an install by a directory that has made room
-
-module _ {H X : Type 0} (digest : H → List ℕ → List ℕ) (index : X → List ℕ → List ℕ) (h : H) (x : X) (s room : State) (v : View H X)
-    (seen : (let w : View H X = record { hash = h; index = x; state = s } in w ≡ v)) (same : room ≡ s) where
-  -- it is seen as before
-  roomy : (let w : View H X = record { hash = h; index = x; state = room } in w ≡ v)
-  roomy = rw same seen
-
-  pub good_room : (verdict : List ℕ → List ℕ → Bool) → HasGoodChain digest verdict v → GoodChain (digest h) verdict room.chain
-  good_room verdict good = subst (λ (w : View H X). HasGoodChain digest verdict w) (sym roomy) good
-
-  module _ (p : Prepared) (t published capacity : ℕ) (asked : HasPrepared digest index v p) (may : MayInstall s p.base t published capacity) where
-    -- and the update is one of it
-    pub fresh_room : IsUpdate (digest h) (index x) room p
-    fresh_room = fresh (digest h) (index x) room p (subst (λ (w : View H X). HasPrepared digest index w p) (sym roomy) asked) (rw same may.fresh)
-
-    pub left : (later : State) (entry : Entry) (previous : List ℕ) (published_heads : List Head) → Whole (digest h) (index x) s → published_heads ≡ heads digest v
-        → ((hash : List ℕ → List ℕ) (chain : List Entry) → published_heads ≡ heads_of hash chain → previous ≡ link_before (before_at hash None chain (length chain)))
-        → IsSigned (digest h) room p t previous entry.body → IsEntered (digest h) room later p t entry → Leaves (digest v.hash) (index v.index) v.state later p t entry
-    left later entry previous published_heads whole are link signed entered =
-        let whole_room : Whole (digest h) (index x) room = rw same whole in
-        let linked = link (digest h) room.chain (subst (λ (w : View H X). published_heads ≡ heads digest w) (sym roomy) are) in
-        subst (λ (w : View H X). Leaves (digest w.hash) (index w.index) w.state later p t entry) roomy
-        (entered (index x) whole_room fresh_room (rw same may.later) (signed (index x) whole_room fresh_room linked))

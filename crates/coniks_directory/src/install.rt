@@ -104,7 +104,7 @@ pub(crate) fn signed<H: Hash32, S: Sign>(
     ensures records { OnOk result (length held.new.tree.records.items + length update.now.records.items ≤ vec_capacity held.new.tree.records) }
     ensures epochs { OnOk result (vec_len held.new.epochs < vec_capacity held.new.epochs) }
     ensures chain { OnOk result (vec_len held.new.chain < vec_capacity held.new.chain) }
-    ensures body { IfOk result (λ entry. IsSigned (H.digest_of h.now) (state_of held.new) update.now t previous.0 entry.body) }
+    ensures body { IfOk result (λ entry. IsSigned (H.digest_of h.now) (state_of held.old) update.now t previous.0 entry.body) }
     ensures made { OnOk result ((S.made_of signer.new ≡ S.made_of signer.old + 1) × (S.refused_of signer.new ≡ S.refused_of signer.old)) }
     ensures last { IfOk result (λ entry. S.last_of signer.new ≡ Some entry) }
     ensures verdict { IfOk result (λ entry. S.verdict_of signer.new (body_bytes entry.body) entry.signature.0 ≡ true) }
@@ -169,7 +169,7 @@ pub(crate) fn enter<H: Hash32>(held: &mut Held, h: &H, update: Prepared, t: u64,
     requires chain { vec_len held.old.chain < vec_capacity held.old.chain }
     ensures count { length held.new.tree.nodes.items ≡ length held.old.tree.nodes.items + nodes_added update }
     ensures last { held.new.chain.items ≡ held.old.chain.items ++ entry ∷ [] }
-    ensures entered { IsEntered (H.digest_of h.now) (state_of held.old) (state_of held.new) update t entry }
+    ensures entered { (s : State) → state_of held.old ≡ s → IsEntered (H.digest_of h.now) s (state_of held.new) update t entry }
 {
     let Prepared {
         version,
