@@ -10,7 +10,8 @@ use Rattle.coniks_tree.specs.Parts.{entries_of as entries_of_changes}
 use Rattle.coniks_tree.proofs.Lemmas.{Extends-append}
 use Rattle.coniks_directory.proofs.MirrorLemmas.{registered_at-extended}
 use Rattle.coniks_directory.proofs.HolderLemmas.{backed_in, in_backed}
-use Rattle.coniks_directory.proofs.OverlaidLemmas.{IsMap-overlaid, IsMap-overwritten, append_left, append_right, in_overwritten, index_there, overlaid_new, overlaid_old, overwritten_index, overwritten_new, within-overlaid}
+use Rattle.coniks_directory.proofs.OverlaidLemmas.{IsMap-overlaid, IsMap-overwritten, append_left, append_right, in_overwritten}
+use Rattle.coniks_directory.proofs.OverlaidLemmas.{index_there, overlaid_new, overlaid_old, overwritten_index, overwritten_new, within-overlaid}
 use Rattle.coniks_directory.proofs.DraftLemmas.{in_records, record_in}
 
 -- what stands in a list stands that much further on where it follows another

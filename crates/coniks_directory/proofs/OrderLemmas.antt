@@ -37,14 +37,6 @@ maps-push f g xs ys x y are is = map-append g ys (y ∷ []) ∙ ap (λ zs. zs ++
 abbrev IsKept : List Record → List ℕ × ℕ → Type 0
 IsKept records p = (r : Record) × (slice_get records p.1 ≡ Some r) × (r.index.0 ≡ p.0)
 
-all_kept : (hash of : List ℕ → List ℕ) (bound : List Registered) (records : List Record) (numbers : BTreeMap (List ℕ) ℕ) → AreDrafts hash of bound records numbers → All (IsKept records) numbers.entries
-all_kept hash of bound records numbers s k d below = s.kept _ _ (All-found nat_list_cmp_total numbers s.ordered k d below)
-
--- each number is that of a record
-pub numbers_within : (hash of : List ℕ → List ℕ) (bound : List Registered) (records : List Record) (numbers : BTreeMap (List ℕ) ℕ) → AreDrafts hash of bound records numbers → All (λ n. n < length records) (values numbers)
-numbers_within hash of bound records numbers s =
-    All-map (λ n. n < length records) (λ (p : List ℕ × ℕ). p.1) numbers.entries (λ k d below. let r = all_kept hash of bound records numbers s k d below in slice_get_within records _ r.0 r.1)
-
 module _ (hash of : List ℕ → List ℕ) (base : ℕ) (records : List Record) (sealed : (n : ℕ) (r : Record) → slice_get records n ≡ Some r → IsSealed hash of r) where
   after : (x : List ℕ) (ps : List (List ℕ × ℕ)) → IsIndex x → All (IsKept records) ps → AllByRecursion (λ y. slice_cmp nat_cmp x y ≡ Less) (keys_of ps) → AllAfter x (map (entry_at base records) (values_of ps))
   after x [] ix kept sorted = tt
@@ -78,13 +70,18 @@ each base records (p ∷ ps) index n some =
       | false ↦ λ h. inr (each base records ps index n h)
     ]) some
 
-pub changes : (hash of : List ℕ → List ℕ) (bound : List Registered) (base : ℕ) (records : List Record) (numbers : BTreeMap (List ℕ) ℕ) → AreDrafts hash of bound records numbers
-    → AreChangesOf base records (map (entry_at base records) (values numbers))
-changes hash of bound base records numbers s =
-    let kept = all_kept hash of bound records numbers s in
-    record {
-      increasing = increasing hash of base records s.sealed numbers.entries kept s.ordered;
-      each = λ n r at. rw at at (each base records numbers.entries r.index.0 n (s.all n r at));
-      only = λ e there. only base records numbers.entries e kept there;
-      counted = length-map (values numbers) (entry_at base records) ∙ length-map numbers.entries (λ (p : List ℕ × ℕ). p.1) ∙ s.counted;
-    }
+module _ (hash of : List ℕ → List ℕ) (bound : List Registered) (records : List Record) (numbers : BTreeMap (List ℕ) ℕ) (s : AreDrafts hash of bound records numbers) where
+  all_kept : All (IsKept records) numbers.entries
+  all_kept k d below = s.kept _ _ (All-found nat_list_cmp_total numbers s.ordered k d below)
+
+  -- each number is that of a record
+  pub numbers_within : All (λ n. n < length records) (values numbers)
+  numbers_within = All-map (λ n. n < length records) (λ (p : List ℕ × ℕ). p.1) numbers.entries (λ k d below. let r = all_kept k d below in slice_get_within records _ r.0 r.1)
+
+  pub changes : (base : ℕ) → AreChangesOf base records (map (entry_at base records) (values numbers))
+  changes base = record {
+    increasing = increasing hash of base records s.sealed numbers.entries all_kept s.ordered;
+    each = λ n r at. rw at at (each base records numbers.entries r.index.0 n (s.all n r at));
+    only = λ e there. only base records numbers.entries e all_kept there;
+    counted = length-map (values numbers) (entry_at base records) ∙ length-map numbers.entries (λ (p : List ℕ × ℕ). p.1) ∙ s.counted;
+  }

@@ -26,4 +26,4 @@ returns c = λ hash of bound s.
     let start = c.into_iter-number-iterator.ensures.into_iter_gives ∙ c.values-number-items.ensures.rest in
     let end = iter_end deref all c.loop-number.yielded c.into_iter-number-iterator.result c.loop-number.number-iterator c.next.new.self c.next.result start c.loop-number.yielded_by c.in-None.is c.next.ensures.steps in
     let are = c.loop-number.invariant ∙ sym (map-map (entry_at c.args.base records) deref c.loop-number.yielded) ∙ ap (map (entry_at c.args.base records)) end.0 in
-    rw are (changes hash of bound c.args.base records c.args.drafts.now.numbers s)
+    rw are (changes hash of bound records c.args.drafts.now.numbers s c.args.base)

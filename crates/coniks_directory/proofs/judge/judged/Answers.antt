@@ -11,8 +11,6 @@ loop-position-init g c = record {
 
 pub loop-position-preserved : goal.loop-position-preserved
 loop-position-preserved g c =
-    let hash : List ℕ → List ℕ = g.H.Hash32.digest_of c.args.h.now in
-    let of : List ℕ → List ℕ = g.X.IndexSource.index_of c.args.source.now in
     let l = c.loop-position in
     let op = c.index-ops-position.result in
     let ops = operations c.args.ops.now in
@@ -20,9 +18,9 @@ loop-position-preserved g c =
     let at = op_at c.args.ops.now l.position op c.loop-position-test.true c.index-ops-position.is in
     let is : c.judge_one.result ≡ Ok None = c.in-Ok-None.is ∙ ap Ok c.in-Ok-None.field-0-is in
     record {
-      drafts = subst (λ (bs : List Registered). AreDrafts hash of bs c.judge_one.new.drafts.records.items c.judge_one.new.drafts.numbers) (bound-next ops l.position (operation_of op) at) (c.judge_one.ensures.drafts is before l.invariant.drafts);
+      drafts = rw (← bound-next ops l.position (operation_of op) at) (c.judge_one.ensures.drafts is before l.invariant.drafts);
       rest = λ nonce registry shown.
-          judged-next of registry ops l.position (operation_of op) None at (l.invariant.rest nonce registry shown) (sym (c.in-Ok-None.ensures.fault nonce registry before shown l.invariant.drafts) ∙ ap (option_map fault_is) c.in-Ok-None.field-0-is);
+          judged-next (g.X.IndexSource.index_of c.args.source.now) registry ops l.position (operation_of op) None at (l.invariant.rest nonce registry shown) (sym (c.in-Ok-None.ensures.fault nonce registry before shown l.invariant.drafts) ∙ ap (option_map fault_is) c.in-Ok-None.field-0-is);
     }
 
 pub returns-in-Ok-Some-clause-fault : goal.returns-in-Ok-Some-clause-fault
