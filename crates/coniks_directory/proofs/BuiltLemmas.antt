@@ -58,7 +58,8 @@ module _ (hash of : List ℕ → List ℕ) (old : List Record) (es : List Number
         let r = c.only x fresh in
         let bound = subst (λ (bs : List Registered). IsIn (registered_of r.1) bs) s.binds (record_in new r.0 r.1 r.2) in
         let stays = overlaid_new registry (map bound_by ops) (registered_of r.1) may.once bound in
-        subst (λ (e : Entry Registered). IsIn e (entries_of hash of (after registry ops))) (new_entry r.0 r.1 r.2 ∙ ap (backed_by binding) r.3) (entry_in hash of (registered_of r.1) (after registry ops) stays)
+        subst (λ (e : Entry Registered). IsIn e (entries_of hash of (after registry ops))) (new_entry r.0 r.1 r.2 ∙ ap (backed_by binding) r.3)
+        (entry_in hash of (registered_of r.1) (after registry ops) stays)
     | inr (kept, off) ↦
         let f = registered_at old in
         let b = f x.behind in
@@ -68,7 +69,8 @@ module _ (hash of : List ℕ → List ℕ) (old : List Record) (es : List Number
         let r = record_of n.bound n.there in
         let on = index_there cs (entry_of_record (length old + r.0) r.1) x.index (c.each r.0 r.1 r.2) (r.4 ∙ ap of n.named ∙ ap (λ (e : Entry Registered). e.index) own.0) in
         cc) in
-        subst (λ (e : Entry Registered). IsIn e (entries_of hash of (after registry ops))) (own.0 ∙ old_entry x kept) (entry_in hash of b (after registry ops) (overlaid_old registry (map bound_by ops) b own.1 gone))
+        subst (λ (e : Entry Registered). IsIn e (entries_of hash of (after registry ops))) (own.0 ∙ old_entry x kept)
+        (entry_in hash of b (after registry ops) (overlaid_old registry (map bound_by ops) b own.1 gone))
   ]
 
   -- the index of each binding is that of an entry

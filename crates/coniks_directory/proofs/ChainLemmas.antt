@@ -18,7 +18,8 @@ pub record IsLast (nonce : List ℕ) (history : List Shown) (before : Option Bef
   pub epoch : epoch_before before ≡ latest_epoch history
   pub under : IfSome before (λ b. latest_nonce nonce history ≡ b.nonce.0)
 
-pub is_last : (hash of : List ℕ → List ℕ) (policy nonce : List ℕ) (history : List Shown) (chain : List Entry) → IsChainOf hash of policy history chain → IsLast nonce history (before_at hash None chain (length chain))
+pub is_last : (hash of : List ℕ → List ℕ) (policy nonce : List ℕ) (history : List Shown) (chain : List Entry) → IsChainOf hash of policy history chain
+    → IsLast nonce history (before_at hash None chain (length chain))
 is_last hash of policy nonce [] [] is = record { epoch = refl; under = tt }
 is_last hash of policy nonce [] (e ∷ chain) is = absurd (let long = is.long in omega arith)
 is_last hash of policy nonce (s ∷ history) [] is = absurd (let long = is.long in omega arith)
@@ -60,7 +61,8 @@ chain-push hash of policy history chain shown entry is body = record {
 }
 
 -- an entry of a later epoch follows
-pub follows_next : (hash of : List ℕ → List ℕ) (policy : List ℕ) (verdict : List ℕ → List ℕ → Bool) (before : Option Before) (shown : Shown) (entry : Entry) → entry.body ≡ body_of hash of policy before shown
+pub follows_next : (hash of : List ℕ → List ℕ) (policy : List ℕ) (verdict : List ℕ → List ℕ → Bool) (before : Option Before) (shown : Shown) (entry : Entry)
+    → entry.body ≡ body_of hash of policy before shown
     → shown.version ≡ 1 → epoch_before before < shown.t → IfSome before (λ b. shown.nonce ≡ b.nonce.0) → verdict (body_bytes entry.body) entry.signature.0 ≡ true → Follows verdict before entry
 follows_next hash of policy verdict before shown entry body first later under signed =
     let version = ap (λ (b : Body). b.version) body ∙ first in

@@ -26,8 +26,8 @@ last_place [] rest h is = absurd (let never = is in cc)
 last_place (x ∷ []) rest h is = (0, refl, λ d. same_Some x h is)
 last_place (x ∷ y ∷ hs) rest h is = let k = last_place (y ∷ hs) rest h is in (suc k.0, ap suc k.1, k.2)
 
-pub no_older : (hash of : List ℕ → List ℕ) (policy : List ℕ) (history : List Shown) (chain : List Entry) (had has : List Head) (latest answer : Head) → IsChainOf hash of policy history chain → AreRising 0 (numbers_of history)
-    → Begins had has → Begins has (heads_of hash chain) → last_of had ≡ Some latest → last_of has ≡ Some answer → latest.epoch ≤ answer.epoch
+pub no_older : (hash of : List ℕ → List ℕ) (policy : List ℕ) (history : List Shown) (chain : List Entry) (had has : List Head) (latest answer : Head) → IsChainOf hash of policy history chain
+    → AreRising 0 (numbers_of history) → Begins had has → Begins has (heads_of hash chain) → last_of had ≡ Some latest → last_of has ≡ Some answer → latest.epoch ≤ answer.epoch
 no_older hash of policy history chain had has latest answer is up begins within last_had last_has =
     let epoch : Head → ℕ = λ h. h.epoch in
     let all : heads_of hash chain ≡ had ++ (begins.0 ++ within.0) = within.1 ∙ ap (λ hs. hs ++ within.0) begins.1 ∙ append_assoc had begins.0 within.0 in

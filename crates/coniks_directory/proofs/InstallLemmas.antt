@@ -32,7 +32,8 @@ holds-extended hash of nonce nodes further records more e grown longer h =
       };
     }
 
-shown-before : (records more : List Record) (es : List Epoch) → ((k : ℕ) (e : Epoch) → slice_get es k ≡ Some e → e.count ≤ length records) → map (shown_of (records ++ more)) es ≡ map (shown_of records) es
+shown-before : (records more : List Record) (es : List Epoch) → ((k : ℕ) (e : Epoch) → slice_get es k ≡ Some e → e.count ≤ length records)
+    → map (shown_of (records ++ more)) es ≡ map (shown_of records) es
 shown-before records more [] counted = refl
 shown-before records more (e ∷ es) counted =
     rw (registry_at-append records more e.count (counted 0 e refl), shown-before records more es (λ k f at. counted (suc k) f at)) refl
@@ -63,7 +64,8 @@ installed s p nodes root t entry = record s {
 }
 
 -- it is so where each part is
-pub installed_is : (s : State) (p : Prepared) (root : Root) (t count : ℕ) (entry : Entry) (nodes : List Node) (records : List Record) (epochs : List Epoch) (chain : List Entry) → records ≡ records_after s p → count ≡ length records
+pub installed_is : (s : State) (p : Prepared) (root : Root) (t count : ℕ) (entry : Entry) (nodes : List Node) (records : List Record) (epochs : List Epoch) (chain : List Entry)
+    → records ≡ records_after s p → count ≡ length records
     → epochs ≡ s.epochs ++ record { t = t; version = p.version; nonce = p.nonce; root = root; count = count } ∷ [] → chain ≡ s.chain ++ entry ∷ []
     → (let later : State = record s { nodes = nodes; records = records; epochs = epochs; chain = chain } in later ≡ installed s p nodes root t entry)
 installed_is s p root t count entry nodes records epochs chain records-are counted epochs-are chain-is = cc

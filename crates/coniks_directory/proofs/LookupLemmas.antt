@@ -14,10 +14,11 @@ use Rattle.coniks_directory.proofs.NumberLemmas.{find_at}
 -- what the history shows of an epoch
 pub shown-found : (records : List Record) (es : List Epoch) (t : ℕ) → shown_at (map (shown_of records) es) t ≡ option_map (shown_of records) (find (λ (e : Epoch). e.t == t) es)
 shown-found records [] t = refl
-shown-found records (e ∷ es) t = (elim (e.t == t) as (λ v. cond v (Some (shown_of records e)) (shown_at (map (shown_of records) es) t) ≡ option_map (shown_of records) (cond v (Some e) (find (λ (f : Epoch). f.t == t) es))) [
-  | true ↦ refl
-  | false ↦ shown-found records es t
-])
+shown-found records (e ∷ es) t =
+    (elim (e.t == t) as (λ v. cond v (Some (shown_of records e)) (shown_at (map (shown_of records) es) t) ≡ option_map (shown_of records) (cond v (Some e) (find (λ (f : Epoch). f.t == t) es))) [
+      | true ↦ refl
+      | false ↦ shown-found records es t
+    ])
 
 -- ---- an installed epoch and its entry, which stand at one place
 
@@ -55,11 +56,13 @@ module _ (hash of : List ℕ → List ℕ) (s : State) (t : ℕ) (e : Epoch) (en
       rw i.shown (ap Some (is r.entries r.shows ∙ mirrored_root hash of e.nonce.0 s.records r.entries (shown_of s.records e).registry r.mirrors))
 
   -- a path from its root is one in its registry's tree
-  pub pathed : (j : List ℕ) (proof : Proof) → ((entries : List Numbered) → Shows hash e.nonce.0 s.nodes s.records e.root.0 [] entries → IsPath hash e.nonce.0 (map (backed_by (registered_at s.records)) entries) j proof)
+  pub pathed : (j : List ℕ) (proof : Proof) → ((entries : List Numbered) → Shows hash e.nonce.0 s.nodes s.records e.root.0 [] entries
+      → IsPath hash e.nonce.0 (map (backed_by (registered_at s.records)) entries) j proof)
       → IsPath hash e.nonce.0 (entries_of hash of (shown_of s.records e).registry) j proof
   pathed j proof is = let r = i.holds.registry in mirrored_path hash of e.nonce.0 s.records r.entries (shown_of s.records e).registry r.mirrors j proof (is r.entries r.shows)
 
-  pub accepted_there : (name : List ℕ) (proof : Proof) → IsLength MAX_NAME name → IsPath hash e.nonce.0 (entries_of hash of (shown_of s.records e).registry) (of name) proof → IsAcceptedAt hash of (history_of s) t name proof
+  pub accepted_there : (name : List ℕ) (proof : Proof) → IsLength MAX_NAME name → IsPath hash e.nonce.0 (entries_of hash of (shown_of s.records e).registry) (of name) proof
+      → IsAcceptedAt hash of (history_of s) t name proof
   accepted_there name proof sized path shown there alone =
       let same : shown_of s.records e ≡ shown = same_Some (shown_of s.records e) shown (sym i.shown ∙ there) in
       let m = i.holds.registry.mirrors in

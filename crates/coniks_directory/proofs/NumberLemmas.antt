@@ -41,7 +41,8 @@ module _ {T : Type 0} (number : T → ℕ) where
       rw off (find_none n xs (λ k d within. apart (suc k) d (omega arith)))
 
   -- an element of a number stands where the numbers that aren't less begin, or nowhere
-  pub not_found : (t n place : ℕ) (xs : List T) → AreRising t (map number xs) → (IsPartitionedBy (λ x. ltb (number x) n) xs → IsPartitionPoint (λ x. ltb (number x) n ≡ true) (λ x. ltb (number x) n ≡ false) xs place)
+  pub not_found : (t n place : ℕ) (xs : List T) → AreRising t (map number xs) → (IsPartitionedBy (λ x. ltb (number x) n) xs
+      → IsPartitionPoint (λ x. ltb (number x) n ≡ true) (λ x. ltb (number x) n ≡ false) xs place)
       → ((x : T) → slice_get xs place ≡ Some x → number x ≢ n) → find (λ x. number x == n) xs ≡ None
   not_found t n place xs up partitioned apart = find_none n xs (λ k d within.
       let cut = partitioned (IsPartitionedBy-ltb number xs n (rising-sorted t xs up)) in

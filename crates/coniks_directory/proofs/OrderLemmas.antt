@@ -38,7 +38,8 @@ abbrev IsKept : List Record → List ℕ × ℕ → Type 0
 IsKept records p = (r : Record) × (slice_get records p.1 ≡ Some r) × (r.index.0 ≡ p.0)
 
 module _ (hash of : List ℕ → List ℕ) (base : ℕ) (records : List Record) (sealed : (n : ℕ) (r : Record) → slice_get records n ≡ Some r → IsSealed hash of r) where
-  after : (x : List ℕ) (ps : List (List ℕ × ℕ)) → IsIndex x → All (IsKept records) ps → AllByRecursion (λ y. slice_cmp nat_cmp x y ≡ Less) (keys_of ps) → AllAfter x (map (entry_at base records) (values_of ps))
+  after : (x : List ℕ) (ps : List (List ℕ × ℕ)) → IsIndex x → All (IsKept records) ps → AllByRecursion (λ y. slice_cmp nat_cmp x y ≡ Less) (keys_of ps)
+      → AllAfter x (map (entry_at base records) (values_of ps))
   after x [] ix kept sorted = tt
   after x (p ∷ ps) ix kept sorted =
       let k = kept 0 p (omega arith) in
@@ -62,10 +63,12 @@ only base records (p ∷ ps) e kept (inl here) = let k = kept 0 p (omega arith) 
 only base records (p ∷ ps) e kept (inr later) = only base records ps e (λ i d below. kept (suc i) d (omega arith)) later
 
 -- the entry of a number that a look-up finds
-each : (base : ℕ) (records : List Record) (ps : List (List ℕ × ℕ)) (index : List ℕ) (n : ℕ) → lookup (is_at (slice_cmp nat_cmp index)) ps ≡ Some n → IsIn (entry_at base records n) (map (entry_at base records) (values_of ps))
+each : (base : ℕ) (records : List Record) (ps : List (List ℕ × ℕ)) (index : List ℕ) (n : ℕ) → lookup (is_at (slice_cmp nat_cmp index)) ps ≡ Some n
+    → IsIn (entry_at base records n) (map (entry_at base records) (values_of ps))
 each base records [] index n some = absurd (let never = some in cc)
 each base records (p ∷ ps) index n some =
-    (elim (is_eq (slice_cmp nat_cmp index p.0)) as (λ v. cond v (Some p.1) (lookup (is_at (slice_cmp nat_cmp index)) ps) ≡ Some n → IsIn (entry_at base records n) (map (entry_at base records) (values_of (p ∷ ps)))) [
+    (elim (is_eq (slice_cmp nat_cmp index p.0)) as (λ v. cond v (Some p.1) (lookup (is_at (slice_cmp nat_cmp index)) ps) ≡ Some n
+    → IsIn (entry_at base records n) (map (entry_at base records) (values_of (p ∷ ps)))) [
       | true ↦ λ h. let number : p.1 ≡ n = cc in inl (ap (entry_at base records) number)
       | false ↦ λ h. inr (each base records ps index n h)
     ]) some

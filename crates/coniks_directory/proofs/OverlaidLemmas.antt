@@ -55,7 +55,8 @@ within_all [] each = tt
 within_all (b ∷ bs) each = ((each b (inl refl)).0, (each b (inl refl)).1, within_all bs (λ c there. each c (inr there)))
 
 pub within-overlaid : (registry : Registry) (bs : List Registered) → AreWithin registry → AreWithin bs → AreWithin (overlaid registry bs)
-within-overlaid registry bs limits new = within_all (overlaid registry bs) (λ b there. elim (in_overlaid registry bs b there) [ inl fresh ↦ within b bs new fresh | inr old ↦ within b registry limits old.0 ])
+within-overlaid registry bs limits new =
+    within_all (overlaid registry bs) (λ b there. elim (in_overlaid registry bs b there) [ inl fresh ↦ within b bs new fresh | inr old ↦ within b registry limits old.0 ])
 
 -- ---- the entries of a map that is overwritten
 

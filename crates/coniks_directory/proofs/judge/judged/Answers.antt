@@ -1,5 +1,5 @@
-use Rattle.std.proofs.Common.{◌≡◌, List, ℕ, None, Ok, Some, map, take, option_map, arith, sym, subst, ap, ◌∙◌, refl}
-use Rattle.coniks_directory.proofs.Words.{AreDrafts, Registered, bound_by, fault_is, length-map, operation_of, operations}
+use Rattle.std.proofs.Common.{◌≡◌, None, Ok, Some, map, take, option_map, arith, sym, ap, ◌∙◌, refl}
+use Rattle.coniks_directory.proofs.Words.{bound_by, fault_is, length-map, operation_of, operations}
 use Rattle.coniks_directory.proofs.JudgeLemmas.{bound-next, bound-all, op_at, judged-next, judged-all}
 use Rattle.coniks_directory.proofs.judge.judged.Goals as goal
 
@@ -20,7 +20,8 @@ loop-position-preserved g c =
     record {
       drafts = rw (← bound-next ops l.position (operation_of op) at) (c.judge_one.ensures.drafts is before l.invariant.drafts);
       rest = λ nonce registry shown.
-          judged-next (g.X.IndexSource.index_of c.args.source.now) registry ops l.position (operation_of op) None at (l.invariant.rest nonce registry shown) (sym (c.in-Ok-None.ensures.fault nonce registry before shown l.invariant.drafts) ∙ ap (option_map fault_is) c.in-Ok-None.field-0-is);
+          judged-next (g.X.IndexSource.index_of c.args.source.now) registry ops l.position (operation_of op) None at (l.invariant.rest nonce registry shown)
+          (sym (c.in-Ok-None.ensures.fault nonce registry before shown l.invariant.drafts) ∙ ap (option_map fault_is) c.in-Ok-None.field-0-is);
     }
 
 pub returns-in-Ok-Some-clause-fault : goal.returns-in-Ok-Some-clause-fault

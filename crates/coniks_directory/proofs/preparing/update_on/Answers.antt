@@ -23,7 +23,8 @@ part_of-requires-clause-root g c κs within = (c.latest_root-root.ensures (g.H.H
 pub part_of-requires-clause-numbered : goal.part_of-requires-clause-numbered
 part_of-requires-clause-numbered g c κs within =
     let drafts = c.in_ok-drafts.drafts in
-    numbers_within (g.H.Hash32.digest_of c.args.h.now) (g.X.IndexSource.index_of c.args.source.now) (map bound_by (operations c.args.ops.now)) drafts.records.items drafts.numbers c.in_ok-drafts.ensures.drafts
+    numbers_within (g.H.Hash32.digest_of c.args.h.now) (g.X.IndexSource.index_of c.args.source.now)
+    (map bound_by (operations c.args.ops.now)) drafts.records.items drafts.numbers c.in_ok-drafts.ensures.drafts
 
 -- the part is that of the batch on the latest registry
 built_in : (g : given.Over) (c : In-Ok g) → (let s = state_of c.args.held.now in IsBuilt (g.H.Hash32.digest_of c.args.h.now) (g.X.IndexSource.index_of c.args.source.now) c.latest_nonce-nonce.result.0

@@ -28,7 +28,8 @@ path_in g c =
     let hash = g.H.Hash32.digest_of d.h in
     let of = g.X.IndexSource.index_of d.source in
     let e = c.in-Some.epoch in
-    rw (← c.index-index.ensures) (pathed hash of (state_of d.held) c.args.t e _ (c.in-Some.ensures hash of c.self.invariant) c.index-index.result.0 c.in-Ok.proof (λ entries shows. c.in-Ok.ensures hash e.nonce.0 entries shows))
+    rw (← c.index-index.ensures) (pathed hash of (state_of d.held) c.args.t e _ (c.in-Some.ensures hash of c.self.invariant) c.index-index.result.0 c.in-Ok.proof
+    (λ entries shows. c.in-Ok.ensures hash e.nonce.0 entries shows))
 
 pub returns-in-Ok-clause-entry : goal.returns-in-Ok-clause-entry
 returns-in-Ok-clause-entry g c =
@@ -49,7 +50,8 @@ returns-in-Ok-clause-accepted g c =
     let d = c.self.inside in
     let of = g.X.IndexSource.index_of d.source in
     let found = c.in-Some.ensures (g.H.Hash32.digest_of d.h) of c.self.invariant in
-    rw (← c.self.view_is) (accepted_there (g.H.Hash32.digest_of d.h) of (state_of d.held) c.args.t c.in-Some.epoch _ found c.args.name.now c.in-Ok.proof (c.if-not-is_length.ensures.holds refl) (path_in g c))
+    rw (← c.self.view_is) (accepted_there (g.H.Hash32.digest_of d.h) of (state_of d.held) c.args.t c.in-Some.epoch _ found c.args.name.now c.in-Ok.proof (c.if-not-is_length.ensures.holds refl)
+    (path_in g c))
 
 pub returns-in-Err-clause-missed : goal.returns-in-Err-clause-missed
 returns-in-Err-clause-missed g c =
