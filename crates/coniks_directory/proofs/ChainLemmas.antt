@@ -67,10 +67,7 @@ pub follows_next : (hash of : List ℕ → List ℕ) (policy : List ℕ) (verdic
 follows_next hash of policy verdict before shown entry body first later under signed =
     let version = ap (λ (b : Body). b.version) body ∙ first in
     let t = ap (λ (b : Body). b.t) body in
-    let t_prev = ap (λ (b : Body). b.t_prev) body in
-    let previous = ap (λ (b : Body). b.previous.0) body in
-    let nonce = ap (λ (b : Body). b.nonce.0) body in
     (elim before as (λ o. epoch_before o < shown.t → IfSome o (λ b. shown.nonce ≡ b.nonce.0) → entry.body.t_prev ≡ epoch_before o → entry.body.previous.0 ≡ link_before o → Follows verdict o entry) [
       | None ↦ λ after _ epoch link. record { rows = (version, (omega arith, (tt, (epoch, (link, (tt, (signed, tt))))))) }
-      | Some b ↦ λ after same epoch link. record { rows = (version, (tt, (omega arith, (epoch, (link, (nonce ∙ same, (signed, tt))))))) }
-    ]) later under t_prev previous
+      | Some b ↦ λ after same epoch link. record { rows = (version, (tt, (omega arith, (epoch, (link, (ap (λ (x : Body). x.nonce.0) body ∙ same, (signed, tt))))))) }
+    ]) later under (ap (λ (b : Body). b.t_prev) body) (ap (λ (b : Body). b.previous.0) body)

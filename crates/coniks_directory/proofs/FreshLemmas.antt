@@ -1,5 +1,5 @@
 -- An update that isn't stale is one of the directory as it is.
-use Rattle.std.proofs.Common.{◌≡◌, ℕ, List, [], ◌∷◌, ◌++◌, length, map, refl, sym, ap, ◌∙◌, arith, length-append, append_assoc}
+use Rattle.std.proofs.Common.{◌≡◌, ℕ, List, [], ◌++◌, length, map, refl, sym, ap, ◌∙◌, arith, length-append, append_assoc}
 use Rattle.coniks_directory.proofs.Words.{Grows, IsUpdate, IsUpdateOf, Prepared, Record, State, append-nil, history_of, nil_from_length}
 use Rattle.coniks_directory.proofs.Words.{registry_after, registry_at, shown_of}
 use Rattle.coniks_tree.proofs.Lemmas.{Extends-trans, Fits-more, Stands-extended}
@@ -52,10 +52,6 @@ Grows-refl s = record {
   still = λ none. refl;
 }
 
-neither_more : {T : Type 0} (xs ys : List T) → xs ++ ys ≡ [] → (xs ≡ []) × (ys ≡ [])
-neither_more [] ys none = (refl, none)
-neither_more (x ∷ xs) ys none = absurd (let never = none in cc)
-
 -- what grows and grows again has grown
 pub Grows-trans : (s t u : State) → Grows s t → Grows t u → Grows s u
 Grows-trans s t u a b = record {
@@ -67,7 +63,9 @@ Grows-trans s t u a b = record {
   records = b.records ∙ ap (λ rs. rs ++ b.more_records) a.records ∙ append_assoc s.records a.more_records b.more_records;
   more_epochs = a.more_epochs ++ b.more_epochs;
   epochs = b.epochs ∙ ap (λ es. es ++ b.more_epochs) a.epochs ∙ append_assoc s.epochs a.more_epochs b.more_epochs;
-  still = λ none. let both = neither_more a.more_epochs b.more_epochs none in rw (a.still both.0, b.still both.1) refl;
+  still = λ none.
+      let long = simp length-append at (ap length none) in
+      rw (a.still (nil_from_length a.more_epochs (omega arith)), b.still (nil_from_length b.more_epochs (omega arith))) refl;
 }
 
 pub ruleset growth = (Grows-refl, Grows-trans)

@@ -3,7 +3,7 @@ use Rattle.std.proofs.Common.{◌<◌, ◌≤◌, get_or, ◌≡◌, ℕ, ◌+�
 use Rattle.coniks_directory.proofs.Words.{Fault, IsJudged, MAX_KEY, MAX_NAME, Operation, Registered, Registry, at_drop_all, at_drop_more}
 use Rattle.coniks_directory.proofs.Words.{bound_by, clashes, fault_from, fault_of, first_fault, fits, get_or_from_slice_get, has_name}
 use Rattle.coniks_directory.proofs.Words.{index_clash, kind_fault, map-append, operation_of, operations, placed, slice_get-map}
-use Rattle.coniks_directory.proofs.Words.{slice_get_read, slice_get_within, take_all}
+use Rattle.coniks_directory.proofs.Words.{slice_get_read, slice_get_within}
 use Rattle.coniks_directory.specs.declared.batch.Op.{Op}
 use Rattle.coniks_proof.proofs.Lemmas.{clashes-append}
 use Rattle.coniks_directory.proofs.LastLemmas.{take_next}
@@ -25,9 +25,6 @@ op_at ops i op below is = slice_get-map operation_of ops i ∙ ap (option_map op
 -- what the operations up to the next one bind
 pub bound-next : (ops : List Operation) (i : ℕ) (op : Operation) → slice_get ops i ≡ Some op → map bound_by (take i ops) ++ bound_by op ∷ [] ≡ map bound_by (take (i + 1) ops)
 bound-next ops i op at = sym (ap (map bound_by) (take_next ops i op at) ∙ map-append bound_by (take i ops) (op ∷ []))
-
-pub bound-all : (ops : List Operation) (i : ℕ) → length ops ≤ i → map bound_by (take i ops) ≡ map bound_by ops
-bound-all ops i past = ap (map bound_by) (take_all i ops past)
 
 -- the first fault is the next operation's, or that of the operations after it
 pub judged-next : (of : List ℕ → List ℕ) (registry : Registry) (ops : List Operation) (i : ℕ) (op : Operation) (f : Option Fault) → slice_get ops i ≡ Some op → IsJudged of registry ops i

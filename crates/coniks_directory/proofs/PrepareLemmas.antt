@@ -44,17 +44,7 @@ module _ (hash of : List ℕ → List ℕ) (s : State) where
         let registry = registry_is p ops b.binds in
         let none = λ (empty : length ops ≡ 0). p.counted ∙ ap node_count (b.none (many ∙ empty)) ∙ latest.counted in
         record {
-          update = record {
-            base = base;
-            counted = whole.last;
-            version = version;
-            nonce = under;
-            fits = b.fits;
-            placed = b.placed;
-            entries = b.entries;
-            stands = b.stands;
-            mirrors = rw registry b.mirrors;
-          };
+          update = record { base = base; counted = whole.last; version = version; nonce = under; fits = b.fits; placed = b.placed; entries = b.entries; stands = b.stands; mirrors = rw registry b.mirrors };
           registry = registry;
           few = few_added (history_of s) (length ops) p.new_nodes (let few = b.few in let count = p.counted in omega (arith, many)) none;
           none = none;

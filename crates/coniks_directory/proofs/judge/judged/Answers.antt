@@ -1,6 +1,6 @@
 use Rattle.std.proofs.Common.{◌≡◌, None, Ok, Some, map, take, option_map, arith, sym, ap, ◌∙◌, refl}
-use Rattle.coniks_directory.proofs.Words.{bound_by, fault_is, length-map, operation_of, operations}
-use Rattle.coniks_directory.proofs.JudgeLemmas.{bound-next, bound-all, op_at, judged-next, judged-all}
+use Rattle.coniks_directory.proofs.Words.{bound_by, fault_is, length-map, operation_of, operations, take_all}
+use Rattle.coniks_directory.proofs.JudgeLemmas.{bound-next, op_at, judged-next, judged-all}
 use Rattle.coniks_directory.proofs.judge.judged.Goals as goal
 
 pub loop-position-init : goal.loop-position-init
@@ -37,7 +37,7 @@ pub returns-clause-drafts : goal.returns-clause-drafts
 returns-clause-drafts g c =
     let l = c.loop-position in
     let ops = operations c.args.ops.now in
-    rw (bound-all ops l.position (omega (arith, length-map c.args.ops.now operation_of))) at l.invariant.drafts
+    rw (take_all l.position ops (omega (arith, length-map c.args.ops.now operation_of))) at l.invariant.drafts
 
 pub returns-clause-faultless : goal.returns-clause-faultless
 returns-clause-faultless g c = λ nonce registry shown.
