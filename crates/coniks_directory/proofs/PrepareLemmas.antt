@@ -1,6 +1,6 @@
 -- An update of a batch on the state of a directory.
 use Rattle.std.proofs.Common.{◌≡◌, ℕ, zero, suc, ◌+◌, ◌*◌, ◌-◌, ◌≤◌, List, [], ◌∷◌, ◌++◌, length, map, arith, refl, sym, ap, subst, ◌∙◌, Option, Some, None, IfErr, Result, Err, slice_get}
-use Rattle.coniks_directory.proofs.Words.{Epoch, IsBuilt, IsLatestRoot, IsUpdateBy, Op, Prepared, Registered, Registry, Root, Shown, State}
+use Rattle.coniks_directory.proofs.Words.{Epoch, IsBuilt, IsLatestRoot, IsUpdateBy, Mirrors, Op, Prepared, Registered, Registry, Root, Shown, State}
 use Rattle.coniks_directory.proofs.Words.{Whole, after, bound_by, history_of, latest_nonce, latest_registry, length-map, map-append}
 use Rattle.coniks_directory.proofs.Words.{most_nodes, node_count, operation_of, operations, overlaid, registered_of, registry_after, shown_of}
 use Rattle.coniks_proof.proofs.Lemmas.{overlaid-append}
@@ -42,9 +42,10 @@ module _ (hash of : List ℕ → List ℕ) (s : State) where
     update_by p ops root latest base version under b =
         let many = length-map ops operation_of in
         let registry = registry_is p ops b.binds in
+        let mirrors : Mirrors hash of (s.records ++ p.records.items) b.entries (registry_after s p) = rw registry b.mirrors in
         let none = λ (empty : length ops ≡ 0). p.counted ∙ ap node_count (b.none (many ∙ empty)) ∙ latest.counted in
         record {
-          update = record { base = base; counted = whole.last; version = version; nonce = under; fits = b.fits; placed = b.placed; entries = b.entries; stands = b.stands; mirrors = rw registry b.mirrors };
+          update = record { base = base; counted = whole.last; version = version; nonce = under; fits = b.fits; placed = b.placed; entries = b.entries; stands = b.stands; mirrors = mirrors };
           registry = registry;
           few = few_added (history_of s) (length ops) p.new_nodes (let few = b.few in let count = p.counted in omega (arith, many)) none;
           none = none;
