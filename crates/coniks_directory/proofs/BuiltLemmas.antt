@@ -131,10 +131,6 @@ old_map hash of nonce nodes records None registry none = rw none (
   },
 )
 
-few_kept : (root : Option Root) → node_count (unchanged root) ≤ 1
-few_kept (Some root) = omega arith
-few_kept None = omega arith
-
 -- the part that `build` makes of the changes of a batch without fault
 module _ (hash of : List ℕ → List ℕ) (nonce : List ℕ) (nodes : List Node) (records : List Record) (root : Option Root) (registry : Registry) (ops : List Operation)
     (new : List Record) (numbers : BTreeMap (List ℕ) ℕ) (changes : List Change) (p : Part)
@@ -157,7 +153,9 @@ module _ (hash of : List ℕ → List ℕ) (nonce : List ℕ) (nodes : List Node
       record {
         binds = s.binds;
         fits = fits;
-        few = let one : length changes ≡ 0 → node_count p ≤ 1 = λ none. rw (empty none) (few_kept root) in rw (← as_many) (grind arith);
+        few =
+            let one : length changes ≡ 0 → node_count p ≤ 1 = λ none. rw (empty none) (elim root as (λ r. node_count (unchanged r) ≤ 1) [ Some r ↦ omega arith | None ↦ omega arith ]) in
+            rw (← as_many) (grind arith);
         none = rw as_many at empty;
         placed = placed (records ++ new) (Extends-append records new) (placed_all (records ++ new) changes (stored_new hash of records o.0 registry o.2 ops new numbers s cs c may));
         entries = overwritten o.0 cs;

@@ -1,5 +1,5 @@
 -- An update of a batch on the state of a directory.
-use Rattle.std.proofs.Common.{◌≡◌, ℕ, zero, suc, ◌+◌, ◌*◌, ◌-◌, ◌≤◌, List, [], ◌∷◌, ◌++◌, length, map, arith, refl, sym, ap, subst, ◌∙◌, Option, Some, None, IfErr, Result, Err, slice_get}
+use Rattle.std.proofs.Common.{◌≡◌, ℕ, zero, suc, ◌+◌, ◌*◌, ◌-◌, ◌≤◌, List, [], ◌∷◌, ◌++◌, length, map, arith, refl, sym, ap, ◌∙◌, Option, Some, None, slice_get}
 use Rattle.coniks_directory.proofs.Words.{Epoch, IsBuilt, IsLatestRoot, IsUpdateBy, Mirrors, Op, Prepared, Registered, Registry, Root, Shown, State}
 use Rattle.coniks_directory.proofs.Words.{Whole, after, bound_by, history_of, latest_nonce, latest_registry, length-map, map-append}
 use Rattle.coniks_directory.proofs.Words.{most_nodes, node_count, operation_of, operations, overlaid, registered_of, registry_after, shown_of}
@@ -50,7 +50,3 @@ module _ (hash of : List ℕ → List ℕ) (s : State) where
           few = few_added (history_of s) (length ops) p.new_nodes (let few = b.few in let count = p.counted in omega (arith, many)) none;
           none = none;
         }
-
--- what is true of a fault is true of an answer with that fault
-pub answered : {T E : Type 0} (result : Result T E) (fault : E) (P : E → Type 0) → result ≡ Err fault → P fault → IfErr result P
-answered result fault P is p = subst (λ r. IfErr r P) (sym is) p

@@ -1,8 +1,8 @@
-use Rattle.std.proofs.Common.{ap, arith, map, rules, ◌∙◌}
-use Rattle.coniks_directory.proofs.Words.{IsBuilt, IsJudgedFault, Nonce, bound_by, history_of, latest_registry, length-map, operation_of}
+use Rattle.std.proofs.Common.{◌≡◌, Err, ap, arith, map, rules, ◌∙◌}
+use Rattle.coniks_directory.proofs.Words.{IsBuilt, Nonce, bound_by, history_of, latest_registry, length-map, operation_of}
 use Rattle.coniks_directory.proofs.Words.{operations, state_of}
 use Rattle.coniks_directory.proofs.OrderLemmas.{numbers_within}
-use Rattle.coniks_directory.proofs.PrepareLemmas.{answered, update_by}
+use Rattle.coniks_directory.proofs.PrepareLemmas.{update_by}
 use Rattle.coniks_directory.proofs.preparing.update_on.Goals.{In-Ok}
 use Rattle.coniks_directory.proofs.preparing.update_on.Given as given
 use Rattle.coniks_directory.proofs.preparing.update_on.Goals as goal
@@ -14,8 +14,8 @@ pub returns-in_err-drafts-clause-fault : goal.returns-in_err-drafts-clause-fault
 returns-in_err-drafts-clause-fault g c =
     let of = g.X.IndexSource.index_of c.args.source.now in
     let registry = latest_registry (history_of (state_of c.args.held.now)) in
-    answered c.from_residual.result c.in_err-drafts.field-0.0 (IsJudgedFault of registry (operations c.args.ops.now)) (search rules)
-    (c.in_err-drafts.ensures.fault _ registry ((c.latest_root-root.ensures (g.H.Hash32.digest_of c.args.h.now) of c.requires.whole).shows _ c.latest_nonce-nonce.ensures))
+    let is : c.from_residual.result ≡ Err c.in_err-drafts.field-0.0 = search rules in
+    rw is (c.in_err-drafts.ensures.fault _ registry ((c.latest_root-root.ensures (g.H.Hash32.digest_of c.args.h.now) of c.requires.whole).shows _ c.latest_nonce-nonce.ensures))
 
 pub part_of-requires-clause-root : goal.part_of-requires-clause-root
 part_of-requires-clause-root g c κs within = (c.latest_root-root.ensures (g.H.Hash32.digest_of c.args.h.now) (g.X.IndexSource.index_of c.args.source.now) c.requires.whole).known
