@@ -31,16 +31,16 @@ fn part_of<H: Hash32 + Sync, G: Gate + Sync, R: Threads + Sync>(
     rt: &R,
     alloc: Global,
     h: &H,
-    nonce: &Nonce,
+    drafts: &Drafts,
     tree: &Tree,
     root: Option<Root>,
-    drafts: &Drafts,
+    nonce: &Nonce,
     depth: usize,
     workers: usize,
     gate: &G,
 ) -> Result<Part, OutOfMemory>
-    requires root { IfSome root (λ r. r.0 < length tree.now.nodes.items) }
     requires numbered { All (λ n. n < length drafts.now.records.items) (values drafts.now.numbers) }
+    requires root { IfSome root (λ r. r.0 < length tree.now.nodes.items) }
     requires depth { depth ≤ MAX_DEPTH }
     requires workers { AreWorkers workers }
     ensures { IfOk result (λ part. (of : List ℕ → List ℕ) (registry : Registry) (ops : List Operation)
@@ -99,7 +99,7 @@ pub(crate) fn update_on<H: Hash32 + Sync, X: IndexSource, G: Gate + Sync, R: Thr
     let (root, nonce) = (held.latest_root(), held.latest_nonce());
     let drafts = judged(alloc, h, source, &held.tree, root, ops)?;
     match part_of(
-        rt, alloc, h, &nonce, &held.tree, root, &drafts, depth, workers, gate,
+        rt, alloc, h, &drafts, &held.tree, root, &nonce, depth, workers, gate,
     ) {
         Ok(part) => Ok(update_of(held, nonce, part, drafts)),
         Err(_) => Err(BatchFault::OutOfMemory),
