@@ -1,5 +1,5 @@
 -- The records of the operations that were judged, and one more.
-use Rattle.std.proofs.Common.{◌≡◌, ◌≢◌, ℕ, zero, suc, ◌+◌, List, [], ◌∷◌, ◌++◌, length, map, arith, length-append, true, false, refl, sym, ap, subst, ◌∙◌, cond, ◌⊎◌, inl, inr, Some, None, slice_get}
+use Rattle.std.proofs.Common.{◌≡◌, ◌≢◌, ℕ, zero, suc, ◌+◌, List, [], ◌∷◌, ◌++◌, length, map, arith, length-append, true, false, refl, sym, ap, subst, ◌∙◌, cond, inl, inr, Some, None, slice_get}
 use Rattle.coniks_directory.proofs.Words.{AreDrafts, BTreeMap, IsFree, IsHeld, IsIn, IsIndex, IsOrdered, IsSealed, Record, Registered}
 use Rattle.coniks_directory.proofs.Words.{btree_map_len, bytes_eq, bytes_eq-Decides, false_from_ne_true, has_name, is_eq, is_eq-slice_cmp}
 use Rattle.coniks_directory.proofs.Words.{map-append, nat_cmp, number_at, registered_of, slice_cmp}
@@ -66,38 +66,33 @@ module _ (hash of : List ℕ → List ℕ) (bound : List Registered) (records : 
   ]) refl
 
   -- one record more
-  pub drafts_next : (records' : List Record) (numbers' : BTreeMap (List ℕ) ℕ) (r : Record) → IsSealed hash of r → IsFree of bound r.index.0 → records' ≡ records ++ r ∷ []
+  pub drafts_next : (numbers' : BTreeMap (List ℕ) ℕ) (r : Record) → IsSealed hash of r → IsFree of bound r.index.0
       → ((i : List ℕ) → number_at numbers' i ≡ cond (is_eq (slice_cmp nat_cmp r.index.0 i)) (Some (length records)) (number_at numbers i))
-      → IsOrdered (slice_cmp nat_cmp) numbers' → btree_map_len numbers' ≡ btree_map_len numbers + 1 → AreDrafts hash of (bound ++ registered_of r ∷ []) records' numbers'
-  drafts_next records' numbers' r sealed free items updates ordered longer =
-      let here : number_at numbers' r.index.0 ≡ Some (length records) =
-      updates r.index.0 ∙ ap (λ b. cond b (Some (length records)) (number_at numbers r.index.0)) (is_eq-slice_cmp r.index.0 r.index.0 ∙ eq_same r.index.0 r.index.0 refl) in
-      let other : (i : List ℕ) → r.index.0 ≢ i → number_at numbers' i ≡ number_at numbers i =
-      λ i apart. updates i ∙ ap (λ b. cond b (Some (length records)) (number_at numbers i)) (is_eq-slice_cmp r.index.0 i ∙ eq_apart r.index.0 i apart) in
+      → IsOrdered (slice_cmp nat_cmp) numbers' → btree_map_len numbers' ≡ btree_map_len numbers + 1 → AreDrafts hash of (bound ++ registered_of r ∷ []) (records ++ r ∷ []) numbers'
+  drafts_next numbers' r sealed free updates ordered longer =
+      let here : number_at numbers' r.index.0 ≡ Some (length records) = updates r.index.0 ∙ rw (is_eq-slice_cmp r.index.0 r.index.0, eq_same r.index.0 r.index.0 refl) refl in
+      let other : (i : List ℕ) → r.index.0 ≢ i → number_at numbers' i ≡ number_at numbers i = λ i apart. updates i ∙ rw (is_eq-slice_cmp r.index.0 i, eq_apart r.index.0 i apart) refl in
       let fresh : (n : ℕ) (x : Record) → slice_get records n ≡ Some x → r.index.0 ≢ x.index.0 = λ n x at same.
       let gone = free x.binding.name (sym (s.sealed n x at).indexed ∙ sym same) in let has = has_record n x at in cc in
-      let split : (n : ℕ) (x : Record) → slice_get records' n ≡ Some x → (slice_get records n ≡ Some x) ⊎ ((n ≡ length records) × (r ≡ x)) =
-      λ n x at. get-push records r n x (subst (λ (xs : List Record). slice_get xs n ≡ Some x) items at) in
       record {
-        binds = ap (map registered_of) items ∙ map-append registered_of records (r ∷ []) ∙ ap (λ (bs : List Registered). bs ++ registered_of r ∷ []) s.binds;
-        sealed = λ n x at. elim (split n x at) [ inl old ↦ s.sealed n x old | inr new ↦ subst (IsSealed hash of) new.1 sealed ];
-        kept = λ i n some. (elim (bytes_eq r.index.0 i) as (λ v. bytes_eq r.index.0 i ≡ v → (x : Record) × (slice_get records' n ≡ Some x) × (x.index.0 ≡ i)) [
+        binds = map-append registered_of records (r ∷ []) ∙ ap (λ (bs : List Registered). bs ++ registered_of r ∷ []) s.binds;
+        sealed = λ n x at. elim (get-push records r n x at) [ inl old ↦ s.sealed n x old | inr new ↦ subst (IsSealed hash of) new.1 sealed ];
+        kept = λ i n some. (elim (bytes_eq r.index.0 i) as (λ v. bytes_eq r.index.0 i ≡ v → (x : Record) × (slice_get (records ++ r ∷ []) n ≡ Some x) × (x.index.0 ≡ i)) [
           | true ↦ λ on.
               let same : r.index.0 ≡ i = (bytes_eq-Decides r.index.0 i).0 on in
-              let there : number_at numbers' i ≡ Some (length records) = subst (λ x. number_at numbers' x ≡ Some (length records)) same here in
-              let number : length records ≡ n = cc in
-              (r, subst (λ (xs : List Record). slice_get xs n ≡ Some r) (sym items) (subst (λ k. slice_get (records ++ r ∷ []) k ≡ Some r) number (get-last records r)), same)
+              let number : length records ≡ n = (let there = rw same at here in cc) in
+              (r, rw (← number) (get-last records r), same)
           | false ↦ λ off.
               let old : number_at numbers i ≡ Some n = sym (other i (λ same. let on = eq_same r.index.0 i same in cc)) ∙ some in
               let k = s.kept i n old in
-              (k.0, subst (λ (xs : List Record). slice_get xs n ≡ Some k.0) (sym items) (Extends-append records (r ∷ []) n k.0 k.1), k.2)
+              (k.0, Extends-append records (r ∷ []) n k.0 k.1, k.2)
         ]) refl;
-        all = λ n x at. elim (split n x at) [
+        all = λ n x at. elim (get-push records r n x at) [
           | inl old ↦ other x.index.0 (fresh n x old) ∙ s.all n x old
           | inr new ↦ subst (λ (y : Record). number_at numbers' y.index.0 ≡ Some n) new.1 (here ∙ ap (λ k. Some k) (sym new.0))
         ];
         ordered = ordered;
-        counted = let long = s.counted in let items-long = ap length items in omega (arith, length-append records (r ∷ []));
+        counted = let long = s.counted in omega (arith, length-append records (r ∷ []));
         distinct = IsMap-one_more hash of bound (registered_of r) s.distinct (subst IsIndex sealed.indexed sealed.ranged) (λ c there same.
             let gone = free c.name (same ∙ sym sealed.indexed) in let has = has_of bound c.name c there refl in cc);
       }

@@ -1,22 +1,8 @@
 -- An update that isn't stale is one of the directory as it is.
-use Rattle.std.proofs.Common.{◌≡◌, ℕ, List, [], ◌∷◌, ◌++◌, length, map, refl, sym, ap, ◌∙◌, arith, length-append, append_assoc}
+use Rattle.std.proofs.Common.{◌≡◌, ℕ, List, [], ◌++◌, length, map, refl, sym, ap, ◌∙◌, arith, length-append, append_assoc}
 use Rattle.coniks_directory.proofs.Words.{Grows, IsUpdate, IsUpdateOf, Prepared, Record, State, append-nil, history_of, nil_from_length}
 use Rattle.coniks_directory.proofs.Words.{registry_after, registry_at, shown_of}
 use Rattle.coniks_tree.proofs.Lemmas.{Extends-trans, Fits-more, Stands-extended}
-
--- more nodes, another policy and another chain are of no account to an update
-onto : (hash of : List ℕ → List ℕ) (s t : State) (p : Prepared) → t.nonce ≡ s.nonce → t.records ≡ s.records → t.epochs ≡ s.epochs → Grows s t → IsUpdate hash of s p → IsUpdate hash of t p
-onto hash of s t p nonce records epochs grows u = record {
-  base = u.base ∙ sym (ap length epochs);
-  counted = rw (epochs, records) u.counted;
-  version = u.version;
-  nonce = rw (nonce, records, epochs) u.nonce;
-  fits = Fits-more (length s.nodes) (length t.nodes) 0 p.part grows.longer u.fits;
-  placed = rw records u.placed;
-  entries = u.entries;
-  stands = rw records (Stands-extended hash p.nonce.0 s.nodes t.nodes s.records grows.nodes p.part [] u.entries u.stands);
-  mirrors = rw records u.mirrors;
-}
 
 -- where no epoch came since, neither did records: the update is one of the later state
 module _ (hash of : List ℕ → List ℕ) (s t : State) (p : Prepared) (grows : Grows s t) (u : IsUpdate hash of s p) (base : p.base ≡ length t.epochs) where
@@ -30,7 +16,17 @@ module _ (hash of : List ℕ → List ℕ) (s t : State) (p : Prepared) (grows :
   same_records = grows.records ∙ ap (λ rs. s.records ++ rs) (grows.still none_since) ∙ append-nil s.records
 
   pub fresh_update : IsUpdate hash of t p
-  fresh_update = onto hash of s t p grows.nonce same_records same_epochs grows u
+  fresh_update = record {
+    base = base;
+    counted = rw (same_epochs, same_records) u.counted;
+    version = u.version;
+    nonce = rw (grows.nonce, same_records, same_epochs) u.nonce;
+    fits = Fits-more (length s.nodes) (length t.nodes) 0 p.part grows.longer u.fits;
+    placed = rw same_records u.placed;
+    entries = u.entries;
+    stands = rw same_records (Stands-extended hash p.nonce.0 s.nodes t.nodes s.records grows.nodes p.part [] u.entries u.stands);
+    mirrors = rw same_records u.mirrors;
+  }
 
   -- and the directory shows what it showed, and the update leaves what it left
   pub fresh_history : history_of t ≡ history_of s
@@ -56,10 +52,6 @@ Grows-refl s = record {
   still = λ none. refl;
 }
 
-neither_more : {T : Type 0} (xs ys : List T) → xs ++ ys ≡ [] → (xs ≡ []) × (ys ≡ [])
-neither_more [] ys none = (refl, none)
-neither_more (x ∷ xs) ys none = absurd (let never = none in cc)
-
 -- what grows and grows again has grown
 pub Grows-trans : (s t u : State) → Grows s t → Grows t u → Grows s u
 Grows-trans s t u a b = record {
@@ -71,7 +63,9 @@ Grows-trans s t u a b = record {
   records = b.records ∙ ap (λ rs. rs ++ b.more_records) a.records ∙ append_assoc s.records a.more_records b.more_records;
   more_epochs = a.more_epochs ++ b.more_epochs;
   epochs = b.epochs ∙ ap (λ es. es ++ b.more_epochs) a.epochs ∙ append_assoc s.epochs a.more_epochs b.more_epochs;
-  still = λ none. let both = neither_more a.more_epochs b.more_epochs none in rw (a.still both.0, b.still both.1) refl;
+  still = λ none.
+      let long = simp length-append at (ap length none) in
+      rw (a.still (nil_from_length a.more_epochs (omega arith)), b.still (nil_from_length b.more_epochs (omega arith))) refl;
 }
 
 pub ruleset growth = (Grows-refl, Grows-trans)

@@ -1,7 +1,7 @@
 -- The heads of a chain, which rise.
 use Rattle.std.proofs.Common.{◌≡◌, ℕ, suc, ◌+◌, ◌≤◌, get_or, append_assoc, length-append, List, [], ◌∷◌, ◌++◌, length, map, refl, sym, ap, subst, ◌∙◌, arith, Option, Some, None, slice_get}
-use Rattle.coniks_directory.proofs.Words.{AreRising, Begins, Body, Head, IsChainOf, Shown, before_at, heads_of, last_of, link_before}
-use Rattle.coniks_directory.proofs.Words.{numbers_of, same_Some, zeros}
+use Rattle.coniks_directory.proofs.Words.{AreRising, Begins, Body, Head, IsChainOf, Shown, before_at, head_at, heads_of, last_of, link_before}
+use Rattle.coniks_directory.proofs.Words.{map-map, numbers_of, same_Some, zeros}
 use Rattle.coniks_chain.specs.declared.entry.Entry.{Entry}
 use Rattle.coniks_directory.proofs.NumberLemmas.{rising-sorted}
 
@@ -20,23 +20,18 @@ pub chain-rises : (hash of : List ℕ → List ℕ) (policy : List ℕ) (history
 chain-rises hash of policy history chain is up =
     subst (AreRising 0) (sym (numbers_alike history chain is.long (λ k s e at_s at_e. ap (λ (b : Body). b.t) (is.bodies k s e at_s at_e)))) up
 
--- and so have the heads
-heads_numbers : (hash : List ℕ → List ℕ) (chain : List Entry) → map (λ (h : Head). h.epoch) (heads_of hash chain) ≡ map (λ (e : Entry). e.body.t) chain
-heads_numbers hash [] = refl
-heads_numbers hash (e ∷ chain) = ap (λ ns. e.body.t ∷ ns) (heads_numbers hash chain)
-
 -- the last of the heads that others follow stands where these begin
 last_place : (heads rest : List Head) (h : Head) → last_of heads ≡ Some h → (n : ℕ) × (suc n ≡ length heads) × ((d : Head) → get_or (heads ++ rest) n d ≡ h)
 last_place [] rest h is = absurd (let never = is in cc)
 last_place (x ∷ []) rest h is = (0, refl, λ d. same_Some x h is)
 last_place (x ∷ y ∷ hs) rest h is = let k = last_place (y ∷ hs) rest h is in (suc k.0, ap suc k.1, k.2)
 
-pub no_older : (hash of : List ℕ → List ℕ) (policy : List ℕ) (history : List Shown) (chain : List Entry) (had has : List Head) (latest answer : Head) → IsChainOf hash of policy history chain → AreRising 0 (numbers_of history)
-    → Begins had has → Begins has (heads_of hash chain) → last_of had ≡ Some latest → last_of has ≡ Some answer → latest.epoch ≤ answer.epoch
+pub no_older : (hash of : List ℕ → List ℕ) (policy : List ℕ) (history : List Shown) (chain : List Entry) (had has : List Head) (latest answer : Head) → IsChainOf hash of policy history chain
+    → AreRising 0 (numbers_of history) → Begins had has → Begins has (heads_of hash chain) → last_of had ≡ Some latest → last_of has ≡ Some answer → latest.epoch ≤ answer.epoch
 no_older hash of policy history chain had has latest answer is up begins within last_had last_has =
     let epoch : Head → ℕ = λ h. h.epoch in
     let all : heads_of hash chain ≡ had ++ (begins.0 ++ within.0) = within.1 ∙ ap (λ hs. hs ++ within.0) begins.1 ∙ append_assoc had begins.0 within.0 in
-    let rise : AreRising 0 (map epoch (heads_of hash chain)) = subst (AreRising 0) (sym (heads_numbers hash chain)) (chain-rises hash of policy history chain is up) in
+    let rise : AreRising 0 (map epoch (heads_of hash chain)) = rw (map-map epoch (head_at hash) chain) (chain-rises hash of policy history chain is up) in
     let first = last_place had (begins.0 ++ within.0) latest last_had in
     let last = last_place has within.0 answer last_has in
     let one : get_or (heads_of hash chain) first.0 latest ≡ latest = ap (λ hs. get_or hs first.0 latest) all ∙ first.2 latest in

@@ -40,7 +40,8 @@ module _ (hash of : List ℕ → List ℕ) (nonce : List ℕ) (nodes : List Node
         has = named_in b registry bound;
         only = λ name there has.
             let n = named_of registry name has in
-            let same = same_entry (entries_of hash of registry) (entry_of hash of n.bound) (entry_of hash of b) s.mirrors.names (entry_in hash of n.bound registry n.there) (entry_in hash of b registry bound)
+            let same = same_entry (entries_of hash of registry) (entry_of hash of n.bound) (entry_of hash of b) s.mirrors.names (entry_in hash of n.bound registry n.there)
+            (entry_in hash of b registry bound)
             (ap of n.named ∙ there ∙ sym at-index) in
             sym n.named ∙ ap (λ (x : Entry Registered). x.behind.name) same;
       }
@@ -60,7 +61,8 @@ named_held of registry name b held = same_bool (has_name registry name) (bytes_e
     (λ on. subst (λ n. has_name registry n ≡ true) ((bytes_eq-Decides b.name name).0 on) held.has)
 
 -- whoever has the index of a name that isn't there is another name
-pub clash_some : (of : List ℕ → List ℕ) (registry : Registry) (name : List ℕ) (holder : Option (Bor Record)) → HolderIs of registry (of name) holder → has_name registry name ≡ false → clashes of registry name ≡ is_some holder
+pub clash_some : (of : List ℕ → List ℕ) (registry : Registry) (name : List ℕ) (holder : Option (Bor Record)) → HolderIs of registry (of name) holder → has_name registry name ≡ false
+    → clashes of registry name ≡ is_some holder
 clash_some of registry name None held gone = clash_free of registry name held
 clash_some of registry name (Some r) held gone =
     clash_held of registry name (registered_of r.now) held ∙ ap not (sym (named_held of registry name (registered_of r.now) held) ∙ gone)

@@ -1,19 +1,22 @@
 -- The last of a list, and what is mapped.
-use Rattle.std.proofs.Common.{◌≡◌, ℕ, zero, suc, ◌+◌, ◌-◌, List, [], ◌∷◌, length, map, refl, sym, ap, ◌∙◌, arith, Some, None, slice_get}
-use Rattle.coniks_directory.proofs.Words.{slice_get-get_or, slice_get_within}
+use Rattle.std.proofs.Common.{◌≡◌, ℕ, zero, suc, ◌+◌, ◌-◌, List, [], ◌∷◌, ◌++◌, length, map, take, refl, sym, ap, ◌∙◌, arith, Some, None, slice_get}
+use Rattle.coniks_directory.proofs.Words.{get_or_from_slice_get, slice_get-get_or, slice_get_within, take_all, take_more}
+
+-- a list up to a place, with what stands there
+pub take_next : {T : Type 0} (xs : List T) (i : ℕ) (x : T) → slice_get xs i ≡ Some x → take (i + 1) xs ≡ take i xs ++ x ∷ []
+take_next xs i x at = take_more xs i x (slice_get_within xs i x at) ∙ ap (λ y. take i xs ++ y ∷ []) (get_or_from_slice_get xs i x x at)
 
 -- what depends on the last element alone is what it is there
-pub at_last : {T A : Type 0} (F : List T → A) (g : T → A) → ((x : T) → F (x ∷ []) ≡ g x) → ((x y : T) (xs : List T) → F (x ∷ y ∷ xs) ≡ F (y ∷ xs))
-    → (xs : List T) (x : T) (n : ℕ) → n + 1 ≡ length xs → slice_get xs n ≡ Some x → F xs ≡ g x
-at_last F g one more [] x n long at = absurd (omega arith)
-at_last F g one more (y ∷ []) x zero long at = let same : y ≡ x = cc in one y ∙ ap g same
-at_last F g one more (y ∷ []) x (suc n) long at = absurd (omega arith)
-at_last F g one more (y ∷ z ∷ xs) x zero long at = absurd (omega arith)
-at_last F g one more (y ∷ z ∷ xs) x (suc n) long at = more y z xs ∙ at_last F g one more (z ∷ xs) x n (omega arith) at
+module _ {T A : Type 0} (F : List T → A) (g : T → A) (one : (x : T) → F (x ∷ []) ≡ g x) (more : (x y : T) (xs : List T) → F (x ∷ y ∷ xs) ≡ F (y ∷ xs)) where
+  pub at_end : (xs : List T) (x : T) → F (xs ++ x ∷ []) ≡ g x
+  at_end [] x = one x
+  at_end (y ∷ []) x = more y x [] ∙ one x
+  at_end (y ∷ z ∷ xs) x = more y z (xs ++ x ∷ []) ∙ at_end (z ∷ xs) x
 
-pub last_found : {T A : Type 0} (F : List T → A) (g : T → A) → ((x : T) → F (x ∷ []) ≡ g x) → ((x y : T) (xs : List T) → F (x ∷ y ∷ xs) ≡ F (y ∷ xs))
-    → (xs : List T) (x : T) → slice_get xs (length xs - 1) ≡ Some x → F xs ≡ g x
-last_found F g one more xs x at = at_last F g one more xs x (length xs - 1) (let within = slice_get_within xs (length xs - 1) x at in omega arith) at
+  pub last_found : (xs : List T) (x : T) → slice_get xs (length xs - 1) ≡ Some x → F xs ≡ g x
+  last_found xs x at =
+      let within = slice_get_within xs (length xs - 1) x at in
+      ap F (sym (take_all (length xs - 1 + 1) xs (omega arith)) ∙ take_next xs (length xs - 1) x at) ∙ at_end (take (length xs - 1) xs) x
 
 pub none_last : {T : Type 0} (xs : List T) → slice_get xs (length xs - 1) ≡ None → xs ≡ []
 none_last [] none = refl

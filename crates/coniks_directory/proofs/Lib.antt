@@ -3,14 +3,12 @@ mod LastLemmas
 mod StateLemmas
 mod MirrorLemmas
 mod HolderLemmas
-mod InstalledLemmas
 mod JudgeLemmas
 mod DraftLemmas
 mod OrderLemmas
 mod OverlaidLemmas
 mod BuiltLemmas
 mod NumberLemmas
-mod EpochLemmas
 mod LookupLemmas
 mod FreshLemmas
 mod ChainLemmas

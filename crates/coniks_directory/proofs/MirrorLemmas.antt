@@ -16,7 +16,8 @@ backed-extended records more (e ∷ es) kept s =
     rw (registered_at-extended records more e kept (s e (inl refl)), backed-extended records more es kept (λ x is. s x (inr is))) refl
 
 -- entries that mirror a registry do so with more records
-pub Mirrors-extended : (hash of : List ℕ → List ℕ) (records more : List Record) (es : List Numbered) (registry : Registry) → Extends records more → Mirrors hash of records es registry → Mirrors hash of more es registry
+pub Mirrors-extended : (hash of : List ℕ → List ℕ) (records more : List Record) (es : List Numbered) (registry : Registry) → Extends records more → Mirrors hash of records es registry
+    → Mirrors hash of more es registry
 Mirrors-extended hash of records more es registry kept m = record {
   stored = λ e is. let s = m.stored e is in (s.0, kept e.behind s.0 s.1, s.2);
   indices = m.indices;

@@ -1,10 +1,9 @@
 -- A registry that a batch's bindings are laid over, and entries that changes are laid over.
-use Rattle.std.proofs.Common.{◌≡◌, ◌≢◌, ℕ, ◌+◌, List, [], ◌∷◌, ◌++◌, map, Bool, true, false, refl, sym, ap, subst, ◌∙◌, not, ◌||◌, ◌⊎◌, inl, inr, None}
-use Rattle.coniks_directory.proofs.Words.{AreOnce, AreWithin, Entry, IsIn, IsIndex, IsLength, IsMap, IsNew, MAX_KEY, MAX_NAME, Operation}
-use Rattle.coniks_directory.proofs.Words.{Registered, Registry, bound_by, bytes_eq, bytes_eq-Decides, clashes, entries_of, entry_of}
-use Rattle.coniks_directory.proofs.Words.{fault_from, fault_of, filter, first_fault, has_index, has_name, not-true, or_cases, or_parts}
-use Rattle.coniks_directory.proofs.Words.{or_right, overlaid, overwritten, rebound}
-use Rattle.coniks_proof.proofs.Lemmas.{IsIn-filter, IsMap-filter, IsMap-rebound, clash_of, clashes-append, clear_of, entry_in, eq_apart, eq_same, in_overlaid, in_rebound, of_filter, passes, placed_none, rebound_new, rebound_old, within, same_entry}
+use Rattle.std.proofs.Common.{◌≡◌, ◌≢◌, ℕ, List, [], ◌∷◌, ◌++◌, map, Bool, true, false, refl, sym, ap, subst, ◌∙◌, not, ◌||◌, ◌⊎◌, inl, inr}
+use Rattle.coniks_directory.proofs.Words.{AreOnce, AreWithin, Entry, IsIn, IsIndex, IsLength, IsMap, IsNew, MAX_KEY, MAX_NAME, Registered}
+use Rattle.coniks_directory.proofs.Words.{Registry, bytes_eq, bytes_eq-Decides, entries_of, filter, has_index, has_name, not-true, or_cases}
+use Rattle.coniks_directory.proofs.Words.{or_parts, or_right, overlaid, overwritten, rebound}
+use Rattle.coniks_proof.proofs.Lemmas.{IsIn-filter, IsMap-filter, IsMap-rebound, eq_same, in_overlaid, in_rebound, of_filter, passes, rebound_new, rebound_old, within}
 
 -- ---- lists
 
@@ -36,46 +35,28 @@ overlaid_new registry [] b once there = absurd there
 overlaid_new registry (x ∷ xs) b once (inl here) = subst (λ (y : Registered). IsIn y (overlaid registry (x ∷ xs))) here (overlaid_old (rebound registry x) xs x (rebound_new registry x) once.0)
 overlaid_new registry (x ∷ xs) b once (inr later) = overlaid_new (rebound registry x) xs b once.1 later
 
-new_index : (hash of : List ℕ → List ℕ) (bs : List Registered) (name : List ℕ) → IsNew (of name) (entries_of hash of bs) → has_name bs name ≡ false
-new_index hash of [] name new = refl
-new_index hash of (b ∷ bs) name new = ap (λ v. v || has_name bs name) (eq_apart b.name name (λ same. new.0 (ap of (sym same)))) ∙ new_index hash of bs name new.1
-
--- names that have indices of their own stand once
-pub once : (hash of : List ℕ → List ℕ) (bs : List Registered) → IsMap (entries_of hash of bs) → AreOnce bs
-once hash of [] map = tt
-once hash of (b ∷ bs) map = (new_index hash of bs b.name map.1, once hash of bs map.2)
-
 -- names that part have indices that part
-abbrev pub ArePart : (List ℕ → List ℕ) → Registry → List Registered → Type 0
-ArePart of registry bs = (c d : Registered) → IsIn c registry → IsIn d bs → c.name ≢ d.name → of c.name ≢ of d.name
+abbrev pub ArePart : (List ℕ → List ℕ) → List Registered → Type 0
+ArePart of all = (c d : Registered) → IsIn c all → IsIn d all → c.name ≢ d.name → of c.name ≢ of d.name
 
-own_part : (hash of : List ℕ → List ℕ) (bs : List Registered) → IsMap (entries_of hash of bs) → ArePart of bs bs
-own_part hash of bs map = λ c d in_c in_d apart same. apart (ap (λ (e : Entry Registered). e.behind.name) (same_entry (entries_of hash of bs) (entry_of hash of c) (entry_of hash of d) map (entry_in hash of c bs in_c) (entry_in hash of d bs in_d) same))
+-- a registry overlaid is a map, where in all bindings names that part have indices that part
+pub IsMap-overlaid : (hash of : List ℕ → List ℕ) (all : List Registered) (registry : Registry) (bs : List Registered) → ArePart of all → ((b : Registered) → IsIn b registry → IsIn b all)
+    → ((b : Registered) → IsIn b bs → IsIn b all × IsIndex (of b.name)) → IsMap (entries_of hash of registry) → IsMap (entries_of hash of (overlaid registry bs))
+IsMap-overlaid hash of all registry [] part old new map = map
+IsMap-overlaid hash of all registry (x ∷ xs) part old new map =
+    let here = new x (inl refl) in
+    IsMap-overlaid hash of all (rebound registry x) xs part
+    (λ c there. elim (in_rebound registry x c there) [ inl same ↦ subst (λ (y : Registered). IsIn y all) same here.0 | inr stays ↦ old c stays.0 ])
+    (λ b there. new b (inr there))
+    (IsMap-rebound hash of registry x map here.1 (λ c there. part c x (old c there) here.0))
 
--- a registry overlaid is a map
-map_overlaid : (hash of : List ℕ → List ℕ) (registry : Registry) (bs : List Registered) → IsMap (entries_of hash of registry) → ((b : Registered) → IsIn b bs → IsIndex (of b.name)) → ArePart of registry bs → ArePart of bs bs
-    → IsMap (entries_of hash of (overlaid registry bs))
-map_overlaid hash of registry [] map indices part own = map
-map_overlaid hash of registry (x ∷ xs) map indices part own = map_overlaid hash of (rebound registry x) xs
-    (IsMap-rebound hash of registry x map (indices x (inl refl)) (λ c there. part c x there (inl refl)))
-    (λ b there. indices b (inr there))
-    (λ c d there later. elim (in_rebound registry x c there) [ inl new ↦ own c d (inl new) (inr later) | inr old ↦ part c d old.0 (inr later) ])
-    (λ c d there later. own c d (inr there) (inr later))
-
-indices_of : (hash of : List ℕ → List ℕ) (bs : List Registered) → IsMap (entries_of hash of bs) → (b : Registered) → IsIn b bs → IsIndex (of b.name)
-indices_of hash of [] map b there = absurd there
-indices_of hash of (x ∷ xs) map b (inl here) = subst (λ (y : Registered). IsIndex (of y.name)) here map.0
-indices_of hash of (x ∷ xs) map b (inr later) = indices_of hash of xs map.2 b later
-
-pub IsMap-overlaid : (hash of : List ℕ → List ℕ) (registry : Registry) (bs : List Registered) → IsMap (entries_of hash of registry) → IsMap (entries_of hash of bs) → ArePart of registry bs → IsMap (entries_of hash of (overlaid registry bs))
-IsMap-overlaid hash of registry bs map new part = map_overlaid hash of registry bs map (indices_of hash of bs new) part (own_part hash of bs new)
-
-pub within_all : (registry : Registry) → ((b : Registered) → IsIn b registry → IsLength MAX_NAME b.name × IsLength MAX_KEY b.key) → AreWithin registry
+within_all : (registry : Registry) → ((b : Registered) → IsIn b registry → IsLength MAX_NAME b.name × IsLength MAX_KEY b.key) → AreWithin registry
 within_all [] each = tt
 within_all (b ∷ bs) each = ((each b (inl refl)).0, (each b (inl refl)).1, within_all bs (λ c there. each c (inr there)))
 
-pub within-overlaid : (registry : Registry) (bs : List Registered) → AreWithin registry → ((b : Registered) → IsIn b bs → IsLength MAX_NAME b.name × IsLength MAX_KEY b.key) → AreWithin (overlaid registry bs)
-within-overlaid registry bs limits new = within_all (overlaid registry bs) (λ b there. elim (in_overlaid registry bs b there) [ inl fresh ↦ new b fresh | inr old ↦ within b registry limits old.0 ])
+pub within-overlaid : (registry : Registry) (bs : List Registered) → AreWithin registry → AreWithin bs → AreWithin (overlaid registry bs)
+within-overlaid registry bs limits new =
+    within_all (overlaid registry bs) (λ b there. elim (in_overlaid registry bs b there) [ inl fresh ↦ within b bs new fresh | inr old ↦ within b registry limits old.0 ])
 
 -- ---- the entries of a map that is overwritten
 
@@ -91,59 +72,43 @@ there_index (c ∷ cs) index h = elim (or_cases (bytes_eq c.index index) (has_in
   | inr later ↦ let k = there_index cs index later in (k.0, inr k.1, k.2)
 ]
 
-pub in_overwritten : {B : Type 0} (es cs : List (Entry B)) (e : Entry B) → IsIn e (overwritten es cs) → IsIn e cs ⊎ (IsIn e es × (has_index cs e.index ≡ false))
-unfolding overwritten
-in_overwritten {B} es cs e there = elim (in_append e cs (filter (λ (x : Entry B). not (has_index cs x.index)) es) there) [
-  | inl new ↦ inl new
-  | inr old ↦ inr (of_filter e (λ (x : Entry B). not (has_index cs x.index)) es old, not-true (has_index cs e.index) (passes e (λ (x : Entry B). not (has_index cs x.index)) es old))
-]
-
-pub overwritten_new : {B : Type 0} (es cs : List (Entry B)) (e : Entry B) → IsIn e cs → IsIn e (overwritten es cs)
-unfolding overwritten
-overwritten_new {B} es cs e there = append_left e cs (filter (λ (x : Entry B). not (has_index cs x.index)) es) there
-
-pub overwritten_old : {B : Type 0} (es cs : List (Entry B)) (e : Entry B) → IsIn e es → has_index cs e.index ≡ false → IsIn e (overwritten es cs)
-unfolding overwritten
-overwritten_old {B} es cs e there off =
-    append_right e cs (filter (λ (x : Entry B). not (has_index cs x.index)) es) (IsIn-filter e (λ (x : Entry B). not (has_index cs x.index)) es (ap not off) there)
-
-new_from : {B : Type 0} (index : List ℕ) (es : List (Entry B)) → ((e : Entry B) → IsIn e es → index ≢ e.index) → IsNew index es
-new_from index [] apart = tt
-new_from index (e ∷ es) apart = (apart e (inl refl), new_from index es (λ x there. apart x (inr there)))
-
-new_append : {B : Type 0} (index : List ℕ) (es fs : List (Entry B)) → IsNew index es → IsNew index fs → IsNew index (es ++ fs)
-new_append index [] fs one two = two
-new_append index (e ∷ es) fs one two = (one.0, new_append index es fs one.1 two)
+new_append : {B : Type 0} (index : List ℕ) (es fs : List (Entry B)) → IsNew index es → ((f : Entry B) → IsIn f fs → index ≢ f.index) → IsNew index (es ++ fs)
+new_append index [] [] one apart = tt
+new_append index [] (f ∷ fs) one apart = (apart f (inl refl), new_append index [] fs tt (λ x there. apart x (inr there)))
+new_append index (e ∷ es) fs one apart = (one.0, new_append index es fs one.1 apart)
 
 map_append : {B : Type 0} (es fs : List (Entry B)) → IsMap es → IsMap fs → ((e f : Entry B) → IsIn e es → IsIn f fs → e.index ≢ f.index) → IsMap (es ++ fs)
 map_append [] fs one two apart = two
 map_append (e ∷ es) fs one two apart =
-    (one.0, new_append e.index es fs one.1 (new_from e.index fs (λ f there. apart e f (inl refl) there)), map_append es fs one.2 two (λ x f there. apart x f (inr there)))
+    (one.0, new_append e.index es fs one.1 (λ f there. apart e f (inl refl) there), map_append es fs one.2 two (λ x f there. apart x f (inr there)))
 
--- a map overwritten by a map is a map
-pub IsMap-overwritten : {B : Type 0} (es cs : List (Entry B)) → IsMap es → IsMap cs → IsMap (overwritten es cs)
-unfolding overwritten
-IsMap-overwritten {B} es cs old new =
-    let kept : Entry B → Bool = λ x. not (has_index cs x.index) in
-    map_append cs (filter kept es) new (IsMap-filter kept es old) (λ c e in_c in_e same.
-    let on = index_there cs c e.index in_c same in
-    let off = not-true (has_index cs e.index) (passes e kept es in_e) in cc)
+module _ {B : Type 0} (es cs : List (Entry B)) where
+  -- what stays of the old entries
+  abbrev kept : Entry B → Bool
+  kept x = not (has_index cs x.index)
 
--- ---- a batch without fault
+  pub in_overwritten : (e : Entry B) → IsIn e (overwritten es cs) → IsIn e cs ⊎ (IsIn e es × (has_index cs e.index ≡ false))
+  unfolding overwritten
+  in_overwritten e there = elim (in_append e cs (filter kept es) there) [
+    | inl new ↦ inl new
+    | inr old ↦ inr (of_filter e kept es old, not-true (has_index cs e.index) (passes e kept es old))
+  ]
 
-part_from : (of : List ℕ → List ℕ) (registry : Registry) (earlier : List Registered) (place : ℕ) (ops : List Operation) → fault_from of registry earlier place ops ≡ None → ArePart of registry (map bound_by ops)
-part_from of registry earlier place [] none c d there later apart same = absurd later
-part_from of registry earlier place (op ∷ ops) none c d there (inl here) apart same =
-    let both = placed_none place (fault_of of registry earlier op) (fault_from of registry (earlier ++ bound_by op ∷ []) (place + 1) ops) none in
-    let named : op.name ≡ d.name = ap (λ (x : Registered). x.name) here in
-    let quiet = or_parts (clashes of registry op.name) (clashes of earlier op.name) (sym (clashes-append of registry earlier op.name) ∙ (clear_of of registry earlier op both.0).apart) in
-    let loud = clash_of of registry op.name c there (same ∙ ap of (sym named)) (λ e. apart (e ∙ named)) in
-    let off = quiet.0 in
-    cc
-part_from of registry earlier place (op ∷ ops) none c d there (inr later) apart same =
-    part_from of registry (earlier ++ bound_by op ∷ []) (place + 1) ops
-    (placed_none place (fault_of of registry earlier op) (fault_from of registry (earlier ++ bound_by op ∷ []) (place + 1) ops) none).1 c d there later apart same
+  pub overwritten_new : (e : Entry B) → IsIn e cs → IsIn e (overwritten es cs)
+  unfolding overwritten
+  overwritten_new e there = append_left e cs (filter kept es) there
 
--- where no operation is at fault, no other name of the registry has the index of a name of the batch
-pub part : (of : List ℕ → List ℕ) (registry : Registry) (ops : List Operation) → first_fault of registry ops ≡ None → ArePart of registry (map bound_by ops)
-part of registry ops none = part_from of registry [] 0 ops none
+  -- an index that an old entry has is still there
+  pub overwritten_index : (e : Entry B) → IsIn e es → (x : Entry B) × IsIn x (overwritten es cs) × (x.index ≡ e.index)
+  unfolding overwritten
+  overwritten_index e there = (elim (has_index cs e.index) as (λ v. has_index cs e.index ≡ v → (x : Entry B) × IsIn x (cs ++ filter kept es) × (x.index ≡ e.index)) [
+    | true ↦ λ on. let k = there_index cs e.index on in (k.0, append_left k.0 cs (filter kept es) k.1, k.2)
+    | false ↦ λ off. (e, append_right e cs (filter kept es) (IsIn-filter e kept es (ap not off) there), refl)
+  ]) refl
+
+  -- a map overwritten by a map is a map
+  pub IsMap-overwritten : IsMap es → IsMap cs → IsMap (overwritten es cs)
+  unfolding overwritten
+  IsMap-overwritten old new = map_append cs (filter kept es) new (IsMap-filter kept es old) (λ c e in_c in_e same.
+      let on = index_there cs c e.index in_c same in
+      let off = not-true (has_index cs e.index) (passes e kept es in_e) in cc)

@@ -1,8 +1,8 @@
 -- Registries, as the log of records leaves them, and the history of a state.
-use Rattle.std.proofs.Common.{◌≡◌, ℕ, ◌-◌, ◌≤◌, List, [], ◌∷◌, ◌++◌, length, map, refl, sym, ap, ◌∙◌, arith, Some, slice_get}
+use Rattle.std.proofs.Common.{◌≡◌, ℕ, ◌-◌, ◌≤◌, List, [], ◌∷◌, ◌++◌, length, map, refl, ap, ◌∙◌, arith, Some, None, slice_get}
 use Rattle.coniks_directory.proofs.Words.{Epoch, Record, State, Whole, history_of, last_count, latest_nonce, latest_registry, overlaid}
 use Rattle.coniks_directory.proofs.Words.{registered_of, registry_at, shown_of, take-append-le, take_all}
-use Rattle.coniks_directory.proofs.LastLemmas.{last_found}
+use Rattle.coniks_directory.proofs.LastLemmas.{last_found, none_last}
 
 -- a registry doesn't depend on later records
 pub registry_at-append : (records more : List Record) (n : ℕ) → n ≤ length records → registry_at (records ++ more) n ≡ registry_at records n
@@ -14,12 +14,9 @@ pub registry_at-all : (records : List Record) → registry_at records (length re
 unfolding registry_at
 registry_at-all records = ap (λ (rs : List Record). overlaid [] (map registered_of rs)) (take_all (length records) records (omega arith))
 
-pub registry_at-none : (records : List Record) → registry_at records 0 ≡ []
-unfolding registry_at
-registry_at-none records = refl
-
 latest-count : (records : List Record) (es : List Epoch) → latest_registry (map (shown_of records) es) ≡ registry_at records (last_count es)
-latest-count records [] = sym (registry_at-none records)
+unfolding registry_at
+latest-count records [] = refl
 latest-count records (e ∷ []) = refl
 latest-count records (e ∷ f ∷ es) = latest-count records (f ∷ es)
 
@@ -34,3 +31,6 @@ latest-last s e at = last_found (λ es. latest_registry (map (shown_of s.records
 -- and the latest nonce is its
 pub nonce-last : (s : State) (e : Epoch) → slice_get s.epochs (length s.epochs - 1) ≡ Some e → latest_nonce s.nonce (history_of s) ≡ e.nonce.0
 nonce-last s e at = last_found (λ es. latest_nonce s.nonce (map (shown_of s.records) es)) (λ x. x.nonce.0) (λ x. refl) (λ x y xs. refl) s.epochs e at
+
+pub nonce-none : (s : State) → slice_get s.epochs (length s.epochs - 1) ≡ None → latest_nonce s.nonce (history_of s) ≡ s.nonce
+nonce-none s at = rw (none_last s.epochs at) refl

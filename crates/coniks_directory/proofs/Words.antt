@@ -1,10 +1,12 @@
 -- The words of the library, of the crates below and of this one that the proofs speak in, passed on to them.
 pub use Rattle.std.proofs.lemmas.Bool.{false_from_ne_true, not-true, or_cases, or_parts, or_right}
 pub use Rattle.std.proofs.lemmas.Cmp.{by_ranked, nat_list_cmp_total, ranked}
-pub use Rattle.std.proofs.lemmas.List.{append-nil, drop_more, length-map, length-take-le, map-append, nil_from_length, take-append-drop, take-append-le, take_all, take_more}
+pub use Rattle.std.proofs.lemmas.List.{append-nil, at_drop_all, at_drop_more, length-map, map-append, nil_from_length, take-append-le, take_all, take_more}
 pub use Rattle.std.proofs.lemmas.Map.Iter.{iter_end}
 pub use Rattle.std.proofs.lemmas.Map.Text.{is_eq-slice_cmp}
 pub use Rattle.std.proofs.lemmas.Map.Views.{All-found, All-turn}
+pub use Rattle.std.proofs.lemmas.List.Elements.{All-map}
+pub use Rattle.std.proofs.lemmas.Simd.{map-map}
 pub use Rattle.std.proofs.lemmas.Option.{get_or_from_slice_get, same_Some, slice_get-get_or, slice_get-map, slice_get_cases, slice_get_read, slice_get_within}
 pub use Rattle.std.proofs.lemmas.Slice.Eq.{bytes_eq-Decides}
 pub use Rattle.std.specs.BTreeMap.{BTreeMap, IsOrdered, btree_map_len, is_at, values}
@@ -18,7 +20,7 @@ pub use Rattle.std.specs.Option.{option_map, option_map_or}
 pub use Rattle.std.specs.Ordering.{is_eq, nat_cmp}
 pub use Rattle.std.specs.Str.{bytes_eq}
 pub use Rattle.std.specs.declared.cmp.Ordering.TheVariants.{Less}
-pub use Rattle.coniks_proof.specs.Batches.{AreOnce, Fault, MayFollow, Operation, after, bound_by, clashes, fault_from, fault_of, first_fault, fits, index_clash, kind_fault, name_twice, placed}
+pub use Rattle.coniks_proof.specs.Batches.{AreOnce, Fault, MayFollow, Operation, after, bound_by, clashes, fault_from, fault_of, first_fault, fits, index_clash, kind_fault, placed}
 pub use Rattle.coniks_proof.specs.Changes.{AllAfter, AreApart, AreInOrder, AreIncreasing, IsBefore, has_index}
 unfoldable pub use Rattle.coniks_proof.specs.Changes.{overwritten}
 pub use Rattle.coniks_proof.specs.Entries.{Entry, IsIn, backed_by}
@@ -32,7 +34,7 @@ pub use Rattle.coniks_proof.specs.declared.paths.Proof.{Proof}
 pub use Rattle.coniks_proof.specs.declared.values.Digest.{Digest}
 pub use Rattle.coniks_proof.specs.declared.values.Head.{Head}
 pub use Rattle.coniks_proof.specs.declared.values.Nonce.{Nonce}
-pub use Rattle.coniks_proof.specs.declared.values.TheConstants.{MAX_KEY, MAX_NAME, MAX_OPERATIONS}
+pub use Rattle.coniks_proof.specs.declared.values.TheConstants.{MAX_KEY, MAX_NAME}
 pub use Rattle.coniks_tree.specs.Parts.{AllPlaced, Fits, Placed, Stands, entry_of_change, node_count}
 pub use Rattle.coniks_tree.specs.Paths.{Finds}
 pub use Rattle.coniks_tree.specs.Table.{Extends, Numbered, Shows, entry_of_record, registered_at, registered_by}
@@ -49,18 +51,18 @@ pub use Rattle.coniks_chain.specs.Entries.{body_bytes}
 pub use Rattle.coniks_chain.specs.declared.auditor.Before.{Before}
 pub use Rattle.coniks_chain.specs.declared.entry.Body.{Body}
 pub use Rattle.coniks_directory.specs.Batches.{IsAccepted, fault_is, kind_of, most_nodes, operation_of, operations}
-pub use Rattle.coniks_directory.specs.Built.{IsBuilt}
-pub use Rattle.coniks_directory.specs.Chain.{IsChainOf, body_of, heads_of}
-pub use Rattle.coniks_directory.specs.Directories.{HasGoodChain, HasPrepared, heads, history}
+pub use Rattle.coniks_directory.specs.Built.{IsBuilt, IsUpdateBy}
+pub use Rattle.coniks_directory.specs.Chain.{IsChainOf, body_of, head_at, heads_of}
+pub use Rattle.coniks_directory.specs.Directories.{HasGoodChain, HasPrepared, heads}
 pub use Rattle.coniks_directory.specs.History.{AllHaveOwnIndices, AllUnder, AreRising, Shown, last_number, latest_epoch, latest_nonce, latest_registry, numbers_of, root_at, shown_at}
-pub use Rattle.coniks_directory.specs.Holders.{HolderIs, IsHeld, ShowsLatest}
+pub use Rattle.coniks_directory.specs.Holders.{HolderIs, IsHeld, IsLatestRoot, ShowsLatest}
 pub use Rattle.coniks_directory.specs.Installed.{IsEntered, IsNext, IsSigned, Leaves}
 pub use Rattle.coniks_directory.specs.Judged.{AreChangesOf, AreDrafts, IsJudged, IsJudgedFault, IsSealed, number_at}
 pub use Rattle.coniks_directory.specs.Lookups.{IsAcceptedAt, IsFound}
 pub use Rattle.coniks_directory.specs.Runs.{AreAccepted, AreAcceptedFrom, Batch, Run, committed, defined, epochs_from, installed, opened, stayed}
-pub use Rattle.coniks_directory.specs.State.{HoldsEpoch, IsStored, Mirrors, ShowsRegistry, State, View, Whole, history_of, last_count, registered_of, shown_of, state_of}
+pub use Rattle.coniks_directory.specs.State.{HoldsEpoch, IsAt, IsInstalled, IsStored, Mirrors, ShowsRegistry, State, View, Whole, history_of, last_count, registered_of, shown_of, state_of}
 unfoldable pub use Rattle.coniks_directory.specs.State.{registry_at}
-pub use Rattle.coniks_directory.specs.Updates.{Grows, IsUpdate, IsUpdateOf, MayInstall, records_after, registry_after, shown_after}
+pub use Rattle.coniks_directory.specs.Updates.{Grows, IsUpdate, IsUpdateOf, MayInstall, records_after, registry_after, shown_after, shown_next}
+pub use Rattle.coniks_directory.specs.declared.batch.Op.{Op}
 pub use Rattle.coniks_directory.specs.declared.epochs.Epoch.{Epoch}
-pub use Rattle.coniks_directory.specs.declared.drafts.Drafts.{Drafts}
 pub use Rattle.coniks_directory.specs.declared.update.Prepared.{Prepared}

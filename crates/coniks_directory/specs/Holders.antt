@@ -1,11 +1,15 @@
 -- Who has an index.
-use Rattle.std.specs.Prelude.{◌≡◌, ℕ, List, [], true, Option, Some, None}
+use Rattle.std.specs.Prelude.{◌≡◌, ◌<◌, ℕ, List, [], length, true, IfSome, Option, Some, None}
 use Rattle.std.specs.Borrow.{Bor}
 use Rattle.coniks_proof.specs.Registry.{Registered, Registry, has_name, IsFree}
+use Rattle.coniks_tree.specs.Parts.{node_count}
 use Rattle.coniks_tree.specs.declared.table.Record.{Record}
 use Rattle.coniks_tree.specs.declared.table.Node.{Node}
 use Rattle.coniks_tree.specs.declared.table.Root.{Root}
-use Rattle.coniks_directory.specs.State.{ShowsRegistry, registered_of}
+use Rattle.coniks_work.specs.Grown.{unchanged}
+use Rattle.coniks_directory.specs.Batches.{most_nodes}
+use Rattle.coniks_directory.specs.History.{latest_nonce, latest_registry}
+use Rattle.coniks_directory.specs.State.{ShowsRegistry, State, history_of, registered_of}
 
 -- the one name of the registry that has the index
 pub record IsHeld (of : List ℕ → List ℕ) (registry : Registry) (index : List ℕ) (b : Registered) : Type 0 where
@@ -22,3 +26,9 @@ HolderIs of registry index (Some r) = IsHeld of registry index (registered_of r.
 abbrev pub ShowsLatest : (List ℕ → List ℕ) → (List ℕ → List ℕ) → List ℕ → List Node → List Record → Option Root → Registry → Type 0
 ShowsLatest hash of nonce nodes records (Some root) registry = ShowsRegistry hash of nonce nodes records root.0 registry
 ShowsLatest hash of nonce nodes records None registry = registry ≡ []
+
+-- the root is that of the latest epoch, if there is one: it is a node's, it shows the latest registry, and an epoch without operations keeps it
+pub record IsLatestRoot (hash of : List ℕ → List ℕ) (s : State) (root : Option Root) : Type 0 where
+  pub known : IfSome root (λ r. r.0 < length s.nodes)
+  pub shows : (nonce : List ℕ) → nonce ≡ latest_nonce s.nonce (history_of s) → ShowsLatest hash of nonce s.nodes s.records root (latest_registry (history_of s))
+  pub counted : node_count (unchanged root) ≡ most_nodes (history_of s) 0

@@ -1,5 +1,5 @@
 -- The operations of a batch that were judged: their records, found by index.
-use Rattle.std.specs.Prelude.{◌≡◌, ◌+◌, ℕ, List, length, map, take, slice_get, Option, Some, None}
+use Rattle.std.specs.Prelude.{◌≡◌, ◌+◌, ℕ, List, length, map, take, drop, slice_get, Option, Some}
 use Rattle.std.specs.Ordering.{nat_cmp}
 use Rattle.std.specs.Cmp.Lexicographic.{slice_cmp}
 use Rattle.std.specs.BTreeMap.{BTreeMap, btree_map_len, get, IsOrdered}
@@ -7,7 +7,7 @@ use Rattle.coniks_proof.specs.Changes.{AreIncreasing}
 use Rattle.coniks_proof.specs.Entries.{IsIn}
 use Rattle.coniks_proof.specs.Maps.{IsIndex, IsMap}
 use Rattle.coniks_proof.specs.Registry.{Registry, Registered, commitment_to, entries_of, IsLength}
-use Rattle.coniks_proof.specs.Batches.{Operation, first_fault}
+use Rattle.coniks_proof.specs.Batches.{Operation, bound_by, fault_from, first_fault}
 use Rattle.coniks_proof.specs.declared.values.TheConstants.{MAX_KEY, MAX_NAME}
 use Rattle.coniks_tree.specs.Table.{Numbered, entry_of_record}
 use Rattle.coniks_tree.specs.declared.table.Record.{Record}
@@ -38,9 +38,9 @@ pub record AreDrafts (hash of : List ℕ → List ℕ) (bound : List Registered)
   pub counted : btree_map_len numbers ≡ length records
   pub distinct : IsMap (entries_of hash of bound)
 
--- the first `i` operations of a batch have no fault
+-- the first `i` operations of a batch have no fault, so that its first fault is that of the others
 abbrev pub IsJudged : (List ℕ → List ℕ) → Registry → List Operation → ℕ → Type 0
-IsJudged of registry ops i = first_fault of registry (take i ops) ≡ None
+IsJudged of registry ops i = first_fault of registry ops ≡ fault_from of registry (map bound_by (take i ops)) i (drop i ops)
 
 -- the entries are those of the records, which are to stand from a place on, each once and in increasing order of index
 pub record AreChangesOf (base : ℕ) (records : List Record) (entries : List Numbered) : Type 0 where

@@ -8,7 +8,7 @@ use Rattle.coniks_tree.specs.Table.{Numbered, Shows, entry_of_record, registered
 use Rattle.coniks_tree.specs.declared.table.Node.{Node}
 use Rattle.coniks_tree.specs.declared.table.Record.{Record}
 use Rattle.coniks_chain.specs.declared.entry.Entry.{Entry}
-use Rattle.coniks_directory.specs.History.{Shown, AreRising, numbers_of}
+use Rattle.coniks_directory.specs.History.{Shown, AreRising, numbers_of, shown_at}
 use Rattle.coniks_directory.specs.Chain.{IsChainOf}
 use Rattle.coniks_directory.specs.declared.epochs.Epoch.{Epoch}
 use Rattle.coniks_directory.specs.declared.held.Held.{Held}
@@ -91,7 +91,13 @@ pub record Whole (hash of : List ℕ → List ℕ) (s : State) : Type 0 where
   pub rising : AreRising 0 (numbers_of (history_of s))
   pub chain : IsChainOf hash of s.policy (history_of s) s.chain
 
+-- the epoch of exactly this number, with the entry of that number
+pub record IsAt (hash of : List ℕ → List ℕ) (s : State) (t : ℕ) (e : Epoch) (entry : Entry) : Type 0 where
+  pub holds : HoldsEpoch hash of s.nonce s.nodes s.records e
+  pub shown : shown_at (history_of s) t ≡ Some (shown_of s.records e)
+  pub signed : find (λ (f : Entry). f.body.t == t) s.chain ≡ Some entry
+
 -- the epoch of exactly this number and its entry, or none where there is no such epoch
-abbrev pub IsInstalled : State → ℕ → Option (Epoch × Entry) → Type 0
-IsInstalled s t None = find (λ (e : Epoch). e.t == t) s.epochs ≡ None
-IsInstalled s t (Some it) = (find (λ (e : Epoch). e.t == t) s.epochs ≡ Some it.0) × (find (λ (e : Entry). e.body.t == t) s.chain ≡ Some it.1)
+abbrev pub IsInstalled : (List ℕ → List ℕ) → (List ℕ → List ℕ) → State → ℕ → Option (Epoch × Entry) → Type 0
+IsInstalled hash of s t None = shown_at (history_of s) t ≡ None
+IsInstalled hash of s t (Some it) = IsAt hash of s t it.0 it.1

@@ -9,7 +9,7 @@ ghost use Rattle.coniks_directory.specs.History.{AllHaveOwnIndices, AllUnder, Ar
 
 use crate::batch::{BatchFault, Op};
 use crate::held::Held;
-use crate::install::{enter, head_of, last_link, make_room, may_install, put_head, signed};
+use crate::install::{enter, head_of, last_link, may_install, put_head, signed};
 use crate::lengths::is_length;
 use crate::lookup::{LookupFault, SignedProof};
 use crate::preparing::update_on;
@@ -175,16 +175,15 @@ impl<H: Hash32, X: IndexSource> Directory<H, X> {
         if let Err(fault) = may_install(&self.held, update.base, t, published, capacity) {
             return Err((fault, update));
         }
-        if make_room(&mut self.held, &update).is_err() {
-            return Err((InstallFault::OutOfMemory, update));
-        }
         let previous = last_link(publisher);
-        let Some(entry) = signed(&self.held, &self.h, &update, t, previous, signer) else {
-            return Err((InstallFault::SignerRefused, update));
-        };
-        enter(&mut self.held, &self.h, update, t, entry);
-        put_head(publisher, board, head_of(&self.h, &entry));
-        Ok(entry)
+        match signed(&mut self.held, &self.h, &update, t, previous, signer) {
+            Ok(entry) => {
+                enter(&mut self.held, &self.h, update, t, entry);
+                put_head(publisher, board, head_of(&self.h, &entry));
+                Ok(entry)
+            }
+            Err(fault) => Err((fault, update)),
+        }
     }
 }
 

@@ -1,7 +1,6 @@
 //! Epochs, found by their numbers.
 
 ghost use Rattle.std.specs.Prelude.{◌≡◌, ◌==◌, ◌-◌, ℕ, IfSome, Some, length, map, option_map, slice_get};
-ghost use Rattle.std.specs.Option.{option_map_or};
 ghost use Rattle.std.specs.List.{find};
 ghost use Rattle.coniks_directory.specs.History.{AreRising, last_number};
 
@@ -61,22 +60,5 @@ impl Epoch {
         ensures { result ≡ slice_get epochs.now (length epochs.now - 1) }
     {
         epochs.last().copied()
-    }
-
-    /// The root of an epoch, if there is one.
-    pub(crate) fn root_of(epoch: Option<Epoch>) -> Option<Root>
-        ensures { result ≡ option_map (λ (e : Epoch). e.root) epoch }
-    {
-        epoch.map(|epoch| epoch.root)
-    }
-
-    /// The nonce of an epoch, or this one where there is none.
-    pub(crate) fn nonce_of(epoch: Option<Epoch>, nonce: Nonce) -> Nonce
-        ensures { result ≡ option_map_or (λ (e : Epoch). e.nonce) epoch nonce }
-    {
-        match epoch {
-            Some(epoch) => epoch.nonce,
-            None => nonce,
-        }
     }
 }

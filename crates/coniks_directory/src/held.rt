@@ -1,12 +1,13 @@
 //! What a directory holds.
 
 ghost use Rattle.std.specs.Prelude.{◌≡◌, ◌-◌, List, ℕ, [], length, slice_get};
-ghost use Rattle.coniks_directory.specs.History.{latest_epoch};
+ghost use Rattle.coniks_directory.specs.History.{latest_epoch, latest_nonce};
+ghost use Rattle.coniks_directory.specs.Holders.{IsLatestRoot};
 
 use crate::epochs::Epoch;
 use coniks_chain::Entry;
 use coniks_proof::Nonce;
-use coniks_tree::Tree;
+use coniks_tree::{Root, Tree};
 use std::alloc::Global;
 
 /// What a directory holds beside its hash and its index source: the nonce of `open`, the policy, the tree that all epochs
@@ -51,15 +52,35 @@ impl Held {
     }
 
     /// The last epoch, if there is one.
-    pub(crate) fn last(&self) -> Option<Epoch>
+    fn last(&self) -> Option<Epoch>
         ensures { result ≡ slice_get (state_of self.now).epochs (length (state_of self.now).epochs - 1) }
     {
         Epoch::last(&self.epochs)
     }
 
+    /// The root of the latest epoch's tree, if there is one.
+    pub(crate) fn latest_root(&self) -> Option<Root>
+        ensures { (hash of : List ℕ → List ℕ) → Whole hash of (state_of self.now) → IsLatestRoot hash of (state_of self.now) result }
+    {
+        match self.last() {
+            Some(epoch) => Some(epoch.root),
+            None => None,
+        }
+    }
+
+    /// The nonce under which the next tree is hashed: that of the latest epoch, or of `open` where there is none.
+    pub(crate) fn latest_nonce(&self) -> Nonce
+        ensures { result.0 ≡ latest_nonce (state_of self.now).nonce (history_of (state_of self.now)) }
+    {
+        match self.last() {
+            Some(epoch) => epoch.nonce,
+            None => self.nonce,
+        }
+    }
+
     /// The epoch of exactly this number, with its entry.
     pub(crate) fn installed(&self, t: u64) -> Option<(Epoch, Entry)>
-        ensures { (hash of : List ℕ → List ℕ) → Whole hash of (state_of self.now) → IsInstalled (state_of self.now) t result }
+        ensures { (hash of : List ℕ → List ℕ) → Whole hash of (state_of self.now) → IsInstalled hash of (state_of self.now) t result }
     {
         let (place, epoch) = Epoch::of_number(&self.epochs, t)?;
         Some((epoch, self.entry(place)?))

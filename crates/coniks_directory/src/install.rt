@@ -1,13 +1,13 @@
 //! The steps of an install.
 
-ghost use Rattle.std.specs.Prelude.{◌≡◌, ◌≢◌, ◌<◌, ◌≤◌, ◌+◌, ◌-◌, ◌^◌, ◌++◌, ◌∷◌, [], List, ℕ, None, Some, IfErr, IfNone, IfSome, OnOk, length, vec_len, vec_capacity, true};
+ghost use Rattle.std.specs.Prelude.{◌≡◌, ◌≢◌, ◌<◌, ◌≤◌, ◌+◌, ◌-◌, ◌^◌, ◌++◌, ◌∷◌, [], List, ℕ, None, Some, IfErr, IfOk, OnOk, length, vec_len, vec_capacity, true};
 ghost use Rattle.coniks_chain.specs.Chain.{before_at, link_before};
 ghost use Rattle.coniks_chain.specs.Entries.{body_bytes};
 ghost use Rattle.coniks_shared.specs.Boards.{board_end};
 ghost use Rattle.coniks_tree.specs.Parts.{Fits, Placed, node_count};
 ghost use Rattle.coniks_directory.specs.Chain.{head_at, heads_of};
 ghost use Rattle.coniks_directory.specs.Installed.{IsEntered, IsSigned};
-ghost use Rattle.coniks_directory.specs.State.{state_of};
+ghost use Rattle.coniks_directory.specs.State.{State, state_of};
 ghost use Rattle.coniks_directory.specs.Updates.{IsRefused, MayInstall, nodes_added, refusals};
 
 use crate::epochs::Epoch;
@@ -56,7 +56,7 @@ pub(crate) fn last_link(publisher: &Publisher) -> Digest
 }
 
 /// Makes room for an update's nodes and records, and for one more epoch and entry.
-pub(crate) fn make_room(held: &mut Held, update: &Prepared) -> Result<(), OutOfMemory>
+fn make_room(held: &mut Held, update: &Prepared) -> Result<(), OutOfMemory>
     requires { Fits (length held.old.tree.nodes.items) 0 update.now.part }
     ensures same { state_of held.new ≡ state_of held.old }
     ensures nodes { OnOk result (length held.new.tree.nodes.items + node_count update.now.part ≤ vec_capacity held.new.tree.nodes) }
@@ -86,31 +86,42 @@ fn make_body<H: Hash32>(held: &Held, h: &H, update: &Prepared, t: u64, previous:
     }
 }
 
-/// The signed entry of the epoch that an update makes under a number, where the entry before it has this link. None where
-/// the signer refuses.
+/// Makes room for an update, and gives the signed entry of the epoch that it makes under a number, where the entry before
+/// it has this link. Nothing is signed where there is no room.
 pub(crate) fn signed<H: Hash32, S: Sign>(
-    held: &Held,
+    held: &mut Held,
     h: &H,
     update: &Prepared,
     t: u64,
     previous: Digest,
     signer: &mut S,
-) -> Option<Entry>
-    requires fits { Fits (length held.now.tree.nodes.items) 0 update.now.part }
+) -> Result<Entry, InstallFault>
+    requires fits { Fits (length held.old.tree.nodes.items) 0 update.now.part }
     requires made_below { S.made_of signer.old < 2 ^ 64 - 1 }
     requires refused_below { S.refused_of signer.old < 2 ^ 64 - 1 }
-    ensures body { IfSome result (λ entry. IsSigned (H.digest_of h.now) (state_of held.now) update.now t previous.0 entry.body) }
-    ensures made { IfSome result (λ _. (S.made_of signer.new ≡ S.made_of signer.old + 1) × (S.refused_of signer.new ≡ S.refused_of signer.old)) }
-    ensures last { IfSome result (λ entry. S.last_of signer.new ≡ Some entry) }
-    ensures verdict { IfSome result (λ entry. S.verdict_of signer.new (body_bytes entry.body) entry.signature.0 ≡ true) }
-    ensures refused { IfNone result ((S.made_of signer.new ≡ S.made_of signer.old) × (S.refused_of signer.new ≡ S.refused_of signer.old + 1)) }
-    ensures last_kept { IfNone result (S.last_of signer.new ≡ S.last_of signer.old) }
+    ensures same { state_of held.new ≡ state_of held.old }
+    ensures nodes { OnOk result (length held.new.tree.nodes.items + node_count update.now.part ≤ vec_capacity held.new.tree.nodes) }
+    ensures records { OnOk result (length held.new.tree.records.items + length update.now.records.items ≤ vec_capacity held.new.tree.records) }
+    ensures epochs { OnOk result (vec_len held.new.epochs < vec_capacity held.new.epochs) }
+    ensures chain { OnOk result (vec_len held.new.chain < vec_capacity held.new.chain) }
+    ensures body { IfOk result (λ entry. IsSigned (H.digest_of h.now) (state_of held.old) update.now t previous.0 entry.body) }
+    ensures made { OnOk result ((S.made_of signer.new ≡ S.made_of signer.old + 1) × (S.refused_of signer.new ≡ S.refused_of signer.old)) }
+    ensures last { IfOk result (λ entry. S.last_of signer.new ≡ Some entry) }
+    ensures verdict { IfOk result (λ entry. S.verdict_of signer.new (body_bytes entry.body) entry.signature.0 ≡ true) }
     ensures verdicts_kept { (bytes signature : List ℕ) → S.verdict_of signer.new bytes signature ≡ S.verdict_of signer.old bytes signature }
+    ensures refused { IfErr result (λ fault. (s : State) (base published capacity : ℕ) → MayInstall s base t published capacity → IsRefused s base t published capacity fault) }
+    ensures unsigned { IfErr result (λ fault. (S.made_of signer.new ≡ S.made_of signer.old) × (S.refused_of signer.new ≡ S.refused_of signer.old + refusals fault)
+        × (S.last_of signer.new ≡ S.last_of signer.old)) }
 {
+    if make_room(held, update).is_err() {
+        return Err(InstallFault::OutOfMemory);
+    }
     let body = make_body(held, h, update, t, previous);
     body.known();
-    let signature = signer.sign(&body.bytes())?;
-    Some(Entry { body, signature })
+    match signer.sign(&body.bytes()) {
+        Some(signature) => Ok(Entry { body, signature }),
+        None => Err(InstallFault::SignerRefused),
+    }
 }
 
 /// The head of a chain that ends with this entry.
@@ -158,7 +169,7 @@ pub(crate) fn enter<H: Hash32>(held: &mut Held, h: &H, update: Prepared, t: u64,
     requires chain { vec_len held.old.chain < vec_capacity held.old.chain }
     ensures count { length held.new.tree.nodes.items ≡ length held.old.tree.nodes.items + nodes_added update }
     ensures last { held.new.chain.items ≡ held.old.chain.items ++ entry ∷ [] }
-    ensures entered { IsEntered (H.digest_of h.now) (state_of held.old) (state_of held.new) update t entry }
+    ensures entered { (s : State) → state_of held.old ≡ s → IsEntered (H.digest_of h.now) s (state_of held.new) update t entry }
 {
     let Prepared {
         version,

@@ -29,7 +29,8 @@ returns-clause-drafts g c = λ _ bound s.
     let hash : List ℕ → List ℕ = g.H.Hash32.digest_of c.args.h.now in
     let of : List ℕ → List ℕ = g.X.IndexSource.index_of c.args.source.now in
     let at : c.index-index.result.0 ≡ of c.args.op.now.name = c.index-index.ensures ∙ ap of c.as_slice.ensures in
-    let free : IsFree of bound c.index-index.result.0 = subst (λ f. HolderIs of bound c.index-index.result.0 f) (c.op_fault.ensures.free c.in_default-op_fault.is) (c.holder-earlier.ensures hash of bound s) in
+    let free : IsFree of bound c.index-index.result.0 = subst (λ f. HolderIs of bound c.index-index.result.0 f) (c.op_fault.ensures.free c.in_default-op_fault.is)
+    (c.holder-earlier.ensures hash of bound s) in
     let own : IsFree of bound c.in_ok-made.made.index.0 = subst (λ i. IsFree of bound i) (sym c.in_ok-made.ensures.indexed) free in
     subst (λ (b : Registered). AreDrafts hash of (bound ++ b ∷ []) c.add.new.self.records.items c.add.new.self.numbers) c.in_ok-made.ensures.binds
     (c.in_ok-add.ensures hash of bound s (c.in_ok-made.ensures.sealed of at) own)

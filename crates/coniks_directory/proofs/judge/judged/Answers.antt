@@ -1,6 +1,6 @@
-use Rattle.std.proofs.Common.{◌≡◌, List, ℕ, None, Ok, length, map, take, option_map, arith, sym, subst, ap, ◌∙◌, refl}
-use Rattle.coniks_directory.proofs.Words.{AreDrafts, IsJudged, Registered, bound_by, fault_is, length-map, operation_of, operations}
-use Rattle.coniks_directory.proofs.JudgeLemmas.{bound-next, bound-all, op_at, judged-next, judged-fault, judged-all}
+use Rattle.std.proofs.Common.{◌≡◌, None, Ok, Some, map, take, option_map, arith, sym, ap, ◌∙◌, refl}
+use Rattle.coniks_directory.proofs.Words.{bound_by, fault_is, length-map, operation_of, operations, take_all}
+use Rattle.coniks_directory.proofs.JudgeLemmas.{bound-next, op_at, judged-next, judged-all}
 use Rattle.coniks_directory.proofs.judge.judged.Goals as goal
 
 pub loop-position-init : goal.loop-position-init
@@ -11,47 +11,36 @@ loop-position-init g c = record {
 
 pub loop-position-preserved : goal.loop-position-preserved
 loop-position-preserved g c =
-    let hash : List ℕ → List ℕ = g.H.Hash32.digest_of c.args.h.now in
-    let of : List ℕ → List ℕ = g.X.IndexSource.index_of c.args.source.now in
     let l = c.loop-position in
-    let i = l.position in
     let op = c.index-ops-position.result in
     let ops = operations c.args.ops.now in
-    let before = map bound_by (take i ops) in
-    let at = op_at c.args.ops.now i op c.loop-position-test.true c.index-ops-position.is in
+    let before = map bound_by (take l.position ops) in
+    let at = op_at c.args.ops.now l.position op c.loop-position-test.true c.index-ops-position.is in
     let is : c.judge_one.result ≡ Ok None = c.in-Ok-None.is ∙ ap Ok c.in-Ok-None.field-0-is in
     record {
-      drafts = subst (λ (bs : List Registered). AreDrafts hash of bs c.judge_one.new.drafts.records.items c.judge_one.new.drafts.numbers) (bound-next ops i (operation_of op) at) (c.judge_one.ensures.drafts is before l.invariant.drafts);
+      drafts = rw (← bound-next ops l.position (operation_of op) at) (c.judge_one.ensures.drafts is before l.invariant.drafts);
       rest = λ nonce registry shown.
-          judged-next of registry ops i (operation_of op) at (l.invariant.rest nonce registry shown) (sym (c.in-Ok-None.ensures.fault nonce registry before shown l.invariant.drafts) ∙ ap (option_map fault_is) c.in-Ok-None.field-0-is);
+          judged-next (g.X.IndexSource.index_of c.args.source.now) registry ops l.position (operation_of op) None at (l.invariant.rest nonce registry shown)
+          (sym (c.in-Ok-None.ensures.fault nonce registry before shown l.invariant.drafts) ∙ ap (option_map fault_is) c.in-Ok-None.field-0-is);
     }
 
 pub returns-in-Ok-Some-clause-fault : goal.returns-in-Ok-Some-clause-fault
 returns-in-Ok-Some-clause-fault g c = λ nonce registry shown.
-    let of : List ℕ → List ℕ = g.X.IndexSource.index_of c.args.source.now in
     let l = c.loop-position in
-    let i = l.position in
     let op = c.index-ops-position.result in
     let ops = operations c.args.ops.now in
-    let at = op_at c.args.ops.now i op c.loop-position-test.true c.index-ops-position.is in
-    judged-fault of registry ops i (operation_of op) (fault_is c.in-Ok-Some.fault) at (l.invariant.rest nonce registry shown)
-    (sym (c.in-Ok-Some.ensures.fault nonce registry (map bound_by (take i ops)) shown l.invariant.drafts) ∙ ap (option_map fault_is) c.in-Ok-Some.field-0-is)
+    let at = op_at c.args.ops.now l.position op c.loop-position-test.true c.index-ops-position.is in
+    judged-next (g.X.IndexSource.index_of c.args.source.now) registry ops l.position (operation_of op) (Some (fault_is c.in-Ok-Some.fault)) at (l.invariant.rest nonce registry shown)
+    (sym (c.in-Ok-Some.ensures.fault nonce registry (map bound_by (take l.position ops)) shown l.invariant.drafts) ∙ ap (option_map fault_is) c.in-Ok-Some.field-0-is)
 
 pub returns-clause-drafts : goal.returns-clause-drafts
 returns-clause-drafts g c =
-    let hash : List ℕ → List ℕ = g.H.Hash32.digest_of c.args.h.now in
-    let of : List ℕ → List ℕ = g.X.IndexSource.index_of c.args.source.now in
     let l = c.loop-position in
     let ops = operations c.args.ops.now in
-    let all : l.position ≡ length c.args.ops.now = omega arith in
-    let end : l.position ≡ length ops = all ∙ sym (length-map c.args.ops.now operation_of) in
-    subst (λ (bs : List Registered). AreDrafts hash of bs l.drafts.records.items l.drafts.numbers) (ap (λ i. map bound_by (take i ops)) end ∙ bound-all ops) l.invariant.drafts
+    rw (take_all l.position ops (omega (arith, length-map c.args.ops.now operation_of))) at l.invariant.drafts
 
 pub returns-clause-faultless : goal.returns-clause-faultless
 returns-clause-faultless g c = λ nonce registry shown.
-    let of : List ℕ → List ℕ = g.X.IndexSource.index_of c.args.source.now in
     let l = c.loop-position in
     let ops = operations c.args.ops.now in
-    let all : l.position ≡ length c.args.ops.now = omega arith in
-    let end : l.position ≡ length ops = all ∙ sym (length-map c.args.ops.now operation_of) in
-    judged-all of registry ops (subst (IsJudged of registry ops) end (l.invariant.rest nonce registry shown))
+    judged-all (g.X.IndexSource.index_of c.args.source.now) registry ops l.position (omega (arith, length-map c.args.ops.now operation_of)) (l.invariant.rest nonce registry shown)

@@ -1,30 +1,25 @@
-use Rattle.std.proofs.Common.{List, refl, sym, ap, subst, ◌∙◌, option_map}
-use Rattle.coniks_directory.proofs.Words.{IsAcceptedAt, IsChainOf, IsFound, Shown, history_of, root_at, shown_at}
-use Rattle.coniks_directory.proofs.RunLemmas.{defined_by}
+use Rattle.std.proofs.Common.{refl, sym, ◌∙◌}
+use Rattle.coniks_directory.proofs.RunLemmas.{accepted_by, defined_by, history_by}
 use Rattle.coniks_directory.proofs.laws.directory_theorem.Goals as goal
 
 pub returns-clause-epochs : goal.returns-clause-epochs
-returns-clause-epochs c = λ hash of nonce policy batches s run. (defined_by hash of nonce policy batches s run).history
+returns-clause-epochs c = history_by
 
 pub returns-clause-accepted : goal.returns-clause-accepted
-returns-clause-accepted c = λ hash of nonce policy batches s run. (defined_by hash of nonce policy batches s run).accepted
+returns-clause-accepted c = accepted_by
 
 pub returns-clause-entries : goal.returns-clause-entries
 returns-clause-entries c = λ hash of nonce policy batches s run chain.
-    let d = defined_by hash of nonce policy batches s run in
-    subst (λ (history : List Shown). IsChainOf hash of policy history s.chain) d.history (subst (λ p. IsChainOf hash of p (history_of s) s.chain) d.policy_is chain)
+    rw (← history_by hash of nonce policy batches s run, ← (defined_by hash of nonce policy batches s run).policy_is) chain
 
 pub returns-clause-roots : goal.returns-clause-roots
-returns-clause-roots c = λ hash of nonce policy batches s run t root is.
-    is ∙ ap (λ (history : List Shown). option_map (root_at hash of) (shown_at history t)) (defined_by hash of nonce policy batches s run).history
+returns-clause-roots c = λ hash of nonce policy batches s run t root is. rw (← history_by hash of nonce policy batches s run) is
 
 pub returns-clause-paths : goal.returns-clause-paths
-returns-clause-paths c = λ hash of nonce policy batches s run t name proof is.
-    subst (λ (history : List Shown). IsFound hash of history t name proof) (defined_by hash of nonce policy batches s run).history is
+returns-clause-paths c = λ hash of nonce policy batches s run t name proof is. rw (← history_by hash of nonce policy batches s run) is
 
 pub returns-clause-lookups : goal.returns-clause-lookups
-returns-clause-lookups c = λ hash of nonce policy batches s run t name proof is.
-    subst (λ (history : List Shown). IsAcceptedAt hash of history t name proof) (defined_by hash of nonce policy batches s run).history is
+returns-clause-lookups c = λ hash of nonce policy batches s run t name proof is. rw (← history_by hash of nonce policy batches s run) is
 
 pub returns-clause-answers : goal.returns-clause-answers
 returns-clause-answers c = λ hash nonce root index name_a name_b a b x y left right differ.

@@ -16,4 +16,5 @@ returns c = λ hash of nonce registry shown.
     let s : ShowsRegistry hash of nonce c.args.tree.now.nodes.items c.args.tree.now.records.items c.in_ok-root.field-0.0 registry =
     subst (λ r. ShowsLatest hash of nonce c.args.tree.now.nodes.items c.args.tree.now.records.items r registry) c.in_ok-root.was shown in
     let finds = subst (λ r. Finds c.args.tree.now.records.items c.args.index.now.0 r s.entries) c.in_ok-place.was (c.find.ensures.finds hash nonce s.entries s.shows) in
-    found_some hash of nonce c.args.tree.now.nodes.items c.args.tree.now.records.items c.in_ok-root.field-0.0 registry s c.args.index.now.0 c.in_ok-place.place c.record.result.now finds c.record.ensures
+    found_some hash of nonce c.args.tree.now.nodes.items c.args.tree.now.records.items c.in_ok-root.field-0.0 registry s c.args.index.now.0 c.in_ok-place.place c.record.result.now finds
+    c.record.ensures

@@ -1,19 +1,17 @@
-use Rattle.std.proofs.Common.{◌≡◌, true, false, is_some, option_map, ap, sym, ◌∙◌, ◌||◌}
+use Rattle.std.proofs.Common.{◌≡◌, true, false, is_some, option_map, ap, refl, sym, ◌∙◌, ◌||◌}
 use Rattle.coniks_directory.proofs.Words.{fault_is, has_name, kind_fault, kind_of, operation_of, or_right}
 use Rattle.coniks_directory.proofs.HolderLemmas.{clash_some}
-use Rattle.coniks_directory.proofs.JudgeLemmas.{at_twice, at_kind, at_clash}
+use Rattle.coniks_directory.proofs.JudgeLemmas.{at_clash}
 use Rattle.coniks_directory.proofs.stand.op_fault.Goals.{then-is_other-via-then-is_other, then-is_other-via-else-is_other+then-is_some}
 use Rattle.coniks_directory.proofs.stand.op_fault.Goals as goal
 
 pub returns-then-is_named-clause-fault : goal.returns-then-is_named-clause-fault
-returns-then-is_named-clause-fault c = λ of registry before p e.
-    sym (at_twice of registry before (operation_of c.args.op.now) c.requires.named c.requires.keyed (sym (c.is_named.ensures of before e) ∙ c.if-is_named.true))
+returns-then-is_named-clause-fault c = λ of registry before p e. rw (c.requires.named, c.requires.keyed, ← c.is_named.ensures of before e, c.if-is_named.true) refl
 
 pub returns-in-Some-clause-fault : goal.returns-in-Some-clause-fault
 returns-in-Some-clause-fault c = λ of registry before p e.
-    let op = c.args.op.now in
-    sym (at_kind of registry before (operation_of op) c.requires.named c.requires.keyed (fault_is c.in-Some.fault) (sym (c.is_named.ensures of before e) ∙ c.if-is_named.false)
-    (ap (kind_fault (kind_of op.kind)) (sym (c.is_named-2.ensures of registry p)) ∙ sym c.fault_of_kind.ensures ∙ ap (option_map fault_is) c.in-Some.is))
+    let kind : kind_fault (kind_of c.args.op.now.kind) c.is_named-2.result ≡ option_map fault_is c.fault_of_kind.result = sym c.fault_of_kind.ensures in
+    rw (c.requires.named, c.requires.keyed, ← c.is_named.ensures of before e, c.if-is_named.false, ← c.is_named-2.ensures of registry p, kind, c.in-Some.is) refl
 
 -- neither is the name among the earlier ones, nor is its kind at fault: only a clash is left
 pub returns-then-is_other-clause-fault : goal.returns-then-is_other-clause-fault

@@ -1,5 +1,4 @@
-use Rattle.std.proofs.Common.{subst}
-use Rattle.coniks_directory.proofs.Words.{AllHaveOwnIndices, AllUnder, View, history, state_of}
+use Rattle.coniks_directory.proofs.Words.{state_of}
 use Rattle.coniks_directory.proofs.InstallLemmas.{all_under}
 use Rattle.coniks_directory.proofs.LookupLemmas.{all_own}
 use Rattle.coniks_directory.proofs.directory.Directory.chain.Goals as goal
@@ -7,11 +6,9 @@ use Rattle.coniks_directory.proofs.directory.Directory.chain.Goals as goal
 pub returns-clause-under : goal.returns-clause-under
 returns-clause-under g c =
     let d = c.self.inside in
-    subst (λ (v : View g.row.H.Denot g.row.X.Denot). AllUnder v.state.nonce (history v)) c.self.view_is
-    (all_under (g.H.Hash32.digest_of d.h) (g.X.IndexSource.index_of d.source) (state_of d.held) c.self.invariant)
+    rw (← c.self.view_is) (all_under (g.H.Hash32.digest_of d.h) (g.X.IndexSource.index_of d.source) (state_of d.held) c.self.invariant)
 
 pub returns-clause-names : goal.returns-clause-names
 returns-clause-names g c =
     let d = c.self.inside in
-    subst (λ (v : View g.row.H.Denot g.row.X.Denot). AllHaveOwnIndices (g.X.IndexSource.index_of v.index) (history v)) c.self.view_is
-    (all_own (g.H.Hash32.digest_of d.h) (g.X.IndexSource.index_of d.source) (state_of d.held) c.self.invariant)
+    rw (← c.self.view_is) (all_own (g.H.Hash32.digest_of d.h) (g.X.IndexSource.index_of d.source) (state_of d.held) c.self.invariant)

@@ -1,64 +1,60 @@
-use Rattle.std.proofs.Common.{◌≡◌, List, Some, ℕ, refl, subst, sym}
-use Rattle.coniks_proof.specs.Paths.{IsPath}
-use Rattle.coniks_proof.specs.Registry.{entries_of}
-use Rattle.coniks_directory.specs.Directories.{Finds, Misses, Shows, entry}
-use Rattle.coniks_directory.specs.State.{View, shown_of, state_of}
-use Rattle.coniks_directory.specs.declared.lookup.LookupFault.TheVariants.{UnknownEpoch, NameLength, OutOfMemory}
-use Rattle.coniks_directory.proofs.LookupLemmas.{accepted_there, found_there, holds, none_there, pathed, some_there}
+use Rattle.std.proofs.Common.{ap, is_some, refl, sym}
+use Rattle.coniks_directory.proofs.Words.{IsPath, entries_of, shown_of, state_of}
+use Rattle.coniks_directory.proofs.LookupLemmas.{accepted_there, pathed}
 use Rattle.coniks_directory.proofs.directory.Directory.signed_lookup.Given as given
 use Rattle.coniks_directory.proofs.directory.Directory.signed_lookup.Goals as goal
 
 pub returns-in_default-clause-missed : goal.returns-in_default-clause-missed
 returns-in_default-clause-missed g c =
-    subst (λ (v : View g.row.H.Denot g.row.X.Denot). Misses v c.args.t c.args.name.now UnknownEpoch) c.self.view_is
-    (none_there (state_of c.self.inside.held) c.args.t (c.in_default.ensures (g.H.Hash32.digest_of c.self.inside.h) (g.X.IndexSource.index_of c.self.inside.source) c.self.invariant))
+    let d = c.self.inside in
+    rw (← c.self.view_is) (c.in_default.ensures (g.H.Hash32.digest_of d.h) (g.X.IndexSource.index_of d.source) c.self.invariant)
 
 pub returns-then-not-is_length-clause-missed : goal.returns-then-not-is_length-clause-missed
 returns-then-not-is_length-clause-missed g c =
-    subst (λ (v : View g.row.H.Denot g.row.X.Denot). Misses v c.args.t c.args.name.now NameLength) c.self.view_is
-    (some_there (state_of c.self.inside.held) c.args.t c.in-Some.epoch ((c.in-Some.ensures (g.H.Hash32.digest_of c.self.inside.h) (g.X.IndexSource.index_of c.self.inside.source) c.self.invariant).0), sym c.if-not-is_length.ensures.value)
+    let d = c.self.inside in
+    let found = c.in-Some.ensures (g.H.Hash32.digest_of d.h) (g.X.IndexSource.index_of d.source) c.self.invariant in
+    rw (← c.self.view_is) (ap is_some found.shown, sym c.if-not-is_length.ensures.value)
 
 pub path-requires : goal.path-requires
 path-requires g c =
     let d = c.self.inside in
-    (holds (g.H.Hash32.digest_of d.h) (g.X.IndexSource.index_of d.source) (state_of d.held) c.self.invariant c.args.t c.in-Some.epoch ((c.in-Some.ensures (g.H.Hash32.digest_of c.self.inside.h) (g.X.IndexSource.index_of c.self.inside.source) c.self.invariant).0)).known
+    (c.in-Some.ensures (g.H.Hash32.digest_of d.h) (g.X.IndexSource.index_of d.source) c.self.invariant).holds.known
 
 -- the path is that of the name's index in the tree of the epoch's registry
 path_in : (g : given.Over) (c : goal.In-Ok g) → (let hash = g.H.Hash32.digest_of c.self.inside.h in let of = g.X.IndexSource.index_of c.self.inside.source in
     IsPath hash c.in-Some.epoch.nonce.0 (entries_of hash of (shown_of c.self.inside.held.tree.records.items c.in-Some.epoch).registry) (of c.args.name.now) c.in-Ok.proof)
 path_in g c =
     let d = c.self.inside in
-    let s = state_of d.held in
     let hash = g.H.Hash32.digest_of d.h in
     let of = g.X.IndexSource.index_of d.source in
     let e = c.in-Some.epoch in
-    subst (λ (j : List ℕ). IsPath hash e.nonce.0 (entries_of hash of (shown_of s.records e).registry) j c.in-Ok.proof) c.index-index.ensures
-    (pathed hash of s c.self.invariant c.args.t e ((c.in-Some.ensures (g.H.Hash32.digest_of c.self.inside.h) (g.X.IndexSource.index_of c.self.inside.source) c.self.invariant).0) c.index-index.result.0 c.in-Ok.proof (λ entries shows. c.in-Ok.ensures hash e.nonce.0 entries shows))
+    rw (← c.index-index.ensures) (pathed hash of (state_of d.held) c.args.t e _ (c.in-Some.ensures hash of c.self.invariant) c.index-index.result.0 c.in-Ok.proof
+    (λ entries shows. c.in-Ok.ensures hash e.nonce.0 entries shows))
 
 pub returns-in-Ok-clause-entry : goal.returns-in-Ok-clause-entry
 returns-in-Ok-clause-entry g c =
-    subst (λ (v : View g.row.H.Denot g.row.X.Denot). entry v c.args.t ≡ Some c.in-Some.entry) c.self.view_is
-    (c.in-Some.ensures (g.H.Hash32.digest_of c.self.inside.h) (g.X.IndexSource.index_of c.self.inside.source) c.self.invariant).1
+    let d = c.self.inside in
+    rw (← c.self.view_is) (c.in-Some.ensures (g.H.Hash32.digest_of d.h) (g.X.IndexSource.index_of d.source) c.self.invariant).signed
 
 pub returns-in-Ok-clause-index : goal.returns-in-Ok-clause-index
-returns-in-Ok-clause-index g c =
-    subst (λ (v : View g.row.H.Denot g.row.X.Denot). c.index-index.result.0 ≡ g.X.IndexSource.index_of v.index c.args.name.now) c.self.view_is c.index-index.ensures
+returns-in-Ok-clause-index g c = rw (← c.self.view_is) c.index-index.ensures
 
 pub returns-in-Ok-clause-ok : goal.returns-in-Ok-clause-ok
 returns-in-Ok-clause-ok g c =
     let d = c.self.inside in
-    subst (λ (v : View g.row.H.Denot g.row.X.Denot). Finds g.H.Hash32.digest_of g.X.IndexSource.index_of v c.args.t c.args.name.now c.in-Ok.proof) c.self.view_is
-    (found_there (g.H.Hash32.digest_of d.h) (g.X.IndexSource.index_of d.source) (state_of d.held) c.self.invariant c.args.t c.in-Some.epoch ((c.in-Some.ensures (g.H.Hash32.digest_of c.self.inside.h) (g.X.IndexSource.index_of c.self.inside.source) c.self.invariant).0)
-    c.args.name.now c.in-Ok.proof (sym c.if-not-is_length.ensures.value) (path_in g c))
+    let found = c.in-Some.ensures (g.H.Hash32.digest_of d.h) (g.X.IndexSource.index_of d.source) c.self.invariant in
+    rw (← c.self.view_is) (record { shown = _; installed = found.shown; sized = sym c.if-not-is_length.ensures.value; path = path_in g c })
 
 pub returns-in-Ok-clause-accepted : goal.returns-in-Ok-clause-accepted
 returns-in-Ok-clause-accepted g c =
     let d = c.self.inside in
-    subst (λ (v : View g.row.H.Denot g.row.X.Denot). Shows g.H.Hash32.digest_of g.X.IndexSource.index_of v c.args.t c.args.name.now c.in-Ok.proof) c.self.view_is
-    (accepted_there (g.H.Hash32.digest_of d.h) (g.X.IndexSource.index_of d.source) (state_of d.held) c.self.invariant c.args.t c.in-Some.epoch ((c.in-Some.ensures (g.H.Hash32.digest_of c.self.inside.h) (g.X.IndexSource.index_of c.self.inside.source) c.self.invariant).0)
-    c.args.name.now c.in-Ok.proof (c.if-not-is_length.ensures.holds refl) (path_in g c))
+    let of = g.X.IndexSource.index_of d.source in
+    let found = c.in-Some.ensures (g.H.Hash32.digest_of d.h) of c.self.invariant in
+    rw (← c.self.view_is) (accepted_there (g.H.Hash32.digest_of d.h) of (state_of d.held) c.args.t c.in-Some.epoch _ found c.args.name.now c.in-Ok.proof (c.if-not-is_length.ensures.holds refl)
+    (path_in g c))
 
 pub returns-in-Err-clause-missed : goal.returns-in-Err-clause-missed
 returns-in-Err-clause-missed g c =
-    subst (λ (v : View g.row.H.Denot g.row.X.Denot). Misses v c.args.t c.args.name.now OutOfMemory) c.self.view_is
-    (some_there (state_of c.self.inside.held) c.args.t c.in-Some.epoch ((c.in-Some.ensures (g.H.Hash32.digest_of c.self.inside.h) (g.X.IndexSource.index_of c.self.inside.source) c.self.invariant).0), sym c.if-not-is_length.ensures.value)
+    let d = c.self.inside in
+    let found = c.in-Some.ensures (g.H.Hash32.digest_of d.h) (g.X.IndexSource.index_of d.source) c.self.invariant in
+    rw (← c.self.view_is) (ap is_some found.shown, sym c.if-not-is_length.ensures.value)

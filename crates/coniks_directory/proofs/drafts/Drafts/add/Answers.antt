@@ -12,6 +12,6 @@ returns c = λ hash of bound s sealed free.
     let number : c.len-number.result ≡ length rs = c.len-number.ensures ∙ c.args.self.now.records.ok.0 in
     let none : c.in_ok-insert.field-0 ≡ None = c.in_ok-insert.ensures.old ∙ free_none hash of bound rs old s r.index.0 free in
     let longer : btree_map_len new ≡ btree_map_len old + 1 = c.in_ok-insert.ensures.len ∙ ap (λ o. btree_map_len old + (if is_some o then 0 else 1)) none in
-    drafts_next hash of bound rs old s c.push.new.self.items new r sealed free c.in_ok-push.ensures.items
+    rw c.in_ok-push.ensures.items (drafts_next hash of bound rs old s new r sealed free
     (λ i. c.in_ok-insert.ensures.updates.0 i ∙ ap (λ n. cond (is_eq (slice_cmp nat_cmp r.index.0 i)) (Some n) (number_at old i)) number)
-    c.in_ok-insert.ensures.ordered longer
+    c.in_ok-insert.ensures.ordered longer)

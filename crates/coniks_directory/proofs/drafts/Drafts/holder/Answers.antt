@@ -1,5 +1,5 @@
-use Rattle.std.proofs.Common.{◌≡◌, List, Option, None, Some, MatchOption, slice_get, subst, sym}
-use Rattle.coniks_directory.proofs.Words.{Bor, HolderIs, Record, number_at}
+use Rattle.std.proofs.Common.{◌≡◌, None, Some, MatchOption, slice_get, subst, sym}
+use Rattle.coniks_directory.proofs.Words.{HolderIs, number_at}
 use Rattle.coniks_directory.proofs.DraftLemmas.{drafts_free, drafts_held}
 use Rattle.coniks_directory.proofs.drafts.Drafts.holder.Goals as goal
 
@@ -15,10 +15,7 @@ returns c = λ hash of bound s.
     let numbers = c.args.self.now.numbers in
     let n = c.in_ok-number.number.now in
     let some : number_at numbers i ≡ Some n = sym c.in_ok-number.ensures.value in
-    let k = s.kept i n some in
-    let held : (o : Option (Bor Record)) → MatchOption o (slice_get c.deref.result.now n ≡ None) (λ found. slice_get c.deref.result.now n ≡ Some found.now) → HolderIs of bound i o = λ o.
-    elim o as (λ v. MatchOption v (slice_get c.deref.result.now n ≡ None) (λ found. slice_get c.deref.result.now n ≡ Some found.now) → HolderIs of bound i v) [
-      | None ↦ λ gone. absurd (let there = k.1 in let same = c.deref.ensures.value in cc)
-      | Some r ↦ λ at. drafts_held hash of bound records numbers s i n r.now some (subst (λ (xs : List Record). slice_get xs n ≡ Some r.now) c.deref.ensures.value at)
-    ] in
-    held c.record_at.result c.record_at.ensures
+    (elim c.record_at.result as (λ v. MatchOption v (slice_get records n ≡ None) (λ found. slice_get records n ≡ Some found.now) → HolderIs of bound i v) [
+      | None ↦ λ gone. absurd (let k = s.kept i n some in let there = k.1 in cc)
+      | Some r ↦ λ at. drafts_held hash of bound records numbers s i n r.now some at
+    ]) (rw c.deref.ensures.value at c.record_at.ensures)

@@ -1,7 +1,7 @@
-use Rattle.std.proofs.Common.{rules, ltb, sym}
-use Rattle.std.proofs.lemmas.List.Sorted.{IsPartitionPoint-from_clause, IsPartitionedBy-ltb}
+use Rattle.std.proofs.Common.{◌≡◌, ◌≢◌, rules, ltb, subst, sym, ◌∙◌}
+use Rattle.std.proofs.lemmas.List.Sorted.{IsPartitionPoint-from_clause}
 use Rattle.coniks_directory.specs.declared.epochs.Epoch.{Epoch}
-use Rattle.coniks_directory.proofs.NumberLemmas.{find_at, found_none, found_other, parted, rising-sorted}
+use Rattle.coniks_directory.proofs.NumberLemmas.{find_at, not_found}
 use Rattle.coniks_directory.proofs.epochs.Epoch.of_number.Goals as goal
 
 pub returns-in-Some-clause-found : goal.returns-in-Some-clause-found
@@ -10,18 +10,14 @@ returns-in-Some-clause-found c = λ up.
 
 pub returns-in_default-clause-found : goal.returns-in_default-clause-found
 returns-in_default-clause-found c = λ up.
-    let es = c.args.epochs.now in
-    let n = c.args.t in
-    let place = c.partition_point-place.result in
-    let sides = parted (λ (e : Epoch). e.t) n place es (IsPartitionPoint-from_clause (λ (e : Epoch). ltb e.t n) es place c.partition_point-place.ensures.partitioned
-    (IsPartitionedBy-ltb (λ (e : Epoch). e.t) es n (rising-sorted (λ (e : Epoch). e.t) 0 es up)) (λ a r f' k. search rules)) in
-    sym (found_other (λ (e : Epoch). e.t) 0 n place es up sides.0 sides.1 c.in-Some.epoch (sym c.in-Some.ensures) c.if-epoch-t.false)
+    let cut = c.partition_point-place.ensures.partitioned in
+    sym (not_found (λ (e : Epoch). e.t) 0 c.args.t c.partition_point-place.result c.args.epochs.now up
+    (λ sorted. IsPartitionPoint-from_clause (λ (e : Epoch). ltb e.t c.args.t) c.args.epochs.now c.partition_point-place.result cut sorted (λ a r f' k. search rules))
+    (λ e at. let one : c.in-Some.epoch ≡ e = cc (c.in-Some.ensures, at) in subst (λ (f : Epoch). f.t ≢ c.args.t) one c.if-epoch-t.false))
 
 pub returns-in_default-2-clause-found : goal.returns-in_default-2-clause-found
 returns-in_default-2-clause-found c = λ up.
-    let es = c.args.epochs.now in
-    let n = c.args.t in
-    let place = c.partition_point-place.result in
-    let sides = parted (λ (e : Epoch). e.t) n place es (IsPartitionPoint-from_clause (λ (e : Epoch). ltb e.t n) es place c.partition_point-place.ensures.partitioned
-    (IsPartitionedBy-ltb (λ (e : Epoch). e.t) es n (rising-sorted (λ (e : Epoch). e.t) 0 es up)) (λ a r f' k. search rules)) in
-    sym (found_none (λ (e : Epoch). e.t) 0 n place es up sides.0 sides.1 (sym c.in_default.ensures))
+    let cut = c.partition_point-place.ensures.partitioned in
+    sym (not_found (λ (e : Epoch). e.t) 0 c.args.t c.partition_point-place.result c.args.epochs.now up
+    (λ sorted. IsPartitionPoint-from_clause (λ (e : Epoch). ltb e.t c.args.t) c.args.epochs.now c.partition_point-place.result cut sorted (λ a r f' k. search rules))
+    (λ e at. absurd (let never = c.in_default.ensures ∙ at in cc)))
