@@ -14,6 +14,7 @@ pub mod Keydir
 pub mod Members
 pub mod Monitor
 pub mod MonitorReplies
+pub mod Objects
 pub mod Operations
 pub mod Paths
 pub mod Program

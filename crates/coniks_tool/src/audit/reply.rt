@@ -4,10 +4,11 @@ ghost use Rattle.std.specs.Prelude.{◌≡◌, ◌++◌, IfOk, OnOk, OnErr};
 ghost use Rattle.serde_json.specs.View.{view};
 ghost use Rattle.coniks_tool.specs.AuditReplies.{audit_data, audit_fault_name, audit_outcome, audit_text, audited_data};
 
+use crate::lines::objects::{Field, Shown, object};
 use crate::lines::printing::{bad_member, fault, print_value};
 use coniks_chain::AuditFault;
 use coniks_proof::Digest;
-use serde_json::{Value, json};
+use serde_json::Value;
 use std::alloc::{AllocError, Global};
 
 /// What `audit` answers to a line.
@@ -75,5 +76,12 @@ pub fn audit_fault_text(fault: AuditFault) -> &'static str
 fn audited(alloc: Global, epoch: u64, link: &Digest) -> Result<Value, AllocError>
     ensures { IfOk result (λ value. view value ≡ audited_data epoch link.now.0) }
 {
-    json!(in alloc; {"epoch": epoch, "link": hex::encode(alloc, &link.0)?, "ok": "audit"})
+    object(
+        alloc,
+        &[
+            Field("epoch", Shown::Number(epoch)),
+            Field("link", Shown::Digits(&link.0)),
+            Field("ok", Shown::Text("audit")),
+        ],
+    )
 }

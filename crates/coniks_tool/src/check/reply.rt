@@ -5,10 +5,10 @@ ghost use Rattle.serde_json.specs.View.{view};
 ghost use Rattle.coniks_proof.specs.Proofs.{said};
 ghost use Rattle.coniks_tool.specs.CheckReplies.{answer_data, key_data, check_data, check_fault_name, check_outcome, check_text};
 
+use crate::lines::objects::{Field, Shown, object};
 use crate::lines::printing::{Member, bad_member, fault, member_text, print_value};
-use base64::engine::general_purpose::STANDARD;
 use coniks_proof::{Answer, CheckFault};
-use serde_json::{Value, json};
+use serde_json::Value;
 use std::alloc::{AllocError, Global};
 
 /// What `check` answers to a line.
@@ -67,18 +67,27 @@ fn answer_value(alloc: Global, answer: &Answer<'_>) -> Result<Value, AllocError>
 {
     match answer {
         Answer::Key(key) => key_value(alloc, *key),
-        Answer::Absent => json!(in alloc; {"answer": "absent", "ok": "check"}),
+        Answer::Absent => object(
+            alloc,
+            &[
+                Field("answer", Shown::Text("absent")),
+                Field("ok", Shown::Text("check")),
+            ],
+        ),
     }
 }
 
 fn key_value(alloc: Global, key: &[u8]) -> Result<Value, AllocError>
     ensures { IfOk result (λ value. view value ≡ key_data key.now) }
 {
-    json!(in alloc; {
-        "answer": "key",
-        "key": STANDARD.encode(alloc, key)?,
-        "ok": "check",
-    })
+    object(
+        alloc,
+        &[
+            Field("answer", Shown::Text("key")),
+            Field("key", Shown::Base64(key)),
+            Field("ok", Shown::Text("check")),
+        ],
+    )
 }
 
 /// The name of a fault.

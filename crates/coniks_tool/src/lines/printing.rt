@@ -5,7 +5,8 @@ ghost use Rattle.serde_json.specs.View.{view};
 ghost use Rattle.serde_json.specs.Written.{compact_text, has_float};
 ghost use Rattle.coniks_tool.specs.Replies.{bad_member_data, fault_data, member_name};
 
-use serde_json::{Value, json};
+use crate::lines::objects::{Field, Shown, object};
+use serde_json::Value;
 use std::alloc::{AllocError, Global};
 
 /// A member of a line.
@@ -54,12 +55,18 @@ pub(crate) fn print_value(alloc: Global, value: &Value, out: &mut Vec<u8>) -> Re
 pub(crate) fn fault(alloc: Global, name: &str) -> Result<Value, AllocError>
     ensures { IfOk result (λ value. view value ≡ fault_data name.now) }
 {
-    json!(in alloc; {"fault": name})
+    object(alloc, &[Field("fault", Shown::Text(name))])
 }
 
 /// The refusal of a line for one of its members.
 pub(crate) fn bad_member(alloc: Global, name: &str) -> Result<Value, AllocError>
     ensures { IfOk result (λ value. view value ≡ bad_member_data name.now) }
 {
-    json!(in alloc; {"fault": "Member", "member": name})
+    object(
+        alloc,
+        &[
+            Field("fault", Shown::Text("Member")),
+            Field("member", Shown::Text(name)),
+        ],
+    )
 }

@@ -6,9 +6,10 @@ ghost use Rattle.coniks_tool.specs.MonitorReplies.{expecting_data, monitor_data,
 
 use crate::audit::reply::audit_fault_text;
 use crate::check::reply::check_fault_text;
+use crate::lines::objects::{Field, Shown, object};
 use crate::lines::printing::{Member, bad_member, fault, member_text, print_value};
 use coniks_chain::{MonitorFault, Seen};
-use serde_json::{Value, json};
+use serde_json::Value;
 use std::alloc::{AllocError, Global};
 
 /// What `monitor` answers to a line.
@@ -69,13 +70,20 @@ fn value_of(alloc: Global, reply: &MonitorReply) -> Result<Value, AllocError>
 fn watched(alloc: Global, epoch: u64, seen: &str) -> Result<Value, AllocError>
     ensures { IfOk result (λ value. view value ≡ watched_data epoch seen.now) }
 {
-    json!(in alloc; {"epoch": epoch, "ok": "monitor", "seen": seen})
+    object(
+        alloc,
+        &[
+            Field("epoch", Shown::Number(epoch)),
+            Field("ok", Shown::Text("monitor")),
+            Field("seen", Shown::Text(seen)),
+        ],
+    )
 }
 
 fn expecting(alloc: Global) -> Result<Value, AllocError>
     ensures { IfOk result (λ value. view value ≡ expecting_data) }
 {
-    json!(in alloc; {"ok": "expect"})
+    object(alloc, &[Field("ok", Shown::Text("expect"))])
 }
 
 fn seen_text(seen: Seen) -> &'static str

@@ -7,12 +7,13 @@ ghost use Rattle.coniks_directory.specs.Batches.{fault_is};
 ghost use Rattle.coniks_tool.specs.Paths.{path_of};
 ghost use Rattle.coniks_tool.specs.Replies.{outcome_of, reply_data, reply_text, member_name, fault_name, fault_data, placed_fault_data, looked_up_data, bad_member_data, bad_operation_data, epoch_not_later_data, opened_data, installed_data};
 
+use crate::lines::objects::{Field, Shown, members, object};
 use crate::lines::printing::{Member, bad_member, fault, member_text, print_value};
 use crate::lines::proof_text::proof_value;
 use coniks_chain::Entry;
 use coniks_directory::{OpFault, SignedProof};
 use coniks_proof::Digest;
-use serde_json::{Value, json};
+use serde_json::{Value, put};
 use std::alloc::{AllocError, Global};
 
 /// What a line is answered by.
@@ -123,51 +124,77 @@ fn fault_text(fault: OpFault) -> &'static str
 fn opened(alloc: Global) -> Result<Value, AllocError>
     ensures { IfOk result (λ value. view value ≡ opened_data) }
 {
-    json!(in alloc; {"ok": "open"})
+    object(alloc, &[Field("ok", Shown::Text("open"))])
 }
 
-fn installed(alloc: Global, entry: &Entry, link: &Digest) -> Result<Value, AllocError>
+fn installed<'a>(alloc: Global, entry: &'a Entry, link: &'a Digest) -> Result<Value, AllocError>
     ensures { IfOk result (λ value. view value ≡ installed_data entry.now link.now.0) }
 {
-    json!(in alloc; {
-        "entry": hex::encode(alloc, &entry.bytes())?,
-        "epoch": entry.body.t,
-        "link": hex::encode(alloc, &link.0)?,
-        "ok": "batch",
-        "root": hex::encode(alloc, &entry.body.root.0)?,
-    })
+    object(
+        alloc,
+        &[
+            Field("entry", Shown::Entry(entry)),
+            Field("epoch", Shown::Number(entry.body.t)),
+            Field("link", Shown::Digits(&link.0)),
+            Field("ok", Shown::Text("batch")),
+            Field("root", Shown::Digits(&entry.body.root.0)),
+        ],
+    )
 }
 
-fn looked_up(alloc: Global, name: &str, found: &SignedProof) -> Result<Value, AllocError>
+fn looked_up<'a>(alloc: Global, name: &'a str, found: &'a SignedProof) -> Result<Value, AllocError>
     ensures { IfOk result (λ value. view value ≡ looked_up_data found.now.entry found.now.index.0 name.now (path_of found.now.proof)) }
 {
     let body = &found.entry.body;
-    json!(in alloc; {
-        "entry": hex::encode(alloc, &found.entry.bytes())?,
-        "epoch": body.t,
-        "index": hex::encode(alloc, &found.index.0)?,
-        "name": name,
-        "nonce": hex::encode(alloc, &body.nonce.0)?,
-        "ok": "lookup",
-        "proof": proof_value(alloc, &found.proof)?,
-        "root": hex::encode(alloc, &body.root.0)?,
-    })
+    let mut map = members(
+        alloc,
+        &[
+            Field("entry", Shown::Entry(&found.entry)),
+            Field("epoch", Shown::Number(body.t)),
+            Field("index", Shown::Digits(&found.index.0)),
+            Field("name", Shown::Text(name)),
+            Field("nonce", Shown::Digits(&body.nonce.0)),
+            Field("ok", Shown::Text("lookup")),
+            Field("root", Shown::Digits(&body.root.0)),
+        ],
+    )?;
+    put(&mut map, alloc, "proof", proof_value(alloc, &found.proof)?)?;
+    Ok(Value::Object(map))
 }
 
 fn placed_fault(alloc: Global, name: &str, position: usize) -> Result<Value, AllocError>
     ensures { IfOk result (λ value. view value ≡ placed_fault_data name.now position) }
 {
-    json!(in alloc; {"fault": name, "position": position})
+    object(
+        alloc,
+        &[
+            Field("fault", Shown::Text(name)),
+            Field("position", Shown::Number(position as u64)),
+        ],
+    )
 }
 
 fn bad_operation(alloc: Global, position: usize) -> Result<Value, AllocError>
     ensures { IfOk result (λ value. view value ≡ bad_operation_data position) }
 {
-    json!(in alloc; {"fault": "Member", "member": "ops", "position": position})
+    object(
+        alloc,
+        &[
+            Field("fault", Shown::Text("Member")),
+            Field("member", Shown::Text("ops")),
+            Field("position", Shown::Number(position as u64)),
+        ],
+    )
 }
 
 fn epoch_not_later(alloc: Global, latest: u64) -> Result<Value, AllocError>
     ensures { IfOk result (λ value. view value ≡ epoch_not_later_data latest) }
 {
-    json!(in alloc; {"fault": "EpochNotLater", "latest": latest})
+    object(
+        alloc,
+        &[
+            Field("fault", Shown::Text("EpochNotLater")),
+            Field("latest", Shown::Number(latest)),
+        ],
+    )
 }

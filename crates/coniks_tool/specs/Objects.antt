@@ -1,0 +1,23 @@
+-- Objects that are printed, by their members.
+use Rattle.std.specs.Prelude.{List, [], ◌∷◌}
+use Rattle.serde_json.specs.Data.{Data, Members, string, number, unsigned, put}
+use Rattle.base64.specs.GeneralPurpose.{encode_of}
+use Rattle.base64.specs.Engines.{standard}
+use Rattle.coniks_chain.specs.Entries.{entry_bytes}
+use Rattle.coniks_tool.specs.ProofTexts.{digits}
+use Rattle.coniks_tool.specs.declared.lines.objects.Field.{Field}
+use Rattle.coniks_tool.specs.declared.lines.objects.Shown.{Shown}
+use Rattle.coniks_tool.specs.declared.lines.objects.Shown.TheVariants.{Digits, Entry, Base64, Text, Number}
+
+-- what stands for a value
+abbrev pub data_of : Shown → Data
+data_of (Digits bytes) = digits bytes.now
+data_of (Entry entry) = digits (entry_bytes entry.now)
+data_of (Base64 bytes) = string (encode_of standard bytes.now)
+data_of (Text text) = string text.now
+data_of (Number n) = number (unsigned n)
+
+-- members with these put among them, one after another
+abbrev pub with_all : List Field → Members → Members
+with_all [] members = members
+with_all (field ∷ fields) members = with_all fields (put field.0.now (data_of field.1) members)

@@ -1,0 +1,62 @@
+//! Objects that are printed, by their members.
+
+ghost use Rattle.std.specs.Prelude.{◌≡◌, IfOk};
+ghost use Rattle.serde_json.specs.Data.{no_members, object as object_of};
+ghost use Rattle.serde_json.specs.View.{members_view, view};
+ghost use Rattle.coniks_tool.specs.Objects.{data_of, with_all};
+
+use base64::engine::general_purpose::STANDARD;
+use coniks_chain::Entry;
+use serde_json::{Map, Value, put};
+use std::alloc::{AllocError, Global};
+
+/// The value of a member.
+#[derive(Clone, Copy)]
+pub(crate) enum Shown<'a> {
+    /// Bytes, in lower case hexadecimal digits.
+    Digits(&'a [u8]),
+    /// An entry's bytes, in lower case hexadecimal digits.
+    Entry(&'a Entry),
+    /// Bytes, in base64.
+    Base64(&'a [u8]),
+    /// A text.
+    Text(&'a str),
+    /// A number.
+    Number(u64),
+}
+
+/// A member: its name and its value.
+#[derive(Clone, Copy)]
+pub(crate) struct Field<'a>(pub(crate) &'a str, pub(crate) Shown<'a>);
+
+/// The value of a member as JSON has it.
+pub(crate) fn value_of(alloc: Global, shown: Shown<'_>) -> Result<Value, AllocError>
+    ensures { IfOk result (λ value. view value ≡ data_of shown.entry) }
+{
+    match shown {
+        Shown::Digits(bytes) => Ok(Value::String(hex::encode(alloc, bytes)?)),
+        Shown::Entry(entry) => Ok(Value::String(hex::encode(alloc, &entry.bytes())?)),
+        Shown::Base64(bytes) => Ok(Value::String(STANDARD.encode(alloc, bytes)?)),
+        Shown::Text(text) => Ok(Value::String(String::from_str(alloc, text)?)),
+        Shown::Number(number) => Ok(Value::from(number)),
+    }
+}
+
+/// The members, in the order of their names' bytes.
+pub(crate) fn members(alloc: Global, fields: &[Field<'_>]) -> Result<Map<String, Value>, AllocError>
+    ensures { IfOk result (λ map. members_view map.entries ≡ with_all fields.now no_members) }
+{
+    let mut map = Map::new(alloc);
+    for field in fields {
+        let value = value_of(alloc, field.1)?;
+        put(&mut map, alloc, field.0, value)?;
+    }
+    Ok(map)
+}
+
+/// The object of these members.
+pub(crate) fn object(alloc: Global, fields: &[Field<'_>]) -> Result<Value, AllocError>
+    ensures { IfOk result (λ value. view value ≡ object_of (with_all fields.now no_members)) }
+{
+    Ok(Value::Object(members(alloc, fields)?))
+}
