@@ -2,7 +2,7 @@
 pub use Rattle.coniks_proof.proofs.NodeLemmas.{end_of-empty, end_of-inner, end_of-leaf, length-child, node-empty, node-inner, node-leaf, siblings-empty, siblings-inner, siblings-leaf}
 pub use Rattle.coniks_proof.proofs.HalfLemmas.{all_left, all_right, length-halves}
 pub use Rattle.coniks_proof.proofs.ChangeLemmas.{IsSplit, apart-halves, apart-last, filters_swap, half-overwritten, in_order-split, overwritten-empty, overwritten-nothing, overwritten-one, overwritten-same}
-pub use Rattle.coniks_proof.proofs.MapLemmas.{IsIn-append, IsIn-append_left, IsIn-append_right, IsIn-filter, IsMap-append, IsMap-apart, IsMap-filter, SameEntries-filter, SameEntries-sym, end_of-same, node-same, of_filter, passes, same_as_none, same_as_one, same_entry, siblings-same}
+pub use Rattle.coniks_proof.proofs.MapLemmas.{IsIn-append, IsIn-append_left, IsIn-append_right, IsIn-filter, IsMap-append, IsMap-apart, IsMap-filter, SameEntries-filter, SameEntries-sym, end_of-same, new_apart, node-same, of_filter, passes, same_as_none, same_as_one, same_entry, siblings-same}
 pub use Rattle.coniks_proof.proofs.UnderLemmas.{under-child}
 pub use Rattle.coniks_proof.proofs.OrderLemmas.{AreIncreasing-in_order, increasing_map}
 pub use Rattle.coniks_proof.proofs.FaultLemmas.{accepts-no_fault, no_fault-accepts}

@@ -42,6 +42,18 @@ in_order-few : (k : ℕ) (es : List Numbered) → length es ≤ 1 → in_order k
 unfolding in_order
 in_order-few k es few = within-few (256 - k) k es few
 
+within-same : (h k : ℕ) (es : List Numbered) → InOrderWithin h k es → in_order_within h k es ≡ es
+unfolding InOrderWithin in_order_within
+within-same zero k es order = refl
+within-same (suc h) k es order =
+    ap (λ xs. xs ++ in_order_within h (suc k) (half true k es)) (within-same h (suc k) (half false k es) order.1)
+    ∙ ap (λ xs. half false k es ++ xs) (within-same h (suc k) (half true k es) order.2) ∙ sym order.0
+
+-- entries in order are their own list
+pub in_order-same : (k : ℕ) (es : List Numbered) → AreInOrder k es → in_order k es ≡ es
+unfolding AreInOrder in_order
+in_order-same k es order = within-same (256 - k) k es order
+
 -- the list of the left side, and then that of the right one
 in_order-inner : (k : ℕ) (es : List Numbered) → k < 256 → in_order k es ≡ in_order (k + 1) (half false k es) ++ in_order (k + 1) (half true k es)
 unfolding in_order in_order_within

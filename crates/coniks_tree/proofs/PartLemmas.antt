@@ -208,9 +208,12 @@ AllPlaced-drop all (suc n) (c ∷ cs) placed = AllPlaced-drop all n cs placed.1
 pub AllPlaced-first : (all : List Record) (cs : List Change) (first : Change) → slice_get cs 0 ≡ Some first → AllPlaced all cs → Placed all (Entry first)
 AllPlaced-first all cs first at placed = let named = with_first cs first at in (subst (AllPlaced all) named.1 placed).0
 
+pub AllPlaced-append : (all : List Record) (cs ds : List Change) → AllPlaced all cs → AllPlaced all ds → AllPlaced all (cs ++ ds)
+AllPlaced-append all [] ds one two = two
+AllPlaced-append all (c ∷ cs) ds one two = (one.0, AllPlaced-append all cs ds one.1 two)
+
 pub AllPlaced-push : (all : List Record) (cs : List Change) (c : Change) → AllPlaced all cs → Placed all (Entry c) → AllPlaced all (cs ++ c ∷ [])
-AllPlaced-push all [] c placed here = (here, tt)
-AllPlaced-push all (d ∷ cs) c placed here = (placed.0, AllPlaced-push all cs c placed.1 here)
+AllPlaced-push all cs c placed here = AllPlaced-append all cs (c ∷ []) placed (here, tt)
 
 -- what stands in a list stands that much further on where it follows another
 get-behind : (old new : List Record) (n k : ℕ) → n ≡ length old + k → slice_get (old ++ new) n ≡ slice_get new k

@@ -14,7 +14,7 @@ use coniks_proof::{Hash32, Index, MAX_LEVEL, Nonce, Prefix};
 use std::alloc::{AllocError, Global};
 
 /// The changes that go left at a level, and those that go right.
-pub(crate) fn sides(changes: &[Change], level: usize) -> (&[Change], &[Change])
+pub fn sides(changes: &[Change], level: usize) -> (&[Change], &[Change])
     requires { level < 256 }
     ensures all { length result.0.now + length result.1.now ≡ length changes.now }
     ensures placed { (all : List Record) → AllPlaced all changes.now → AllPlaced all result.0.now × AllPlaced all result.1.now }

@@ -41,6 +41,7 @@ mod path;
 pub mod table;
 pub mod tree;
 
+pub use growth::sides;
 pub use memory::OutOfMemory;
 pub use part::{Change, Part, Subtree, lefts};
 pub use table::{Record, RecordNo, Root};
