@@ -7,7 +7,7 @@ use Rattle.std.proofs.lemmas.Bool.{cases_lt}
 use Rattle.coniks_chain.specs.declared.entry.Entry.{Entry}
 use Rattle.coniks_chain.specs.declared.auditor.Before.{Before}
 use Rattle.coniks_chain.specs.declared.auditor.AuditFault.{AuditFault}
-use Rattle.coniks_chain.specs.declared.auditor.AuditFault.TheVariants.{Version, FirstEpoch, NotLater, PreviousEpoch, PreviousLink, NonceChanged, Verdict}
+use Rattle.coniks_chain.specs.declared.auditor.AuditFault.TheVariants.{Version, VersionBack, FirstEpoch, NotLater, PreviousEpoch, PreviousLink, NonceChanged, Verdict}
 use Rattle.coniks_chain.specs.Chain.{Meets, IsFirstFault, IsFirstRefused, Follows, before_of, before_at, ContinuesTo, Continues, GoodChain}
 
 -- two elements at one place are one
@@ -38,12 +38,13 @@ continues-all hash verdict start es n all good = λ k e at.
 -- an entry that follows meets each row
 pub row : (verdict : List ℕ → List ℕ → Bool) (before : Option Before) (entry : Entry) → Follows verdict before entry → (fault : AuditFault) → Meets verdict before entry fault
 row verdict before entry follows Version = follows.rows.0
-row verdict before entry follows FirstEpoch = follows.rows.1.0
-row verdict before entry follows NotLater = follows.rows.1.1.0
-row verdict before entry follows PreviousEpoch = follows.rows.1.1.1.0
-row verdict before entry follows PreviousLink = follows.rows.1.1.1.1.0
-row verdict before entry follows NonceChanged = follows.rows.1.1.1.1.1.0
-row verdict before entry follows Verdict = follows.rows.1.1.1.1.1.1.0
+row verdict before entry follows VersionBack = follows.rows.1.0
+row verdict before entry follows FirstEpoch = follows.rows.1.1.0
+row verdict before entry follows NotLater = follows.rows.1.1.1.0
+row verdict before entry follows PreviousEpoch = follows.rows.1.1.1.1.0
+row verdict before entry follows PreviousLink = follows.rows.1.1.1.1.1.0
+row verdict before entry follows NonceChanged = follows.rows.1.1.1.1.1.1.0
+row verdict before entry follows Verdict = follows.rows.1.1.1.1.1.1.1.0
 
 -- an entry at fault doesn't follow
 pub refuses : (verdict : List ℕ → List ℕ → Bool) (before : Option Before) (entry : Entry) (fault : AuditFault) → IsFirstFault verdict before entry fault → ¬ Follows verdict before entry
@@ -51,21 +52,9 @@ refuses verdict before entry fault first = λ follows. first.here (row verdict b
 
 -- a good chain stays one under a verdict that answers the same
 pub follows_same : (v w : List ℕ → List ℕ → Bool) → ((body signature : List ℕ) → w body signature ≡ v body signature) → (before : Option Before) (entry : Entry) → Follows v before entry → Follows w before entry
-follows_same v w same before entry follows = record {
-  rows = (
-    row v before entry follows Version,
-    (
-      row v before entry follows FirstEpoch,
-      (
-        row v before entry follows NotLater,
-        (
-          row v before entry follows PreviousEpoch,
-          (row v before entry follows PreviousLink, (row v before entry follows NonceChanged, (same _ _ ∙ row v before entry follows Verdict, tt))),
-        ),
-      ),
-    ),
-  );
-}
+follows_same v w same before entry follows =
+    let m = row v before entry follows in
+    record { rows = (m Version, (m VersionBack, (m FirstEpoch, (m NotLater, (m PreviousEpoch, (m PreviousLink, (m NonceChanged, (same _ _ ∙ m Verdict, tt)))))))) }
 
 pub good_same_verdict : (hash : List ℕ → List ℕ) (v w : List ℕ → List ℕ → Bool) → ((body signature : List ℕ) → w body signature ≡ v body signature) → (es : List Entry) → GoodChain hash v es → GoodChain hash w es
 good_same_verdict hash v w same es good = λ k e at. follows_same v w same (before_at hash None es k) e (good k e at)
@@ -97,16 +86,32 @@ good_push hash verdict es e good follows = λ k x at. ⊎_elim
     (subst (λ b. Follows verdict b e) (sym (before_at-push hash es e (length es) (omega arith))) follows)))
     (cases_lt k (length es))
 
--- in a good chain each nonce is the first entry's
-pub one_nonce : (hash : List ℕ → List ℕ) (verdict : List ℕ → List ℕ → Bool) (es : List Entry) (k : ℕ) (first e : Entry) → GoodChain hash verdict es → slice_get es 0 ≡ Some first → slice_get es k ≡ Some e → e.body.nonce.0 ≡ first.body.nonce.0
-one_nonce hash verdict es zero first e good at_first at = ap (λ x. x.body.nonce.0) (same_Some e first (sym at ∙ at_first))
-one_nonce hash verdict es (suc k) first e good at_first at =
+-- what an entry after an entry of a good chain meets
+pub after : (hash : List ℕ → List ℕ) (verdict : List ℕ → List ℕ → Bool) (es : List Entry) (k : ℕ) (d e : Entry) → GoodChain hash verdict es
+    → slice_get es k ≡ Some d → slice_get es (suc k) ≡ Some e → (fault : AuditFault) → Meets verdict (Some (before_of hash d)) e fault
+after hash verdict es k d e good there at fault =
+    row verdict (Some (before_of hash d)) e (subst (λ b. Follows verdict b e) (ap (option_map (before_of hash)) there) (good (suc k) e at)) fault
+
+-- an entry that follows has no version before 1
+pub version_1 : (verdict : List ℕ → List ℕ → Bool) (before : Option Before) (entry : Entry) → Follows verdict before entry → entry.body.version ≤ 1 → entry.body.version ≡ 1
+version_1 verdict before entry follows least =
+    ⊎_elim (λ one. one) (λ (two : entry.body.version ≡ 2). absurd (omega arith)) (row verdict before entry follows Version)
+
+-- in a good chain the first entry is of version 1 where a later one is, and has its nonce
+pub one_nonce : (hash : List ℕ → List ℕ) (verdict : List ℕ → List ℕ → Bool) (es : List Entry) (k : ℕ) (first e : Entry) → GoodChain hash verdict es
+    → slice_get es 0 ≡ Some first → slice_get es k ≡ Some e → e.body.version ≡ 1 → (first.body.version ≡ 1) × (e.body.nonce.0 ≡ first.body.nonce.0)
+one_nonce hash verdict es zero first e good at_first at is_first =
+    let same = same_Some e first (sym at ∙ at_first) in
+    (ap (λ x. x.body.version) (sym same) ∙ is_first, ap (λ x. x.body.nonce.0) same)
+one_nonce hash verdict es (suc k) first e good at_first at is_first =
     let within = slice_get_within es (suc k) e at in
-    let short : k < length es = omega arith in
     let d = get_or es k first in
-    let there : slice_get es k ≡ Some d = slice_get-get_or es k first short in
-    let before : before_at hash None es (suc k) ≡ Some (before_of hash d) = ap (option_map (before_of hash)) there in
-    row verdict (Some (before_of hash d)) e (subst (λ b. Follows verdict b e) before (good (suc k) e at)) NonceChanged ∙ one_nonce hash verdict es k first d good at_first there
+    let there : slice_get es k ≡ Some d = slice_get-get_or es k first (omega arith) in
+    let meets = after hash verdict es k d e good there at in
+    let no_less : d.body.version ≤ e.body.version = meets VersionBack in
+    let before = version_1 verdict (before_at hash None es k) d (good k d there) (omega arith) in
+    let earlier = one_nonce hash verdict es k first d good at_first there before in
+    (earlier.0, meets NonceChanged is_first ∙ earlier.1)
 
 -- entries of which one is refused don't continue
 pub refused-no_chain : (hash : List ℕ → List ℕ) (verdict : List ℕ → List ℕ → Bool) (start : Option Before) (entries : List Entry) (place : ℕ) (fault : AuditFault) → IsFirstRefused hash verdict start entries place fault → ¬ Continues hash verdict start entries

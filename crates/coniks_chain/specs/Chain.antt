@@ -1,12 +1,12 @@
 -- When an entry may follow another, and good chains (CONIKS, section 3: each signed tree root names the hash of the one before).
-use Rattle.std.specs.Prelude.{◌≡◌, ◌<◌, ℕ, suc, zero, List, [], ◌∷◌, take, Bool, true, Option, Some, None, IfNone, IfSome, slice_get}
+use Rattle.std.specs.Prelude.{◌≡◌, ◌⊎◌, ◌<◌, ◌≤◌, ℕ, suc, zero, List, [], ◌∷◌, take, Bool, true, Option, Some, None, IfNone, IfSome, slice_get}
 use Rattle.std.specs.Option.{option_map}
 use Rattle.coniks_proof.specs.declared.values.Head.{Head}
 use Rattle.coniks_proof.specs.Preimages.{zeros}
 use Rattle.coniks_chain.specs.declared.entry.Entry.{Entry}
 use Rattle.coniks_chain.specs.declared.auditor.Before.{Before}
 use Rattle.coniks_chain.specs.declared.auditor.AuditFault.{AuditFault}
-use Rattle.coniks_chain.specs.declared.auditor.AuditFault.TheVariants.{Version, FirstEpoch, NotLater, PreviousEpoch, PreviousLink, NonceChanged, Verdict}
+use Rattle.coniks_chain.specs.declared.auditor.AuditFault.TheVariants.{Version, VersionBack, FirstEpoch, NotLater, PreviousEpoch, PreviousLink, NonceChanged, Verdict}
 use Rattle.coniks_chain.specs.Entries.{body_bytes, link_preimage}
 
 -- of an entry, what its successor is compared with
@@ -25,12 +25,13 @@ link_before (Some before) = before.link.0
 
 -- what an entry has to meet so that it hasn't this fault
 abbrev pub Meets : (List ℕ → List ℕ → Bool) → Option Before → Entry → AuditFault → Type 0
-Meets verdict before entry Version = entry.body.version ≡ 1
+Meets verdict before entry Version = (entry.body.version ≡ 1) ⊎ (entry.body.version ≡ 2)
+Meets verdict before entry VersionBack = IfSome before (λ b. b.version ≤ entry.body.version)
 Meets verdict before entry FirstEpoch = IfNone before (0 < entry.body.t)
 Meets verdict before entry NotLater = IfSome before (λ b. b.t < entry.body.t)
 Meets verdict before entry PreviousEpoch = entry.body.t_prev ≡ epoch_before before
 Meets verdict before entry PreviousLink = entry.body.previous.0 ≡ link_before before
-Meets verdict before entry NonceChanged = IfSome before (λ b. entry.body.nonce.0 ≡ b.nonce.0)
+Meets verdict before entry NonceChanged = IfSome before (λ b. entry.body.version ≡ 1 → entry.body.nonce.0 ≡ b.nonce.0)
 Meets verdict before entry Verdict = verdict (body_bytes entry.body) entry.signature.0 ≡ true
 
 -- an entry has none of these faults
@@ -40,17 +41,18 @@ MeetsAll verdict before entry (fault ∷ rest) = Meets verdict before entry faul
 
 -- the faults in the order in which they are judged
 abbrev pub faults : List AuditFault
-faults = Version ∷ FirstEpoch ∷ NotLater ∷ PreviousEpoch ∷ PreviousLink ∷ NonceChanged ∷ Verdict ∷ []
+faults = Version ∷ VersionBack ∷ FirstEpoch ∷ NotLater ∷ PreviousEpoch ∷ PreviousLink ∷ NonceChanged ∷ Verdict ∷ []
 
 -- the place of a fault among them
 abbrev pub place_of : AuditFault → ℕ
 place_of Version = 0
-place_of FirstEpoch = 1
-place_of NotLater = 2
-place_of PreviousEpoch = 3
-place_of PreviousLink = 4
-place_of NonceChanged = 5
-place_of Verdict = 6
+place_of VersionBack = 1
+place_of FirstEpoch = 2
+place_of NotLater = 3
+place_of PreviousEpoch = 4
+place_of PreviousLink = 5
+place_of NonceChanged = 6
+place_of Verdict = 7
 
 -- the entry has no fault after what is before it
 pub record Follows (verdict : List ℕ → List ℕ → Bool) (before : Option Before) (entry : Entry) : Type 0 where

@@ -12,8 +12,10 @@ use thiserror::Error;
 /// Why an entry isn't accepted: of what applies, the first in this order.
 #[derive(Clone, Copy, Debug, Drop, PartialEq, Eq, Error)]
 pub enum AuditFault {
-    #[error("the version isn't 1")]
+    #[error("the version is neither 1 nor 2")]
     Version,
+    #[error("the version goes back to 1")]
+    VersionBack,
     #[error("the first epoch is 0")]
     FirstEpoch,
     #[error("the epoch isn't later than the one before")]
@@ -22,7 +24,7 @@ pub enum AuditFault {
     PreviousEpoch,
     #[error("the link before is named wrongly")]
     PreviousLink,
-    #[error("the nonce has changed")]
+    #[error("the nonce of a version 1 entry isn't the one before")]
     NonceChanged,
     #[error("the signature isn't one for this body")]
     Verdict,
@@ -43,7 +45,7 @@ fn judge<V: Verify>(before: &Option<Before>, entry: &Entry, verify: &V) -> Resul
     ensures err { IfErr result (IsFirstFault (V.verdict_of verify.now) before.now entry.now) }
 {
     let body = &entry.body;
-    if body.version != 1 {
+    if body.version != 1 && body.version != 2 {
         return Err(AuditFault::Version);
     }
     match before {
@@ -59,6 +61,9 @@ fn judge<V: Verify>(before: &Option<Before>, entry: &Entry, verify: &V) -> Resul
             }
         }
         Some(before) => {
+            if body.version < before.version {
+                return Err(AuditFault::VersionBack);
+            }
             if body.t <= before.t {
                 return Err(AuditFault::NotLater);
             }
@@ -68,7 +73,7 @@ fn judge<V: Verify>(before: &Option<Before>, entry: &Entry, verify: &V) -> Resul
             if body.previous.0 != before.link.0 {
                 return Err(AuditFault::PreviousLink);
             }
-            if body.nonce.0 != before.nonce.0 {
+            if body.version == 1 && body.nonce.0 != before.nonce.0 {
                 return Err(AuditFault::NonceChanged);
             }
         }

@@ -8,7 +8,7 @@ use coniks_proof::{Digest, Hash32, Nonce};
 /// What the directory says of one epoch: the signed tree root (CONIKS, section 3).
 #[derive(Clone, Copy, Debug, PartialEq, Eq)]
 pub struct Body {
-    /// The version of the format, which is 1 in a good chain.
+    /// The version of the format: 1, or 2 from the first entry on that may bring another nonce.
     pub version: u8,
     /// The epoch, from 1 on.
     pub t: u64,

@@ -22,10 +22,11 @@ pub fn same_verdict_same_chain()
         → (entries : List Entry) → GoodChain hash verdict entries → GoodChain hash other entries }
 {}
 
-/// In a good chain each entry has the first one's nonce.
-pub fn chain_has_one_nonce()
+/// In a good chain each entry up to the last of version 1 is of version 1, and has the first one's nonce.
+pub fn first_version_has_one_nonce()
     ensures { (hash : List ℕ → List ℕ) (verdict : List ℕ → List ℕ → Bool) (entries : List Entry) (k : ℕ) (first entry : Entry) → GoodChain hash verdict entries
-        → slice_get entries 0 ≡ Some first → slice_get entries k ≡ Some entry → entry.body.nonce.0 ≡ first.body.nonce.0 }
+        → slice_get entries 0 ≡ Some first → slice_get entries k ≡ Some entry → entry.body.version ≡ 1
+        → (first.body.version ≡ 1) × (entry.body.nonce.0 ≡ first.body.nonce.0) }
 {}
 
 /// Entries of which one is refused don't continue a chain.

@@ -376,7 +376,8 @@ fn first_faults(rt: HostRuntime) {
     let mut entry = entry_at(&rt, 0);
     let mut auditor = Auditor::new(Sha256Hash);
     for (version, t, t_prev, link, is_signed, want) in [
-        (2, 0, 7, 0, true, Err(AuditFault::Version)),
+        (3, 0, 7, 0, true, Err(AuditFault::Version)),
+        (2, 0, 7, 0, true, Err(AuditFault::FirstEpoch)),
         (1, 0, 7, 0, true, Err(AuditFault::FirstEpoch)),
         (1, 1, 7, 1, true, Err(AuditFault::PreviousEpoch)),
         (1, 1, 0, 1, false, Err(AuditFault::PreviousLink)),
@@ -405,6 +406,7 @@ fn later_faults(rt: HostRuntime) {
     let good = entry_at(&rt, 1);
     for (version, t, t_prev, link, nonce, is_signed, want) in [
         (0, 1, 0, 1, 1, false, Err(AuditFault::Version)),
+        (3, 1, 0, 1, 1, false, Err(AuditFault::Version)),
         (1, 1, 0, 1, 1, false, Err(AuditFault::NotLater)),
         (1, 2, 0, 1, 1, false, Err(AuditFault::PreviousEpoch)),
         (1, 2, 1, 1, 1, false, Err(AuditFault::PreviousLink)),
@@ -420,6 +422,68 @@ fn later_faults(rt: HostRuntime) {
         entry.body.nonce.0[0] ^= nonce;
         assert_eq!(rt; fed(&mut auditor, &entry, is_signed), want);
     }
+}
+
+/// An entry, as another version has it, with a nonce of this first byte.
+fn under(mut entry: Entry, version: u8, nonce: u8) -> Entry {
+    entry.body.version = version;
+    entry.body.nonce.0[0] = nonce;
+    entry
+}
+
+/// What is said of an entry at epoch 2, after one at epoch 1 of a version and a nonce.
+fn after_one(
+    rt: &impl Abort,
+    version: u8,
+    nonce: u8,
+    entry: &Entry,
+    is_signed: bool,
+) -> Result<(), AuditFault> {
+    let mut auditor = Auditor::new(Flat);
+    let first = under(flat_entry(1, 0, 0), version, nonce);
+    assert_eq!(rt; auditor.feed(&first, &Yes), Ok(()));
+    if is_signed {
+        auditor.feed(entry, &Yes)
+    } else {
+        auditor.feed(entry, &Only(Signature([9; 64])))
+    }
+}
+
+/// Which version and nonce may follow which: version 2 from then on, and another nonce in version 2 alone.
+#[test]
+fn versions_and_nonces(rt: HostRuntime) {
+    let back = Err(AuditFault::VersionBack);
+    let changed = Err(AuditFault::NonceChanged);
+    for (version, nonce, next_version, next_nonce, want) in [
+        (1, 7, 1, 7, Ok(())),
+        (1, 7, 1, 8, changed),
+        (1, 7, 2, 7, Ok(())),
+        (1, 7, 2, 8, Ok(())),
+        (2, 7, 2, 7, Ok(())),
+        (2, 7, 2, 8, Ok(())),
+        (2, 7, 1, 7, back),
+        (2, 7, 1, 8, back),
+        (2, 7, 3, 7, Err(AuditFault::Version)),
+        (2, 7, 0, 7, Err(AuditFault::Version)),
+    ] {
+        let entry = under(flat_entry(2, 1, 0), next_version, next_nonce);
+        assert_eq!(rt; after_one(&rt, version, nonce, &entry, true), want);
+    }
+}
+
+/// A version that goes back is told before all that can stand beside it, and a changed nonce after all but the verdict.
+#[test]
+fn order_of_versions_and_nonces(rt: HostRuntime) {
+    let mut entry = under(flat_entry(2, 1, 0), 1, 8);
+    entry.body.t = 1;
+    let told = after_one(&rt, 2, 7, &entry, false);
+    assert_eq!(rt; told, Err(AuditFault::VersionBack));
+    let entry = under(flat_entry(2, 1, 0), 1, 8);
+    let told = after_one(&rt, 1, 7, &entry, false);
+    assert_eq!(rt; told, Err(AuditFault::NonceChanged));
+    let entry = under(flat_entry(2, 1, 0), 2, 8);
+    let told = after_one(&rt, 1, 7, &entry, false);
+    assert_eq!(rt; told, Err(AuditFault::Verdict));
 }
 
 #[test]

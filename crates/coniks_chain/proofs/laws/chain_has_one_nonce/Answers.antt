@@ -1,5 +1,0 @@
-use Rattle.coniks_chain.proofs.ChainLemmas.{one_nonce}
-use Rattle.coniks_chain.proofs.laws.chain_has_one_nonce.Goals as goal
-
-pub returns : goal.returns
-returns c hash verdict entries k first entry good at_first at = one_nonce hash verdict entries k first entry good at_first at
