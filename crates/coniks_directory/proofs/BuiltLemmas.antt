@@ -1,16 +1,19 @@
 -- What a part and the records of a batch leave.
-use Rattle.std.proofs.Common.{◌≡◌, ◌<◌, ◌≤◌, ◌+◌, ◌*◌, ℕ, suc, List, [], ◌∷◌, ◌++◌, length, map, arith, false, refl, sym, ap, subst, ◌∙◌, inl, inr, Option, Some, None, slice_get}
+use Rattle.std.proofs.Common.{◌≡◌, ◌<◌, ◌≤◌, ◌+◌, ◌*◌, ℕ, suc, List, [], ◌∷◌, ◌++◌, length, map, arith, Bool, true, false, refl, sym, ap, subst, ◌∙◌, inl, inr, Option, Some, None, slice_get}
 use Rattle.coniks_directory.proofs.Words.{AllPlaced, AreApart, AreChangesOf, AreDrafts, AreInOrder, BTreeMap, Change, Entry, Extends, Fits}
-use Rattle.coniks_directory.proofs.Words.{IsBuilt, IsIn, IsIndex, IsMap, IsOldMap, IsStored, MayFollow, Mirrors, Node, Numbered, Operation, Part}
+use Rattle.coniks_directory.proofs.Words.{Growth, IsBuilt, IsIn, IsIndex, IsMap, IsGrowth, IsOldMap, IsSmall, IsStored, MayFollow, Mirrors, Node, Numbered, Operation, Part}
 use Rattle.coniks_directory.proofs.Words.{Placed, Record, Registered, Registry, Root, SameEntries, ShowsLatest, Stands, after, backed_by}
 use Rattle.coniks_directory.proofs.Words.{bound_by, entries_of, entry_of, entry_of_change, entry_of_record, false_from_ne_true, first_fault}
-use Rattle.coniks_directory.proofs.Words.{has_name, length-map, node_count, overwritten, registered_at, registered_of, unchanged}
-use Rattle.coniks_proof.proofs.Lemmas.{AreIncreasing-in_order, IsMap-apart, entry_in, in_entries, in_overlaid, increasing_map, may_follow, named_in, named_of, own_of_map, same_entry}
+use Rattle.coniks_directory.proofs.Words.{has_name, length-map, most_anew, node_count, overwritten, registered_at, registered_of, unchanged}
+use Rattle.coniks_proof.proofs.Lemmas.{AreIncreasing-in_order, IsIn-append_left, IsIn-append_right, IsMap-apart, entry_in, in_entries, in_overlaid}
+use Rattle.coniks_proof.proofs.Lemmas.{increasing_map, may_follow, named_in, named_of, own_of_map, same_entry}
 use Rattle.coniks_tree.specs.Parts.{entries_of as entries_of_changes}
-use Rattle.coniks_tree.proofs.Lemmas.{Extends-append}
-use Rattle.coniks_directory.proofs.MirrorLemmas.{registered_at-extended}
+use Rattle.coniks_tree.specs.Entries.{Lists}
+use Rattle.coniks_tree.proofs.Lemmas.{Extends-append, Lists-apart, Lists-stands}
+use Rattle.coniks_directory.proofs.GrowthLemmas.{no_more}
+use Rattle.coniks_directory.proofs.MirrorLemmas.{IsMap-backed, registered_at-extended}
 use Rattle.coniks_directory.proofs.HolderLemmas.{backed_in, in_backed}
-use Rattle.coniks_directory.proofs.OverlaidLemmas.{IsMap-overlaid, IsMap-overwritten, append_left, append_right, in_overwritten}
+use Rattle.coniks_directory.proofs.OverlaidLemmas.{IsMap-overlaid, IsMap-overwritten, in_overwritten}
 use Rattle.coniks_directory.proofs.OverlaidLemmas.{index_there, overlaid_new, overlaid_old, overwritten_index, overwritten_new, within-overlaid}
 use Rattle.coniks_directory.proofs.DraftLemmas.{in_records, record_in}
 
@@ -48,8 +51,8 @@ module _ (hash of : List ℕ → List ℕ) (old : List Record) (es : List Number
       let bs = map bound_by ops in
       IsMap-overlaid hash of (registry ++ bs) registry bs
       (λ x y in_x in_y apart same. apart (may.apart x.name y.name (named_in x (registry ++ bs) in_x) (named_in y (registry ++ bs) in_y) same))
-      (λ b there. append_left b registry bs there)
-      (λ b there. let r = record_of b there in (append_right b registry bs there, subst IsIndex r.4 (s.sealed r.0 r.1 r.2).ranged))
+      (λ b there. IsIn-append_left b registry bs there)
+      (λ b there. let r = record_of b there in (IsIn-append_right b registry bs there, subst IsIndex r.4 (s.sealed r.0 r.1 r.2).ranged))
       m.names
 
   there : (x : Numbered) → IsIn x (overwritten es cs) → IsIn (backed_by binding x) (entries_of hash of (after registry ops))
@@ -131,34 +134,103 @@ old_map hash of nonce nodes records None registry none = rw none (
   },
 )
 
--- the part that `build` makes of the changes of a batch without fault
-module _ (hash of : List ℕ → List ℕ) (nonce : List ℕ) (nodes : List Node) (records : List Record) (root : Option Root) (registry : Registry) (ops : List Operation)
-    (new : List Record) (numbers : BTreeMap (List ℕ) ℕ) (changes : List Change) (p : Part)
-    (shown : ShowsLatest hash of nonce nodes records root registry) (none : first_fault of registry ops ≡ None) (s : AreDrafts hash of (map bound_by ops) new numbers)
+few_kept : (root : Option Root) → node_count (unchanged root) ≤ 1
+few_kept (Some root) = omega arith
+few_kept None = omega arith
+
+-- the part that `build` makes of the changes of a batch without fault, as its tree grows by them
+module _ (hash of : List ℕ → List ℕ) (nonce latest : List ℕ) (nodes : List Node) (records : List Record) (root : Option Root) (registry : Registry) (ops : List Operation)
+    (new : List Record) (numbers : BTreeMap (List ℕ) ℕ) (changes : List Change) (growth : Growth) (p : Part)
+    (shown : ShowsLatest hash of latest nodes records root registry) (none : first_fault of registry ops ≡ None) (s : AreDrafts hash of (map bound_by ops) new numbers)
     (c : AreChangesOf (length records) new (entries_of_changes changes)) where
   -- there are as many changes as operations
   as_many : length changes ≡ length ops
   as_many = sym (length-map changes entry_of_change) ∙ c.counted ∙ sym (length-map new registered_of) ∙ ap length s.binds ∙ length-map ops bound_by
 
-  pub built : Fits (length nodes) 0 p → (0 < length changes → node_count p ≤ 512 * length changes + 1) → (length changes ≡ 0 → p ≡ unchanged root)
-      → ((all : List Record) → Extends records all → AllPlaced all changes → Placed all p)
-      → ((entries : List Numbered) → IsOldMap hash nonce nodes records root entries → AreInOrder 0 (entries_of_changes changes) → AreApart 0 (overwritten entries (entries_of_changes changes))
-      → Stands hash nonce nodes records p [] (overwritten entries (entries_of_changes changes)))
-      → IsBuilt hash of nonce nodes records root registry ops p new
-  built fits few empty placed stands =
-      let cs = entries_of_changes changes in
-      let o = old_map hash of nonce nodes records root registry shown in
-      let may = may_follow of registry ops (own_of_map hash of registry o.2.names) none in
-      let own = increasing_map cs c.increasing in
-      record {
-        binds = s.binds;
-        fits = fits;
-        few =
-            let one : length changes ≡ 0 → node_count p ≤ 1 = λ none. rw (empty none) (elim root as (λ r. node_count (unchanged r) ≤ 1) [ Some r ↦ omega arith | None ↦ omega arith ]) in
-            rw (← as_many) (grind arith);
-        none = rw as_many at empty;
-        placed = placed (records ++ new) (Extends-append records new) (placed_all (records ++ new) changes (stored_new hash of records o.0 registry o.2 ops new numbers s cs c may));
-        entries = overwritten o.0 cs;
-        stands = stands o.0 o.1 (AreIncreasing-in_order cs own c.increasing) (IsMap-apart (overwritten o.0 cs) (IsMap-overwritten o.0 cs o.2.indices own));
-        mirrors = Mirrors-after hash of records o.0 registry o.2 ops new numbers s cs c may;
-      }
+  own : IsMap (entries_of_changes changes)
+  own = increasing_map (entries_of_changes changes) c.increasing
+
+  old : (es : List Numbered) × IsOldMap hash latest nodes records root es × Mirrors hash of records es registry
+  old = old_map hash of latest nodes records root registry shown
+
+  may : MayFollow of registry ops
+  may = may_follow of registry ops (own_of_map hash of registry old.2.names) none
+
+  -- the changed map
+  changed : List Numbered
+  changed = overwritten old.0 (entries_of_changes changes)
+
+  changed_map : IsMap changed
+  unfolding changed
+  changed_map = IsMap-overwritten old.0 (entries_of_changes changes) old.2.indices own
+
+  mirrored : Mirrors hash of (records ++ new) changed (after registry ops)
+  unfolding changed
+  mirrored = Mirrors-after hash of records old.0 registry old.2 ops new numbers s (entries_of_changes changes) c may
+
+  stored : AllPlaced (records ++ new) changes
+  stored = placed_all (records ++ new) changes (stored_new hash of records old.0 registry old.2 ops new numbers s (entries_of_changes changes) c may)
+
+  -- what `build` says of the part
+  pub record IsMade : Type 0 where
+    pub fits : Fits (length nodes) 0 p
+    pub few : 0 < length growth.changes.items → node_count p ≤ 512 * length growth.changes.items + 1
+    pub empty : length growth.changes.items ≡ 0 → p ≡ unchanged growth.root
+    pub placed : (all : List Record) → Extends records all → AllPlaced all growth.changes.items → Placed all p
+    pub stands : (entries : List Numbered) → IsOldMap hash nonce nodes records growth.root entries → AreInOrder 0 (entries_of_changes growth.changes.items)
+        → AreApart 0 (overwritten entries (entries_of_changes growth.changes.items)) → Stands hash nonce nodes records p [] (overwritten entries (entries_of_changes growth.changes.items))
+
+  module _ (anew : Bool) (grows : IsGrowth nodes records root anew changes growth) (under : anew ≡ false → latest ≡ nonce) (made : IsMade) where
+    -- by the changes as they are from the root
+    stands_kept : anew ≡ false → Stands hash nonce nodes records p [] changed
+    unfolding changed old
+    stands_kept off =
+        let kept = grows.kept off in
+        let same : entries_of_changes growth.changes.items ≡ entries_of_changes changes = ap entries_of_changes kept.1 in
+        let there : IsOldMap hash nonce nodes records growth.root old.0 = rw (kept.0, sym (under off)) old.1 in
+        rw same at (made.stands old.0 there (rw same (AreIncreasing-in_order (entries_of_changes changes) own c.increasing)) (rw same (IsMap-apart changed changed_map)))
+
+    -- or by the whole changed map from nothing
+    listed : anew ≡ true → Lists growth.changes.items changed
+    unfolding changed
+    listed on = grows.all on hash latest old.0 old.1 old.2.indices own (AreIncreasing-in_order (entries_of_changes changes) own c.increasing)
+
+    stands_anew : anew ≡ true → Stands hash nonce nodes records p [] changed
+    stands_anew on =
+        let l = listed on in
+        Lists-stands hash nonce nodes records p growth.changes.items changed changed_map l (made.stands [] (rw (grows.none on) refl) l.order (Lists-apart growth.changes.items changed l))
+
+    -- which has as many entries as the registry has names
+    many_anew : anew ≡ true → length growth.changes.items ≤ length (after registry ops)
+    many_anew on =
+        let l = listed on in
+        let f = registered_at (records ++ new) in
+        let listed_few = no_more (entries_of_changes growth.changes.items) changed (l.once changed_map) l.same.back in
+        let changed_few = no_more (map (backed_by f) changed) (entries_of hash of (after registry ops)) (IsMap-backed f changed changed_map) mirrored.same.there in
+        omega (arith, listed_few, changed_few, length-map growth.changes.items entry_of_change, length-map changed (backed_by f), length-map (after registry ops) (entry_of hash of))
+
+    few_anew : anew ≡ true → node_count p ≤ most_anew (after registry ops)
+    few_anew on =
+        let many = many_anew on in
+        let one : length growth.changes.items ≡ 0 → node_count p ≤ 1 = λ none. rw (made.empty none) (few_kept growth.root) in
+        let few = made.few in
+        grind arith
+
+    few_from_root : anew ≡ false → (node_count p ≤ 512 * length ops + 1) × (length ops ≡ 0 → p ≡ unchanged root)
+    few_from_root off =
+        let kept = grows.kept off in
+        let many : length growth.changes.items ≡ length ops = ap length kept.1 ∙ as_many in
+        let one : length growth.changes.items ≡ 0 → node_count p ≤ 1 = λ none. rw (made.empty none) (few_kept growth.root) in
+        let few = made.few in
+        (rw (← many) (grind arith), λ none. made.empty (many ∙ none) ∙ ap unchanged kept.0)
+
+    pub built : IsBuilt hash of nonce nodes records root registry ops anew p new
+    built = record {
+      binds = s.binds;
+      fits = made.fits;
+      small = (elim anew as (λ b. anew ≡ b → IsSmall b root ops (after registry ops) p) [ true ↦ few_anew | false ↦ few_from_root ]) refl;
+      placed = made.placed (records ++ new) (Extends-append records new) (grows.placed (records ++ new) (Extends-append records new) stored);
+      entries = changed;
+      stands = (elim anew as (λ b. anew ≡ b → Stands hash nonce nodes records p [] changed) [ true ↦ stands_anew | false ↦ stands_kept ]) refl;
+      mirrors = mirrored;
+    }

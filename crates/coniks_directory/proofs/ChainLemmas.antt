@@ -1,7 +1,8 @@
 -- The chain of a history, entry by entry.
-use Rattle.std.proofs.Common.{◌≡◌, ℕ, zero, suc, ◌-◌, ◌<◌, ◌≤◌, List, [], ◌∷◌, ◌++◌, length, length-append, Bool, true, refl, sym, ap, ◌∙◌, arith, inl, inr, IfSome, Option, Some, None, slice_get}
-use Rattle.coniks_directory.proofs.Words.{AreRising, Before, Body, Follows, IsChainOf, Shown, before_at, before_of, body_bytes, body_of}
-use Rattle.coniks_directory.proofs.Words.{epoch_before, last_number, latest_epoch, latest_nonce, link_before, option_map, slice_get-get_or}
+use Rattle.std.proofs.Common.{◌≡◌, ℕ, zero, suc, ◌-◌, ◌<◌, ◌≤◌, List, [], ◌∷◌, ◌++◌, length, length-append, Bool, true}
+use Rattle.std.proofs.Common.{refl, sym, ap, subst, ◌∙◌, ◌⊎◌, arith, inl, inr, IfSome, Option, Some, None, slice_get}
+use Rattle.coniks_directory.proofs.Words.{AreRising, AreUnder, Before, Body, Follows, IsChainOf, IsUnder, Shown, before_at, before_of, body_bytes, body_of}
+use Rattle.coniks_directory.proofs.Words.{epoch_before, last_number, latest_epoch, latest_nonce, latest_version, link_before, option_map, slice_get-get_or}
 use Rattle.coniks_directory.proofs.Words.{slice_get_within}
 use Rattle.coniks_chain.specs.declared.entry.Entry.{Entry}
 use Rattle.coniks_tree.proofs.Lemmas.{Extends-append, get-last, get-push}
@@ -11,16 +12,34 @@ pub rising-push : (t : ℕ) (ns : List ℕ) (n : ℕ) → AreRising t ns → las
 rising-push t [] n up later = (later, tt)
 rising-push t (m ∷ ns) n up later = (up.0, rising-push m ns n up.1 later)
 
+pub under-push : (version : ℕ) (nonce : List ℕ) (history : List Shown) (s : Shown) → AreUnder version nonce history
+    → IsUnder (latest_version version history) (latest_nonce nonce history) s → AreUnder version nonce (history ++ s ∷ [])
+under-push version nonce [] s all last = (last, tt)
+under-push version nonce (x ∷ history) s all last = (all.0, under-push x.version x.nonce history s all.1 last)
+
+-- the versions that there are
+abbrev pub IsVersion : ℕ → Type 0
+IsVersion version = (version ≡ 1) ⊎ (version ≡ 2)
+
+version_of : (version : ℕ) (nonce : List ℕ) (s : Shown) → IsVersion version → IsUnder version nonce s → IsVersion s.version
+version_of version nonce s known (None, same, _) = subst IsVersion (sym same) known
+version_of version nonce s known (Some brought, second, _) = inr second
+
+pub latest-known : (version : ℕ) (nonce : List ℕ) (history : List Shown) → IsVersion version → AreUnder version nonce history → IsVersion (latest_version version history)
+latest-known version nonce [] known all = known
+latest-known version nonce (s ∷ history) known all = latest-known s.version s.nonce history (version_of version nonce s known all.0) all.1
+
 -- ---- the last entry
 
--- what stands before the next entry is of the latest epoch, and of its nonce
+-- what stands before the next entry is of the latest epoch, and has its version and nonce
 pub record IsLast (nonce : List ℕ) (history : List Shown) (before : Option Before) : Type 0 where
   pub epoch : epoch_before before ≡ latest_epoch history
+  pub version : IfSome before (λ b. latest_version 1 history ≡ b.version)
   pub under : IfSome before (λ b. latest_nonce nonce history ≡ b.nonce.0)
 
 pub is_last : (hash of : List ℕ → List ℕ) (policy nonce : List ℕ) (history : List Shown) (chain : List Entry) → IsChainOf hash of policy history chain
     → IsLast nonce history (before_at hash None chain (length chain))
-is_last hash of policy nonce [] [] is = record { epoch = refl; under = tt }
+is_last hash of policy nonce [] [] is = record { epoch = refl; version = tt; under = tt }
 is_last hash of policy nonce [] (e ∷ chain) is = absurd (let long = is.long in omega arith)
 is_last hash of policy nonce (s ∷ history) [] is = absurd (let long = is.long in omega arith)
 is_last hash of policy nonce (s ∷ history) (e ∷ chain) is =
@@ -32,6 +51,7 @@ is_last hash of policy nonce (s ∷ history) (e ∷ chain) is =
     let body = is.bodies (length chain) _ _ (ap (slice_get (s ∷ history)) long ∙ shown) entry in
     rw entry (record {
       epoch = ap (λ (b : Body). b.t) body ∙ sym (last_found latest_epoch (λ x. x.t) (λ x. refl) (λ x y xs. refl) (s ∷ history) _ last);
+      version = last_found (latest_version 1) (λ x. x.version) (λ x. refl) (λ x y xs. refl) (s ∷ history) _ last ∙ sym (ap (λ (b : Body). b.version) body);
       under = last_found (latest_nonce nonce) (λ x. x.nonce) (λ x. refl) (λ x y xs. refl) (s ∷ history) _ last ∙ sym (ap (λ (b : Body). b.nonce.0) body);
     })
 
@@ -60,14 +80,39 @@ chain-push hash of policy history chain shown entry is body = record {
   ];
 }
 
--- an entry of a later epoch follows
-pub follows_next : (hash of : List ℕ → List ℕ) (policy : List ℕ) (verdict : List ℕ → List ℕ → Bool) (before : Option Before) (shown : Shown) (entry : Entry)
-    → entry.body ≡ body_of hash of policy before shown
-    → shown.version ≡ 1 → epoch_before before < shown.t → IfSome before (λ b. shown.nonce ≡ b.nonce.0) → verdict (body_bytes entry.body) entry.signature.0 ≡ true → Follows verdict before entry
-follows_next hash of policy verdict before shown entry body first later under signed =
-    let version = ap (λ (b : Body). b.version) body ∙ first in
-    let t = ap (λ (b : Body). b.t) body in
-    (elim before as (λ o. epoch_before o < shown.t → IfSome o (λ b. shown.nonce ≡ b.nonce.0) → entry.body.t_prev ≡ epoch_before o → entry.body.previous.0 ≡ link_before o → Follows verdict o entry) [
-      | None ↦ λ after _ epoch link. record { rows = (version, (omega arith, (tt, (epoch, (link, (tt, (signed, tt))))))) }
-      | Some b ↦ λ after same epoch link. record { rows = (version, (tt, (omega arith, (epoch, (link, (ap (λ (x : Body). x.nonce.0) body ∙ same, (signed, tt))))))) }
-    ]) later under (ap (λ (b : Body). b.t_prev) body) (ap (λ (b : Body). b.previous.0) body)
+-- the entry of a later epoch, which keeps version and nonce or brings a nonce, follows
+module _ (hash of : List ℕ → List ℕ) (policy nonce : List ℕ) (verdict : List ℕ → List ℕ → Bool) (history : List Shown) (known : IsVersion (latest_version 1 history))
+    (shown : Shown) (later : latest_epoch history < shown.t) (entry : Entry) (signed : verdict (body_bytes entry.body) entry.signature.0 ≡ true) where
+  -- what an entry of this version and nonce meets after one of the latest version and nonce
+  record MayCome (version : ℕ) (under : List ℕ) : Type 0 where
+    is_version : IsVersion version
+    no_less : latest_version 1 history ≤ version
+    kept : version ≡ 1 → under ≡ latest_nonce nonce history
+
+  may_come : IsUnder (latest_version 1 history) (latest_nonce nonce history) shown → MayCome shown.version shown.nonce
+  may_come (None, version, same) = record { is_version = subst IsVersion (sym version) known; no_less = omega (arith, version); kept = λ first. same }
+  may_come (Some brought, version, _) = record {
+    is_version = inr version;
+    no_less = elim known [ inl one ↦ omega (arith, one, version) | inr two ↦ omega (arith, two, version) ];
+    kept = λ first. absurd (omega (arith, first, version));
+  }
+
+  pub follows_next : (before : Option Before) → entry.body ≡ body_of hash of policy before shown → IsLast nonce history before
+      → IsUnder (latest_version 1 history) (latest_nonce nonce history) shown → Follows verdict before entry
+  follows_next before body last under =
+      let may = may_come under in
+      let version = ap (λ (b : Body). b.version) body in
+      let t = ap (λ (b : Body). b.t) body in
+      let t_prev = ap (λ (b : Body). b.t_prev) body in
+      let previous = ap (λ (b : Body). b.previous.0) body in
+      let nonce-is = ap (λ (b : Body). b.nonce.0) body in
+      let is_version = subst IsVersion (sym version) may.is_version in
+      let least = may.no_less in
+      (elim before as (λ o. IsLast nonce history o → entry.body.t_prev ≡ epoch_before o → entry.body.previous.0 ≡ link_before o → Follows verdict o entry) [
+        | None ↦ λ l epoch link. record { rows = (is_version, (tt, (omega (arith, later, t), (tt, (epoch, (link, (tt, (signed, tt)))))))) }
+        | Some b ↦ λ l epoch link.
+            let no_less : b.version ≤ entry.body.version = omega (arith, least, version, l.version) in
+            let after : b.t < entry.body.t = omega (arith, later, t, l.epoch) in
+            let kept = λ (first : entry.body.version ≡ 1). nonce-is ∙ may.kept (sym version ∙ first) ∙ l.under in
+            record { rows = (is_version, (no_less, (tt, (after, (epoch, (link, (kept, (signed, tt)))))))) }
+      ]) last t_prev previous

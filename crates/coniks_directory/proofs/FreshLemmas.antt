@@ -1,6 +1,6 @@
 -- An update that isn't stale is one of the directory as it is.
-use Rattle.std.proofs.Common.{◌≡◌, ℕ, List, [], ◌++◌, length, map, refl, sym, ap, ◌∙◌, arith, length-append, append_assoc}
-use Rattle.coniks_directory.proofs.Words.{Grows, IsUpdate, IsUpdateOf, Prepared, Record, State, append-nil, history_of, nil_from_length}
+use Rattle.std.proofs.Common.{◌≡◌, ℕ, List, [], ◌++◌, length, map, refl, sym, ap, ◌∙◌, arith, length-append, append_assoc, Option}
+use Rattle.coniks_directory.proofs.Words.{Brings, Grows, IsUpdate, IsUpdateOf, Prepared, Record, State, append-nil, history_of, nil_from_length}
 use Rattle.coniks_directory.proofs.Words.{registry_after, registry_at, shown_of}
 use Rattle.coniks_tree.proofs.Lemmas.{Extends-trans, Fits-more, Stands-extended}
 
@@ -15,12 +15,16 @@ module _ (hash of : List ℕ → List ℕ) (s t : State) (p : Prepared) (grows :
   same_records : t.records ≡ s.records
   same_records = grows.records ∙ ap (λ rs. s.records ++ rs) (grows.still none_since) ∙ append-nil s.records
 
+  pub fresh_brings : (brought : Option (List ℕ)) → Brings s brought p → Brings t brought p
+  fresh_brings brought brings =
+      record { version = rw (same_records, same_epochs) brings.version; nonce = rw (grows.nonce, same_records, same_epochs) brings.nonce }
+
   pub fresh_update : IsUpdate hash of t p
   fresh_update = record {
     base = base;
     counted = rw (same_epochs, same_records) u.counted;
-    version = u.version;
-    nonce = rw (grows.nonce, same_records, same_epochs) u.nonce;
+    brought = u.brought;
+    brings = fresh_brings u.brought u.brings;
     fits = Fits-more (length s.nodes) (length t.nodes) 0 p.part grows.longer u.fits;
     placed = rw same_records u.placed;
     entries = u.entries;

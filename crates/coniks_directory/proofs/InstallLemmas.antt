@@ -1,28 +1,26 @@
 -- What an install leaves.
 use Rattle.std.proofs.Common.{◌≡◌, ℕ, suc, ◌<◌, ◌≤◌, List, [], ◌∷◌, ◌++◌, length, map, Bool, true, refl, sym, ap, subst, ◌∙◌, arith, inl, inr, Some, None, slice_get, length-append}
-use Rattle.coniks_directory.proofs.Words.{AllUnder, Body, Digest, Epoch, Extends, GoodChain, HoldsEpoch}
-use Rattle.coniks_directory.proofs.Words.{IsNext, IsUpdate, Leaves, Node, Numbered, Prepared, Record, Root}
+use Rattle.coniks_directory.proofs.Words.{Body, Digest, Epoch, Extends, GoodChain, HoldsEpoch}
+use Rattle.coniks_directory.proofs.Words.{IsNext, IsUnder, IsUpdate, Leaves, Node, Numbered, Prepared, Record, Root}
 use Rattle.coniks_directory.proofs.Words.{Shown, Shows, Stands, State, Whole, before_at, body_bytes}
-use Rattle.coniks_directory.proofs.Words.{history_of, last_count, latest_epoch, latest_nonce, link_before, map-append, node}
+use Rattle.coniks_directory.proofs.Words.{history_of, last_count, latest_epoch, latest_nonce, latest_version, link_before, map-append, node}
 use Rattle.coniks_directory.proofs.Words.{numbers_of, records_after, registry_after, shown_after, shown_of}
 use Rattle.coniks_chain.specs.declared.entry.Entry.{Entry}
 use Rattle.coniks_chain.proofs.Lemmas.{good_push, good_same_verdict}
 use Rattle.coniks_tree.proofs.Lemmas.{Extends-append, Shows-extended, get-push}
-use Rattle.coniks_directory.proofs.ChainLemmas.{chain-push, follows_next, is_last, rising-push}
-use Rattle.coniks_directory.proofs.LastLemmas.{at_end, get-mapped}
+use Rattle.coniks_directory.proofs.ChainLemmas.{chain-push, follows_next, is_last, latest-known, rising-push, under-push}
+use Rattle.coniks_directory.proofs.LastLemmas.{at_end}
 use Rattle.coniks_directory.proofs.MirrorLemmas.{Mirrors-extended, mirrored_root}
 use Rattle.coniks_directory.proofs.StateLemmas.{registry_at-append}
 
 -- ---- the epochs before
 
-holds-extended : (hash of : List ℕ → List ℕ) (nonce : List ℕ) (nodes further : List Node) (records more : List Record) (e : Epoch) → Extends nodes further → length nodes ≤ length further
-    → HoldsEpoch hash of nonce nodes records e → HoldsEpoch hash of nonce further (records ++ more) e
-holds-extended hash of nonce nodes further records more e grown longer h =
+holds-extended : (hash of : List ℕ → List ℕ) (nodes further : List Node) (records more : List Record) (e : Epoch) → Extends nodes further → length nodes ≤ length further
+    → HoldsEpoch hash of nodes records e → HoldsEpoch hash of further (records ++ more) e
+holds-extended hash of nodes further records more e grown longer h =
     let r = h.registry in
     let kept = Extends-append records more in
     record {
-      first_version = h.first_version;
-      same_nonce = h.same_nonce;
       known = let k = h.known in omega arith;
       counted = let c = h.counted in omega (arith, length-append records more);
       registry = record {
@@ -37,18 +35,6 @@ shown-before : (records more : List Record) (es : List Epoch) → ((k : ℕ) (e 
 shown-before records more [] counted = refl
 shown-before records more (e ∷ es) counted =
     rw (registry_at-append records more e.count (counted 0 e refl), shown-before records more es (λ k f at. counted (suc k) f at)) refl
-
--- each epoch has the nonce of `open` and version 1
-pub all_under : (hash of : List ℕ → List ℕ) (s : State) → Whole hash of s → AllUnder s.nonce (history_of s)
-all_under hash of s whole k shown at =
-    let e = get-mapped (shown_of s.records) s.epochs k shown at in
-    let h = whole.held k e.0 e.1 in
-    subst (λ (x : Shown). (x.version ≡ 1) × (x.nonce ≡ s.nonce)) e.2 (h.first_version, h.same_nonce)
-
--- and so has the next one
-next_nonce : (nonce : List ℕ) (history : List Shown) → AllUnder nonce history → latest_nonce nonce history ≡ nonce
-next_nonce nonce [] all = refl
-next_nonce nonce (s ∷ ss) all = ap (λ n. latest_nonce n ss) (all 0 s refl).1 ∙ next_nonce nonce ss (λ i x there. all (suc i) x there)
 
 -- ---- the state after an install
 
@@ -80,24 +66,26 @@ module _ (hash of : List ℕ → List ℕ) (s : State) (whole : Whole hash of s)
       map-append (shown_of (records_after s p)) s.epochs (epoch_after s p root t ∷ [])
       ∙ ap (λ (ss : List Shown). ss ++ shown_after s p t ∷ []) (shown-before s.records p.records.items s.epochs (λ k e at. (whole.held k e at).counted))
 
-  held_next : HoldsEpoch hash of s.nonce nodes (records_after s p) (epoch_after s p root t)
+  held_next : HoldsEpoch hash of nodes (records_after s p) (epoch_after s p root t)
   held_next = record {
-    first_version = u.version;
-    same_nonce = u.nonce ∙ next_nonce s.nonce (history_of s) (all_under hash of s whole);
     known = known;
     counted = omega arith;
     registry = record { entries = u.entries; shows = shows u.entries u.stands; mirrors = u.mirrors };
   }
 
+  under_next : IsUnder (latest_version 1 (history_of s)) (latest_nonce s.nonce (history_of s)) (shown_after s p t)
+  under_next = (u.brought, u.brings.version, u.brings.nonce)
+
   -- it is whole
   whole_next : Whole hash of (installed s p nodes root t entry)
   whole_next = record {
     held = λ k x at. elim (get-push s.epochs (epoch_after s p root t) k x at) [
-      | inl old ↦ holds-extended hash of s.nonce s.nodes nodes s.records p.records.items x older longer (whole.held k x old)
-      | inr new ↦ subst (HoldsEpoch hash of s.nonce nodes (records_after s p)) new.1 held_next
+      | inl old ↦ holds-extended hash of s.nodes nodes s.records p.records.items x older longer (whole.held k x old)
+      | inr new ↦ subst (HoldsEpoch hash of nodes (records_after s p)) new.1 held_next
     ];
     last = at_end last_count (λ e. e.count) (λ e. refl) (λ x y es. refl) s.epochs (epoch_after s p root t);
     rising = rw (history-installed, map-append (λ (x : Shown). x.t) (history_of s) (shown_after s p t ∷ [])) (rising-push 0 (numbers_of (history_of s)) t whole.rising later);
+    under = rw history-installed (under-push 1 s.nonce (history_of s) (shown_after s p t) whole.under under_next);
     chain = rw history-installed (chain-push hash of s.policy (history_of s) s.chain (shown_after s p t) entry whole.chain body);
   }
 
@@ -106,9 +94,10 @@ module _ (hash of : List ℕ → List ℕ) (s : State) (whole : Whole hash of s)
       → GoodChain hash verdict s.chain → GoodChain hash further (s.chain ++ entry ∷ [])
   good_next verdict further same signed good =
       let before = before_at hash None s.chain (length s.chain) in
-      let l = is_last hash of s.policy s.nonce (history_of s) s.chain whole.chain in
+      let last = is_last hash of s.policy s.nonce (history_of s) s.chain whole.chain in
+      let known = latest-known 1 s.nonce (history_of s) (inl refl) whole.under in
       good_push hash further s.chain entry (good_same_verdict hash verdict further same s.chain good)
-      (follows_next hash of s.policy further before (shown_after s p t) entry body u.version (let last = l.epoch in omega arith) (rw u.nonce l.under) signed)
+      (follows_next hash of s.policy s.nonce further (history_of s) known (shown_after s p t) later entry signed before body last under_next)
 
   pub left_next : Leaves hash of s (installed s p nodes root t entry) p t entry
   left_next = record {

@@ -7,6 +7,7 @@ mod JudgeLemmas
 mod DraftLemmas
 mod OrderLemmas
 mod OverlaidLemmas
+mod GrowthLemmas
 mod BuiltLemmas
 mod NumberLemmas
 mod LookupLemmas

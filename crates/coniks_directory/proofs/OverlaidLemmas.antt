@@ -1,25 +1,10 @@
 -- A registry that a batch's bindings are laid over, and entries that changes are laid over.
 use Rattle.std.proofs.Common.{◌≡◌, ◌≢◌, ℕ, List, [], ◌∷◌, ◌++◌, map, Bool, true, false, refl, sym, ap, subst, ◌∙◌, not, ◌||◌, ◌⊎◌, inl, inr}
-use Rattle.coniks_directory.proofs.Words.{AreOnce, AreWithin, Entry, IsIn, IsIndex, IsLength, IsMap, IsNew, MAX_KEY, MAX_NAME, Registered}
+use Rattle.coniks_directory.proofs.Words.{AreOnce, AreWithin, Entry, IsIn, IsIndex, IsLength, IsMap, MAX_KEY, MAX_NAME, Registered}
 use Rattle.coniks_directory.proofs.Words.{Registry, bytes_eq, bytes_eq-Decides, entries_of, filter, has_index, has_name, not-true, or_cases}
 use Rattle.coniks_directory.proofs.Words.{or_parts, or_right, overlaid, overwritten, rebound}
-use Rattle.coniks_proof.proofs.Lemmas.{IsIn-filter, IsMap-filter, IsMap-rebound, eq_same, in_overlaid, in_rebound, of_filter, passes, rebound_new, rebound_old, within}
-
--- ---- lists
-
-pub in_append : {T : Type 0} (x : T) (xs ys : List T) → IsIn x (xs ++ ys) → IsIn x xs ⊎ IsIn x ys
-in_append x [] ys there = inr there
-in_append x (y ∷ xs) ys (inl here) = inl (inl here)
-in_append x (y ∷ xs) ys (inr later) = elim (in_append x xs ys later) [ inl left ↦ inl (inr left) | inr right ↦ inr right ]
-
-pub append_left : {T : Type 0} (x : T) (xs ys : List T) → IsIn x xs → IsIn x (xs ++ ys)
-append_left x [] ys there = absurd there
-append_left x (y ∷ xs) ys (inl here) = inl here
-append_left x (y ∷ xs) ys (inr later) = inr (append_left x xs ys later)
-
-pub append_right : {T : Type 0} (x : T) (xs ys : List T) → IsIn x ys → IsIn x (xs ++ ys)
-append_right x [] ys there = there
-append_right x (y ∷ xs) ys there = inr (append_right x xs ys there)
+use Rattle.coniks_proof.proofs.Lemmas.{IsIn-append, IsIn-append_left, IsIn-append_right, IsIn-filter, IsMap-append, IsMap-filter, IsMap-rebound, eq_same}
+use Rattle.coniks_proof.proofs.Lemmas.{in_overlaid, in_rebound, of_filter, passes, rebound_new, rebound_old, within}
 
 -- ---- the bindings of a registry that is overlaid
 
@@ -72,16 +57,6 @@ there_index (c ∷ cs) index h = elim (or_cases (bytes_eq c.index index) (has_in
   | inr later ↦ let k = there_index cs index later in (k.0, inr k.1, k.2)
 ]
 
-new_append : {B : Type 0} (index : List ℕ) (es fs : List (Entry B)) → IsNew index es → ((f : Entry B) → IsIn f fs → index ≢ f.index) → IsNew index (es ++ fs)
-new_append index [] [] one apart = tt
-new_append index [] (f ∷ fs) one apart = (apart f (inl refl), new_append index [] fs tt (λ x there. apart x (inr there)))
-new_append index (e ∷ es) fs one apart = (one.0, new_append index es fs one.1 apart)
-
-map_append : {B : Type 0} (es fs : List (Entry B)) → IsMap es → IsMap fs → ((e f : Entry B) → IsIn e es → IsIn f fs → e.index ≢ f.index) → IsMap (es ++ fs)
-map_append [] fs one two apart = two
-map_append (e ∷ es) fs one two apart =
-    (one.0, new_append e.index es fs one.1 (λ f there. apart e f (inl refl) there), map_append es fs one.2 two (λ x f there. apart x f (inr there)))
-
 module _ {B : Type 0} (es cs : List (Entry B)) where
   -- what stays of the old entries
   abbrev kept : Entry B → Bool
@@ -89,26 +64,30 @@ module _ {B : Type 0} (es cs : List (Entry B)) where
 
   pub in_overwritten : (e : Entry B) → IsIn e (overwritten es cs) → IsIn e cs ⊎ (IsIn e es × (has_index cs e.index ≡ false))
   unfolding overwritten
-  in_overwritten e there = elim (in_append e cs (filter kept es) there) [
+  in_overwritten e there = elim (IsIn-append e cs (filter kept es) there) [
     | inl new ↦ inl new
     | inr old ↦ inr (of_filter e kept es old, not-true (has_index cs e.index) (passes e kept es old))
   ]
 
   pub overwritten_new : (e : Entry B) → IsIn e cs → IsIn e (overwritten es cs)
   unfolding overwritten
-  overwritten_new e there = append_left e cs (filter kept es) there
+  overwritten_new e there = IsIn-append_left e cs (filter kept es) there
+
+  pub overwritten_old : (e : Entry B) → IsIn e es → has_index cs e.index ≡ false → IsIn e (overwritten es cs)
+  unfolding overwritten
+  overwritten_old e there off = IsIn-append_right e cs (filter kept es) (IsIn-filter e kept es (ap not off) there)
 
   -- an index that an old entry has is still there
   pub overwritten_index : (e : Entry B) → IsIn e es → (x : Entry B) × IsIn x (overwritten es cs) × (x.index ≡ e.index)
   unfolding overwritten
   overwritten_index e there = (elim (has_index cs e.index) as (λ v. has_index cs e.index ≡ v → (x : Entry B) × IsIn x (cs ++ filter kept es) × (x.index ≡ e.index)) [
-    | true ↦ λ on. let k = there_index cs e.index on in (k.0, append_left k.0 cs (filter kept es) k.1, k.2)
-    | false ↦ λ off. (e, append_right e cs (filter kept es) (IsIn-filter e kept es (ap not off) there), refl)
+    | true ↦ λ on. let k = there_index cs e.index on in (k.0, IsIn-append_left k.0 cs (filter kept es) k.1, k.2)
+    | false ↦ λ off. (e, overwritten_old e there off, refl)
   ]) refl
 
   -- a map overwritten by a map is a map
   pub IsMap-overwritten : IsMap es → IsMap cs → IsMap (overwritten es cs)
   unfolding overwritten
-  IsMap-overwritten old new = map_append cs (filter kept es) new (IsMap-filter kept es old) (λ c e in_c in_e same.
+  IsMap-overwritten old new = IsMap-append cs (filter kept es) new (IsMap-filter kept es old) (λ c e in_c in_e same.
       let on = index_there cs c e.index in_c same in
       let off = not-true (has_index cs e.index) (passes e kept es in_e) in cc)

@@ -1,7 +1,7 @@
 -- An update of a batch on the state of a directory.
-use Rattle.std.proofs.Common.{◌≡◌, ℕ, zero, suc, ◌+◌, ◌*◌, ◌-◌, ◌≤◌, List, [], ◌∷◌, ◌++◌, length, map, arith, refl, sym, ap, ◌∙◌, Option, Some, None, slice_get}
-use Rattle.coniks_directory.proofs.Words.{Epoch, IsBuilt, IsLatestRoot, IsUpdateBy, Mirrors, Op, Prepared, Registered, Registry, Root, Shown, State}
-use Rattle.coniks_directory.proofs.Words.{Whole, after, bound_by, history_of, latest_nonce, latest_registry, length-map, map-append}
+use Rattle.std.proofs.Common.{◌≡◌, ℕ, zero, suc, ◌+◌, ◌*◌, ◌-◌, ◌≤◌, List, [], ◌∷◌, ◌++◌, length, map, arith, refl, sym, ap, ◌∙◌, Option, Some, None, Bool, true, false, is_some, slice_get}
+use Rattle.coniks_directory.proofs.Words.{AddsFew, Brings, Epoch, IsBuilt, IsLatestRoot, IsSmall, IsUpdateBy, Nonce, Op, Prepared, Registered, Registry, Root, Shown, State}
+use Rattle.coniks_directory.proofs.Words.{Whole, after, bound_by, history_of, latest_registry, length-map, map-append, nonce_after, option_map}
 use Rattle.coniks_directory.proofs.Words.{most_nodes, node_count, operation_of, operations, overlaid, registered_of, registry_after, shown_of}
 use Rattle.coniks_proof.proofs.Lemmas.{overlaid-append}
 use Rattle.coniks_directory.proofs.LastLemmas.{last_found, none_last}
@@ -37,16 +37,44 @@ module _ (hash of : List ℕ → List ℕ) (s : State) where
         ∙ ap (λ (R : Registry). overlaid R (map bound_by (operations ops))) (sym (latest-is hash of s whole ∙ registry_at-all s.records))
 
     -- what was built of a batch is an update
-    pub update_by : (p : Prepared) (ops : List Op) (root : Option Root) → IsLatestRoot hash of s root → p.base ≡ length s.epochs → p.version ≡ 1 → p.nonce.0 ≡ latest_nonce s.nonce (history_of s)
-        → IsBuilt hash of p.nonce.0 s.nodes s.records root (latest_registry (history_of s)) (operations ops) p.part p.records.items → IsUpdateBy hash of s ops p
-    update_by p ops root latest base version under b =
-        let many = length-map ops operation_of in
-        let registry = registry_is p ops b.binds in
-        let mirrors : Mirrors hash of (s.records ++ p.records.items) b.entries (registry_after s p) = rw registry b.mirrors in
-        let none = λ (empty : length ops ≡ 0). p.counted ∙ ap node_count (b.none (many ∙ empty)) ∙ latest.counted in
-        record {
-          update = record { base = base; counted = whole.last; version = version; nonce = under; fits = b.fits; placed = b.placed; entries = b.entries; stands = b.stands; mirrors = mirrors };
-          registry = registry;
-          few = few_added (history_of s) (length ops) p.new_nodes (let few = b.few in let count = p.counted in omega (arith, many)) none;
-          none = none;
-        }
+    module _ (p : Prepared) (ops : List Op) (root : Option Root) (latest : IsLatestRoot hash of s root) where
+      adds : (brought : Option (List ℕ)) (anew : Bool) → anew ≡ is_some brought
+          → IsSmall anew root (operations ops) (after (latest_registry (history_of s)) (operations ops)) p.part → AddsFew s brought ops p
+      adds None false same small =
+          let many = length-map ops operation_of in
+          let none = λ (empty : length ops ≡ 0). p.counted ∙ ap node_count (small.1 (many ∙ empty)) ∙ latest.counted in
+          (few_added (history_of s) (length ops) p.new_nodes (let few = small.0 in let count = p.counted in omega (arith, many)) none, none)
+      adds (Some nonce) true same small = let count = p.counted in omega (arith, small)
+      adds None true same small = absurd (let never = same in cc)
+      adds (Some nonce) false same small = absurd (let never = same in cc)
+
+      pub update_by : (brought : Option (List ℕ)) (anew : Bool) → anew ≡ is_some brought → p.base ≡ length s.epochs → Brings s brought p
+          → IsBuilt hash of p.nonce.0 s.nodes s.records root (latest_registry (history_of s)) (operations ops) anew p.part p.records.items → IsUpdateBy hash of s brought ops p
+      update_by brought anew same base brings b =
+          let registry = registry_is p ops b.binds in
+          record {
+            update = record {
+              base = base;
+              counted = whole.last;
+              brought = brought;
+              brings = brings;
+              fits = b.fits;
+              placed = b.placed;
+              entries = b.entries;
+              stands = b.stands;
+              mirrors = rw registry b.mirrors;
+            };
+            brings = brings;
+            registry = registry;
+            few = adds brought anew same b.small;
+          }
+
+-- an update that isn't made anew is under the latest nonce
+pub latest_kept : (brought : Option Nonce) (anew : Bool) (nonce latest : List ℕ) → anew ≡ is_some brought
+    → nonce ≡ nonce_after (option_map (λ (n : Nonce). n.0) brought) latest → anew ≡ false → latest ≡ nonce
+latest_kept None anew nonce latest same is off = sym is
+latest_kept (Some n) anew nonce latest same is off = absurd (let never = sym same ∙ off in cc)
+
+pub is_some-map : {S T : Type 0} (f : S → T) (x : Option S) → is_some (option_map f x) ≡ is_some x
+is_some-map f None = refl
+is_some-map f (Some x) = refl

@@ -2,51 +2,52 @@
 use Rattle.std.proofs.Common.{◌≡◌, ℕ, List, [], ◌∷◌, ◌++◌, ◌<◌, refl, sym, ap, subst, ◌∙◌, append_assoc}
 use Rattle.coniks_directory.proofs.Words.{AreAccepted, AreAcceptedFrom, Batch, HaveOwnIndices, IsAccepted, Run, Shown, State, after}
 use Rattle.coniks_directory.proofs.Words.{append-nil, committed, defined, epochs_from, history_of, installed, latest_epoch, latest_nonce}
-use Rattle.coniks_directory.proofs.Words.{latest_registry, opened, shown_next, stayed}
+use Rattle.coniks_directory.proofs.Words.{latest_registry, latest_version, opened, shown_by, stayed}
 use Rattle.coniks_proof.proofs.Lemmas.{may_follow, own_after}
-use Rattle.coniks_directory.proofs.FreshLemmas.{fresh_history, fresh_registry, fresh_update}
+use Rattle.coniks_directory.proofs.FreshLemmas.{fresh_brings, fresh_history, fresh_registry}
 use Rattle.coniks_directory.proofs.LastLemmas.{at_end}
 
 -- a state is that of the directory that the batches define, and further batches go on from it
 pub record IsDefined (of : List ℕ → List ℕ) (nonce policy : List ℕ) (batches : List Batch) (s : State) : Type 0 where
   pub nonce_is : s.nonce ≡ nonce
   pub policy_is : s.policy ≡ policy
-  latest : latest_nonce nonce (history_of s) ≡ nonce
   own : HaveOwnIndices of (latest_registry (history_of s))
-  epochs : (more : List Batch) → defined nonce (batches ++ more) ≡ history_of s ++ epochs_from nonce (latest_registry (history_of s)) more
+  epochs : (more : List Batch) → defined nonce (batches ++ more)
+      ≡ history_of s ++ epochs_from (latest_version 1 (history_of s)) (latest_nonce nonce (history_of s)) (latest_registry (history_of s)) more
   accepts : (more : List Batch) → AreAcceptedFrom of (latest_epoch (history_of s)) (latest_registry (history_of s)) more → AreAccepted of (batches ++ more)
 
 module _ (of : List ℕ → List ℕ) (nonce policy : List ℕ) (batches : List Batch) (s : State) (d : IsDefined of nonce policy batches s) where
   -- a later state with the epoch of one more batch is so too
   next : (b : Batch) (later : State) (shown : Shown) (depth workers : ℕ) → later.nonce ≡ s.nonce → later.policy ≡ s.policy → IsAccepted of (latest_registry (history_of s)) b.ops depth workers
-      → latest_epoch (history_of s) < b.t → history_of later ≡ history_of s ++ shown ∷ [] → shown ≡ shown_next s b.ops b.t → IsDefined of nonce policy (batches ++ b ∷ []) later
+      → latest_epoch (history_of s) < b.t → history_of later ≡ history_of s ++ shown ∷ []
+      → shown ≡ shown_by (latest_version 1 (history_of s)) (latest_nonce s.nonce (history_of s)) (latest_registry (history_of s)) b → IsDefined of nonce policy (batches ++ b ∷ []) later
   next b later shown depth workers nonce-is policy-is a rises history shown-is =
       let registry = ap latest_registry history ∙ at_end latest_registry (λ x. x.registry) (λ x. refl) (λ x y xs. refl) (history_of s) shown ∙ ap (λ (x : Shown). x.registry) shown-is in
       let epoch = ap latest_epoch history ∙ at_end latest_epoch (λ x. x.t) (λ x. refl) (λ x y xs. refl) (history_of s) shown ∙ ap (λ (x : Shown). x.t) shown-is in
-      let now : latest_nonce s.nonce (history_of s) ≡ nonce = ap (λ n. latest_nonce n (history_of s)) d.nonce_is ∙ d.latest in
+      let version = ap (latest_version 1) history ∙ at_end (latest_version 1) (λ x. x.version) (λ x. refl) (λ x y xs. refl) (history_of s) shown ∙ ap (λ (x : Shown). x.version) shown-is in
+      let under = ap (latest_nonce nonce) history ∙ at_end (latest_nonce nonce) (λ x. x.nonce) (λ x. refl) (λ x y xs. refl) (history_of s) shown ∙ ap (λ (x : Shown). x.nonce) shown-is in
       let may = may_follow of (latest_registry (history_of s)) b.ops d.own a.faultless in
       record {
         nonce_is = nonce-is ∙ d.nonce_is;
         policy_is = policy-is ∙ d.policy_is;
-        latest = ap (latest_nonce nonce) history ∙ at_end (latest_nonce nonce) (λ x. x.nonce) (λ x. refl) (λ x y xs. refl) (history_of s) shown ∙ ap (λ (x : Shown). x.nonce) shown-is ∙ now;
         own = rw registry (own_after of (latest_registry (history_of s)) b.ops may);
-        epochs = λ more. rw (append_assoc batches (b ∷ []) more, registry, history, append_assoc (history_of s) (shown ∷ []), shown-is, now) (d.epochs (b ∷ more));
+        epochs = λ more. rw (append_assoc batches (b ∷ []) more, registry, version, under, history, append_assoc (history_of s) (shown ∷ []), shown-is, d.nonce_is) (d.epochs (b ∷ more));
         accepts = λ more all. rw (append_assoc batches (b ∷ []) more) (d.accepts (b ∷ more) (rises, a.few, may, rw (epoch, registry) at all));
       }
 
 pub defined_by : (hash of : List ℕ → List ℕ) (nonce policy : List ℕ) (batches : List Batch) (s : State) → Run hash of nonce policy batches s → IsDefined of nonce policy batches s
 defined_by hash of nonce policy _ _ opened =
-    record { nonce_is = refl; policy_is = refl; latest = refl; own = λ x y has. absurd (let never = has in cc); epochs = λ more. refl; accepts = λ more all. all }
+    record { nonce_is = refl; policy_is = refl; own = λ x y has. absurd (let never = has in cc); epochs = λ more. refl; accepts = λ more all. all }
 defined_by hash of nonce policy _ _ (stayed batches s later run same) = subst (IsDefined of nonce policy batches) (sym same) (defined_by hash of nonce policy batches s run)
-defined_by hash of nonce policy _ _ (committed batches b s later depth workers published capacity run accepted may history grows) =
-    next of nonce policy batches s (defined_by hash of nonce policy batches s run) b later _ depth workers grows.nonce grows.policy accepted may.later history refl
+defined_by hash of nonce policy _ _ (committed batches b s later depth workers published capacity run keeps accepted may history grows) =
+    next of nonce policy batches s (defined_by hash of nonce policy batches s run) b later _ depth workers grows.nonce grows.policy accepted may.later history (rw keeps refl)
 defined_by hash of nonce policy _ _ (installed batches b earlier s later update depth workers published capacity run prepared since may history grows) =
-    let u = fresh_update hash of earlier s update since prepared.is_update may.fresh in
+    let brings = fresh_brings hash of earlier s update since prepared.is_update may.fresh b.brought prepared.brings in
     let same = fresh_history hash of earlier s update since prepared.is_update may.fresh in
     let registry = fresh_registry hash of earlier s update since prepared.is_update may.fresh ∙ prepared.registry ∙ ap (λ ss. after (latest_registry ss) b.ops) (sym same) in
     let accepted = subst (λ ss. IsAccepted of (latest_registry ss) b.ops depth workers) (sym same) prepared.accepted in
     next of nonce policy batches s (defined_by hash of nonce policy batches s run) b later _ depth workers grows.nonce grows.policy accepted may.later history
-    (rw (u.version, u.nonce, registry) refl)
+    (rw (brings.version, brings.nonce, registry) refl)
 
 module _ (hash of : List ℕ → List ℕ) (nonce policy : List ℕ) (batches : List Batch) (s : State) (run : Run hash of nonce policy batches s) where
   pub history_by : history_of s ≡ defined nonce batches

@@ -1,6 +1,6 @@
 -- Registries, as the log of records leaves them, and the history of a state.
 use Rattle.std.proofs.Common.{◌≡◌, ℕ, ◌-◌, ◌≤◌, List, [], ◌∷◌, ◌++◌, length, map, refl, ap, ◌∙◌, arith, Some, None, slice_get}
-use Rattle.coniks_directory.proofs.Words.{Epoch, Record, State, Whole, history_of, last_count, latest_nonce, latest_registry, overlaid}
+use Rattle.coniks_directory.proofs.Words.{Epoch, Record, State, Whole, history_of, last_count, latest_nonce, latest_registry, latest_version, overlaid}
 use Rattle.coniks_directory.proofs.Words.{registered_of, registry_at, shown_of, take-append-le, take_all}
 use Rattle.coniks_directory.proofs.LastLemmas.{last_found, none_last}
 
@@ -31,6 +31,12 @@ latest-last s e at = last_found (λ es. latest_registry (map (shown_of s.records
 -- and the latest nonce is its
 pub nonce-last : (s : State) (e : Epoch) → slice_get s.epochs (length s.epochs - 1) ≡ Some e → latest_nonce s.nonce (history_of s) ≡ e.nonce.0
 nonce-last s e at = last_found (λ es. latest_nonce s.nonce (map (shown_of s.records) es)) (λ x. x.nonce.0) (λ x. refl) (λ x y xs. refl) s.epochs e at
+
+pub version-last : (s : State) (e : Epoch) → slice_get s.epochs (length s.epochs - 1) ≡ Some e → latest_version 1 (history_of s) ≡ e.version
+version-last s e at = last_found (λ es. latest_version 1 (map (shown_of s.records) es)) (λ x. x.version) (λ x. refl) (λ x y xs. refl) s.epochs e at
+
+pub version-none : (s : State) → slice_get s.epochs (length s.epochs - 1) ≡ None → latest_version 1 (history_of s) ≡ 1
+version-none s at = rw (none_last s.epochs at) refl
 
 pub nonce-none : (s : State) → slice_get s.epochs (length s.epochs - 1) ≡ None → latest_nonce s.nonce (history_of s) ≡ s.nonce
 nonce-none s at = rw (none_last s.epochs at) refl

@@ -50,19 +50,21 @@ pub use Rattle.coniks_chain.specs.Chain.{Follows, GoodChain, before_at, before_o
 pub use Rattle.coniks_chain.specs.Entries.{body_bytes}
 pub use Rattle.coniks_chain.specs.declared.auditor.Before.{Before}
 pub use Rattle.coniks_chain.specs.declared.entry.Body.{Body}
-pub use Rattle.coniks_directory.specs.Batches.{IsAccepted, fault_is, kind_of, most_nodes, operation_of, operations}
-pub use Rattle.coniks_directory.specs.Built.{IsBuilt, IsUpdateBy}
+pub use Rattle.coniks_directory.specs.Batches.{IsAccepted, fault_is, kind_of, most_anew, most_nodes, operation_of, operations}
+pub use Rattle.coniks_directory.specs.Built.{AddsFew, AreAligned, IsBuilt, IsGrowth, IsSmall, IsUpdateBy}
 pub use Rattle.coniks_directory.specs.Chain.{IsChainOf, body_of, head_at, heads_of}
 pub use Rattle.coniks_directory.specs.Directories.{HasGoodChain, HasPrepared, heads}
-pub use Rattle.coniks_directory.specs.History.{AllHaveOwnIndices, AllUnder, AreRising, Shown, last_number, latest_epoch, latest_nonce, latest_registry, numbers_of, root_at, shown_at}
+pub use Rattle.coniks_directory.specs.History.{AllHaveOwnIndices, AreRising, AreUnder, IsUnder, Shown, last_number, latest_epoch, latest_nonce}
+pub use Rattle.coniks_directory.specs.History.{latest_registry, latest_version, nonce_after, numbers_of, root_at, shown_at, version_after}
 pub use Rattle.coniks_directory.specs.Holders.{HolderIs, IsHeld, IsLatestRoot, ShowsLatest}
 pub use Rattle.coniks_directory.specs.Installed.{IsEntered, IsNext, IsSigned, Leaves}
 pub use Rattle.coniks_directory.specs.Judged.{AreChangesOf, AreDrafts, IsJudged, IsJudgedFault, IsSealed, number_at}
 pub use Rattle.coniks_directory.specs.Lookups.{IsAcceptedAt, IsFound}
-pub use Rattle.coniks_directory.specs.Runs.{AreAccepted, AreAcceptedFrom, Batch, Run, committed, defined, epochs_from, installed, opened, stayed}
+pub use Rattle.coniks_directory.specs.Runs.{AreAccepted, AreAcceptedFrom, Batch, Run, committed, defined, epochs_from, installed, opened, shown_by, stayed}
 pub use Rattle.coniks_directory.specs.State.{HoldsEpoch, IsAt, IsInstalled, IsStored, Mirrors, ShowsRegistry, State, View, Whole, history_of, last_count, registered_of, shown_of, state_of}
 unfoldable pub use Rattle.coniks_directory.specs.State.{registry_at}
-pub use Rattle.coniks_directory.specs.Updates.{Grows, IsUpdate, IsUpdateOf, MayInstall, records_after, registry_after, shown_after, shown_next}
+pub use Rattle.coniks_directory.specs.Updates.{Brings, Grows, IsUpdate, IsUpdateOf, MayInstall, records_after, registry_after, shown_after, shown_next}
 pub use Rattle.coniks_directory.specs.declared.batch.Op.{Op}
 pub use Rattle.coniks_directory.specs.declared.epochs.Epoch.{Epoch}
+pub use Rattle.coniks_directory.specs.declared.growth.Growth.{Growth}
 pub use Rattle.coniks_directory.specs.declared.update.Prepared.{Prepared}

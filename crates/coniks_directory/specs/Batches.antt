@@ -58,3 +58,7 @@ abbrev pub most_nodes : List Shown → ℕ → ℕ
 most_nodes [] zero = 1
 most_nodes (shown ∷ history) zero = 0
 most_nodes history (suc n) = 512 * suc n + 1
+
+-- and how many an epoch that brings a nonce takes at most, which leaves this registry
+abbrev pub most_anew : Registry → ℕ
+most_anew registry = 512 * length registry + 1

@@ -1,35 +1,63 @@
 -- The part and the records of a batch, and the update that they make.
-use Rattle.std.specs.Prelude.{◌≡◌, ◌≤◌, ◌+◌, ◌*◌, ℕ, List, [], ◌++◌, length, map, Option}
+use Rattle.std.specs.Prelude.{◌≡◌, ◌≤◌, ◌+◌, ◌*◌, ℕ, List, [], ◌++◌, length, map, Bool, true, false, Option, Some, None}
 use Rattle.coniks_proof.specs.Batches.{Operation, after, bound_by}
+use Rattle.coniks_proof.specs.Changes.{AreApart, AreInOrder, overwritten}
+use Rattle.coniks_proof.specs.Maps.{IsMap}
 use Rattle.coniks_proof.specs.Registry.{Registry}
-use Rattle.coniks_tree.specs.Parts.{Fits, Placed, Stands, node_count}
-use Rattle.coniks_tree.specs.Table.{Numbered}
+use Rattle.coniks_tree.specs.Entries.{Lists}
+use Rattle.coniks_tree.specs.Parts.{AllPlaced, Fits, Placed, Stands, entries_of, node_count}
+use Rattle.coniks_tree.specs.Table.{Extends, Numbered}
+use Rattle.coniks_tree.specs.declared.part.Change.{Change}
 use Rattle.coniks_tree.specs.declared.part.Part.{Part}
 use Rattle.coniks_tree.specs.declared.table.Node.{Node}
 use Rattle.coniks_tree.specs.declared.table.Record.{Record}
 use Rattle.coniks_tree.specs.declared.table.Root.{Root}
-use Rattle.coniks_work.specs.Grown.{unchanged}
-use Rattle.coniks_directory.specs.Batches.{most_nodes, operations}
+use Rattle.coniks_work.specs.Grown.{IsOldMap, unchanged}
+use Rattle.coniks_directory.specs.Batches.{most_anew, most_nodes, operations}
 use Rattle.coniks_directory.specs.History.{latest_registry}
 use Rattle.coniks_directory.specs.State.{Mirrors, State, history_of, registered_of}
-use Rattle.coniks_directory.specs.Updates.{IsUpdate, registry_after}
+use Rattle.coniks_directory.specs.Updates.{Brings, IsUpdate, registry_after}
 use Rattle.coniks_directory.specs.declared.batch.Op.{Op}
+use Rattle.coniks_directory.specs.declared.growth.Growth.{Growth}
 use Rattle.coniks_directory.specs.declared.update.Prepared.{Prepared}
 
+-- from a level on entries and changes are in the order of their bits, and no two of the changed map have the same bits
+pub record AreAligned (level : ℕ) (entries changes : List Numbered) : Type 0 where
+  pub old : AreInOrder level entries
+  pub new : AreInOrder level changes
+  pub apart : AreApart level (overwritten entries changes)
+
+-- a tree grows by the changes as they are from the root, or anew, by the whole changed map from nothing
+pub record IsGrowth (nodes : List Node) (records : List Record) (root : Option Root) (anew : Bool) (changes : List Change) (growth : Growth) : Type 0 where
+  pub kept : anew ≡ false → (growth.root ≡ root) × (growth.changes.items ≡ changes)
+  pub none : anew ≡ true → growth.root ≡ None
+  pub all : anew ≡ true → (hash : List ℕ → List ℕ) (nonce : List ℕ) (entries : List Numbered) → IsOldMap hash nonce nodes records root entries
+      → IsMap entries → IsMap (entries_of changes) → AreInOrder 0 (entries_of changes) → Lists growth.changes.items (overwritten entries (entries_of changes))
+  pub placed : (further : List Record) → Extends records further → AllPlaced further changes → AllPlaced further growth.changes.items
+
+-- how many nodes the part takes at most, after a root and with so many operations, and without operations; or anew, for this registry
+abbrev pub IsSmall : Bool → Option Root → List Operation → Registry → Part → Type 0
+IsSmall false root ops registry part = (node_count part ≤ 512 * length ops + 1) × (length ops ≡ 0 → part ≡ unchanged root)
+IsSmall true root ops registry part = node_count part ≤ most_anew registry
+
 -- the part and the new records are those of a batch on a registry, which the root shows, over the nodes and the records that there were
-pub record IsBuilt (hash of : List ℕ → List ℕ) (nonce : List ℕ) (nodes : List Node) (records : List Record) (root : Option Root) (registry : Registry) (ops : List Operation) (part : Part) (new : List Record) : Type 0 where
+pub record IsBuilt (hash of : List ℕ → List ℕ) (nonce : List ℕ) (nodes : List Node) (records : List Record) (root : Option Root) (registry : Registry) (ops : List Operation) (anew : Bool) (part : Part) (new : List Record) : Type 0 where
   pub binds : map registered_of new ≡ map bound_by ops
   pub fits : Fits (length nodes) 0 part
-  pub few : node_count part ≤ 512 * length ops + 1
-  pub none : length ops ≡ 0 → part ≡ unchanged root
+  pub small : IsSmall anew root ops (after registry ops) part
   pub placed : Placed (records ++ new) part
   pub entries : List Numbered
   pub stands : Stands hash nonce nodes records part [] entries
   pub mirrors : Mirrors hash of (records ++ new) entries (after registry ops)
 
--- the update is that of a batch on the directory in this state
-pub record IsUpdateBy (hash of : List ℕ → List ℕ) (s : State) (ops : List Op) (p : Prepared) : Type 0 where
+-- how many nodes the update of a batch adds at most, one that brings a nonce or one that brings none
+abbrev pub AddsFew : State → Option (List ℕ) → List Op → Prepared → Type 0
+AddsFew s None ops p = (p.new_nodes ≤ most_nodes (history_of s) (length ops)) × (length ops ≡ 0 → p.new_nodes ≡ most_nodes (history_of s) 0)
+AddsFew s (Some nonce) ops p = p.new_nodes ≤ most_anew (after (latest_registry (history_of s)) (operations ops))
+
+-- the update is that of a batch, which may bring a nonce, on the directory in this state
+pub record IsUpdateBy (hash of : List ℕ → List ℕ) (s : State) (brought : Option (List ℕ)) (ops : List Op) (p : Prepared) : Type 0 where
   pub update : IsUpdate hash of s p
+  pub brings : Brings s brought p
   pub registry : registry_after s p ≡ after (latest_registry (history_of s)) (operations ops)
-  pub few : p.new_nodes ≤ most_nodes (history_of s) (length ops)
-  pub none : length ops ≡ 0 → p.new_nodes ≡ most_nodes (history_of s) 0
+  pub few : AddsFew s brought ops p

@@ -12,7 +12,7 @@ use Rattle.coniks_directory.specs.Chain.{IsChainOf, heads_of}
 use Rattle.coniks_directory.specs.History.{Shown, latest_registry, root_at, shown_at}
 use Rattle.coniks_directory.specs.Lookups.{IsAcceptedAt, IsFound, IsMissed}
 use Rattle.coniks_directory.specs.State.{View, history_of}
-use Rattle.coniks_directory.specs.Updates.{IsUpdate, IsUpdateOf}
+use Rattle.coniks_directory.specs.Updates.{Brings, IsUpdate, IsUpdateOf}
 use Rattle.coniks_directory.specs.declared.batch.BatchFault.{BatchFault}
 use Rattle.coniks_directory.specs.declared.lookup.LookupFault.{LookupFault}
 use Rattle.coniks_directory.specs.declared.update.Prepared.{Prepared}
@@ -69,6 +69,10 @@ module _ {H X : Type 0} (index : X → List ℕ → List ℕ) (d : View H X) whe
 
   abbrev pub Refuses : List Operation → ℕ → ℕ → BatchFault → Type 0
   Refuses ops depth workers fault = IsBatchFault (index d.index) (registry d) ops depth workers fault
+
+-- an update of it brings this nonce, or none
+abbrev pub Renews : {H X : Type 0} → View H X → Option (List ℕ) → Prepared → Type 0
+Renews {H} {X} d brought update = Brings d.state brought update
 
 -- why a lookup of a name at an epoch isn't answered
 abbrev pub Misses : {H X : Type 0} → View H X → ℕ → List ℕ → LookupFault → Type 0

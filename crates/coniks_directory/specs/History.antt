@@ -1,5 +1,5 @@
 -- The history of a directory: its epochs, each with the registry that its batch left.
-use Rattle.std.specs.Prelude.{◌≡◌, ◌==◌, ◌<◌, ℕ, List, [], ◌∷◌, map, slice_get, Option, Some}
+use Rattle.std.specs.Prelude.{◌≡◌, ◌==◌, ◌<◌, ℕ, List, [], ◌∷◌, map, slice_get, Option, Some, None}
 use Rattle.std.specs.List.{find}
 use Rattle.coniks_proof.specs.Registry.{HaveOwnIndices, Registry, root_of}
 
@@ -39,9 +39,29 @@ abbrev pub latest_nonce : List ℕ → List Shown → List ℕ
 latest_nonce nonce [] = nonce
 latest_nonce nonce (s ∷ ss) = latest_nonce s.nonce ss
 
--- each epoch was made under this nonce, and its entry is of version 1
-abbrev pub AllUnder : List ℕ → List Shown → Type 0
-AllUnder nonce history = (k : ℕ) (s : Shown) → slice_get history k ≡ Some s → (s.version ≡ 1) × (s.nonce ≡ nonce)
+-- the latest epoch's version, or this where there is none
+abbrev pub latest_version : ℕ → List Shown → ℕ
+latest_version version [] = version
+latest_version version (s ∷ ss) = latest_version s.version ss
+
+-- the version of an epoch that may bring a nonce, after one of this version
+abbrev pub version_after : Option (List ℕ) → ℕ → ℕ
+version_after None version = version
+version_after (Some brought) version = 2
+
+-- the nonce of an epoch that may bring one, after one under this nonce
+abbrev pub nonce_after : Option (List ℕ) → List ℕ → List ℕ
+nonce_after None nonce = nonce
+nonce_after (Some brought) nonce = brought
+
+-- an epoch after one of this version and nonce has both, or it has brought a nonce and is of version 2
+abbrev pub IsUnder : ℕ → List ℕ → Shown → Type 0
+IsUnder version nonce s = (brought : Option (List ℕ)) × (s.version ≡ version_after brought version) × (s.nonce ≡ nonce_after brought nonce)
+
+-- so is each epoch after the one before it, the first one after this version and nonce
+abbrev pub AreUnder : ℕ → List ℕ → List Shown → Type 0
+AreUnder version nonce [] = Unit {0}
+AreUnder version nonce (s ∷ ss) = IsUnder version nonce s × AreUnder s.version s.nonce ss
 
 -- in no epoch's registry two names have one index
 abbrev pub AllHaveOwnIndices : (List ℕ → List ℕ) → List Shown → Type 0

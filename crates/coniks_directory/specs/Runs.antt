@@ -1,28 +1,33 @@
 -- Runs of public calls on a directory, each as its contract tells it, and the directory that the batches define.
-use Rattle.std.specs.Prelude.{◌≡◌, ◌<◌, ◌≤◌, ℕ, List, [], ◌∷◌, ◌++◌, length}
+use Rattle.std.specs.Prelude.{◌≡◌, ◌<◌, ◌≤◌, ℕ, List, [], ◌∷◌, ◌++◌, length, Option, None}
 use Rattle.coniks_proof.specs.Batches.{MayFollow, Operation, after}
 use Rattle.coniks_proof.specs.Registry.{Registry}
 use Rattle.coniks_proof.specs.declared.values.TheConstants.{MAX_OPERATIONS}
 use Rattle.coniks_directory.specs.Batches.{IsAccepted}
-use Rattle.coniks_directory.specs.History.{Shown, latest_registry}
+use Rattle.coniks_directory.specs.History.{Shown, latest_registry, nonce_after, version_after}
 use Rattle.coniks_directory.specs.State.{State, history_of, opened as nothing}
-use Rattle.coniks_directory.specs.Updates.{Grows, IsUpdate, MayInstall, base_of, registry_after, shown_after, shown_next}
+use Rattle.coniks_directory.specs.Updates.{Brings, Grows, IsUpdate, MayInstall, base_of, registry_after, shown_after, shown_next}
 use Rattle.coniks_directory.specs.declared.update.Prepared.{Prepared}
 
--- a batch, and the epoch that it was installed under
+-- a batch, the epoch that it was installed under, and the nonce that it brought, if any
 pub record Batch : Type 0 where
   pub t : ℕ
+  pub brought : Option (List ℕ)
   pub ops : List Operation
 
--- the epochs that batches make, one after the other, from a registry on
-abbrev pub epochs_from : List ℕ → Registry → List Batch → List Shown
-epochs_from nonce registry [] = []
-epochs_from nonce registry (b ∷ bs) =
-    record { t = b.t; version = 1; nonce = nonce; registry = after registry b.ops } ∷ epochs_from nonce (after registry b.ops) bs
+-- the epoch that a batch makes after one of this version, nonce and registry
+abbrev pub shown_by : ℕ → List ℕ → Registry → Batch → Shown
+shown_by version nonce registry b = record { t = b.t; version = version_after b.brought version; nonce = nonce_after b.brought nonce; registry = after registry b.ops }
 
--- the directory that batches define: its epochs, from the empty registry on
+-- the epochs that batches make, one after the other, after one of this version, nonce and registry
+abbrev pub epochs_from : ℕ → List ℕ → Registry → List Batch → List Shown
+epochs_from version nonce registry [] = []
+epochs_from version nonce registry (b ∷ bs) =
+    shown_by version nonce registry b ∷ epochs_from (version_after b.brought version) (nonce_after b.brought nonce) (after registry b.ops) bs
+
+-- the directory that batches define: its epochs, from version 1, the nonce of `open` and the empty registry on
 abbrev pub defined : List ℕ → List Batch → List Shown
-defined nonce batches = epochs_from nonce [] batches
+defined nonce batches = epochs_from 1 nonce [] batches
 
 -- each batch is under a later epoch, has not too many operations, and may follow the registry before it
 abbrev pub AreAcceptedFrom : (List ℕ → List ℕ) → ℕ → Registry → List Batch → Type 0
@@ -34,9 +39,10 @@ AreAcceptedFrom of t registry (b ∷ bs) =
 abbrev pub AreAccepted : (List ℕ → List ℕ) → List Batch → Type 0
 AreAccepted of batches = AreAcceptedFrom of 0 [] batches
 
--- what an Ok `prepare` of the operations says of its update, by the directory as it was then
-pub record IsPreparedOf (hash of : List ℕ → List ℕ) (s : State) (ops : List Operation) (depth workers : ℕ) (update : Prepared) : Type 0 where
+-- what an Ok `prepare`, or `prepare_with` of a nonce, says of its update, by the directory as it was then
+pub record IsPreparedOf (hash of : List ℕ → List ℕ) (s : State) (brought : Option (List ℕ)) (ops : List Operation) (depth workers : ℕ) (update : Prepared) : Type 0 where
   pub is_update : IsUpdate hash of s update
+  pub brings : Brings s brought update
   pub registry : registry_after s update ≡ after (latest_registry (history_of s)) ops
   pub accepted : IsAccepted of (latest_registry (history_of s)) ops depth workers
 
@@ -46,13 +52,13 @@ pub data Run (hash of : List ℕ → List ℕ) (nonce policy : List ℕ) : List 
   -- a call that was refused, or that only reads
   stayed : (batches : List Batch) (s later : State) → Run hash of nonce policy batches s → later ≡ s → Run hash of nonce policy batches later
   committed : (batches : List Batch) (b : Batch) (s later : State) (depth workers published capacity : ℕ) → Run hash of nonce policy batches s
-      → IsAccepted of (latest_registry (history_of s)) b.ops depth workers
+      → b.brought ≡ None → IsAccepted of (latest_registry (history_of s)) b.ops depth workers
       → MayInstall s (length s.epochs) b.t published capacity
       → history_of later ≡ history_of s ++ shown_next s b.ops b.t ∷ [] → Grows s later
       → Run hash of nonce policy (batches ++ b ∷ []) later
   -- the update was prepared earlier, with any calls in between
   installed : (batches : List Batch) (b : Batch) (earlier s later : State) (update : Prepared) (depth workers published capacity : ℕ) → Run hash of nonce policy batches s
-      → IsPreparedOf hash of earlier b.ops depth workers update → Grows earlier s
+      → IsPreparedOf hash of earlier b.brought b.ops depth workers update → Grows earlier s
       → MayInstall s (base_of update) b.t published capacity
       → history_of later ≡ history_of s ++ shown_after s update b.t ∷ [] → Grows s later
       → Run hash of nonce policy (batches ++ b ∷ []) later

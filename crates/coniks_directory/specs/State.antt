@@ -8,7 +8,7 @@ use Rattle.coniks_tree.specs.Table.{Numbered, Shows, entry_of_record, registered
 use Rattle.coniks_tree.specs.declared.table.Node.{Node}
 use Rattle.coniks_tree.specs.declared.table.Record.{Record}
 use Rattle.coniks_chain.specs.declared.entry.Entry.{Entry}
-use Rattle.coniks_directory.specs.History.{Shown, AreRising, numbers_of, shown_at}
+use Rattle.coniks_directory.specs.History.{Shown, AreRising, AreUnder, numbers_of, shown_at}
 use Rattle.coniks_directory.specs.Chain.{IsChainOf}
 use Rattle.coniks_directory.specs.declared.epochs.Epoch.{Epoch}
 use Rattle.coniks_directory.specs.declared.held.Held.{Held}
@@ -70,10 +70,8 @@ pub record ShowsRegistry (hash of : List ℕ → List ℕ) (nonce : List ℕ) (n
   pub shows : Shows hash nonce nodes records root [] entries
   pub mirrors : Mirrors hash of records entries registry
 
--- what is true of an epoch: it was made under the nonce of `open`, in version 1, and its root shows its registry
-pub record HoldsEpoch (hash of : List ℕ → List ℕ) (nonce : List ℕ) (nodes : List Node) (records : List Record) (e : Epoch) : Type 0 where
-  pub first_version : e.version ≡ 1
-  pub same_nonce : e.nonce.0 ≡ nonce
+-- what is true of an epoch: its root shows its registry under its nonce
+pub record HoldsEpoch (hash of : List ℕ → List ℕ) (nodes : List Node) (records : List Record) (e : Epoch) : Type 0 where
   pub known : e.root.0 < length nodes
   pub counted : e.count ≤ length records
   pub registry : ShowsRegistry hash of e.nonce.0 nodes records e.root.0 (registry_at records e.count)
@@ -86,14 +84,15 @@ last_count (e ∷ f ∷ es) = last_count (f ∷ es)
 
 -- what is true of what a directory holds
 pub record Whole (hash of : List ℕ → List ℕ) (s : State) : Type 0 where
-  pub held : (k : ℕ) (e : Epoch) → slice_get s.epochs k ≡ Some e → HoldsEpoch hash of s.nonce s.nodes s.records e
+  pub held : (k : ℕ) (e : Epoch) → slice_get s.epochs k ≡ Some e → HoldsEpoch hash of s.nodes s.records e
   pub last : last_count s.epochs ≡ length s.records
   pub rising : AreRising 0 (numbers_of (history_of s))
+  pub under : AreUnder 1 s.nonce (history_of s)
   pub chain : IsChainOf hash of s.policy (history_of s) s.chain
 
 -- the epoch of exactly this number, with the entry of that number
 pub record IsAt (hash of : List ℕ → List ℕ) (s : State) (t : ℕ) (e : Epoch) (entry : Entry) : Type 0 where
-  pub holds : HoldsEpoch hash of s.nonce s.nodes s.records e
+  pub holds : HoldsEpoch hash of s.nodes s.records e
   pub shown : shown_at (history_of s) t ≡ Some (shown_of s.records e)
   pub signed : find (λ (f : Entry). f.body.t == t) s.chain ≡ Some entry
 

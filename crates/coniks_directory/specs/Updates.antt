@@ -1,12 +1,12 @@
 -- Updates that were prepared, and what an install of one leaves.
-use Rattle.std.specs.Prelude.{◌≡◌, ◌≢◌, ◌<◌, ◌≤◌, ℕ, List, [], ◌++◌, length}
+use Rattle.std.specs.Prelude.{◌≡◌, ◌≢◌, ◌<◌, ◌≤◌, ℕ, List, [], ◌++◌, length, Option}
 use Rattle.coniks_proof.specs.Batches.{Operation, after}
 use Rattle.coniks_proof.specs.Registry.{Registry}
 use Rattle.coniks_tree.specs.Table.{Numbered, Extends}
 use Rattle.coniks_tree.specs.Parts.{Stands, Fits, Placed}
 use Rattle.coniks_tree.specs.declared.table.Record.{Record}
 use Rattle.coniks_directory.specs.Batches.{IsAccepted, IsBatchFault}
-use Rattle.coniks_directory.specs.History.{Shown, latest_epoch, latest_nonce, latest_registry}
+use Rattle.coniks_directory.specs.History.{Shown, latest_epoch, latest_nonce, latest_registry, latest_version, nonce_after, version_after}
 use Rattle.coniks_directory.specs.State.{State, Mirrors, history_of, last_count, registry_at}
 use Rattle.coniks_directory.specs.declared.epochs.Epoch.{Epoch}
 use Rattle.coniks_directory.specs.declared.update.Prepared.{Prepared}
@@ -39,17 +39,22 @@ shown_after s p t = record { t = t; version = p.version; nonce = p.nonce.0; regi
 abbrev pub shown_next : State → List Operation → ℕ → Shown
 shown_next s ops t = record {
   t = t;
-  version = 1;
+  version = latest_version 1 (history_of s);
   nonce = latest_nonce s.nonce (history_of s);
   registry = after (latest_registry (history_of s)) ops;
 }
+
+-- the update brings this nonce and version 2, or it keeps the latest nonce and version
+pub record Brings (s : State) (brought : Option (List ℕ)) (p : Prepared) : Type 0 where
+  pub version : p.version ≡ version_after brought (latest_version 1 (history_of s))
+  pub nonce : p.nonce.0 ≡ nonce_after brought (latest_nonce s.nonce (history_of s))
 
 -- the update was prepared from a directory in this state
 pub record IsUpdate (hash of : List ℕ → List ℕ) (s : State) (p : Prepared) : Type 0 where
   pub base : p.base ≡ length s.epochs
   pub counted : last_count s.epochs ≡ length s.records
-  pub version : p.version ≡ 1
-  pub nonce : p.nonce.0 ≡ latest_nonce s.nonce (history_of s)
+  pub brought : Option (List ℕ)
+  pub brings : Brings s brought p
   pub fits : Fits (length s.nodes) 0 p.part
   pub placed : Placed (records_after s p) p.part
   pub entries : List Numbered

@@ -1,6 +1,11 @@
 //! Operations on the registry, and why a batch of them isn't accepted.
 
-use coniks_proof::{Bytes, Opening};
+ghost use Rattle.std.specs.Prelude.{◌≤◌, List, ℕ, IfErr, OnOk, length};
+ghost use Rattle.coniks_proof.specs.Registry.{Registry};
+ghost use Rattle.coniks_directory.specs.Batches.{AreWorkers, IsBatchFault, operations};
+
+use coniks_proof::{Bytes, MAX_OPERATIONS, Opening};
+use coniks_work::{MAX_DEPTH, MAX_WORKERS};
 use thiserror::Error;
 
 /// Whether an operation registers a new name or changes the key of one that is there.
@@ -54,4 +59,23 @@ pub enum BatchFault {
     At { position: usize, fault: OpFault },
     #[error("out of memory")]
     OutOfMemory,
+}
+
+/// Whether workers, depth and the batch's length are within their limits.
+pub(crate) fn within_limits(ops: &[Op], depth: usize, workers: usize) -> Result<(), BatchFault>
+    ensures workers { OnOk result (AreWorkers workers) }
+    ensures depth { OnOk result (depth ≤ MAX_DEPTH) }
+    ensures few { OnOk result (length ops.now ≤ MAX_OPERATIONS) }
+    ensures refused { IfErr result (λ fault. (of : List ℕ → List ℕ) (registry : Registry) → IsBatchFault of registry (operations ops.now) depth workers fault) }
+{
+    if workers == 0 || workers > MAX_WORKERS {
+        return Err(BatchFault::Workers);
+    }
+    if depth > MAX_DEPTH {
+        return Err(BatchFault::Depth);
+    }
+    if ops.len() > MAX_OPERATIONS {
+        return Err(BatchFault::BatchTooLong);
+    }
+    Ok(())
 }

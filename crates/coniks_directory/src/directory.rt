@@ -1,13 +1,13 @@
 //! The directory.
 
-ghost use Rattle.std.specs.Prelude.{◌≡◌, ◌<◌, ◌≤◌, ◌+◌, ◌-◌, ◌^◌, ◌++◌, ◌∷◌, [], List, ℕ, Some, IfErr, IfOk, OnErr, OnOk, length, option_map, true};
+ghost use Rattle.std.specs.Prelude.{◌≡◌, ◌<◌, ◌≤◌, ◌+◌, ◌-◌, ◌^◌, ◌++◌, ◌∷◌, [], List, ℕ, None, Some, IfErr, IfOk, OnErr, OnOk, length, option_map, true};
 ghost use Rattle.coniks_chain.specs.Entries.{body_bytes};
 ghost use Rattle.coniks_proof.specs.Batches.{after};
-ghost use Rattle.coniks_directory.specs.Batches.{most_nodes, operations};
-ghost use Rattle.coniks_directory.specs.Directories.{Accepts, Finds, HasGoodChain, HasItsChain, HasPrepared, IsAlike, Misses, Prepares, Refuses, Shows, entry, heads, history, registry, root};
-ghost use Rattle.coniks_directory.specs.History.{AllHaveOwnIndices, AllUnder, AreRising, numbers_of};
+ghost use Rattle.coniks_directory.specs.Batches.{most_anew, most_nodes, operations};
+ghost use Rattle.coniks_directory.specs.Directories.{Accepts, Finds, HasGoodChain, HasItsChain, HasPrepared, IsAlike, Misses, Prepares, Refuses, Renews, Shows, entry, heads, history, registry, root};
+ghost use Rattle.coniks_directory.specs.History.{AllHaveOwnIndices, AreRising, AreUnder, numbers_of};
 
-use crate::batch::{BatchFault, Op};
+use crate::batch::{BatchFault, Op, within_limits};
 use crate::held::Held;
 use crate::install::{enter, head_of, last_link, may_install, put_head, signed};
 use crate::lengths::is_length;
@@ -16,9 +16,9 @@ use crate::preparing::update_on;
 use crate::source::IndexSource;
 use crate::update::{CommitFault, InstallFault, Prepared};
 use coniks_chain::{Entry, Sign};
-use coniks_proof::{Digest, Hash32, MAX_NAME, MAX_OPERATIONS, Nonce, Proof};
+use coniks_proof::{Digest, Hash32, MAX_NAME, Nonce, Proof};
 use coniks_shared::{Board, Publisher};
-use coniks_work::{Gate, MAX_DEPTH, MAX_WORKERS};
+use coniks_work::Gate;
 use std::alloc::Global;
 use std::marker::Model;
 use std::thread::Threads;
@@ -47,8 +47,8 @@ impl<H: Hash32, X: IndexSource> Model for Directory<H, X> {
 impl<H: Hash32, X: IndexSource> Directory<H, X> {
     ghost use Rattle.coniks_directory.specs.State.{opened};
 
-    /// A directory with no epochs and no names, whose trees are hashed under this nonce and whose entries name this
-    /// policy. It takes no memory.
+    /// A directory with no epochs and no names, whose trees are hashed under this nonce until an update brings another,
+    /// and whose entries name this policy. It takes no memory.
     pub fn open(alloc: Global, h: H, source: X, nonce: Nonce, policy: [u8; 32]) -> Self
         ensures { result ≡ record { hash = h; index = source; state = opened nonce.0 policy } }
     {
@@ -72,7 +72,7 @@ impl<H: Hash32, X: IndexSource> Directory<H, X> {
         ensures value { result.now ≡ self.now.state.chain }
         ensures of_history { HasItsChain H.digest_of X.index_of self.now }
         ensures rising { AreRising 0 (numbers_of (history self.now)) }
-        ensures under { AllUnder self.now.state.nonce (history self.now) }
+        ensures under { AreUnder 1 self.now.state.nonce (history self.now) }
         ensures names { AllHaveOwnIndices (X.index_of self.now.index) (history self.now) }
     {
         &self.held.chain
@@ -196,6 +196,7 @@ impl<H: Hash32 + Sync, X: IndexSource> Directory<H, X> {
     ///
     /// `workers` is 1 to 64, and `depth`, the length in bits of the prefixes that are built apart, 0 to 8. The update is
     /// the same for every choice of them. After a refusal nothing is left of the batch, and the same call can be made again.
+    /// The epoch keeps the latest one's nonce and the version of its entry; the first has the nonce of `open` and version 1.
     pub fn prepare<G: Gate + Sync, R: Threads + Sync>(
         &self,
         rt: &R,
@@ -205,27 +206,57 @@ impl<H: Hash32 + Sync, X: IndexSource> Directory<H, X> {
         gate: &G,
     ) -> Result<Prepared, BatchFault>
         ensures update { IfOk result (Prepares H.digest_of X.index_of self.now) }
+        ensures keeps { IfOk result (Renews self.now None) }
         ensures registry { IfOk result (λ p. registry_after self.now.state p ≡ after (registry self.now) (operations ops.now)) }
         ensures few { IfOk result (λ p. nodes_added p ≤ most_nodes (history self.now) (length ops.now)) }
         ensures none { IfOk result (λ p. length ops.now ≡ 0 → nodes_added p ≡ most_nodes (history self.now) 0) }
         ensures accepted { OnOk result (Accepts X.index_of self.now (operations ops.now) depth workers) }
         ensures refused { IfErr result (Refuses X.index_of self.now (operations ops.now) depth workers) }
     {
-        if workers == 0 || workers > MAX_WORKERS {
-            return Err(BatchFault::Workers);
-        }
-        if depth > MAX_DEPTH {
-            return Err(BatchFault::Depth);
-        }
-        if ops.len() > MAX_OPERATIONS {
-            return Err(BatchFault::BatchTooLong);
-        }
+        within_limits(ops, depth, workers)?;
         Ok(update_on(
             rt,
             self.alloc,
             &self.h,
             &self.source,
             &self.held,
+            None,
+            ops,
+            depth,
+            workers,
+            gate,
+        )?)
+    }
+
+    /// What `prepare` makes, under a nonce that the update brings: every node of the epoch's tree is made anew under it, by
+    /// the same workers, and nothing is shared with the epochs before, also where the nonce is the latest one's. Commitments
+    /// don't name the nonce and are kept. The epoch's entry and all later ones are of version 2.
+    ///
+    /// Judged as `prepare` judges: with the same limits and faults in the same order.
+    pub fn prepare_with<G: Gate + Sync, R: Threads + Sync>(
+        &self,
+        rt: &R,
+        nonce: Nonce,
+        ops: &[Op],
+        depth: usize,
+        workers: usize,
+        gate: &G,
+    ) -> Result<Prepared, BatchFault>
+        ensures update { IfOk result (Prepares H.digest_of X.index_of self.now) }
+        ensures renews { IfOk result (Renews self.now (Some nonce.0)) }
+        ensures registry { IfOk result (λ p. registry_after self.now.state p ≡ after (registry self.now) (operations ops.now)) }
+        ensures few { IfOk result (λ p. nodes_added p ≤ most_anew (after (registry self.now) (operations ops.now))) }
+        ensures accepted { OnOk result (Accepts X.index_of self.now (operations ops.now) depth workers) }
+        ensures refused { IfErr result (Refuses X.index_of self.now (operations ops.now) depth workers) }
+    {
+        within_limits(ops, depth, workers)?;
+        Ok(update_on(
+            rt,
+            self.alloc,
+            &self.h,
+            &self.source,
+            &self.held,
+            Some(nonce),
             ops,
             depth,
             workers,

@@ -1,7 +1,7 @@
 //! What a directory holds.
 
 ghost use Rattle.std.specs.Prelude.{◌≡◌, ◌-◌, List, ℕ, [], length, slice_get};
-ghost use Rattle.coniks_directory.specs.History.{latest_epoch, latest_nonce};
+ghost use Rattle.coniks_directory.specs.History.{latest_epoch, latest_nonce, latest_version};
 ghost use Rattle.coniks_directory.specs.Holders.{IsLatestRoot};
 
 use crate::epochs::Epoch;
@@ -68,7 +68,17 @@ impl Held {
         }
     }
 
-    /// The nonce under which the next tree is hashed: that of the latest epoch, or of `open` where there is none.
+    /// The version of the latest epoch's entry, or 1 where there is none.
+    pub(crate) fn latest_version(&self) -> u8
+        ensures { result ≡ latest_version 1 (history_of (state_of self.now)) }
+    {
+        match self.last() {
+            Some(epoch) => epoch.version,
+            None => 1,
+        }
+    }
+
+    /// The nonce under which the latest tree is hashed, or that of `open` where there is none.
     pub(crate) fn latest_nonce(&self) -> Nonce
         ensures { result.0 ≡ latest_nonce (state_of self.now).nonce (history_of (state_of self.now)) }
     {

@@ -3,7 +3,8 @@
 //!
 //! A batch of operations is judged and its epoch's tree is built by `prepare`, with several workers, while the directory
 //! is only read. `install` puts the update in: all growth comes before the signature, and after it nothing can fail. Each
-//! epoch stays: `lookup`, `root_at` and `chain` answer from the epoch asked.
+//! epoch stays: `lookup`, `root_at` and `chain` answer from the epoch asked. An epoch may bring a new nonce, under which
+//! every node is made anew, by `prepare_with`.
 //!
 //! Hash, source of indices and signer are the user's own, and the publisher is that of a board (`coniks_shared`):
 //!
@@ -39,6 +40,7 @@ mod changes;
 pub mod directory;
 mod drafts;
 pub mod epochs;
+mod growth;
 mod held;
 mod install;
 mod judge;

@@ -1,5 +1,5 @@
 -- Steps of a run, from what calls say of them.
-use Rattle.std.proofs.Common.{◌≡◌, ℕ, List, [], ◌∷◌, ◌++◌, length, OnOk, Ok, Err, Result, subst, sym}
+use Rattle.std.proofs.Common.{◌≡◌, ℕ, List, [], ◌∷◌, ◌++◌, length, OnOk, Ok, Err, Result, Option, None, refl, subst, sym}
 use Rattle.coniks_proof.specs.Batches.{Operation}
 use Rattle.coniks_directory.specs.Batches.{IsAccepted}
 use Rattle.coniks_directory.specs.Directories.{IsAlike}
@@ -20,21 +20,22 @@ moved {H} {X} digest index h h' x x' nonce policy batches s same_hash same_index
 pub install_step : {H X A E : Type 0} (digest : H → List ℕ → List ℕ) (index : X → List ℕ → List ℕ) (result : Result A E) (v v' : View H X) (update : Prepared) (t published capacity : ℕ)
     → OnOk result (history_of v'.state ≡ history_of v.state ++ shown_after v.state update t ∷ []) → OnOk result (MayInstall v.state (base_of update) t published capacity)
     → IsAlike v' v → Grows v.state v'.state
-    → OnOk result ((nonce policy : List ℕ) (batches : List Batch) (earlier : State) (ops : List Operation) (depth workers : ℕ) → Run (digest v.hash) (index v.index) nonce policy batches v.state
-    → IsPreparedOf (digest v.hash) (index v.index) earlier ops depth workers update → Grows earlier v.state
-    → Run (digest v'.hash) (index v'.index) nonce policy (batches ++ record { t = t; ops = ops } ∷ []) v'.state)
+    → OnOk result ((nonce policy : List ℕ) (batches : List Batch) (earlier : State) (brought : Option (List ℕ)) (ops : List Operation) (depth workers : ℕ)
+    → Run (digest v.hash) (index v.index) nonce policy batches v.state
+    → IsPreparedOf (digest v.hash) (index v.index) earlier brought ops depth workers update → Grows earlier v.state
+    → Run (digest v'.hash) (index v'.index) nonce policy (batches ++ record { t = t; brought = brought; ops = ops } ∷ []) v'.state)
 install_step digest index (Err e) v v' update t published capacity history may same grows = history
-install_step digest index (Ok a) v v' update t published capacity history may same grows = λ nonce policy batches earlier ops depth workers run prepared since.
-    moved digest index v.hash v'.hash v.index v'.index nonce policy (batches ++ record { t = t; ops = ops } ∷ []) v'.state same.hash same.index
-    (installed batches (record { t = t; ops = ops }) earlier v.state v'.state update depth workers published capacity run prepared since may history grows)
+install_step digest index (Ok a) v v' update t published capacity history may same grows = λ nonce policy batches earlier brought ops depth workers run prepared since.
+    moved digest index v.hash v'.hash v.index v'.index nonce policy (batches ++ record { t = t; brought = brought; ops = ops } ∷ []) v'.state same.hash same.index
+    (installed batches (record { t = t; brought = brought; ops = ops }) earlier v.state v'.state update depth workers published capacity run prepared since may history grows)
 
 -- a `commit`
 pub commit_step : {H X A E : Type 0} (digest : H → List ℕ → List ℕ) (index : X → List ℕ → List ℕ) (result : Result A E) (v v' : View H X) (ops : List Operation) (depth workers t published capacity : ℕ)
     → OnOk result (history_of v'.state ≡ history_of v.state ++ shown_next v.state ops t ∷ []) → OnOk result (IsAccepted (index v.index) (latest_registry (history_of v.state)) ops depth workers)
     → OnOk result (MayInstall v.state (length v.state.epochs) t published capacity) → IsAlike v' v → Grows v.state v'.state
     → OnOk result ((nonce policy : List ℕ) (batches : List Batch) → Run (digest v.hash) (index v.index) nonce policy batches v.state
-    → Run (digest v'.hash) (index v'.index) nonce policy (batches ++ record { t = t; ops = ops } ∷ []) v'.state)
+    → Run (digest v'.hash) (index v'.index) nonce policy (batches ++ record { t = t; brought = None; ops = ops } ∷ []) v'.state)
 commit_step digest index (Err e) v v' ops depth workers t published capacity history accepted may same grows = history
 commit_step digest index (Ok a) v v' ops depth workers t published capacity history accepted may same grows = λ nonce policy batches run.
-    moved digest index v.hash v'.hash v.index v'.index nonce policy (batches ++ record { t = t; ops = ops } ∷ []) v'.state same.hash same.index
-    (committed batches (record { t = t; ops = ops }) v.state v'.state depth workers published capacity run accepted may history grows)
+    moved digest index v.hash v'.hash v.index v'.index nonce policy (batches ++ record { t = t; brought = None; ops = ops } ∷ []) v'.state same.hash same.index
+    (committed batches (record { t = t; brought = None; ops = ops }) v.state v'.state depth workers published capacity run refl accepted may history grows)

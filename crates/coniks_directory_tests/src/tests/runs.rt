@@ -1,6 +1,6 @@
 //! Calls on a directory as steps of a run, each from its public clauses alone, and what the directory theorem says of them.
 
-ghost use Rattle.std.specs.Prelude.{◌≡◌, ◌<◌, ◌-◌, ◌^◌, ◌++◌, [], ◌∷◌, ℕ, List, IfOk, OnOk, option_map};
+ghost use Rattle.std.specs.Prelude.{◌≡◌, ◌<◌, ◌-◌, ◌^◌, ◌++◌, [], ◌∷◌, ℕ, List, Option, None, Some, IfOk, OnOk, option_map};
 ghost use Rattle.coniks_directory.specs.Batches.{operations};
 ghost use Rattle.coniks_directory.specs.Chain.{heads_of};
 ghost use Rattle.coniks_directory.specs.History.{root_at, shown_at};
@@ -18,7 +18,7 @@ use coniks_directory::laws::{directory_theorem, updates_stay};
 use coniks_directory::{
     BatchFault, CommitFault, Directory, IndexSource, InstallFault, LookupFault, Op, Prepared,
 };
-use coniks_proof::{Digest, Hash32, Proof, Sha256Hash};
+use coniks_proof::{Digest, Hash32, Nonce, Proof, Sha256Hash};
 use coniks_shared::{Board, Publisher};
 use coniks_work::Open;
 use std::process::Abort;
@@ -30,9 +30,21 @@ fn prepare_next<H: Hash32 + Sync, X: IndexSource, R: Threads + Sync>(
     directory: &Directory<H, X>,
     ops: &[Op],
 ) -> Result<Prepared, BatchFault>
-    ensures { IfOk result (IsPreparedOf (H.digest_of directory.now.hash) (X.index_of directory.now.index) directory.now.state (operations ops.now) 1 2) }
+    ensures { IfOk result (IsPreparedOf (H.digest_of directory.now.hash) (X.index_of directory.now.index) directory.now.state None (operations ops.now) 1 2) }
 {
     directory.prepare(rt, ops, 1, 2, &Open)
+}
+
+/// `prepare_with`, whose update any run may install later, under its nonce.
+fn prepare_renewed<H: Hash32 + Sync, X: IndexSource, R: Threads + Sync>(
+    rt: &R,
+    directory: &Directory<H, X>,
+    nonce: Nonce,
+    ops: &[Op],
+) -> Result<Prepared, BatchFault>
+    ensures { IfOk result (IsPreparedOf (H.digest_of directory.now.hash) (X.index_of directory.now.index) directory.now.state (Some nonce.0) (operations ops.now) 1 2) }
+{
+    directory.prepare_with(rt, nonce, ops, 1, 2, &Open)
 }
 
 /// `install`, which makes a run one batch longer, whatever was called since the update was prepared.
@@ -49,10 +61,10 @@ fn install_next<H: Hash32, X: IndexSource, S: Sign>(
     requires refused { S.refused_of signer.old < 2 ^ 64 - 1 }
     requires table { publisher.old.table ≡ board.now.table }
     requires published { publisher.old.heads ≡ heads_of (H.digest_of directory.old.hash) directory.old.state.chain }
-    ensures run { OnOk result ((nonce policy : List ℕ) (batches : List Batch) (earlier : State) (ops : List Operation) (depth workers : ℕ)
+    ensures run { OnOk result ((nonce policy : List ℕ) (batches : List Batch) (earlier : State) (brought : Option (List ℕ)) (ops : List Operation) (depth workers : ℕ)
         → Run (H.digest_of directory.old.hash) (X.index_of directory.old.index) nonce policy batches directory.old.state
-        → IsPreparedOf (H.digest_of directory.old.hash) (X.index_of directory.old.index) earlier ops depth workers update → Grows earlier directory.old.state
-        → Run (H.digest_of directory.new.hash) (X.index_of directory.new.index) nonce policy (batches ++ record { t = t; ops = ops } ∷ []) directory.new.state) }
+        → IsPreparedOf (H.digest_of directory.old.hash) (X.index_of directory.old.index) earlier brought ops depth workers update → Grows earlier directory.old.state
+        → Run (H.digest_of directory.new.hash) (X.index_of directory.new.index) nonce policy (batches ++ record { t = t; brought = brought; ops = ops } ∷ []) directory.new.state) }
     ensures heads { publisher.new.heads ≡ heads_of (H.digest_of directory.new.hash) directory.new.state.chain }
     ensures table { publisher.new.table ≡ publisher.old.table }
 {
@@ -75,7 +87,7 @@ fn commit_next<H: Hash32 + Sync, X: IndexSource, S: Sign, R: Threads + Sync>(
     requires published { publisher.old.heads ≡ heads_of (H.digest_of directory.old.hash) directory.old.state.chain }
     ensures run { OnOk result ((nonce policy : List ℕ) (batches : List Batch)
         → Run (H.digest_of directory.old.hash) (X.index_of directory.old.index) nonce policy batches directory.old.state
-        → Run (H.digest_of directory.new.hash) (X.index_of directory.new.index) nonce policy (batches ++ record { t = t; ops = operations ops.now } ∷ []) directory.new.state) }
+        → Run (H.digest_of directory.new.hash) (X.index_of directory.new.index) nonce policy (batches ++ record { t = t; brought = None; ops = operations ops.now } ∷ []) directory.new.state) }
     ensures heads { publisher.new.heads ≡ heads_of (H.digest_of directory.new.hash) directory.new.state.chain }
     ensures table { publisher.new.table ≡ publisher.old.table }
 {
@@ -146,19 +158,40 @@ fn change_one<R: Threads + Sync + Abort>(rt: &R, clerk: &mut Clerk<Sha256Hash>) 
     assert!(rt; installed.is_ok());
 }
 
-/// Commits a batch, prepares one after it and installs it, and asks for roots and a path.
+/// Renews the nonce at epoch 5.
+fn renew<R: Threads + Sync + Abort>(rt: &R, clerk: &mut Clerk<Sha256Hash>) {
+    updates_stay();
+    let update = prepare_renewed(rt, &clerk.directory, Nonce([0x44; 32]), &[])
+        .ok()
+        .expect(rt, "an update");
+    assert!(rt; clerk.may_sign());
+    let installed = install_next(
+        &mut clerk.directory,
+        update,
+        5,
+        &mut clerk.signer,
+        &mut clerk.publisher,
+        clerk.board,
+    );
+    assert!(rt; installed.is_ok());
+}
+
+/// Commits a batch, prepares one after it and installs it, renews the nonce, and asks for roots and a path.
 fn run_and_ask<R: Threads + Sync + Abort>(rt: &R, clerk: &mut Clerk<Sha256Hash>) {
     register_three(rt, clerk);
     change_one(rt, clerk);
+    renew(rt, clerk);
     let three = "9f0f0e3455b88ce5747710c5195756230f5f5a6810b4f76899e2d7d1293fd6ac";
     assert!(rt; root_of(&clerk.directory, 3) == Some(digest(rt, three)));
     let changed = "3561a57a963e7a5b825887fc338f85e89b699fc6361bcb0f383fa49ae4b04042";
     assert!(rt; root_of(&clerk.directory, 4) == Some(digest(rt, changed)));
+    let renewed = "cb7706ab8b0971df8477b71cdcbbb3c780e9f4247df8ba2c3dbca124ab3a7120";
+    assert!(rt; root_of(&clerk.directory, 5) == Some(digest(rt, renewed)));
     let path = path_of(&clerk.directory, 4, b"b").ok().expect(rt, "a path");
     assert!(rt; path.siblings.as_slice().len() == 1);
 }
 
-/// Calls that make a run of two batches, with roots that were computed by another program.
+/// Calls that make a run of three batches, with roots that were computed by another program.
 #[test]
 fn steps_of_a_run(rt: HostRuntime) {
     with_clerk(&rt, rt.alloc(), 4, u64::MAX, |clerk| {

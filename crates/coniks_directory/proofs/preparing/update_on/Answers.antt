@@ -1,8 +1,8 @@
-use Rattle.std.proofs.Common.{◌≡◌, Err, ap, arith, map, rules, ◌∙◌}
-use Rattle.coniks_directory.proofs.Words.{IsBuilt, Nonce, bound_by, history_of, latest_registry, length-map, operation_of}
-use Rattle.coniks_directory.proofs.Words.{operations, state_of}
+use Rattle.std.proofs.Common.{◌≡◌, Err, ap, map, refl, rules, sym, ◌∙◌}
+use Rattle.coniks_directory.proofs.Words.{Brings, IsBuilt, Nonce, bound_by, history_of, latest_nonce, latest_registry}
+use Rattle.coniks_directory.proofs.Words.{operations, option_map, state_of}
 use Rattle.coniks_directory.proofs.OrderLemmas.{numbers_within}
-use Rattle.coniks_directory.proofs.PrepareLemmas.{update_by}
+use Rattle.coniks_directory.proofs.PrepareLemmas.{is_some-map, latest_kept, update_by}
 use Rattle.coniks_directory.proofs.preparing.update_on.Goals.{In-Ok}
 use Rattle.coniks_directory.proofs.preparing.update_on.Given as given
 use Rattle.coniks_directory.proofs.preparing.update_on.Goals as goal
@@ -15,7 +15,7 @@ returns-in_err-drafts-clause-fault g c =
     let of = g.X.IndexSource.index_of c.args.source.now in
     let registry = latest_registry (history_of (state_of c.args.held.now)) in
     let is : c.from_residual.result ≡ Err c.in_err-drafts.field-0.0 = search rules in
-    rw is (c.in_err-drafts.ensures.fault _ registry ((c.latest_root-root.ensures (g.H.Hash32.digest_of c.args.h.now) of c.requires.whole).shows _ c.latest_nonce-nonce.ensures))
+    rw is (c.in_err-drafts.ensures.fault _ registry ((c.latest_root-root.ensures (g.H.Hash32.digest_of c.args.h.now) of c.requires.whole).shows _ refl))
 
 pub part_of-requires-clause-root : goal.part_of-requires-clause-root
 part_of-requires-clause-root g c κs within = (c.latest_root-root.ensures (g.H.Hash32.digest_of c.args.h.now) (g.X.IndexSource.index_of c.args.source.now) c.requires.whole).known
@@ -27,29 +27,35 @@ part_of-requires-clause-numbered g c κs within =
     (map bound_by (operations c.args.ops.now)) drafts.records.items drafts.numbers c.in_ok-drafts.ensures.drafts
 
 -- the part is that of the batch on the latest registry
-built_in : (g : given.Over) (c : In-Ok g) → (let s = state_of c.args.held.now in IsBuilt (g.H.Hash32.digest_of c.args.h.now) (g.X.IndexSource.index_of c.args.source.now) c.latest_nonce-nonce.result.0
-    s.nodes s.records c.latest_root-root.result (latest_registry (history_of s)) (operations c.args.ops.now) c.in-Ok.part c.in_ok-drafts.drafts.records.items)
+built_in : (g : given.Over) (c : In-Ok g) → (let s = state_of c.args.held.now in IsBuilt (g.H.Hash32.digest_of c.args.h.now) (g.X.IndexSource.index_of c.args.source.now) c.nonce_after-nonce.result.0
+    s.nodes s.records c.latest_root-root.result (latest_registry (history_of s)) (operations c.args.ops.now) c.is_some.result c.in-Ok.part c.in_ok-drafts.drafts.records.items)
 built_in g c =
     let of = g.X.IndexSource.index_of c.args.source.now in
-    let registry = latest_registry (history_of (state_of c.args.held.now)) in
-    let shown = (c.latest_root-root.ensures (g.H.Hash32.digest_of c.args.h.now) of c.requires.whole).shows _ c.latest_nonce-nonce.ensures in
-    c.in-Ok.ensures of registry (operations c.args.ops.now) shown c.in_ok-drafts.ensures.drafts (c.in_ok-drafts.ensures.faultless _ registry shown)
+    let s = state_of c.args.held.now in
+    let registry = latest_registry (history_of s) in
+    let shown = (c.latest_root-root.ensures (g.H.Hash32.digest_of c.args.h.now) of c.requires.whole).shows _ refl in
+    let under = latest_kept c.args.brought c.is_some.result c.nonce_after-nonce.result.0 (latest_nonce s.nonce (history_of s)) c.is_some.ensures
+    (rw c.latest_nonce.ensures at c.nonce_after-nonce.ensures) in
+    c.in-Ok.ensures of _ registry (operations c.args.ops.now) under shown c.in_ok-drafts.ensures.drafts (c.in_ok-drafts.ensures.faultless _ registry shown)
 
-pub update_of-requires-clause-fits : goal.update_of-requires-clause-fits
-update_of-requires-clause-fits g c = (built_in g c).fits
+pub update_of-requires : goal.update_of-requires
+update_of-requires g c = record { fits = (built_in g c).fits }
 
-pub update_of-requires-clause-few : goal.update_of-requires-clause-few
-update_of-requires-clause-few g c = let few = (built_in g c).few in let count = c.requires.few in omega (arith, length-map c.args.ops.now operation_of)
-
-pub returns-in-Ok-clause-update : goal.returns-in-Ok-clause-update
-returns-in-Ok-clause-update g c =
+pub returns-in-Ok-update_of-clause-update : goal.returns-in-Ok-update_of-clause-update
+returns-in-Ok-update_of-clause-update g c =
     let hash = g.H.Hash32.digest_of c.args.h.now in
     let of = g.X.IndexSource.index_of c.args.source.now in
-    let e = c.update_of.ensures in
-    update_by hash of (state_of c.args.held.now) c.requires.whole c.update_of.result c.args.ops.now c.latest_root-root.result (c.latest_root-root.ensures hash of c.requires.whole)
-    e.base e.version (ap (λ (n : Nonce). n.0) e.nonce ∙ c.latest_nonce-nonce.ensures) (rw (e.nonce, e.part, e.records) (built_in g (goal.at.returns-in-Ok-clause-update g c).In-Ok))
+    let s = state_of c.args.held.now in
+    let e = c.in-Ok-update_of.ensures in
+    let brings : Brings s (option_map (λ (n : Nonce). n.0) c.args.brought) c.in-Ok-update_of.update = record {
+      version = e.version ∙ rw c.latest_version.ensures at c.version_after-version.ensures;
+      nonce = ap (λ (n : Nonce). n.0) e.nonce ∙ rw c.latest_nonce.ensures at c.nonce_after-nonce.ensures;
+    } in
+    update_by hash of s c.requires.whole c.in-Ok-update_of.update c.args.ops.now c.latest_root-root.result (c.latest_root-root.ensures hash of c.requires.whole)
+    (option_map (λ (n : Nonce). n.0) c.args.brought) c.is_some.result (c.is_some.ensures ∙ sym (is_some-map (λ (n : Nonce). n.0) c.args.brought)) e.base brings
+    (rw (e.nonce, e.part, e.records) (built_in g (goal.at.returns-in-Ok-update_of-clause-update g c).In-Ok))
 
-pub returns-in-Ok-clause-faultless : goal.returns-in-Ok-clause-faultless
-returns-in-Ok-clause-faultless g c =
+pub returns-in-Ok-update_of-clause-faultless : goal.returns-in-Ok-update_of-clause-faultless
+returns-in-Ok-update_of-clause-faultless g c =
     c.in_ok-drafts.ensures.faultless _ (latest_registry (history_of (state_of c.args.held.now)))
-    ((c.latest_root-root.ensures (g.H.Hash32.digest_of c.args.h.now) (g.X.IndexSource.index_of c.args.source.now) c.requires.whole).shows _ c.latest_nonce-nonce.ensures)
+    ((c.latest_root-root.ensures (g.H.Hash32.digest_of c.args.h.now) (g.X.IndexSource.index_of c.args.source.now) c.requires.whole).shows _ refl)
