@@ -1,20 +1,30 @@
 -- The first fault of an entry.
-use Rattle.std.proofs.Common.{◌≡◌, ℕ, zero, suc, List, [], ◌∷◌, take, Bool, true, false, Option, Some, None, refl, sym, ap, subst, ◌∙◌, Decides}
-use Rattle.std.specs.Prelude.{is_some, slice_get, if◌then◌else◌}
+use Rattle.std.proofs.Common.{◌≡◌, ℕ, zero, suc, List, [], ◌∷◌, take, Bool, true, false, ◌≤◌, ◌||◌, not, ⊎_elim, arith, Option, Some, None, refl, sym, ap, subst, ◌∙◌, Decides}
+use Rattle.std.specs.Prelude.{◌==◌, bytes_eq, is_some, nat_lt, slice_get, if◌then◌else◌}
 use Rattle.std.proofs.lemmas.Option.{same_Some}
-use Rattle.std.proofs.lemmas.Bool.{false≢true, false_from_ne_true}
-use Rattle.std.proofs.lemmas.Bool.Decides.{Decides-eqb, Decides-ltb}
+use Rattle.std.proofs.lemmas.Bool.{cases_lt, false≢true, false_from_ne_true}
+use Rattle.std.proofs.lemmas.Bool.Decides.{Decides-eqb, Decides-like, Decides-ltb, Decides-not, Decides-or}
 use Rattle.std.proofs.lemmas.Slice.Eq.{bytes_eq-Decides}
 use Rattle.coniks_chain.specs.declared.entry.Entry.{Entry}
 use Rattle.coniks_chain.specs.declared.auditor.Before.{Before}
 use Rattle.coniks_chain.specs.declared.auditor.AuditFault.{AuditFault}
-use Rattle.coniks_chain.specs.declared.auditor.AuditFault.TheVariants.{Version, FirstEpoch, NotLater, PreviousEpoch, PreviousLink, NonceChanged, Verdict}
+use Rattle.coniks_chain.specs.declared.auditor.AuditFault.TheVariants.{Version, VersionBack, FirstEpoch, NotLater, PreviousEpoch, PreviousLink, NonceChanged, Verdict}
 use Rattle.coniks_chain.specs.Chain.{Meets, MeetsAll, IsFirstFault, Follows, faults, place_of, epoch_before, link_before}
 use Rattle.coniks_tool.specs.AuditFaults.{meets, first_unmet, audit_fault}
 
+-- one test where another holds
+Decides-implies : {P Q : Type 0} (p q : Bool) → Decides p P → Decides q Q → Decides (not p || q) (P → Q)
+Decides-implies true q d e = (λ on p. e.0 on, λ f. e.1 (f (d.0 refl)))
+Decides-implies false q d e = (λ _ p. absurd (false≢true (d.1 p)), λ _. refl)
+
+no_less : (m n : ℕ) → Decides (not (nat_lt n m)) (m ≤ n)
+no_less m n = Decides-like (not (nat_lt n m)) (λ off. ⊎_elim (λ less. absurd (off less)) (λ most. most) (cases_lt n m)) (λ most less. omega arith) (Decides-not (nat_lt n m) (Decides-ltb n m))
+
 -- the test of a row is the row
 pub decides : (v : List ℕ → List ℕ → Bool) (before : Option Before) (e : Entry) (fault : AuditFault) → Decides (meets v before e fault) (Meets v before e fault)
-decides v before e Version = Decides-eqb e.body.version 1
+decides v before e Version = Decides-or (e.body.version == 1) (e.body.version == 2) (Decides-eqb e.body.version 1) (Decides-eqb e.body.version 2)
+decides v None e VersionBack = (λ _. tt, λ _. refl)
+decides v (Some b) e VersionBack = no_less b.version e.body.version
 decides v None e FirstEpoch = Decides-ltb 0 e.body.t
 decides v (Some b) e FirstEpoch = (λ _. tt, λ _. refl)
 decides v None e NotLater = (λ _. tt, λ _. refl)
@@ -22,7 +32,7 @@ decides v (Some b) e NotLater = Decides-ltb b.t e.body.t
 decides v before e PreviousEpoch = Decides-eqb e.body.t_prev (epoch_before before)
 decides v before e PreviousLink = bytes_eq-Decides e.body.previous.0 (link_before before)
 decides v None e NonceChanged = (λ _. tt, λ _. refl)
-decides v (Some b) e NonceChanged = bytes_eq-Decides e.body.nonce.0 b.nonce.0
+decides v (Some b) e NonceChanged = Decides-implies (e.body.version == 1) (bytes_eq e.body.nonce.0 b.nonce.0) (Decides-eqb e.body.version 1) (bytes_eq-Decides e.body.nonce.0 b.nonce.0)
 decides v before e Verdict = (λ m. m, λ m. m)
 
 -- the fault stands at this place among some, and the ones before it aren't there
@@ -69,6 +79,7 @@ module _ (v : List ℕ → List ℕ → Bool) (before : Option Before) (e : Entr
 -- each fault stands at its place
 at_place : (fault : AuditFault) → slice_get faults (place_of fault) ≡ Some fault
 at_place Version = refl
+at_place VersionBack = refl
 at_place FirstEpoch = refl
 at_place NotLater = refl
 at_place PreviousEpoch = refl
@@ -79,13 +90,14 @@ at_place Verdict = refl
 -- and at no other
 only_place : (place : ℕ) (fault : AuditFault) → slice_get faults place ≡ Some fault → place ≡ place_of fault
 only_place zero fault at = ap place_of (same_Some Version fault at)
-only_place (suc zero) fault at = ap place_of (same_Some FirstEpoch fault at)
-only_place (suc (suc zero)) fault at = ap place_of (same_Some NotLater fault at)
-only_place (suc (suc (suc zero))) fault at = ap place_of (same_Some PreviousEpoch fault at)
-only_place (suc (suc (suc (suc zero)))) fault at = ap place_of (same_Some PreviousLink fault at)
-only_place (suc (suc (suc (suc (suc zero))))) fault at = ap place_of (same_Some NonceChanged fault at)
-only_place (suc (suc (suc (suc (suc (suc zero)))))) fault at = ap place_of (same_Some Verdict fault at)
-only_place (suc (suc (suc (suc (suc (suc (suc place))))))) fault at = absurd (false≢true (ap is_some at))
+only_place (suc zero) fault at = ap place_of (same_Some VersionBack fault at)
+only_place (suc (suc zero)) fault at = ap place_of (same_Some FirstEpoch fault at)
+only_place (suc (suc (suc zero))) fault at = ap place_of (same_Some NotLater fault at)
+only_place (suc (suc (suc (suc zero)))) fault at = ap place_of (same_Some PreviousEpoch fault at)
+only_place (suc (suc (suc (suc (suc zero))))) fault at = ap place_of (same_Some PreviousLink fault at)
+only_place (suc (suc (suc (suc (suc (suc zero)))))) fault at = ap place_of (same_Some NonceChanged fault at)
+only_place (suc (suc (suc (suc (suc (suc (suc zero))))))) fault at = ap place_of (same_Some Verdict fault at)
+only_place (suc (suc (suc (suc (suc (suc (suc (suc place)))))))) fault at = absurd (false≢true (ap is_some at))
 
 -- an entry that follows has no fault
 pub follows-none : (v : List ℕ → List ℕ → Bool) (before : Option Before) (e : Entry) → Follows v before e → audit_fault v before e ≡ None

@@ -3,6 +3,7 @@ mod AuditFaultLemmas
 mod CheckFaultLemmas
 mod CheckLemmas
 mod CommandLemmas
+mod CommitLemmas
 mod FoundLemmas
 mod LimitLemmas
 mod MonitorLemmas

@@ -20,13 +20,14 @@ use Rattle.coniks_tool.specs.CheckFaults.{check_fault}
 use Rattle.coniks_tool.specs.Demo.{demo_index}
 use Rattle.coniks_tool.specs.EntryLines.{entry_in}
 use Rattle.coniks_tool.specs.Expectations.{expected_in}
-use Rattle.coniks_tool.specs.Members.{object_in, text_in, number_in, array_in, digits_in}
+use Rattle.coniks_tool.specs.Members.{object_in, text_in, number_in, array_in, digits_in, if_there}
 use Rattle.coniks_tool.specs.Monitor.{MonitorState, MonitorTurn, audited_turn, checked_turn, expect_turn, is_expect, monitor_object_turn, monitor_turn, watch_turn}
 use Rattle.coniks_tool.specs.MonitorReplies.{expecting, watched}
 use Rattle.coniks_tool.specs.Operations.{operations_in}
 use Rattle.coniks_tool.specs.ProofObjects.{proof_in}
 use Rattle.coniks_tool.specs.Refusals.{Refusal, refusal}
 use Rattle.coniks_tool.specs.Replies.{is_accepted}
+use Rattle.coniks_directory.specs.Runs.{Batch}
 use Rattle.coniks_tool.specs.Script.{Opened, State, Turn, batch_on, batch_read, batch_turn, batch_with, command_turn, object_turn, open_turn, open_with, turn}
 use Rattle.coniks_tool.specs.Seal.{is_seal}
 
@@ -49,28 +50,29 @@ open-keeps s (Some key) None _ off = refl
 open-keeps s (Some key) (Some nonce) None off = refl
 open-keeps s (Some key) (Some nonce) (Some policy) off = open_with-keeps s key nonce policy off
 
-batch_on-keeps : (o : Opened) (epoch : ℕ) (ops : List Operation) (why : Option Refusal) → Keeps (Some o) (batch_on o epoch ops why)
-batch_on-keeps o epoch ops (Some why) off = refl
-batch_on-keeps o epoch ops None off = absurd (false≢true (sym off))
+batch_on-keeps : (o : Opened) (b : Batch) (why : Option Refusal) → Keeps (Some o) (batch_on o b why)
+batch_on-keeps o b (Some why) off = refl
+batch_on-keeps o b None off = absurd (false≢true (sym off))
 
-batch_with-keeps : (s : State) (epoch : ℕ) (ops : List Operation) → Keeps s (batch_with s epoch ops)
-batch_with-keeps None epoch ops off = refl
-batch_with-keeps (Some o) epoch ops off = batch_on-keeps o epoch ops (refusal (demo_index o.key) o.history epoch ops) off
+batch_with-keeps : (s : State) (b : Batch) → Keeps s (batch_with s b)
+batch_with-keeps None b off = refl
+batch_with-keeps (Some o) b off = batch_on-keeps o b (refusal (demo_index o.key) o.history b.t b.ops) off
 
-batch_read-keeps : (s : State) (epoch : ℕ) (read : Result (List Operation) ℕ) → Keeps s (batch_read s epoch read)
-batch_read-keeps s epoch (Err place) off = refl
-batch_read-keeps s epoch (Ok ops) off = batch_with-keeps s epoch ops off
+batch_read-keeps : (s : State) (epoch : ℕ) (brought : Option (List ℕ)) (read : Result (List Operation) ℕ) → Keeps s (batch_read s epoch brought read)
+batch_read-keeps s epoch brought (Err place) off = refl
+batch_read-keeps s epoch brought (Ok ops) off = batch_with-keeps s (record { t = epoch; brought = brought; ops = ops }) off
 
-batch-keeps : (s : State) (epoch : Option ℕ) (items : Option Items) → Keeps s (batch_turn s epoch items)
-batch-keeps s None items off = refl
-batch-keeps s (Some epoch) None off = refl
-batch-keeps s (Some epoch) (Some items) off = batch_read-keeps s epoch (operations_in items) off
+batch-keeps : (s : State) (epoch : Option ℕ) (brought : Option (Option (List ℕ))) (items : Option Items) → Keeps s (batch_turn s epoch brought items)
+batch-keeps s None brought items off = refl
+batch-keeps s (Some epoch) None items off = refl
+batch-keeps s (Some epoch) (Some brought) None off = refl
+batch-keeps s (Some epoch) (Some brought) (Some items) off = batch_read-keeps s epoch brought (operations_in items) off
 
 command-keeps : (s : State) (d : Data) (name : Option (List ℕ)) → Keeps s (command_turn s d name)
 command-keeps s d None = λ off. refl
 command-keeps s d (Some name) =
     if_keeps s (bytes_eq name (codes "open")) _ _ (open-keeps s (digits_in 32 (codes "key") d) (digits_in 32 (codes "nonce") d) (digits_in 32 (codes "policy") d))
-    (if_keeps s (bytes_eq name (codes "batch")) _ _ (batch-keeps s (number_in (codes "epoch") d) (array_in (codes "ops") d))
+    (if_keeps s (bytes_eq name (codes "batch")) _ _ (batch-keeps s (number_in (codes "epoch") d) (if_there (codes "nonce") d (digits_in 32 (codes "nonce") d)) (array_in (codes "ops") d))
     (if_keeps s (bytes_eq name (codes "lookup")) _ _ (λ off. refl) (λ off. refl)))
 
 object-keeps : (s : State) (d : Option Data) → Keeps s (object_turn s d)

@@ -13,11 +13,12 @@ use Rattle.coniks_chain.specs.declared.entry.Entry.{Entry}
 use Rattle.coniks_directory.specs.Batches.{AreWorkers, IsAccepted}
 use Rattle.coniks_directory.specs.Chain.{IsChainOf, head_at, heads_of}
 use Rattle.coniks_directory.specs.History.{Shown, latest_epoch, latest_registry}
+use Rattle.coniks_directory.specs.Runs.{Batch}
 use Rattle.coniks_directory.specs.State.{State, View, history_of}
-use Rattle.coniks_directory.specs.Updates.{Grows, IsCommitFault, MayInstall, commit_refusals, shown_next}
+use Rattle.coniks_directory.specs.Updates.{Grows, IsCommitFault, MayInstall, commit_refusals}
 use Rattle.coniks_directory.specs.declared.batch.BatchFault.TheVariants as batch
 use Rattle.coniks_directory.specs.declared.update.CommitFault.{CommitFault}
-use Rattle.coniks_directory.specs.declared.update.CommitFault.TheVariants.{Batch, Install}
+use Rattle.coniks_directory.specs.declared.update.CommitFault.TheVariants.{Batch as OfBatch, Install}
 use Rattle.coniks_directory.specs.declared.update.InstallFault.TheVariants as install
 use Rattle.coniks_shared.specs.Lists.{last_of}
 use Rattle.coniks_work.specs.declared.jobs.TheConstants.{MAX_DEPTH}
@@ -27,7 +28,7 @@ use Rattle.coniks_tool.specs.Replies.{Outcome, installed, outcome_of}
 use Rattle.coniks_tool.specs.declared.run.reply.Reply.{Reply}
 use Rattle.coniks_tool.specs.Script.{Installs, Opened, State as Held, Turn, batch_on, batch_with, refusal_outcome, refused, shown_next as shown_epoch}
 use Rattle.coniks_tool.specs.Seal.{is_seal}
-use Rattle.coniks_tool.specs.Stores.{opened_by, opened_of, state_of}
+use Rattle.coniks_tool.specs.Stores.{opened_by, opened_of, shown_on, state_of}
 use Rattle.coniks_tool.specs.declared.run.store.Service.{Service}
 use Rattle.coniks_tool.specs.declared.run.store.TheConstants.{BOARD_HEADS}
 use Rattle.coniks_tool.proofs.SealedLemmas.{entry_is}
@@ -45,21 +46,21 @@ accepted_is of history epoch ops depth workers published a later room most same 
 pub refused_is : (of : List ℕ → List ℕ) (s : State) (ops : List Operation) (depth workers epoch published capacity : ℕ) (fault : CommitFault) → AreWorkers workers → depth ≤ MAX_DEPTH
     → published ≡ length (history_of s) → capacity ≡ BOARD_HEADS → 0 ≡ 0 + commit_refusals fault → IsCommitFault of s ops depth workers epoch published capacity fault
     → IsRefusedBy (refusal of (history_of s) epoch ops) fault
-refused_is of s ops depth workers epoch published capacity (Batch batch.Workers) crew shallow long full signed f = none crew f
+refused_is of s ops depth workers epoch published capacity (OfBatch batch.Workers) crew shallow long full signed f = none crew f
   where
     none : {n : ℕ} → AreWorkers n → (n ≡ 0) ⊎ (64 < n) → ⊥
     none crew (inl zero_is) = let least = crew.0 in omega arith
     none crew (inr more) = let most = crew.1 in omega arith
-refused_is of s ops depth workers epoch published capacity (Batch batch.Depth) crew shallow long full signed f = let deep = f.1 in omega arith
-refused_is of s ops depth workers epoch published capacity (Batch batch.BatchTooLong) crew shallow long full signed f =
+refused_is of s ops depth workers epoch published capacity (OfBatch batch.Depth) crew shallow long full signed f = let deep = f.1 in omega arith
+refused_is of s ops depth workers epoch published capacity (OfBatch batch.BatchTooLong) crew shallow long full signed f =
     let many = f.2 in
     let off : nat_le (length ops) MAX_OPERATIONS ≡ false = grind (arith, nat_tests) in
     rw off refl
-refused_is of s ops depth workers epoch published capacity (Batch (batch.At position fault)) crew shallow long full signed f =
+refused_is of s ops depth workers epoch published capacity (OfBatch (batch.At position fault)) crew shallow long full signed f =
     let few = f.2 in
     let on : nat_le (length ops) MAX_OPERATIONS ≡ true = grind (arith, nat_tests) in
     rw (on, f.3) refl
-refused_is of s ops depth workers epoch published capacity (Batch batch.OutOfMemory) crew shallow long full signed f = tt
+refused_is of s ops depth workers epoch published capacity (OfBatch batch.OutOfMemory) crew shallow long full signed f = tt
 refused_is of s ops depth workers epoch published capacity (Install (install.Stale latest)) crew shallow long full signed f = f.1.1 refl
 refused_is of s ops depth workers epoch published capacity (Install (install.EpochNotLater latest)) crew shallow long full signed f =
     let few = f.0.few in
@@ -80,14 +81,14 @@ refused_is of s ops depth workers epoch published capacity (Install install.OutO
 refused_is of s ops depth workers epoch published capacity (Install install.SignerRefused) crew shallow long full signed f = omega arith
 
 -- a batch that was committed is installed
-pub installs : (key key' : List ℕ) (s t : State) (ops : List Operation) (depth workers epoch published capacity : ℕ) (entry : Entry) (verdict : List ℕ → List ℕ → Bool)
-    → ((bytes signature : List ℕ) → verdict bytes signature ≡ is_seal key bytes signature) → key' ≡ key → Grows s t → history_of t ≡ history_of s ++ shown_next s ops epoch ∷ [] → t.chain ≡ s.chain ++ entry ∷ []
+pub installs : (key key' : List ℕ) (s t : State) (b : Batch) (depth workers published capacity : ℕ) (entry : Entry) (verdict : List ℕ → List ℕ → Bool)
+    → ((bytes signature : List ℕ) → verdict bytes signature ≡ is_seal key bytes signature) → key' ≡ key → Grows s t → history_of t ≡ history_of s ++ shown_on s b ∷ [] → t.chain ≡ s.chain ++ entry ∷ []
     → IsChainOf sha256 (demo_index key') t.policy (history_of t) t.chain → GoodChain sha256 verdict t.chain
-    → IsAccepted (demo_index key) (latest_registry (history_of s)) ops depth workers → MayInstall s (length s.epochs) epoch published capacity
+    → IsAccepted (demo_index key) (latest_registry (history_of s)) b.ops depth workers → MayInstall s (length s.epochs) b.t published capacity
     → published ≡ length (history_of s) → capacity ≡ BOARD_HEADS → published ≤ BOARD_HEADS
-    → Installs (opened_by key s) epoch ops entry (opened_by key' t)
-installs key key' s t ops depth workers epoch published capacity entry verdict own same_key grows history chain is good accepted may long full most =
-    let shown = shown_next s ops epoch in
+    → Installs (opened_by key s) b entry (opened_by key' t)
+installs key key' s t b depth workers published capacity entry verdict own same_key grows history chain is good accepted may long full most =
+    let shown = shown_on s b in
     let is' : IsChainOf sha256 (demo_index key) s.policy (history_of s ++ shown ∷ []) (s.chain ++ entry ∷ []) =
     subst (λ (h : List Shown). IsChainOf sha256 (demo_index key) s.policy h (s.chain ++ entry ∷ [])) history
     (subst (λ (es : List Entry). IsChainOf sha256 (demo_index key) s.policy (history_of t) es) chain
@@ -96,7 +97,7 @@ installs key key' s t ops depth workers epoch published capacity entry verdict o
     let good' : GoodChain sha256 verdict (s.chain ++ entry ∷ []) = subst (λ (es : List Entry). GoodChain sha256 verdict es) chain good in
     let room : published ≢ BOARD_HEADS = subst (λ n. published ≢ n) full may.room in
     record {
-      faultless = accepted_is (demo_index key) (history_of s) epoch ops depth workers published accepted may.later room most long;
+      faultless = accepted_is (demo_index key) (history_of s) b.t b.ops depth workers published accepted may.later room most long;
       entry_is = entry_is key s.policy verdict own (history_of s) shown s.chain entry is' good';
       state_is = same_opened key' key t.nonce s.nonce t.policy s.policy (history_of t) (history_of s ++ shown ∷ []) same_key grows.nonce grows.policy history;
     }
@@ -140,51 +141,51 @@ refused_by {H} {X} {P} of of' v v' p p' ops depth workers epoch published capaci
     refused_is of v.state ops depth workers epoch published capacity fault crew shallow (long ∙ long') full unsigned.1 f
 
 -- a commit's entry, where there is one
-pub installed_by : (key key' : List ℕ) (s t : State) (ops : List Operation) (depth workers epoch published capacity : ℕ) (verdict : List ℕ → List ℕ → Bool) (result : Result Entry CommitFault)
-    → ((bytes signature : List ℕ) → verdict bytes signature ≡ is_seal key bytes signature) → key' ≡ key → Grows s t → OnOk result (history_of t ≡ history_of s ++ shown_next s ops epoch ∷ []) → IfOk result (λ entry. t.chain ≡ s.chain ++ entry ∷ [])
+pub installed_by : (key key' : List ℕ) (s t : State) (b : Batch) (depth workers published capacity : ℕ) (verdict : List ℕ → List ℕ → Bool) (result : Result Entry CommitFault)
+    → ((bytes signature : List ℕ) → verdict bytes signature ≡ is_seal key bytes signature) → key' ≡ key → Grows s t → OnOk result (history_of t ≡ history_of s ++ shown_on s b ∷ []) → IfOk result (λ entry. t.chain ≡ s.chain ++ entry ∷ [])
     → IsChainOf sha256 (demo_index key') t.policy (history_of t) t.chain → GoodChain sha256 verdict t.chain
-    → OnOk result (IsAccepted (demo_index key) (latest_registry (history_of s)) ops depth workers) → OnOk result (MayInstall s (length s.epochs) epoch published capacity)
+    → OnOk result (IsAccepted (demo_index key) (latest_registry (history_of s)) b.ops depth workers) → OnOk result (MayInstall s (length s.epochs) b.t published capacity)
     → published ≡ length s.chain → capacity ≡ BOARD_HEADS → length s.chain ≤ BOARD_HEADS
-    → IfOk result (λ entry. Installs (opened_by key s) epoch ops entry (opened_by key' t))
-installed_by key key' s t ops depth workers epoch published capacity verdict (Err fault) own same_key grows history chain is good accepted may long full most = tt
-installed_by key key' s t ops depth workers epoch published capacity verdict (Ok entry) own same_key grows history chain is good accepted may long full most =
+    → IfOk result (λ entry. Installs (opened_by key s) b entry (opened_by key' t))
+installed_by key key' s t b depth workers published capacity verdict (Err fault) own same_key grows history chain is good accepted may long full most = tt
+installed_by key key' s t b depth workers published capacity verdict (Ok entry) own same_key grows history chain is good accepted may long full most =
     let entries : length t.chain ≡ length s.chain + 1 = ap length chain ∙ length-append s.chain (entry ∷ []) in
-    let epochs : length (history_of t) ≡ length (history_of s) + 1 = ap length history ∙ length-append (history_of s) (shown_next s ops epoch ∷ []) in
+    let epochs : length (history_of t) ≡ length (history_of s) + 1 = ap length history ∙ length-append (history_of s) (shown_on s b ∷ []) in
     let long' : published ≡ length (history_of s) = (let both = is.long in omega arith) in
     let most' : published ≤ BOARD_HEADS = omega arith in
-    installs key key' s t ops depth workers epoch published capacity entry verdict own same_key grows history chain is good accepted may long' full most'
+    installs key key' s t b depth workers published capacity entry verdict own same_key grows history chain is good accepted may long' full most'
 
 -- a refused batch
-pub refused_turn : (o : Opened) (epoch : ℕ) (ops : List Operation) (why : Option Refusal) (outcome : Outcome) → option_map refusal_outcome why ≡ Some outcome → batch_on o epoch ops why ≡ refused (Some o) outcome
-refused_turn o epoch ops None outcome is = absurd (let never = is in cc)
-refused_turn o epoch ops (Some why) outcome is = let same : refusal_outcome why ≡ outcome = cc in ap (refused (Some o)) same
+pub refused_turn : (o : Opened) (b : Batch) (why : Option Refusal) (outcome : Outcome) → option_map refusal_outcome why ≡ Some outcome → batch_on o b why ≡ refused (Some o) outcome
+refused_turn o b None outcome is = absurd (let never = is in cc)
+refused_turn o b (Some why) outcome is = let same : refusal_outcome why ≡ outcome = cc in ap (refused (Some o)) same
 
 -- what comes of a batch that adds this entry
 abbrev pub turn_of : Entry → Opened → Turn
 turn_of entry o = record { outcome = installed entry (sha256 (link_preimage entry)); state = Some o }
 
 -- an installed batch
-pub installed_turn : (o o' : Opened) (epoch : ℕ) (ops : List Operation) (entry : Entry) (v : Held) → v ≡ Some o → Installs o epoch ops entry o' → batch_with v epoch ops ≡ turn_of entry o'
-installed_turn o o' epoch ops entry v same i =
-    ap (λ (s : Held). batch_with s epoch ops) same
-    ∙ ap (batch_on o epoch ops) i.faultless
-    ∙ ap (λ (e : Entry). turn_of e (record o { history = o.history ++ shown_epoch o epoch ops ∷ [] })) (sym i.entry_is)
+pub installed_turn : (o o' : Opened) (b : Batch) (entry : Entry) (v : Held) → v ≡ Some o → Installs o b entry o' → batch_with v b ≡ turn_of entry o'
+installed_turn o o' b entry v same i =
+    ap (λ (s : Held). batch_with s b) same
+    ∙ ap (batch_on o b) i.faultless
+    ∙ ap (λ (e : Entry). turn_of e (record o { history = o.history ++ shown_epoch o b ∷ [] })) (sym i.entry_is)
     ∙ ap (turn_of entry) (sym i.state_is)
 
 -- a refused batch is answered by why
-pub reply_refused : {E : Type 0} (o : Opened) (epoch : ℕ) (ops : List Operation) (v : Held) (result : Result Reply E) → v ≡ Some o
-    → IfOk result (λ reply. option_map refusal_outcome (refusal (demo_index o.key) o.history epoch ops) ≡ Some (outcome_of reply)) → IfOk result (λ reply. outcome_of reply ≡ (batch_with v epoch ops).outcome)
-reply_refused {E} o epoch ops v (Err e) same told = tt
-reply_refused {E} o epoch ops v (Ok reply) same told =
-    sym (ap (λ (s : Held). (batch_with s epoch ops).outcome) same ∙ ap (λ (t : Turn). t.outcome) (refused_turn o epoch ops (refusal (demo_index o.key) o.history epoch ops) (outcome_of reply) told))
+pub reply_refused : {E : Type 0} (o : Opened) (b : Batch) (v : Held) (result : Result Reply E) → v ≡ Some o
+    → IfOk result (λ reply. option_map refusal_outcome (refusal (demo_index o.key) o.history b.t b.ops) ≡ Some (outcome_of reply)) → IfOk result (λ reply. outcome_of reply ≡ (batch_with v b).outcome)
+reply_refused {E} o b v (Err e) same told = tt
+reply_refused {E} o b v (Ok reply) same told =
+    sym (ap (λ (s : Held). (batch_with s b).outcome) same ∙ ap (λ (t : Turn). t.outcome) (refused_turn o b (refusal (demo_index o.key) o.history b.t b.ops) (outcome_of reply) told))
 
 -- and leaves the state
-pub state_refused : {E : Type 0} (o o' : Opened) (epoch : ℕ) (ops : List Operation) (v : Held) (result : Result Reply E) → v ≡ Some o → o' ≡ o
-    → IfOk result (λ reply. option_map refusal_outcome (refusal (demo_index o.key) o.history epoch ops) ≡ Some (outcome_of reply)) → OnOk result ((let w : Held = Some o' in w) ≡ (batch_with v epoch ops).state)
-state_refused {E} o o' epoch ops v (Err e) same kept told = tt
-state_refused {E} o o' epoch ops v (Ok reply) same kept told =
+pub state_refused : {E : Type 0} (o o' : Opened) (b : Batch) (v : Held) (result : Result Reply E) → v ≡ Some o → o' ≡ o
+    → IfOk result (λ reply. option_map refusal_outcome (refusal (demo_index o.key) o.history b.t b.ops) ≡ Some (outcome_of reply)) → OnOk result ((let w : Held = Some o' in w) ≡ (batch_with v b).state)
+state_refused {E} o o' b v (Err e) same kept told = tt
+state_refused {E} o o' b v (Ok reply) same kept told =
     ap (λ (p : Opened). let w : Held = Some p in w) kept
-    ∙ sym (ap (λ (s : Held). (batch_with s epoch ops).state) same ∙ ap (λ (t : Turn). t.state) (refused_turn o epoch ops (refusal (demo_index o.key) o.history epoch ops) (outcome_of reply) told))
+    ∙ sym (ap (λ (s : Held). (batch_with s b).state) same ∙ ap (λ (t : Turn). t.state) (refused_turn o b (refusal (demo_index o.key) o.history b.t b.ops) (outcome_of reply) told))
 
 -- what an open store shows
 pub shown_open : (opened : Option Service) (service : Service) (v : Held) → Some service ≡ opened → state_of opened ≡ v → v ≡ Some (opened_of service)

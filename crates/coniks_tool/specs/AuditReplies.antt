@@ -3,7 +3,7 @@ use Rattle.std.specs.Prelude.{ℕ, List, codes, Bool, true, false}
 use Rattle.serde_json.specs.Data.{Data, string, number, unsigned, object, member, no_members}
 use Rattle.serde_json.specs.Written.{compact_text}
 use Rattle.coniks_chain.specs.declared.auditor.AuditFault.{AuditFault}
-use Rattle.coniks_chain.specs.declared.auditor.AuditFault.TheVariants.{Version, FirstEpoch, NotLater, PreviousEpoch, PreviousLink, NonceChanged, Verdict}
+use Rattle.coniks_chain.specs.declared.auditor.AuditFault.TheVariants.{Version, VersionBack, FirstEpoch, NotLater, PreviousEpoch, PreviousLink, NonceChanged, Verdict}
 use Rattle.coniks_tool.specs.ProofTexts.{digits}
 use Rattle.coniks_tool.specs.Replies.{fault_data, bad_member_data}
 use Rattle.coniks_tool.specs.declared.audit.reply.AuditReply.{AuditReply}
@@ -30,6 +30,7 @@ audit_outcome (reply.AtFault fault) = at_fault fault
 -- the name of a fault
 abbrev pub audit_fault_name : AuditFault → List ℕ
 audit_fault_name Version = codes "Version"
+audit_fault_name VersionBack = codes "VersionBack"
 audit_fault_name FirstEpoch = codes "FirstEpoch"
 audit_fault_name NotLater = codes "NotLater"
 audit_fault_name PreviousEpoch = codes "PreviousEpoch"

@@ -1,5 +1,5 @@
 -- What a line and its members say: JSON is RFC 8259, hexadecimal digits and base64 are RFC 4648.
-use Rattle.std.specs.Prelude.{ℕ, List, Option, Some, None, option_and_then, is_some, if◌then◌else◌}
+use Rattle.std.specs.Prelude.{ℕ, List, Option, Some, None, option_and_then, option_map, is_some, if◌then◌else◌}
 use Rattle.std.specs.Result.{result_ok}
 use Rattle.std.specs.Str.{is_utf8}
 use Rattle.serde_json.specs.Data.{Data, Items}
@@ -29,6 +29,10 @@ text_in name within = option_and_then as_str (get name within)
 -- the number of a member, written as a whole number from 0 to 2^64 - 1
 abbrev pub number_in : List ℕ → Data → Option ℕ
 number_in name within = option_and_then as_u64 (option_and_then as_number (get name within))
+
+-- a value of a member that may be missing: none where it is, and where it is there but says none, nothing
+abbrev pub if_there : {A : Type 0} → List ℕ → Data → Option A → Option (Option A)
+if_there name within value = if is_some (get name within) then option_map Some value else Some None
 
 -- the elements of a member that is an array
 abbrev pub array_in : List ℕ → Data → Option Items

@@ -8,14 +8,15 @@ use Rattle.coniks_lines.specs.Runs.{EndsBadly}
 use Rattle.coniks_lines.specs.declared.fault.RunFault.{RunFault}
 use Rattle.coniks_lines.specs.declared.fault.RunFault.TheVariants.{Read, Write, OutOfMemory, NoBoard}
 use Rattle.coniks_proof.specs.Sha256.{sha256}
-use Rattle.coniks_proof.specs.Batches.{Operation, after, fits}
+use Rattle.coniks_proof.specs.Batches.{Operation, fits}
 use Rattle.coniks_proof.specs.declared.values.TheConstants.{MAX_NAME}
 use Rattle.coniks_chain.specs.Entries.{link_preimage}
 use Rattle.coniks_chain.specs.declared.entry.Entry.{Entry}
-use Rattle.coniks_directory.specs.History.{Shown, latest_nonce, latest_registry}
+use Rattle.coniks_directory.specs.History.{Shown, latest_nonce, latest_registry, latest_version}
+use Rattle.coniks_directory.specs.Runs.{Batch, shown_by}
 use Rattle.coniks_tool.specs.Chains.{chain_of, next_entry}
 use Rattle.coniks_tool.specs.Demo.{demo_index}
-use Rattle.coniks_tool.specs.Members.{object_in, text_in, number_in, array_in, digits_in}
+use Rattle.coniks_tool.specs.Members.{object_in, text_in, number_in, array_in, digits_in, if_there}
 use Rattle.coniks_tool.specs.Operations.{operations_in}
 use Rattle.coniks_tool.specs.Paths.{path_to}
 use Rattle.coniks_tool.specs.Refusals.{Refusal, refusal, too_long, at, not_later, full}
@@ -61,30 +62,25 @@ refusal_outcome (at place fault) = bad_batch place fault
 refusal_outcome (not_later latest) = epoch_not_later latest
 refusal_outcome full = board_full
 
--- the epoch that a batch makes: of version 1, under the nonce of `open`, with the registry that the batch leaves
-abbrev pub shown_next : Opened → ℕ → List Operation → Shown
-shown_next o epoch ops = record {
-  t = epoch;
-  version = 1;
-  nonce = latest_nonce o.nonce o.history;
-  registry = after (latest_registry o.history) ops;
-}
+-- the epoch that a batch makes after the latest one, or after `open`
+abbrev pub shown_next : Opened → Batch → Shown
+shown_next o batch = shown_by (latest_version 1 o.history) (latest_nonce o.nonce o.history) (latest_registry o.history) batch
 
 -- the entry that this epoch adds to the chain
 abbrev pub entry_next : Opened → Shown → Entry
 entry_next o shown = next_entry o.key o.policy o.history shown
 
 -- a batch was installed: nothing refuses it, this is the entry that it added, and this is what the directory holds then
-pub record Installs (old : Opened) (epoch : ℕ) (ops : List Operation) (entry : Entry) (new : Opened) : Type 0 where
-  pub faultless : refusal (demo_index old.key) old.history epoch ops ≡ None
-  pub entry_is : entry ≡ entry_next old (shown_next old epoch ops)
-  pub state_is : new ≡ record old { history = old.history ++ shown_next old epoch ops ∷ [] }
+pub record Installs (old : Opened) (batch : Batch) (entry : Entry) (new : Opened) : Type 0 where
+  pub faultless : refusal (demo_index old.key) old.history batch.t batch.ops ≡ None
+  pub entry_is : entry ≡ entry_next old (shown_next old batch)
+  pub state_is : new ≡ record old { history = old.history ++ shown_next old batch ∷ [] }
 
 -- a batch on an opened directory: it is refused, or installed as an epoch of its own
-abbrev pub batch_on : Opened → ℕ → List Operation → Option Refusal → Turn
-batch_on o epoch ops (Some why) = refused (Some o) (refusal_outcome why)
-batch_on o epoch ops None =
-    let shown = shown_next o epoch ops in
+abbrev pub batch_on : Opened → Batch → Option Refusal → Turn
+batch_on o batch (Some why) = refused (Some o) (refusal_outcome why)
+batch_on o batch None =
+    let shown = shown_next o batch in
     let entry = entry_next o shown in
     record {
       outcome = installed entry (sha256 (link_preimage entry));
@@ -92,20 +88,21 @@ batch_on o epoch ops None =
     }
 
 -- a batch that was read
-abbrev pub batch_with : State → ℕ → List Operation → Turn
-batch_with None epoch ops = refused None not_open
-batch_with (Some o) epoch ops = batch_on o epoch ops (refusal (demo_index o.key) o.history epoch ops)
+abbrev pub batch_with : State → Batch → Turn
+batch_with None batch = refused None not_open
+batch_with (Some o) batch = batch_on o batch (refusal (demo_index o.key) o.history batch.t batch.ops)
 
 -- the operations were read, or one was not
-abbrev pub batch_read : State → ℕ → Result (List Operation) ℕ → Turn
-batch_read s epoch (Err place) = refused s (bad_operation place)
-batch_read s epoch (Ok ops) = batch_with s epoch ops
+abbrev pub batch_read : State → ℕ → Option (List ℕ) → Result (List Operation) ℕ → Turn
+batch_read s epoch brought (Err place) = refused s (bad_operation place)
+batch_read s epoch brought (Ok ops) = batch_with s (record { t = epoch; brought = brought; ops = ops })
 
--- `batch`, by its members in the order of reading
-abbrev pub batch_turn : State → Option ℕ → Option Items → Turn
-batch_turn s None items = refused s (bad_member Epoch)
-batch_turn s (Some epoch) None = refused s (bad_member Ops)
-batch_turn s (Some epoch) (Some items) = batch_read s epoch (operations_in items)
+-- `batch`, by its members in the order of reading; the nonce may be missing
+abbrev pub batch_turn : State → Option ℕ → Option (Option (List ℕ)) → Option Items → Turn
+batch_turn s None brought items = refused s (bad_member Epoch)
+batch_turn s (Some epoch) None items = refused s (bad_member Nonce)
+batch_turn s (Some epoch) (Some brought) None = refused s (bad_member Ops)
+batch_turn s (Some epoch) (Some brought) (Some items) = batch_read s epoch brought (operations_in items)
 
 -- an epoch with its entry in the chain
 pub record Chained : Type 0 where
@@ -146,7 +143,7 @@ abbrev pub command_turn : State → Data → Option (List ℕ) → Turn
 command_turn s d None = refused s no_command
 command_turn s d (Some name) =
     if bytes_eq name (codes "open") then open_turn s (digits_in 32 (codes "key") d) (digits_in 32 (codes "nonce") d) (digits_in 32 (codes "policy") d)
-    else (if bytes_eq name (codes "batch") then batch_turn s (number_in (codes "epoch") d) (array_in (codes "ops") d)
+    else (if bytes_eq name (codes "batch") then batch_turn s (number_in (codes "epoch") d) (if_there (codes "nonce") d (digits_in 32 (codes "nonce") d)) (array_in (codes "ops") d)
     else (if bytes_eq name (codes "lookup") then lookup_turn s (number_in (codes "epoch") d) (text_in (codes "name") d)
     else refused s no_command))
 

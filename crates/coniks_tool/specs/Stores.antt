@@ -3,7 +3,11 @@ use Rattle.std.specs.Prelude.{◌≡◌, ◌≤◌, ℕ, List, [], length, Optio
 use Rattle.coniks_proof.specs.Sha256.{sha256}
 use Rattle.coniks_chain.specs.Chain.{GoodChain}
 use Rattle.coniks_directory.specs.Chain.{heads_of}
+use Rattle.coniks_directory.specs.Batches.{operations}
+use Rattle.coniks_directory.specs.History.{Shown, latest_nonce, latest_registry, latest_version}
+use Rattle.coniks_directory.specs.Runs.{Batch, shown_by}
 use Rattle.coniks_directory.specs.State.{State as Directory, history_of}
+use Rattle.coniks_directory.specs.declared.batch.Op.{Op}
 use Rattle.coniks_shared.specs.Boards.{Boarded, BoardEnd}
 use Rattle.coniks_tool.specs.Script.{Opened, State}
 use Rattle.coniks_tool.specs.Seal.{is_seal}
@@ -13,6 +17,14 @@ use Rattle.coniks_tool.specs.declared.run.store.Service.{Service}
 -- a directory of a key, in this state
 abbrev pub opened_by : List ℕ → Directory → Opened
 opened_by key s = record { key = key; nonce = s.nonce; policy = s.policy; history = history_of s }
+
+-- a batch of these operations, which may bring a nonce
+abbrev pub batch_of : ℕ → Option (List ℕ) → List Op → Batch
+batch_of epoch brought ops = record { t = epoch; brought = brought; ops = operations ops }
+
+-- the epoch that a batch makes on a directory in this state
+abbrev pub shown_on : Directory → Batch → Shown
+shown_on s batch = shown_by (latest_version 1 (history_of s)) (latest_nonce s.nonce (history_of s)) (latest_registry (history_of s)) batch
 
 -- what an opened directory holds
 abbrev pub opened_of : Service → Opened

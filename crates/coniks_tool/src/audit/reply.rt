@@ -64,6 +64,7 @@ pub fn audit_fault_text(fault: AuditFault) -> &'static str
 {
     match fault {
         AuditFault::Version => "Version",
+        AuditFault::VersionBack => "VersionBack",
         AuditFault::FirstEpoch => "FirstEpoch",
         AuditFault::NotLater => "NotLater",
         AuditFault::PreviousEpoch => "PreviousEpoch",

@@ -4,7 +4,7 @@ ghost use Rattle.std.specs.Prelude.{◌≡◌, IfOk, option_map};
 ghost use Rattle.std.specs.Result.{result_ok};
 ghost use Rattle.serde_json.specs.View.{view, items_view};
 ghost use Rattle.hex.specs.Hex.{decode_sized};
-ghost use Rattle.coniks_tool.specs.Members.{object_in, text_in, number_in, array_in, digits_in, base64_in, bytes_in};
+ghost use Rattle.coniks_tool.specs.Members.{object_in, text_in, number_in, array_in, digits_in, if_there, base64_in, bytes_in};
 
 use base64::DecodeAllocError;
 use base64::engine::general_purpose::STANDARD;
@@ -61,6 +61,19 @@ pub fn digits32(object: &Value, name: &str) -> Option<[u8; 32]>
 {
     let digits = text(object, name)?;
     bytes_of_digits(digits)
+}
+
+/// The same of a member that may be missing: none where it is, and nothing where it is there but holds no such text.
+pub fn digits32_if_there(object: &Value, name: &str) -> Option<Option<[u8; 32]>>
+    ensures { result ≡ if_there name.now (view object.now) (digits_in 32 name.now (view object.now)) }
+{
+    if object.get(name).is_none() {
+        return Some(None);
+    }
+    match digits32(object, name) {
+        Some(bytes) => Some(Some(bytes)),
+        None => None,
+    }
 }
 
 /// N bytes in 2N hexadecimal digits of either case.

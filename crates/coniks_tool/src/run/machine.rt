@@ -6,11 +6,11 @@ ghost use Rattle.coniks_directory.specs.Batches.{AreWorkers};
 ghost use Rattle.coniks_lines.specs.Machine.{output};
 ghost use Rattle.coniks_lines.specs.Runs.{AnswersAll, EndsWell, WritesPart};
 ghost use Rattle.coniks_work.specs.declared.jobs.TheConstants.{MAX_DEPTH};
-ghost use Rattle.coniks_tool.specs.Members.{array_in, digits_in, number_in, text_in};
+ghost use Rattle.coniks_tool.specs.Members.{array_in, digits_in, if_there, number_in, text_in};
 ghost use Rattle.coniks_tool.specs.Replies.{outcome_of};
 ghost use Rattle.coniks_tool.specs.Script.{State, ScriptFails, batch_turn, command_turn, lookup_outcome, open_turn, script_answer, turn};
 
-use crate::lines::members::{array, digits32, number, read_object, text};
+use crate::lines::members::{array, digits32, digits32_if_there, number, read_object, text};
 use crate::lines::printing::Member;
 use crate::run::crew::Crew;
 use crate::run::operations::read_ops;
@@ -49,17 +49,22 @@ impl<'r, T: Threads + Sync> Script<'r, T> {
     }
 
     fn batch(&mut self, object: &Value) -> Result<Reply, AllocError>
-        ensures reply { IfOk result (λ reply. outcome_of reply ≡ (batch_turn self.old.store (number_in (codes "epoch") (view object.now)) (array_in (codes "ops") (view object.now))).outcome) }
-        ensures state { OnOk result (self.new.store ≡ (batch_turn self.old.store (number_in (codes "epoch") (view object.now)) (array_in (codes "ops") (view object.now))).state) }
+        ensures reply { IfOk result (λ reply. outcome_of reply ≡ (batch_turn self.old.store (number_in (codes "epoch") (view object.now))
+            (if_there (codes "nonce") (view object.now) (digits_in 32 (codes "nonce") (view object.now))) (array_in (codes "ops") (view object.now))).outcome) }
+        ensures state { OnOk result (self.new.store ≡ (batch_turn self.old.store (number_in (codes "epoch") (view object.now))
+            (if_there (codes "nonce") (view object.now) (digits_in 32 (codes "nonce") (view object.now))) (array_in (codes "ops") (view object.now))).state) }
     {
         let Some(epoch) = number(object, "epoch") else {
             return Ok(Reply::BadMember(Member::Epoch));
+        };
+        let Some(brought) = digits32_if_there(object, "nonce") else {
+            return Ok(Reply::BadMember(Member::Nonce));
         };
         let Some(elements) = array(object, "ops") else {
             return Ok(Reply::BadMember(Member::Ops));
         };
         match read_ops(self.alloc, elements)? {
-            Ok(ops) => self.store.install(&self.crew, epoch, &ops),
+            Ok(ops) => self.store.install(&self.crew, epoch, brought, &ops),
             Err(place) => Ok(Reply::BadOperation(place)),
         }
     }

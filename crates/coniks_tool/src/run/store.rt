@@ -12,10 +12,11 @@ ghost use Rattle.coniks_tool.specs.Demo.{demo_index};
 ghost use Rattle.coniks_tool.specs.Refusals.{Refusal, IsRefusedBy, refusal};
 ghost use Rattle.coniks_tool.specs.Replies.{already_open, installed, not_open, outcome_of};
 ghost use Rattle.coniks_tool.specs.Script.{batch_with, lookup_with, open_with, refusal_outcome, Installs};
-ghost use Rattle.coniks_tool.specs.Stores.{opened_of, IsServed};
+ghost use Rattle.coniks_tool.specs.Stores.{batch_of, opened_of, IsServed};
 
 use crate::demo::index::DemoIndex;
 use crate::demo::seal::DemoSeal;
+use crate::run::committing::commit;
 use crate::run::crew::Crew;
 use crate::run::reply::Reply;
 use coniks_chain::Entry;
@@ -23,7 +24,6 @@ use coniks_directory::{BatchFault, CommitFault, Directory, InstallFault, LookupF
 use coniks_lines::RunFault;
 use coniks_proof::{Nonce, Sha256Hash};
 use coniks_shared::{Board, Publisher};
-use coniks_work::Open;
 use std::alloc::{AllocError, Global};
 use std::marker::Model;
 use std::thread::Threads;
@@ -51,11 +51,12 @@ impl Service {
         }
     }
 
-    /// Commits a batch, and publishes the head of its entry.
+    /// Commits a batch, which may bring a nonce, and publishes the head of its entry.
     fn commit<T: Threads + Sync>(
         &mut self,
         crew: &Crew<'_, T>,
         epoch: u64,
+        brought: Option<[u8; 32]>,
         ops: &[Op],
         publisher: &mut Publisher,
         board: &Board,
@@ -65,19 +66,18 @@ impl Service {
         requires served { IsServed publisher.old self.old }
         ensures table { publisher.new.table ≡ publisher.old.table }
         ensures served { IsServed publisher.new self.new }
-        ensures ok { IfOk result (λ entry. Installs (opened_of self.old) epoch (operations ops.now) entry (opened_of self.new)) }
+        ensures ok { IfOk result (λ entry. Installs (opened_of self.old) (batch_of epoch brought ops.now) entry (opened_of self.new)) }
         ensures last { IfOk result (λ entry. last_of publisher.new.heads ≡ Some (head_at sha256 entry)) }
         ensures refused { IfErr result (IsRefusedBy (refusal (demo_index (opened_of self.old).key) (opened_of self.old).history epoch (operations ops.now))) }
         ensures unchanged { OnErr result (opened_of self.new ≡ opened_of self.old) }
     {
-        let committed = self.directory.commit(
-            crew.rt,
-            ops,
-            crew.depth,
-            crew.workers,
-            &Open,
-            epoch,
+        let committed = commit(
+            &mut self.directory,
             &mut self.signer,
+            crew,
+            epoch,
+            brought,
+            ops,
             publisher,
             board,
         );
@@ -214,15 +214,16 @@ impl Store {
         &mut self,
         crew: &Crew<'_, T>,
         epoch: u64,
+        brought: Option<[u8; 32]>,
         ops: &[Op],
     ) -> Result<Reply, AllocError>
-        ensures reply { IfOk result (λ reply. outcome_of reply ≡ (batch_with self.old epoch (operations ops.now)).outcome) }
-        ensures state { OnOk result (self.new ≡ (batch_with self.old epoch (operations ops.now)).state) }
+        ensures reply { IfOk result (λ reply. outcome_of reply ≡ (batch_with self.old (batch_of epoch brought ops.now)).outcome) }
+        ensures state { OnOk result (self.new ≡ (batch_with self.old (batch_of epoch brought ops.now)).state) }
     {
         let Some(mut service) = self.opened.take() else {
             return Ok(Reply::NotOpen);
         };
-        let committed = service.commit(crew, epoch, ops, &mut self.publisher, &self.board);
+        let committed = service.commit(crew, epoch, brought, ops, &mut self.publisher, &self.board);
         self.opened = Some(service);
         let entry = match committed {
             Ok(entry) => entry,

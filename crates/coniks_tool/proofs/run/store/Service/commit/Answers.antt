@@ -2,6 +2,7 @@ use Rattle.std.proofs.Common.{ℕ, List, length, sym, ap, ◌∙◌}
 use Rattle.coniks_directory.specs.Batches.{operations}
 use Rattle.coniks_tool.specs.Demo.{demo_index}
 use Rattle.coniks_tool.specs.Seal.{is_seal}
+use Rattle.coniks_tool.specs.Stores.{batch_of}
 use Rattle.coniks_tool.proofs.StoreLemmas.{as_many, made_and_room, refused_by, installed_by, last_published}
 use Rattle.coniks_tool.proofs.run.store.Service.commit.Goals as goal
 
@@ -9,7 +10,7 @@ pub returns-clause-served : goal.returns-clause-served
 returns-clause-served g c =
     let e = c.commit-committed.ensures in
     let s = c.requires.served in
-    let counts = made_and_room c.commit-committed.result c.args.self.now.directory c.commit-committed.new.self c.args.publisher.now c.commit-committed.new.publisher
+    let counts = made_and_room c.commit-committed.result c.args.self.now.directory c.commit-committed.new.directory c.args.publisher.now c.commit-committed.new.publisher
     c.args.self.now.signer.made c.commit-committed.new.signer.made 0 0 c.args.epoch (length c.args.publisher.now.heads) c.args.board.now.capacity c.args.self.now.signer.last c.commit-committed.new.signer.last
     e.made e.chain e.may e.unsigned e.unchanged s.made s.room (as_many c.args.publisher.now.heads c.args.self.now.directory.state.chain s.heads) c.requires.capacity in
     record {
@@ -24,7 +25,7 @@ pub returns-clause-ok : goal.returns-clause-ok
 returns-clause-ok g c =
     let e = c.commit-committed.ensures in
     let s = c.requires.served in
-    installed_by c.args.self.now.directory.index c.commit-committed.new.self.index c.args.self.now.directory.state c.commit-committed.new.self.state (operations c.args.ops.now) c.args.crew.now.depth c.args.crew.now.workers c.args.epoch
+    installed_by c.args.self.now.directory.index c.commit-committed.new.directory.index c.args.self.now.directory.state c.commit-committed.new.directory.state (batch_of c.args.epoch c.args.brought c.args.ops.now) c.args.crew.now.depth c.args.crew.now.workers
     (length c.args.publisher.now.heads) c.args.board.now.capacity (is_seal c.commit-committed.new.signer.key) c.commit-committed.result (λ b x. e.verdicts_kept b x ∙ s.verdicts b x) e.same.index e.grows e.history e.chain c.chain-chain.ensures.of_history (e.good s.good) e.accepted e.may
     (as_many c.args.publisher.now.heads c.args.self.now.directory.state.chain s.heads) c.requires.capacity s.room
 
@@ -32,11 +33,11 @@ pub returns-clause-refused : goal.returns-clause-refused
 returns-clause-refused g c =
     let e = c.commit-committed.ensures in
     let s = c.requires.served in
-    refused_by (demo_index c.args.self.now.directory.index) (demo_index c.commit-committed.new.self.index) c.args.self.now.directory c.commit-committed.new.self c.args.publisher.now c.commit-committed.new.publisher (operations c.args.ops.now)
+    refused_by (demo_index c.args.self.now.directory.index) (demo_index c.commit-committed.new.directory.index) c.args.self.now.directory c.commit-committed.new.directory c.args.publisher.now c.commit-committed.new.publisher (operations c.args.ops.now)
     c.args.crew.now.depth c.args.crew.now.workers c.args.epoch (length c.args.publisher.now.heads) c.args.board.now.capacity c.args.self.now.signer.made c.commit-committed.new.signer.made c.args.self.now.signer.last c.commit-committed.new.signer.last
     c.commit-committed.result c.args.crew.now.within.0 c.args.crew.now.within.1 (as_many c.args.publisher.now.heads c.args.self.now.directory.state.chain s.heads) c.requires.capacity e.unsigned e.refused e.unchanged c.chain-chain.ensures.of_history
 
 pub returns-clause-last : goal.returns-clause-last
 returns-clause-last g c =
     let e = c.commit-committed.ensures in
-    last_published c.commit-committed.result c.args.self.now.directory.state.chain c.commit-committed.new.self.state.chain c.commit-committed.new.publisher.heads e.chain e.heads
+    last_published c.commit-committed.result c.args.self.now.directory.state.chain c.commit-committed.new.directory.state.chain c.commit-committed.new.publisher.heads e.chain e.heads
