@@ -21,17 +21,19 @@ class Entry:
         self.signature = whole[145:]
 
 
-def entry_after(before, key, epoch, root, nonce, policy):
+def entry_after(before, key, version, epoch, root, nonce, policy):
     """The entry that a directory signs after another one, or first."""
-    body = b"\x01" + number(epoch, 8) + number(before.epoch if before else 0, 8) + root
+    body = number(version, 1) + number(epoch, 8) + number(before.epoch if before else 0, 8) + root
     body += (link(before.whole) if before else ZEROS) + nonce + policy
     return Entry(body + demonstration_seal(key, body))
 
 
 def audit(entry, before, key):
     """Refuses an entry that doesn't follow the one before it, or none."""
-    if entry.version != 1:
+    if entry.version not in (1, 2):
         raise Fault("Version")
+    if before is not None and entry.version < before.version:
+        raise Fault("VersionBack")
     if before is None and entry.epoch == 0:
         raise Fault("FirstEpoch")
     if before is not None and entry.epoch <= before.epoch:
@@ -40,7 +42,7 @@ def audit(entry, before, key):
         raise Fault("PreviousEpoch")
     if entry.previous_link != (link(before.whole) if before else ZEROS):
         raise Fault("PreviousLink")
-    if before is not None and entry.nonce != before.nonce:
+    if before is not None and entry.version == 1 and entry.nonce != before.nonce:
         raise Fault("NonceChanged")
     if entry.signature != demonstration_seal(key, entry.body):
         raise Fault("Verdict")

@@ -76,11 +76,13 @@ class Directory:
         if self.is_open:
             raise Fault("AlreadyOpen")
         self.is_open = True
-        self.key, self.nonce, self.policy = key, nonce, policy
+        self.key, self.policy = key, policy
+        self.version, self.nonce = 1, nonce
         return {"ok": "open"}
 
     def batch(self, members):
         number = member(members, "epoch", whole_number)
+        nonce = member(members, "nonce", h32) if "nonce" in members else None
         ops = operations(member(members, "ops", array))
         self.must_be_open()
         before = self.epochs.get(self.latest)
@@ -89,12 +91,18 @@ class Directory:
             raise Fault("EpochNotLater", latest=self.latest)
         if len(self.epochs) == MOST_EPOCHS:
             raise Fault("BoardFull")
+        if nonce is not None:
+            self.version, self.nonce = 2, nonce
         root = node(self.nonce, (), self.entries(registry))
-        entry = entry_after(before and before.entry, self.key, number, root, self.nonce, self.policy)
+        entry = self.entry_of(before, number, root)
         self.epochs[number] = Epoch(entry, registry)
         self.latest = number
         answer = {"epoch": number, "link": link(entry.whole).hex(), "ok": "batch"}
         return {**answer, "entry": entry.whole.hex(), "root": root.hex()}
+
+    def entry_of(self, before, number, root):
+        last = before.entry if before else None
+        return entry_after(last, self.key, self.version, number, root, self.nonce, self.policy)
 
     def must_be_open(self):
         if not self.is_open:
@@ -132,11 +140,11 @@ class Directory:
         answer["entry"] = epoch.entry.whole.hex()
         answer["nonce"] = epoch.entry.nonce.hex()
         answer["root"] = epoch.entry.root.hex()
-        answer["proof"] = self.proof(epoch.registry, index, name)
+        answer["proof"] = self.proof(epoch.entry.nonce, epoch.registry, index, name)
         return answer
 
-    def proof(self, registry, index, name):
-        siblings, found = path(self.nonce, (), self.entries(registry), index)
+    def proof(self, nonce, registry, index, name):
+        siblings, found = path(nonce, (), self.entries(registry), index)
         if not found:
             end = {"kind": "empty"}
         elif found[0][0] != index:
