@@ -11,6 +11,7 @@ mod gates;
 mod installs;
 mod largest;
 mod refused;
+mod renewals;
 mod runs;
 mod together;
 mod updates;

@@ -2,7 +2,7 @@
 
 use crate::tests::clerk::{Letters, NONCE};
 use coniks_directory::{Directory, IndexSource, LookupFault};
-use coniks_proof::{Answer, Digest, Proof, Sha256Hash, check};
+use coniks_proof::{Answer, Digest, Nonce, Proof, Sha256Hash, check};
 use std::process::Abort;
 
 /// What a lookup tells, once its proof is checked against the epoch's root.
@@ -18,23 +18,33 @@ pub enum Told {
     Key(usize, u8),
 }
 
-/// What a proof tells of a name under a root.
-fn told_by(root: &Digest, name: &[u8], proof: &Proof) -> Told {
+/// What a proof tells of a name under a nonce and a root.
+fn told_by(nonce: &Nonce, root: &Digest, name: &[u8], proof: &Proof) -> Told {
     let siblings = proof.siblings.as_slice().len();
-    match check(&Sha256Hash, &NONCE, root, &Letters.index(name), name, proof) {
+    match check(&Sha256Hash, nonce, root, &Letters.index(name), name, proof) {
         Err(_) => Told::Refused,
         Ok(Answer::Absent) => Told::Absent(siblings),
         Ok(Answer::Key(key)) => Told::Key(siblings, key.first().copied().unwrap_or(0)),
     }
 }
 
-/// Looks a name up at an epoch, and checks the proof.
+/// Looks a name up at an epoch, and checks the proof under the nonce of `open`.
 pub fn asked(directory: &Directory<Sha256Hash, Letters>, t: u64, name: &str) -> Told {
+    asked_under(&NONCE, directory, t, name)
+}
+
+/// Looks a name up at an epoch, and checks the proof under a nonce.
+pub fn asked_under(
+    nonce: &Nonce,
+    directory: &Directory<Sha256Hash, Letters>,
+    t: u64,
+    name: &str,
+) -> Told {
     let name = name.as_bytes();
     let root = directory.root_at(t);
     match directory.lookup(t, name) {
         Ok(proof) => match root {
-            Some(root) => told_by(&root, name, &proof),
+            Some(root) => told_by(nonce, &root, name, &proof),
             None => Told::Refused,
         },
         Err(fault) => Told::Missed(fault),

@@ -1,6 +1,6 @@
 //! A directory with its signer and its board, for tests.
 
-ghost use Rattle.std.specs.Prelude.{◌≡◌, ◌<◌, ◌-◌, ◌^◌, [], IfErr, IfSome, true};
+ghost use Rattle.std.specs.Prelude.{◌≡◌, ◌<◌, ◌-◌, ◌^◌, [], IfErr, IfOk, IfSome, true};
 ghost use Rattle.coniks_directory.specs.Chain.{heads_of};
 ghost use Rattle.coniks_directory_tests.specs.Letters.{high as high_of, index_of_letter, low as low_of};
 ghost use Rattle.coniks_directory.specs.Updates.{Grows, IsUpdateOf};
@@ -18,6 +18,9 @@ use std::process::Abort;
 use std::thread::Threads;
 
 pub const NONCE: Nonce = Nonce([0x11; 32]);
+
+/// A nonce that an epoch brings.
+pub const RENEWED: Nonce = Nonce([0x44; 32]);
 
 pub const POLICY: [u8; 32] = [0x33; 32];
 
@@ -240,6 +243,25 @@ impl<'a, H: Hash32 + Sync> Clerk<'a, H> {
         ensures { IfSome result (IsUpdateOf (H.digest_of self.now.directory.hash) index_of_letter self.now.directory.state) }
     {
         prepared(rt, self.alloc, &self.directory, written)
+    }
+
+    /// Prepares a batch at a depth with so many workers, under a nonce that it may bring.
+    pub fn prepare_under<R: Threads + Sync>(
+        &self,
+        rt: &R,
+        brought: Option<Nonce>,
+        ops: &[Op],
+        depth: usize,
+        workers: usize,
+    ) -> Result<Prepared, BatchFault>
+        ensures { IfOk result (IsUpdateOf (H.digest_of self.now.directory.hash) index_of_letter self.now.directory.state) }
+    {
+        match brought {
+            Some(nonce) => self
+                .directory
+                .prepare_with(rt, nonce, ops, depth, workers, &Open),
+            None => self.directory.prepare(rt, ops, depth, workers, &Open),
+        }
     }
 
     /// Installs an update.

@@ -7,12 +7,11 @@ ghost use Rattle.coniks_directory_tests.specs.Letters.{index_of_letter};
 ghost use Rattle.coniks_directory.specs.Updates.{IsUpdateOf};
 
 use crate::tests::answers::{Told, asked, digest};
-use crate::tests::clerk::{Clerk, Written, ops_of, with_clerk};
+use crate::tests::clerk::{Clerk, RENEWED, Written, ops_of, with_clerk};
 use coniks_chain::Entry;
 use coniks_directory::OpKind::{Change, Register};
 use coniks_directory::{BatchFault, InstallFault, LookupFault, Op, Prepared};
-use coniks_proof::{Digest, Hash32, Head, Sha256Hash};
-use coniks_work::Open;
+use coniks_proof::{Digest, Hash32, Head, Nonce, Sha256Hash};
 use std::process::Abort;
 use std::thread::Threads;
 
@@ -26,6 +25,9 @@ const LINKS: [&str; 2] = [
     "9efd9e7911a2ebeef55ec07b8784e4a86ec0ffd7569f4d6aefdbc195087a1298",
     "d60b4104456202ba0c3ab12eeb8dad9fc6cc779a45b12326cf7595b703401fa9",
 ];
+
+/// The link of the second entry where its batch brings a nonce.
+const RENEWED_LINK: &str = "f295deabe71fa4bf85bbc828f13551fadd8814fe82896768389299394b472d52";
 
 /// What is seen of a directory, its board and its signer.
 #[derive(Clone, Copy, PartialEq, Eq)]
@@ -60,22 +62,24 @@ fn batch(rt: &impl Abort, clerk: &Clerk<Sha256Hash>, written: &[Written]) -> Vec
     }
 }
 
-/// Prepares a batch at depth 1 by so many workers, once more where memory is refused, and says whether it was.
+/// Prepares a batch that may bring a nonce at depth 1 by so many workers, once more where memory is refused, and says
+/// whether it was.
 fn prepare_at_last<R: Threads + Sync + Abort>(
     rt: &R,
     clerk: &Clerk<Sha256Hash>,
+    brought: Option<Nonce>,
     ops: &[Op],
     workers: usize,
 ) -> (Prepared, bool)
     ensures { IsUpdateOf (⟦<Sha256Hash as Hash32>⟧.digest_of clerk.now.directory.hash) index_of_letter clerk.now.directory.state result.0 }
 {
     let before = seen(clerk);
-    match clerk.directory.prepare(rt, ops, 1, workers, &Open) {
+    match clerk.prepare_under(rt, brought, ops, 1, workers) {
         Ok(update) => (update, false),
         Err(fault) => {
             assert!(rt; fault == BatchFault::OutOfMemory, "{fault}");
             assert!(rt; seen(clerk) == before);
-            let again = clerk.directory.prepare(rt, ops, 1, workers, &Open);
+            let again = clerk.prepare_under(rt, brought, ops, 1, workers);
             (again.expect(rt, "an update"), true)
         }
     }
@@ -104,25 +108,46 @@ fn ends_with(rt: &impl Abort, clerk: &Clerk<Sha256Hash>, epoch: u64, link: &str)
 /// Prepares and installs the first batch, and says whether the install was refused memory.
 fn first_epoch<R: Threads + Sync + Abort>(rt: &R, clerk: &mut Clerk<Sha256Hash>) -> bool {
     let ops = batch(rt, clerk, &FIRST);
-    let (update, _) = prepare_at_last(rt, clerk, &ops, 1);
+    let (update, _) = prepare_at_last(rt, clerk, None, &ops, 1);
     let refused = install_at_last(rt, clerk, update, 1);
     assert!(rt; ends_with(rt, clerk, 1, LINKS[0]));
     refused
 }
 
-/// Prepares the second batch by so many workers, says whether that was refused memory, and installs it.
+/// Prepares the second batch by so many workers, says whether that was refused memory, and installs it, so that the chain
+/// ends with this link. The batch may bring a nonce.
+fn second_by<R: Threads + Sync + Abort>(
+    rt: &R,
+    clerk: &mut Clerk<Sha256Hash>,
+    brought: Option<Nonce>,
+    workers: usize,
+    link: &str,
+) -> bool {
+    first_epoch(rt, clerk);
+    let ops = batch(rt, clerk, &SECOND);
+    let (update, refused) = prepare_at_last(rt, clerk, brought, &ops, workers);
+    assert!(rt; update.new_nodes() == 5);
+    install_at_last(rt, clerk, update, 2);
+    assert!(rt; ends_with(rt, clerk, 2, link));
+    refused
+}
+
+/// Prepares the second batch under the nonce of the first, and installs it.
 fn second_epoch<R: Threads + Sync + Abort>(
     rt: &R,
     clerk: &mut Clerk<Sha256Hash>,
     workers: usize,
 ) -> bool {
-    first_epoch(rt, clerk);
-    let ops = batch(rt, clerk, &SECOND);
-    let (update, refused) = prepare_at_last(rt, clerk, &ops, workers);
-    assert!(rt; update.new_nodes() == 5);
-    install_at_last(rt, clerk, update, 2);
-    assert!(rt; ends_with(rt, clerk, 2, LINKS[1]));
-    refused
+    second_by(rt, clerk, None, workers, LINKS[1])
+}
+
+/// Prepares the second batch under a nonce that it brings, and installs it.
+fn renewed_epoch<R: Threads + Sync + Abort>(
+    rt: &R,
+    clerk: &mut Clerk<Sha256Hash>,
+    workers: usize,
+) -> bool {
+    second_by(rt, clerk, Some(RENEWED), workers, RENEWED_LINK)
 }
 
 /// Writes whether the call was refused memory.
@@ -144,6 +169,24 @@ fn prepare_by_one(rt: HostRuntime) {
 fn prepare_by_three(rt: HostRuntime) {
     let refused = with_clerk(&rt, rt.alloc(), 4, u64::MAX, |clerk| {
         second_epoch(&rt, clerk, 3)
+    });
+    tell(&rt, refused);
+}
+
+/// Where the batch brings a nonce, so that the whole map is listed and built anew, each refusal is the call's.
+#[test]
+fn renew_by_one(rt: HostRuntime) {
+    let refused = with_clerk(&rt, rt.alloc(), 4, u64::MAX, |clerk| {
+        renewed_epoch(&rt, clerk, 1)
+    });
+    tell(&rt, refused);
+}
+
+/// So it is with three workers, but that a refusal may cost only a worker.
+#[test]
+fn renew_by_three(rt: HostRuntime) {
+    let refused = with_clerk(&rt, rt.alloc(), 4, u64::MAX, |clerk| {
+        renewed_epoch(&rt, clerk, 3)
     });
     tell(&rt, refused);
 }
