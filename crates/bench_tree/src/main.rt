@@ -1,8 +1,10 @@
-//! What an epoch costs: registers pseudo-random indices in batches, and prints how many nodes and hashes that took.
+//! What an epoch costs: registers pseudo-random indices in batches, and prints how many nodes and hashes that took, and how
+//! many it takes to make every node anew under another nonce.
 //!
 //! Without words it registers 1,000 indices in batches of 64, and prints the same each time. With the words INDICES and
 //! BATCH it registers so many in batches of so many, and prints seconds and resident memory too. With the words WORKERS and
-//! DEPTH after them it also times how one more batch is built, by one worker and by so many at this cutting depth.
+//! DEPTH after them it also times how one more batch is built, and all that is registered under another nonce, by one
+//! worker and by so many at this cutting depth.
 #![tactic(auto)]
 
 mod counting;
@@ -14,7 +16,7 @@ mod timing;
 use crate::measure::print_cost;
 use crate::plan::plan_of;
 use crate::registering::Registry;
-use crate::timing::print_builds;
+use crate::timing::{print_builds, print_renewals};
 use anyhow::Result;
 use std::env;
 use std::time::Instant;
@@ -29,11 +31,13 @@ fn main(rt: HostRuntime) -> Result<()> {
     println!(rt; "indices: {}", plan.indices)?;
     println!(rt; "batches: {}", plan.batches())?;
     println!(rt; "{counts}")?;
+    println!(rt; "{}", registry.renewal()?)?;
     if plan.is_measured {
         print_cost(&rt, start.elapsed(&rt)?)?;
     }
     if let Some(crew) = &plan.crew {
         print_builds(&rt, &registry, &plan, crew)?;
+        print_renewals(&rt, &registry, crew)?;
     }
     Ok(())
 }

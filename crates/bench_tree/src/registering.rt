@@ -7,13 +7,16 @@ ghost use Rattle.coniks_tree.specs.declared.table.Record.{Record};
 
 use crate::counting::Counting;
 use crate::plan::{Crew, Plan};
-use coniks_proof::{Digest, Hash32, Index, Prefix, Sha256Hash};
+use coniks_proof::{Digest, Hash32, Index, Nonce, Prefix, Sha256Hash};
 use coniks_samples::{NONCE, add, changes_to, known, record_of};
 use coniks_tree::{Change, OutOfMemory, Part, Record, Root, Tree};
 use coniks_work::{Open, build};
 use std::alloc::{AllocError, Global};
 use std::fmt;
 use std::thread::Threads;
+
+/// The nonce that a renewal brings.
+const RENEWED: Nonce = Nonce([0x44; 32]);
 
 /// How much was made, and the latest root's hash.
 #[derive(Drop)]
@@ -29,6 +32,23 @@ impl fmt::Display for Counts {
         let hashes = self.hashes;
         let root = &self.root;
         write!(f, "nodes: {nodes}\nhashes: {hashes}\nroot: {root}")
+    }
+}
+
+/// What it takes to make every node anew.
+#[derive(Drop)]
+pub struct Renewal {
+    nodes: usize,
+    hashes: u64,
+}
+
+impl fmt::Display for Renewal {
+    fn fmt<W: fmt::Write>(&self, f: &mut fmt::Formatter<W>) -> fmt::Result {
+        let Renewal { nodes, hashes } = self;
+        write!(
+            f,
+            "nodes under another nonce: {nodes}\nhashes for them: {hashes}"
+        )
     }
 }
 
@@ -139,6 +159,48 @@ impl Registry {
             crew.workers,
             &Open,
         )?)
+    }
+
+    /// All that is registered, as the changes that build it from nothing.
+    pub fn entries(&self) -> Result<Vec<Change>, OutOfMemory> {
+        match known(&self.tree, self.latest) {
+            Some(root) => Ok(self.tree.entries(root)?),
+            None => Ok(Vec::new(self.alloc)),
+        }
+    }
+
+    /// The part of all entries under another nonce, built by a crew from nothing. The registry stays as it is.
+    pub fn renewed<R: Threads + Sync>(
+        &self,
+        rt: &R,
+        entries: &[Change],
+        crew: &Crew,
+    ) -> Result<Part, OutOfMemory> {
+        Ok(build(
+            rt,
+            self.alloc,
+            &Sha256Hash,
+            &RENEWED,
+            &self.tree,
+            None,
+            entries,
+            crew.depth,
+            crew.workers,
+            &Open,
+        )?)
+    }
+
+    /// How many nodes all that is registered takes under another nonce, and how often is hashed for them.
+    pub fn renewal(&self) -> Result<Renewal, OutOfMemory> {
+        let hash = Counting::new();
+        let entries = self.entries()?;
+        let part = self
+            .tree
+            .grow(&hash, &RENEWED, Part::Nothing, &Prefix::root(), &entries)?;
+        Ok(Renewal {
+            nodes: self.tree.new_nodes(&part),
+            hashes: hash.calls(),
+        })
     }
 
     /// How much was made until now.

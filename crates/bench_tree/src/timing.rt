@@ -11,6 +11,9 @@ use std::time::{Duration, Instant};
 /// How often each of the two builds a batch, in turn.
 const REPEATS: usize = 51;
 
+/// How often each of the two makes every node anew, in turn.
+const RENEWALS: usize = 7;
+
 /// How long a crew takes to build the part of these changes.
 fn build_time<R: Threads + Sync + Clock>(
     rt: &R,
@@ -25,15 +28,15 @@ fn build_time<R: Threads + Sync + Clock>(
     Ok(time)
 }
 
-/// Prints the least of a crew's times, and the one in the middle.
-fn print_times<R: Print>(rt: &R, crew: &Crew, mut times: Vec<Duration>) -> Result<()> {
+/// Prints the least of a crew's times for something, and the one in the middle.
+fn print_times<R: Print>(rt: &R, what: &str, crew: &Crew, mut times: Vec<Duration>) -> Result<()> {
     times.sort_unstable();
     let (Some(least), Some(median)) = (times.first(), times.get(times.len() / 2)) else {
         return Ok(());
     };
     let Crew { workers, depth } = crew;
     let (least, median) = (least.as_micros(), median.as_micros());
-    println!(rt; "workers {workers}, depth {depth}: {least} us least, {median} us median")?;
+    println!(rt; "{what}, workers {workers}, depth {depth}: {least} us least, {median} us median")?;
     Ok(())
 }
 
@@ -56,7 +59,42 @@ pub fn print_builds<R: Threads + Sync + Clock + Print + AllocGlobal>(
         alone.push(build_time(rt, registry, &changes, &one)?)?;
         together.push(build_time(rt, registry, &changes, crew)?)?;
     }
-    print_times(rt, &one, alone)?;
-    print_times(rt, crew, together)?;
+    print_times(rt, "batch", &one, alone)?;
+    print_times(rt, "batch", crew, together)?;
+    Ok(())
+}
+
+/// How long it takes to list all that is registered, and a crew to build it under another nonce.
+fn renewal_time<R: Threads + Sync + Clock>(
+    rt: &R,
+    registry: &Registry,
+    crew: &Crew,
+) -> Result<Duration> {
+    let start = Instant::now(rt)?;
+    let entries = registry.entries()?;
+    let part = registry.renewed(rt, &entries, crew)?;
+    let time = start.elapsed(rt)?;
+    drop(part);
+    Ok(time)
+}
+
+/// Prints how long it takes to make every node anew, by one worker without a cut and by a crew, in turn.
+pub fn print_renewals<R: Threads + Sync + Clock + Print + AllocGlobal>(
+    rt: &R,
+    registry: &Registry,
+    crew: &Crew,
+) -> Result<()> {
+    let one = Crew {
+        workers: 1,
+        depth: 0,
+    };
+    let mut alone = Vec::with_capacity(rt.alloc(), RENEWALS)?;
+    let mut together = Vec::with_capacity(rt.alloc(), RENEWALS)?;
+    for _ in 0..RENEWALS {
+        alone.push(renewal_time(rt, registry, &one)?)?;
+        together.push(renewal_time(rt, registry, crew)?)?;
+    }
+    print_times(rt, "renewal", &one, alone)?;
+    print_times(rt, "renewal", crew, together)?;
     Ok(())
 }
