@@ -3,6 +3,8 @@
 import hashlib
 
 ZEROS = bytes(32)
+LONGEST_NAME = 255
+LONGEST_KEY = 16384
 
 
 def sha256(*parts):

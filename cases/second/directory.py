@@ -2,7 +2,7 @@
 
 import base64
 
-from bytelists import commitment, demonstration_index, link
+from bytelists import LONGEST_KEY, LONGEST_NAME, commitment, demonstration_index, link
 from chain import entry_after
 from members import Fault, Wrong, array, b64, h32, member, object_in, read_object, text, texts_bytes, whole_number
 from tree import node, path
@@ -34,9 +34,9 @@ def operations(elements):
 
 def fault_of(operation, earlier, registry):
     """The first fault of an operation after the names of the earlier ones, or None."""
-    if not 1 <= len(operation.name) <= 255:
+    if not 1 <= len(operation.name) <= LONGEST_NAME:
         return "NameLength"
-    if not 1 <= len(operation.key) <= 4096:
+    if not 1 <= len(operation.key) <= LONGEST_KEY:
         return "KeyLength"
     if operation.name in earlier:
         return "NameTwice"
@@ -133,7 +133,7 @@ class Directory:
         epoch = self.epochs.get(number)
         if epoch is None:
             raise Fault("UnknownEpoch")
-        if not 1 <= len(name.encode("utf-8")) <= 255:
+        if not 1 <= len(name.encode("utf-8")) <= LONGEST_NAME:
             raise Fault("NameLength")
         index = demonstration_index(self.key, name.encode("utf-8"))
         answer = {"epoch": number, "index": index.hex(), "name": name, "ok": "lookup"}

@@ -2,7 +2,7 @@
 
 import base64
 
-from bytelists import bit
+from bytelists import LONGEST_KEY, LONGEST_NAME, bit
 from members import Fault, Wrong, array, b64, h32, member, object_in, read_object, text, texts_bytes
 from tree import climb
 
@@ -34,9 +34,9 @@ def judge(proof, index, name, nonce, root):
     """The key that an accepted proof shows, or None where it shows that there is none."""
     if len(proof.siblings) > 256:
         raise Fault("TooDeep")
-    if not 1 <= len(name) <= 255:
+    if not 1 <= len(name) <= LONGEST_NAME:
         raise Fault("NameLength")
-    if proof.kind == "here" and not 1 <= len(proof.key) <= 4096:
+    if proof.kind == "here" and not 1 <= len(proof.key) <= LONGEST_KEY:
         raise Fault("KeyLength")
     if proof.kind == "here" and proof.name != name:
         raise Fault("WrongName")

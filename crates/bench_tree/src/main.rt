@@ -4,7 +4,7 @@
 //! Without words it registers 1,000 indices in batches of 64, and prints the same each time. With the words INDICES and
 //! BATCH it registers so many in batches of so many, and prints seconds and resident memory too. With the words WORKERS and
 //! DEPTH after them it also times how one more batch is built, and all that is registered under another nonce, by one
-//! worker and by so many at this cutting depth.
+//! worker and by so many at this cutting depth, and how paths are found.
 #![tactic(auto)]
 
 mod counting;
@@ -16,7 +16,7 @@ mod timing;
 use crate::measure::print_cost;
 use crate::plan::plan_of;
 use crate::registering::Registry;
-use crate::timing::{print_builds, print_renewals};
+use crate::timing::{print_builds, print_lookups, print_renewals};
 use anyhow::Result;
 use std::env;
 use std::time::Instant;
@@ -38,6 +38,7 @@ fn main(rt: HostRuntime) -> Result<()> {
     if let Some(crew) = &plan.crew {
         print_builds(&rt, &registry, &plan, crew)?;
         print_renewals(&rt, &registry, crew)?;
+        print_lookups(&rt, &registry)?;
     }
     Ok(())
 }

@@ -1,6 +1,7 @@
 //! How many indices are registered, and in what batches.
 
 ghost use Rattle.std.specs.Prelude.{◌<◌, ◌≤◌, IfOk};
+ghost use Rattle.coniks_work.specs.Limits.{deepest_cut, most_workers};
 
 use anyhow::{Context, Result, ensure};
 use coniks_proof::MAX_OPERATIONS;
@@ -9,20 +10,20 @@ use coniks_work::{MAX_DEPTH, MAX_WORKERS};
 /// So many workers, and the depth at which they cut a batch.
 #[derive(Drop)]
 pub struct Crew {
-    /// 1 to 64.
+    /// 1 to `MAX_WORKERS`.
     pub workers: usize,
-    /// 0 to 8 bits.
+    /// 0 to `MAX_DEPTH` bits.
     pub depth: usize,
     ghost one: { 1 ≤ workers },
-    ghost few: { workers ≤ 64 },
-    ghost shallow: { depth ≤ 8 },
+    ghost few: { workers ≤ most_workers },
+    ghost shallow: { depth ≤ deepest_cut },
 }
 
 /// So many indices in batches of at most so many.
 #[derive(Drop)]
 pub struct Plan {
     pub indices: u64,
-    /// 1 to 4,096.
+    /// 1 to `MAX_OPERATIONS`.
     pub batch: u64,
     /// Whether the cost in seconds and memory is printed.
     pub is_measured: bool,

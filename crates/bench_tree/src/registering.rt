@@ -7,7 +7,7 @@ ghost use Rattle.coniks_tree.specs.declared.table.Record.{Record};
 
 use crate::counting::Counting;
 use crate::plan::{Crew, Plan};
-use coniks_proof::{Digest, Hash32, Index, Nonce, Prefix, Sha256Hash};
+use coniks_proof::{Digest, Hash32, Index, Nonce, Prefix, Proof, Sha256Hash};
 use coniks_samples::{NONCE, add, changes_to, known, record_of};
 use coniks_tree::{Change, OutOfMemory, Part, Record, Root, Tree};
 use coniks_work::{Open, build};
@@ -52,12 +52,16 @@ impl fmt::Display for Renewal {
     }
 }
 
-/// The indices of these numbers, which are SHA-256 of their 8 bytes, in increasing order.
+/// The index of a number, which is SHA-256 of its 8 bytes.
+pub fn index_of(number: u64) -> Index {
+    Index(Sha256Hash.hash(&[&number.to_be_bytes()]).0)
+}
+
+/// The indices of these numbers, in increasing order.
 fn indices_of(alloc: Global, from: u64, to: u64) -> Result<Vec<(Index, u64)>, AllocError> {
     let mut indices = Vec::new(alloc);
     for number in from..to {
-        let index = Index(Sha256Hash.hash(&[&number.to_be_bytes()]).0);
-        indices.push((index, number))?;
+        indices.push((index_of(number), number))?;
     }
     indices.sort()?;
     Ok(indices)
@@ -159,6 +163,14 @@ impl Registry {
             crew.workers,
             &Open,
         )?)
+    }
+
+    /// The authentication path to an index from the latest root; none where there is no root.
+    pub fn path(&self, index: &Index) -> Result<Option<Proof>, OutOfMemory> {
+        match known(&self.tree, self.latest) {
+            Some(root) => Ok(Some(self.tree.path(root, index)?)),
+            None => Ok(None),
+        }
     }
 
     /// All that is registered, as the changes that build it from nothing.

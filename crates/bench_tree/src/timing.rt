@@ -1,8 +1,9 @@
-//! How long one more batch takes to be built, by one worker and by a crew.
+//! How long one more batch takes to be built, all names under another nonce, and a path to be found.
 
 use crate::plan::{Crew, Plan};
-use crate::registering::Registry;
+use crate::registering::{Registry, index_of};
 use anyhow::Result;
+use coniks_proof::Index;
 use coniks_tree::Change;
 use std::rt::Clock;
 use std::thread::Threads;
@@ -13,6 +14,11 @@ const REPEATS: usize = 51;
 
 /// How often each of the two makes every node anew, in turn.
 const RENEWALS: usize = 7;
+
+/// How many paths are looked up in one go, and how often.
+const LOOKUPS: u64 = 10_000;
+
+const ROUNDS: usize = 11;
 
 /// How long a crew takes to build the part of these changes.
 fn build_time<R: Threads + Sync + Clock>(
@@ -96,5 +102,32 @@ pub fn print_renewals<R: Threads + Sync + Clock + Print + AllocGlobal>(
     }
     print_times(rt, "renewal", &one, alone)?;
     print_times(rt, "renewal", crew, together)?;
+    Ok(())
+}
+
+/// How long it takes to find the authentication paths to these indices, one after another.
+fn lookup_time<R: Clock>(rt: &R, registry: &Registry, indices: &[Index]) -> Result<Duration> {
+    let start = Instant::now(rt)?;
+    for index in indices {
+        drop(registry.path(index)?);
+    }
+    Ok(start.elapsed(rt)?)
+}
+
+/// Prints how long it takes one thread to find the authentication paths to the first names, in no order of their indices.
+pub fn print_lookups<R: Clock + Print + AllocGlobal>(rt: &R, registry: &Registry) -> Result<()> {
+    let mut indices = Vec::new(rt.alloc());
+    for number in 0..LOOKUPS {
+        indices.push(index_of(number))?;
+    }
+    let mut times = Vec::with_capacity(rt.alloc(), ROUNDS)?;
+    for _ in 0..ROUNDS {
+        times.push(lookup_time(rt, registry, &indices)?)?;
+    }
+    times.sort_unstable();
+    if let (Some(least), Some(median)) = (times.first(), times.get(times.len() / 2)) {
+        let (least, median) = (least.as_micros(), median.as_micros());
+        println!(rt; "{LOOKUPS} paths: {least} us least, {median} us median")?;
+    }
     Ok(())
 }

@@ -4,7 +4,7 @@ ghost use Rattle.std.specs.Prelude.{◌≤◌, List, ℕ, IfErr, OnOk, length};
 ghost use Rattle.coniks_proof.specs.Registry.{Registry};
 ghost use Rattle.coniks_directory.specs.Batches.{AreWorkers, IsBatchFault, operations};
 
-use coniks_proof::{Bytes, MAX_OPERATIONS, Opening};
+use coniks_proof::{Bytes, MAX_KEY, MAX_NAME, MAX_OPERATIONS, Opening};
 use coniks_work::{MAX_DEPTH, MAX_WORKERS};
 use thiserror::Error;
 
@@ -19,9 +19,9 @@ pub enum OpKind {
 #[derive(Drop)]
 pub struct Op {
     pub kind: OpKind,
-    /// 1 to 255 bytes.
+    /// 1 to `MAX_NAME` bytes.
     pub name: Bytes,
-    /// 1 to 4,096 bytes.
+    /// 1 to `MAX_KEY` bytes.
     pub key: Bytes,
     /// What opens the commitment to the name and the key.
     pub opening: Opening,
@@ -30,9 +30,9 @@ pub struct Op {
 /// What is wrong with an operation: of what applies, the first in this order.
 #[derive(Clone, Copy, Debug, Drop, PartialEq, Eq, Error)]
 pub enum OpFault {
-    #[error("the name is empty or longer than 255 bytes")]
+    #[error("the name is empty or longer than {} bytes", MAX_NAME)]
     NameLength,
-    #[error("the key is empty or longer than 4,096 bytes")]
+    #[error("the key is empty or longer than {} bytes", MAX_KEY)]
     KeyLength,
     #[error("an earlier operation has this name")]
     NameTwice,
@@ -48,11 +48,11 @@ pub enum OpFault {
 /// an operation.
 #[derive(Clone, Copy, Debug, Drop, PartialEq, Eq, Error)]
 pub enum BatchFault {
-    #[error("the number of workers isn't 1 to 64")]
+    #[error("the number of workers isn't 1 to {}", MAX_WORKERS)]
     Workers,
-    #[error("the depth is more than 8")]
+    #[error("the depth is more than {}", MAX_DEPTH)]
     Depth,
-    #[error("there are more than 4,096 operations")]
+    #[error("there are more than {} operations", MAX_OPERATIONS)]
     BatchTooLong,
     /// The first operation at fault, counted from 0, and its first fault.
     #[error("operation {position}: {fault}")]

@@ -194,9 +194,10 @@ impl<H: Hash32 + Sync, X: IndexSource> Directory<H, X> {
     /// all else shared with the epochs before. The directory is only read, so others may look up meanwhile. It may wait,
     /// as it joins its workers.
     ///
-    /// `workers` is 1 to 64, and `depth`, the length in bits of the prefixes that are built apart, 0 to 8. The update is
-    /// the same for every choice of them. After a refusal nothing is left of the batch, and the same call can be made again.
-    /// The epoch keeps the latest one's nonce and the version of its entry; the first has the nonce of `open` and version 1.
+    /// `workers` is 1 to `coniks_work::MAX_WORKERS`, and `depth`, the length in bits of the prefixes that are built apart, 0
+    /// to `coniks_work::MAX_DEPTH`. The update is the same for every choice of them. After a refusal nothing is left of the
+    /// batch, and the same call can be made again. The epoch keeps the latest one's nonce and the version of its entry; the
+    /// first has the nonce of `open` and version 1.
     pub fn prepare<G: Gate + Sync, R: Threads + Sync>(
         &self,
         rt: &R,

@@ -1,7 +1,7 @@
 //! What a lookup answers, and why one isn't answered.
 
 use coniks_chain::Entry;
-use coniks_proof::{Index, Proof};
+use coniks_proof::{Index, MAX_NAME, Proof};
 use thiserror::Error;
 
 /// What a client checks a proof against, with the proof: the entry of the epoch asked, which holds nonce and root, and the
@@ -19,8 +19,8 @@ pub enum LookupFault {
     /// No epoch was installed under exactly this number.
     #[error("there is no such epoch")]
     UnknownEpoch,
-    /// The name is empty or longer than 255 bytes.
-    #[error("the name is empty or longer than 255 bytes")]
+    /// The name is empty or longer than `MAX_NAME` bytes.
+    #[error("the name is empty or longer than {} bytes", MAX_NAME)]
     NameLength,
     /// A growth was refused.
     #[error("out of memory")]

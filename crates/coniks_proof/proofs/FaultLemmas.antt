@@ -3,6 +3,7 @@ use Rattle.std.proofs.Common.{◌≡◌, ◌≢◌, ◌<◌, ◌≤◌, ◌⊎�
 use Rattle.std.specs.Str.{bytes_eq}
 use Rattle.std.proofs.lemmas.Slice.Eq.{bytes_eq-Decides}
 use Rattle.std.proofs.lemmas.Bool.{cases_lt}
+use Rattle.coniks_proof.specs.declared.values.TheConstants.{MAX_KEY, MAX_LEVEL, MAX_NAME}
 use Rattle.coniks_proof.specs.Bits.{first_bits}
 use Rattle.coniks_proof.specs.Faults.{EndHas, Has}
 use Rattle.coniks_proof.specs.Proofs.{EndFits, Accepts, answer_of}
@@ -94,7 +95,7 @@ end_sound : (index name : List ℕ) (level : ℕ) (end : End) → ((fault : Chec
 end_sound index name level Empty none = tt
 end_sound index name level (Other other c) none = (none OtherIsSame, elim (same_bits (first_bits other.0 level) (first_bits index level)) [ inl same ↦ same | inr apart ↦ absurd (none OtherOffPath apart) ])
 end_sound index name level (Here here key o) none =
-    (stable here name (none WrongName), some_there (length key) (λ e. none KeyLength (inl e)), at_most 4096 (length key) (λ e. none KeyLength (inr e)))
+    (stable here name (none WrongName), some_there (length key) (λ e. none KeyLength (inl e)), at_most MAX_KEY (length key) (λ e. none KeyLength (inr e)))
 
 -- no end is too deep, nor has it a fault of the asked name's length or of the root
 end_has_none : (index name : List ℕ) (level : ℕ) (end : End)
@@ -118,9 +119,9 @@ pub no_fault-accepts : (hash : List ℕ → List ℕ) (nonce root index name : L
     → Accepts hash nonce root index name proof (answer_of proof.end)
 no_fault-accepts hash nonce root index name proof none = record {
   well_formed = record {
-    depth = at_most 256 (length proof.siblings) (none TooDeep);
+    depth = at_most MAX_LEVEL (length proof.siblings) (none TooDeep);
     name_given = some_there (length name) (λ e. none NameLength (inl e));
-    name_fits = at_most 255 (length name) (λ e. none NameLength (inr e));
+    name_fits = at_most MAX_NAME (length name) (λ e. none NameLength (inr e));
     end_fits = end_sound index name (length proof.siblings) proof.end (end_none hash nonce root index name proof none);
   };
   root_met = stable _ root (none RootMismatch);

@@ -3,6 +3,7 @@ use Rattle.std.proofs.Common.{◌≡◌, ℕ, List, [], ◌∷◌, true, false, 
 use Rattle.std.proofs.lemmas.Bool.{or_right}
 use Rattle.std.specs.Str.{bytes_eq}
 use Rattle.std.proofs.lemmas.Slice.Eq.{bytes_eq-Decides}
+use Rattle.coniks_proof.specs.declared.values.TheConstants.{MAX_KEY, MAX_NAME}
 use Rattle.coniks_proof.specs.Entries.{Entry, IsIn}
 use Rattle.coniks_proof.specs.Registry.{Registered, Registry, has_name, bound_to, entry_of, entries_of, IsLength, AreWithin}
 
@@ -43,7 +44,7 @@ unnamed (x ∷ xs) name none = (elim (bytes_eq x.name name) as (λ v. cond v (So
   | false ↦ λ is. unnamed xs name is
 ]) none
 
-pub within : (b : Registered) (registry : Registry) → AreWithin registry → IsIn b registry → IsLength 255 b.name × IsLength 4096 b.key
+pub within : (b : Registered) (registry : Registry) → AreWithin registry → IsIn b registry → IsLength MAX_NAME b.name × IsLength MAX_KEY b.key
 within b [] all there = absurd there
-within b (x ∷ xs) all (inl here) = subst (λ (y : Registered). IsLength 255 y.name × IsLength 4096 y.key) here (all.0, all.1)
+within b (x ∷ xs) all (inl here) = subst (λ (y : Registered). IsLength MAX_NAME y.name × IsLength MAX_KEY y.key) here (all.0, all.1)
 within b (x ∷ xs) all (inr later) = within b xs all.2 later

@@ -7,7 +7,7 @@ longest_name = 255
 
 -- the most bytes of a key
 abbrev pub longest_key : ℕ
-longest_key = 4096
+longest_key = 16384
 
 -- the most siblings of a path, and the bits of an index
 abbrev pub deepest_level : ℕ

@@ -94,8 +94,8 @@ impl Digests {
 /// A name and the key that it is bound to.
 #[derive(Drop)]
 pub struct Binding {
-    /// 1 to 255 bytes.
+    /// 1 to `MAX_NAME` bytes.
     pub name: Bytes,
-    /// 1 to 4,096 bytes.
+    /// 1 to `MAX_KEY` bytes.
     pub key: Bytes,
 }

@@ -14,11 +14,11 @@ use thiserror::Error;
 /// Why a proof isn't accepted: of what applies, the first in this order.
 #[derive(Clone, Copy, Debug, Drop, PartialEq, Eq, Error)]
 pub enum CheckFault {
-    #[error("the proof has more than 256 siblings")]
+    #[error("the proof has more than {} siblings", MAX_LEVEL)]
     TooDeep,
-    #[error("the asked name is empty or longer than 255 bytes")]
+    #[error("the asked name is empty or longer than {} bytes", MAX_NAME)]
     NameLength,
-    #[error("the proof's key is empty or longer than 4,096 bytes")]
+    #[error("the proof's key is empty or longer than {} bytes", MAX_KEY)]
     KeyLength,
     #[error("the proof's leaf holds another name")]
     WrongName,

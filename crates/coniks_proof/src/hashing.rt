@@ -90,7 +90,7 @@ pub fn inner_hash<H: Hash32>(h: &H, left: &Digest, right: &Digest) -> Digest
     h.hash(&[&[INNER_TAG], &left.0, &right.0])
 }
 
-/// The commitment to a name of at most 255 bytes and its key of at most 4,096 (CONIKS, section 3.1).
+/// The commitment to a name of at most `MAX_NAME` bytes and its key of at most `MAX_KEY` (CONIKS, section 3.1).
 pub fn commit_hash<'a, H: Hash32>(
     h: &H,
     opening: &'a Opening,

@@ -7,7 +7,7 @@ ghost use Rattle.coniks_proof.specs.Maps.{IsIndex};
 pub const MAX_NAME: usize = 255;
 
 /// The longest key, in bytes. The shortest has one.
-pub const MAX_KEY: usize = 4096;
+pub const MAX_KEY: usize = 16384;
 
 /// The deepest level of the tree, which is the number of an index's bits. The root is at level 0.
 pub const MAX_LEVEL: usize = 256;

@@ -127,10 +127,32 @@ fn commitments(rt: HostRuntime) {
     ] {
         assert_eq!(rt; sealed(name), digest(&rt, want));
     }
-    let name = repeated(&rt, rt.alloc(), b'n', 255);
-    let key = repeated(&rt, rt.alloc(), b'k', 4096);
-    let longest = "e6cff40f63dd173c920d2dd9c66e6f8fe0e121da35f1ad304c41ea3c5f57253f";
-    assert_eq!(rt; sealed_with(&name, &key), digest(&rt, longest));
+}
+
+/// A name and keys of many bytes, up to the longest.
+#[test]
+fn long_commitments(rt: HostRuntime) {
+    for (name, key, want) in [
+        (
+            255,
+            4096,
+            "e6cff40f63dd173c920d2dd9c66e6f8fe0e121da35f1ad304c41ea3c5f57253f",
+        ),
+        (
+            1,
+            16_384,
+            "531ba183dc87f28b12d5d3f9b9f230c7c3f257a7ee7fb294154e5c208a44be9d",
+        ),
+        (
+            255,
+            16_384,
+            "174ae8a1ad4c6df349600a127fa025aee33ab01e6f11f37dca9407040d9291d4",
+        ),
+    ] {
+        let name = repeated(&rt, rt.alloc(), b'n', name);
+        let key = repeated(&rt, rt.alloc(), b'k', key);
+        assert_eq!(rt; sealed_with(&name, &key), digest(&rt, want));
+    }
 }
 
 /// A leaf at level 1.
@@ -292,12 +314,12 @@ fn first_faults(rt: HostRuntime) {
     for (siblings, shape, want) in [
         (257, leaf(b'x', 0), CheckFault::TooDeep),
         (256, leaf(b'x', 0), CheckFault::KeyLength),
-        (0, leaf(b'x', 4097), CheckFault::KeyLength),
-        (256, leaf(b'x', 4096), CheckFault::WrongName),
+        (0, leaf(b'x', 16_385), CheckFault::KeyLength),
+        (256, leaf(b'x', 16_384), CheckFault::WrongName),
         (1, Shape::Beside(0), CheckFault::OtherIsSame),
         (1, Shape::Beside(0x80), CheckFault::OtherOffPath),
         (1, Shape::Beside(0x40), CheckFault::RootMismatch),
-        (256, leaf(b'a', 4096), CheckFault::RootMismatch),
+        (256, leaf(b'a', 16_384), CheckFault::RootMismatch),
         (0, Shape::Nothing, CheckFault::RootMismatch),
     ] {
         let proof = beside(&rt, alloc, siblings, shaped(&rt, alloc, shape));

@@ -6,6 +6,7 @@ use lib.ListN.{get_elem?}
 use Rattle.atomic_table.specs.Table.{Me, step, keeps, Allows, Splits, Joins}
 use Rattle.coniks_shared.specs.declared.claims_rule.DrawerView.{DrawerView}
 use Rattle.coniks_shared.specs.Draws.{times, once_below}
+use Rattle.coniks_shared.specs.Limits.{most_drawers, most_numbers}
 use Rattle.coniks_shared.specs.ClaimsRule.{drawer_view, total, FitsClaims, HoldsClaims, IsByClaims, Drew, after_draw, both_views, spent_view}
 use Rattle.coniks_shared.proofs.TotalLemmas.{total_set, total_snoc, total_at, total_below, total_alone, all_set, all_snoc, times_append, once_next, once_full}
 
@@ -56,7 +57,7 @@ set_there (x ∷ xs) zero v u at = refl
 set_there (x ∷ xs) (suc id) v u at = set_there xs id v u at
 
 -- the word stays far below 2 ^ 64
-small : (n w : ℕ) (views : List DrawerView) → n ≤ 4096 → HoldsClaims n w views → w ≤ 4160
+small : (n w : ℕ) (views : List DrawerView) → n ≤ most_numbers → HoldsClaims n w views → w ≤ most_numbers + most_drawers
 small n w views le h =
     let a : total (λ v. v.outs) views ≤ total (λ v. v.parts) views = total_below (λ v. v.outs) (λ v. v.parts) views (λ i v at. (h.each i v at).outs) in
     let p = h.parts in let m = h.most in omega arith
@@ -68,7 +69,7 @@ draws n slots id me fresh some_part s kept len at bound =
     let is : s.words ≡ w ∷ [] = kept.1.1 in
     let held : HoldsClaims n w s.views = kept.1.2 in
     let found : slice_index s.words 0 ≡ w = ap (λ (l : List ℕ). slice_index l 0) is in
-    let top : w ≤ 4160 = small n w s.views kept.0 held in
+    let top : w ≤ most_numbers + most_drawers = small n w s.views kept.0 held in
     let wraps : (w + 1) % 2 ^ 64 ≡ w + 1 = omega arith in
     let words : slice_set s.words 0 ((slice_index s.words 0 + 1) % 2 ^ 64) ≡ (w + 1) ∷ [] = ap (λ (l : List ℕ). slice_set l 0 ((slice_index l 0 + 1) % 2 ^ 64)) is ∙ ap (λ (k : ℕ). k ∷ []) wraps in
     let after : HoldsClaims n (w + 1) (set s.views id (after_draw me.0 (slice_index s.words 0))) = subst (λ (k : ℕ). HoldsClaims n (w + 1) (set s.views id (after_draw me.0 k))) (sym found) (held_after n w s.views id me.0 held at fresh some_part) in

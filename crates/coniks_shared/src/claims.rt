@@ -66,7 +66,7 @@ impl Model for Drawer {
 }
 
 impl Claims {
-    /// The numbers below `n`, at most 4,096, with their first drawer. It is `NoClaims` only for want of memory.
+    /// The numbers below `n`, at most `MAX_NUMBERS`, with their first drawer. It is `NoClaims` only for want of memory.
     pub fn new(alloc: Global, n: usize) -> Result<(Claims, Drawer), NoClaims>
         requires { n ≤ most_numbers }
         ensures { IfOk result (λ r. (r.0.limit ≡ n) × (r.1 ≡ drawing r.0.table n [] false true 0)) }

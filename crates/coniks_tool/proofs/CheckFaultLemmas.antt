@@ -5,6 +5,7 @@ use Rattle.std.proofs.lemmas.Option.{same_Some}
 use Rattle.std.proofs.lemmas.Bool.{cases_lt, false≢true, false_from_ne_true}
 use Rattle.std.proofs.lemmas.Bool.Decides.{Decides-eqb, Decides-ltb, Decides-not, Decides-or}
 use Rattle.std.proofs.lemmas.Slice.Eq.{bytes_eq-Decides}
+use Rattle.coniks_proof.specs.declared.values.TheConstants.{MAX_KEY}
 use Rattle.coniks_proof.specs.Bits.{first_bits}
 use Rattle.coniks_proof.specs.Proofs.{Accepts, answer_of, preimage}
 use Rattle.coniks_proof.proofs.Lemmas.{accepts-no_fault, no_fault-accepts}
@@ -43,7 +44,7 @@ never = (λ on. false≢true on, λ no. absurd no)
 
 -- the test of an end tells whether it has the fault
 end-decides : (index name : List ℕ) (level : ℕ) (end : End) (fault : CheckFault) → Decides (end_has index name level end fault) (EndHas index name level end fault)
-end-decides index name level (Here here key o) KeyLength = Decides-or _ _ (Decides-eqb (length key) 0) (Decides-ltb 4096 (length key))
+end-decides index name level (Here here key o) KeyLength = Decides-or _ _ (Decides-eqb (length key) 0) (Decides-ltb MAX_KEY (length key))
 end-decides index name level (Here here key o) WrongName = Decides-not _ (bytes_eq-Decides here name)
 end-decides index name level (Here here key o) TooDeep = never
 end-decides index name level (Here here key o) NameLength = never

@@ -91,7 +91,7 @@ run-limits run workers depth words none is =
     let workers_pass = level-passes workers_rule run words workers none in
     let depth_passes = level-passes depth_rule run words depth none in (
       number-within workers_rule 1 64 1 rows refl (omega arith) (omega arith) (omega arith) workers_pass,
-      (number-within depth_rule 0 8 0 rows refl (omega arith) (omega arith) (omega arith) depth_passes).1,
+      (number-within depth_rule 0 12 0 rows refl (omega arith) (omega arith) (omega arith) depth_passes).1,
     )
 
 other-limits : (s : Shape) → bytes_eq s.name (codes "run") ≡ false → Limits s

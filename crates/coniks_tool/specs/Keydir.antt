@@ -16,13 +16,13 @@ workers_rule = record (new_rule (codes "workers")) {
   parser = Some (parser.Signed (pos 1) (pos 64));
 }
 
--- `--depth`, a number from 0 to 8
+-- `--depth`, a number from 0 to 12
 abbrev pub depth_rule : Rule
 depth_rule = record (new_rule (codes "depth")) {
   long = Some (codes "depth");
   value_names = 1;
   defaults = codes "0" ∷ [];
-  parser = Some (parser.Signed (pos 0) (pos 8));
+  parser = Some (parser.Signed (pos 0) (pos 12));
 }
 
 -- `run`, which has workers and a depth

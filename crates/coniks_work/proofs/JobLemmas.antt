@@ -7,10 +7,12 @@ use Rattle.coniks_proof.specs.Bits.{child}
 use Rattle.coniks_proof.specs.Entries.{under}
 use Rattle.coniks_proof.specs.Changes.{AreInOrder}
 use Rattle.coniks_proof.proofs.Lemmas.{length-child}
+use Rattle.coniks_shared.specs.Limits.{most_numbers}
 use Rattle.coniks_tree.specs.Table.{Numbered}
 use Rattle.coniks_work.specs.Sides.{lefts, side}
 use Rattle.coniks_work.specs.Jobs.{in_range, Cover, IsLeftOf, AreRising, TakeTheirs, LieWithin, job_of, jobs_below}
 use Rattle.coniks_work.specs.declared.jobs.Job.{Job}
+use Rattle.coniks_work.specs.declared.jobs.TheConstants.{MAX_DEPTH}
 use Rattle.coniks_work.proofs.SideLemmas.{lefts_few, length-left, length-right, sides_whole, side_in_order, side_under}
 
 pub no_jobs : (h : ℕ) (p : List Bool) (from : ℕ) → jobs_below h p from [] ≡ []
@@ -62,8 +64,8 @@ jobs_few (suc h) p from (e ∷ es) =
       length-append (jobs_below h (child p false) from (side false (length p) all)) (jobs_below h (child p true) (from + n) (side true (length p) all)),
     )
 
-pub jobs_at_most : (h : ℕ) (p : List Bool) (from : ℕ) (es : List Numbered) → h ≤ 8 → length (jobs_below h p from es) ≤ 256
-jobs_at_most h p from es le = let most : 2 ^ h ≤ 2 ^ 8 = pow_mono le in omega (arith, jobs_few h p from es)
+pub jobs_at_most : (h : ℕ) (p : List Bool) (from : ℕ) (es : List Numbered) → h ≤ MAX_DEPTH → length (jobs_below h p from es) ≤ most_numbers
+jobs_at_most h p from es le = let most : 2 ^ h ≤ 2 ^ MAX_DEPTH = pow_mono le in omega (arith, jobs_few h p from es)
 
 pub jobs_long : (h : ℕ) (p : List Bool) (from n : ℕ) (es : List Numbered) → length p + h ≡ n → All (λ (j : Job). length j.prefix ≡ n) (jobs_below h p from es)
 jobs_long zero p from n [] is = All-nil (λ (j : Job). length j.prefix ≡ n)

@@ -7,4 +7,4 @@ most_workers = 64
 
 -- the most bits of the prefixes that are built apart
 abbrev pub deepest_cut : ℕ
-deepest_cut = 8
+deepest_cut = 12

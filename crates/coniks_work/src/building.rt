@@ -33,10 +33,11 @@ fn unchanged_part(root: Option<Root>) -> Part
 /// The part of the empty prefix for an epoch: what the old root shows, or the empty map where there is none, overwritten
 /// by the changes. It is the same for every number of workers and every depth, and so is the count of its new nodes.
 ///
-/// `workers` is 1 to 64, and `depth`, the length in bits of the prefixes that are grown apart, 0 to 8. The changes are in
-/// increasing order of index, and each index once. The caller's thread is one of the workers; there are never more workers
-/// than jobs, so a lone job starts no thread. Where a thread, a drawer or the claims can't be had there are fewer workers.
-/// It is `OutOfMemory` where a job is refused memory, in whatever worker, or the call itself. The tree is only read.
+/// `workers` is 1 to `MAX_WORKERS`, and `depth`, the length in bits of the prefixes that are grown apart, 0 to `MAX_DEPTH`.
+/// The changes are in increasing order of index, and each index once. The caller's thread is one of the workers; there
+/// are never more workers than jobs, so a lone job starts no thread. Where a thread, a drawer or the claims can't be had
+/// there are fewer workers. It is `OutOfMemory` where a job is refused memory, in whatever worker, or the call itself. The
+/// tree is only read.
 ///
 /// For b changes, b at least 1, the part has at most `512 * b + 1` new nodes. Without changes it is the old root, kept, or
 /// nothing.

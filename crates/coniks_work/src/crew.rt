@@ -4,6 +4,7 @@ ghost use Rattle.std.specs.Prelude.{◌≡◌, ℕ, ◌≤◌, ◌<◌, [], true
 ghost use Rattle.coniks_work.specs.Crews.{AllFresh, AllFinished, drawers_of};
 ghost use Rattle.coniks_work.specs.Places.{AllFrom, StandsAt};
 ghost use Rattle.coniks_shared.specs.Drawers.{drawing, HasFirst};
+ghost use Rattle.coniks_shared.specs.Limits.{most_drawers, most_numbers};
 
 use crate::gate::Gate;
 use crate::places::{place, room, unwrapped};
@@ -29,7 +30,7 @@ fn hire(
     mut first: Drawer,
     workers: usize,
 ) -> Result<Vec<Worker>, AllocError>
-    requires { (1 ≤ workers) × (workers ≤ 64) × (first ≡ drawing claims.now.table claims.now.limit [] false true 0) }
+    requires { (1 ≤ workers) × (workers ≤ most_drawers) × (first ≡ drawing claims.now.table claims.now.limit [] false true 0) }
     ensures fresh { IfOk result (λ v. (0 < length v.items) × AllFresh claims.now claims.now.limit v.items) }
     ensures few { IfOk result (λ v. length v.items ≤ workers) }
     ensures first { IfOk result (λ v. HasFirst (drawers_of v.items) (length v.items)) }
@@ -63,7 +64,7 @@ fn collect<W: Work>(
 ) -> Result<(), AllocError>
     requires parts { AllFinished claims (W.part work.now) crew.items }
     requires first { (0 < length crew.items) × HasFirst (drawers_of crew.items) (length crew.items) }
-    requires len { (length placed.old ≡ claims.limit) × (claims.limit ≤ 4096) }
+    requires len { (length placed.old ≡ claims.limit) × (claims.limit ≤ most_numbers) }
     ensures len { length placed.new ≡ length placed.old }
     ensures stand { OnOk result ((j : ℕ) → j < claims.limit → StandsAt (W.part work.now) placed.new j) }
 {
@@ -115,8 +116,8 @@ pub(crate) fn all_parts<W: Work + Sync, G: Gate + Sync, R: Threads + Sync>(
     work: &W,
     gate: &G,
 ) -> Result<Vec<Part>, OutOfMemory>
-    requires workers { (1 ≤ workers) × (workers ≤ 64) }
-    requires count { (count ≡ W.count work.now) × (count ≤ 4096) }
+    requires workers { (1 ≤ workers) × (workers ≤ most_drawers) }
+    requires count { (count ≡ W.count work.now) × (count ≤ most_numbers) }
     ensures { IfOk result (λ v. AllFrom (W.part work.now) 0 v.items × (length v.items ≡ count)) }
 {
     let workers = crew_size(workers, count);

@@ -2,6 +2,7 @@
 
 ghost use Rattle.std.specs.Prelude.{◌≡◌, ◌<◌, ◌≤◌, ◌+◌, ◌-◌, ◌++◌, ◌^◌, [], length, All, IfOk, OnOk};
 ghost use Rattle.coniks_proof.specs.Changes.{AreInOrder};
+ghost use Rattle.coniks_shared.specs.Limits.{most_numbers};
 ghost use Rattle.coniks_tree.specs.Parts.{entries_of};
 ghost use Rattle.coniks_work.specs.Jobs.{jobs_below, Cover, AreRising, LieWithin, TakeTheirs};
 
@@ -12,7 +13,7 @@ use std::alloc::{AllocError, Global};
 use std::cmp::min;
 
 /// The greatest cutting depth, in bits.
-pub const MAX_DEPTH: usize = 8;
+pub const MAX_DEPTH: usize = 12;
 
 /// What a worker does at once: the part of one prefix, for the changes from one place, included, to another, left out.
 /// A job has at least one change.
@@ -49,7 +50,7 @@ fn split_below(
     Ok(split_below(jobs, depth, prefix.child(true), from + left.len(), right)?)
 }
 
-/// The jobs of the changes, at most 256.
+/// The jobs of the changes, no more than the claims take.
 pub(crate) fn all_jobs(
     alloc: Global,
     changes: &[Change],
@@ -57,7 +58,7 @@ pub(crate) fn all_jobs(
 ) -> Result<Vec<Job>, AllocError>
     requires { depth ≤ MAX_DEPTH }
     ensures jobs { IfOk result (λ jobs. jobs.items ≡ jobs_below depth [] 0 (entries_of changes.now)) }
-    ensures few { IfOk result (λ jobs. length jobs.items ≤ 256) }
+    ensures few { IfOk result (λ jobs. length jobs.items ≤ most_numbers) }
     ensures some { IfOk result (λ jobs. 0 < length changes.now → 0 < length jobs.items) }
     ensures within { IfOk result (λ jobs. LieWithin (length changes.now) jobs.items) }
 {
@@ -66,9 +67,10 @@ pub(crate) fn all_jobs(
     Ok(jobs)
 }
 
-/// The jobs of changes, which are in increasing order of index: one for each prefix of this depth, 0 to 8 bits, that
-/// begins a change's index, in increasing order, with its range of the changes. The ranges follow one another and leave
-/// no change out. No changes give no jobs, and depth 0 gives one job where there is a change. No change is copied.
+/// The jobs of changes, which are in increasing order of index: one for each prefix of this depth, 0 to `MAX_DEPTH`
+/// bits, that begins a change's index, in increasing order, with its range of the changes. The ranges follow one another
+/// and leave no change out. No changes give no jobs, and depth 0 gives one job where there is a change. No change is
+/// copied.
 pub fn split(alloc: Global, changes: &[Change], depth: usize) -> Result<Vec<Job>, OutOfMemory>
     requires { depth ≤ MAX_DEPTH }
     ensures cover { IfOk result (λ jobs. Cover 0 (length changes.now) jobs.items) }

@@ -2,6 +2,7 @@
 
 ghost use Rattle.std.specs.Prelude.{◌≡◌, ℕ, ◌≤◌, ◌<◌, [], length, IfOk, Some};
 ghost use Rattle.std.proofs.Math.ListN.{set};
+ghost use Rattle.coniks_shared.specs.Limits.{most_numbers};
 ghost use Rattle.coniks_work.specs.Places.{numbers, AreParts, AllFrom, StandsAt, Places};
 
 use crate::work::Work;
@@ -22,7 +23,7 @@ pub(crate) fn room(alloc: Global, count: usize) -> Result<Vec<Option<Part>>, All
 
 /// Puts one part into its place.
 fn put(placed: &mut [Option<Part>], job: usize, part: Part)
-    requires { (job < length placed.old) × (length placed.old ≤ 4096) }
+    requires { (job < length placed.old) × (length placed.old ≤ most_numbers) }
     ensures { placed.new ≡ set placed.old job (Some part) }
 {
     drop(replace(&mut placed[job], Some(part)));
@@ -31,7 +32,7 @@ fn put(placed: &mut [Option<Part>], job: usize, part: Part)
 /// Puts each part into its place.
 pub(crate) fn place<W: Work>(placed: &mut [Option<Part>], mut done: Vec<(usize, Part)>, work: &W)
     requires parts { AreParts (W.part work.now) (length placed.old) done.items }
-    requires few { length placed.old ≤ 4096 }
+    requires few { length placed.old ≤ most_numbers }
     ensures len { length placed.new ≡ length placed.old }
     ensures places { Places (W.part work.now) placed.old placed.new (numbers done.items) [] }
 {

@@ -1,6 +1,8 @@
 //! How many there are of each.
 
 ghost use Rattle.std.specs.Prelude.{◌≡◌, ◌≤◌, IfOk};
+ghost use Rattle.coniks_shared.specs.Limits.{most_heads};
+ghost use Rattle.coniks_work.specs.Limits.{most_workers};
 
 use anyhow::{Context, Result, ensure};
 use coniks_proof::MAX_OPERATIONS;
@@ -18,8 +20,8 @@ pub struct Plan {
     pub lookups: usize,
     /// Whether what differs from run to run is printed.
     pub is_measured: bool,
-    ghost some: { (1 ≤ epochs) × (epochs ≤ 65536) },
-    ghost crew: { (1 ≤ workers) × (workers ≤ 64) },
+    ghost some: { (1 ≤ epochs) × (epochs ≤ most_heads) },
+    ghost crew: { (1 ≤ workers) × (workers ≤ most_workers) },
     ghost watched: { 1 ≤ watchers },
 }
 

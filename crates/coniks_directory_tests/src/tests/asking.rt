@@ -45,9 +45,9 @@ fn is_sound<R: Threads + Sync + Abort>(
 const OPERATIONS: [(usize, usize, bool, u64); 5] = [
     (256, 1, false, 0),
     (0, 1, false, 0),
-    (1, 4097, false, 0),
+    (1, 16_385, false, 0),
     (1, 0, false, 0),
-    (255, 4096, true, 1),
+    (255, 16_384, true, 1),
 ];
 
 /// Prepares each operation.

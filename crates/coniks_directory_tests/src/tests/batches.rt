@@ -30,9 +30,9 @@ fn place_of(fault: Option<BatchFault>) -> Option<(usize, OpFault)> {
     }
 }
 
-/// An operation with a name and a key of so many bytes `b`, at most 4,097.
+/// An operation with a name and a key of so many bytes `b`, at most 16,385.
 pub fn sized(rt: &impl Abort, alloc: Global, name: usize, key: usize) -> Op {
-    let letters = [b'b'; 4097];
+    let letters = [b'b'; 16_385];
     let (name, key) = (letters.get(..name), letters.get(..key));
     Op {
         kind: OpKind::Register,
@@ -70,11 +70,11 @@ fn limits(rt: HostRuntime) {
         fault: OpFault::NameLength,
     };
     for &(count, depth, workers, fault) in &[
-        (4097, 9, 0, BatchFault::Workers),
-        (4097, 9, 65, BatchFault::Workers),
-        (4097, 9, 64, BatchFault::Depth),
-        (4097, 8, 1, BatchFault::BatchTooLong),
-        (4096, 8, 64, no_name),
+        (4097, 13, 0, BatchFault::Workers),
+        (4097, 13, 65, BatchFault::Workers),
+        (4097, 13, 64, BatchFault::Depth),
+        (4097, 12, 1, BatchFault::BatchTooLong),
+        (4096, 12, 64, no_name),
     ] {
         let got = fault_of_many(&rt, rt.alloc(), count, depth, workers);
         assert_eq!(rt; got, Some(fault));
@@ -97,12 +97,13 @@ fn second_of_size<R: Threads + Sync + Abort>(
 #[test]
 fn lengths(rt: HostRuntime) {
     for (name, key, fault) in [
-        (255, 4096, None),
-        (256, 4097, Some((1, OpFault::NameLength))),
+        (255, 4097, None),
+        (255, 16_384, None),
+        (256, 16_385, Some((1, OpFault::NameLength))),
         (0, 0, Some((1, OpFault::NameLength))),
-        (1, 4097, Some((1, OpFault::KeyLength))),
+        (1, 16_385, Some((1, OpFault::KeyLength))),
         (1, 0, Some((1, OpFault::KeyLength))),
-        (1, 4096, Some((1, OpFault::NameTwice))),
+        (1, 16_384, Some((1, OpFault::NameTwice))),
     ] {
         assert_eq!(rt; second_of_size(&rt, rt.alloc(), name, key), fault);
     }
@@ -239,7 +240,7 @@ fn makes_same<R: Threads + Sync + Abort>(
 #[test]
 fn same_for_every_crew(rt: HostRuntime) {
     for &workers in &[1, 2, 7, 64] {
-        for &depth in &[0, 1, 8] {
+        for &depth in &[0, 1, 8, 12] {
             let same = makes_same(&rt, rt.alloc(), depth, workers);
             assert!(rt; same, "{workers} workers at depth {depth}");
         }

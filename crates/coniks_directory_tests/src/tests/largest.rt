@@ -41,7 +41,7 @@ fn most(rt: &impl Abort, alloc: Global) -> Vec<Op> {
     for number in 0..4095 {
         ops.push(numbered(rt, alloc, number)).expect(rt, "memory");
     }
-    ops.push(sized(rt, alloc, 255, 4096)).expect(rt, "memory");
+    ops.push(sized(rt, alloc, 255, 16_384)).expect(rt, "memory");
     ops
 }
 
@@ -71,7 +71,7 @@ fn largest_batch(rt: HostRuntime) {
     let entry = directory.commit(
         &rt,
         &ops,
-        8,
+        12,
         4,
         &Open,
         1,
@@ -81,10 +81,10 @@ fn largest_batch(rt: HostRuntime) {
     );
     assert!(rt; entry.is_ok());
     assert_eq!(rt; directory.nodes(), 12_205);
-    let root = "1bc468f4a942f367dff260d1c8ba80831d404d68095437b86e8dacc36802202d";
+    let root = "dc8fccd2b142454a80b5f5bb4361fed549b910534e87818985abeb04797a199b";
     assert!(rt; directory.root_at(1) == Some(digest(&rt, root)));
     assert_eq!(rt; key_of(&rt, &directory, &4094u32.to_be_bytes()), 1);
-    assert_eq!(rt; key_of(&rt, &directory, &[b'b'; 255]), 4096);
+    assert_eq!(rt; key_of(&rt, &directory, &[b'b'; 255]), 16_384);
 }
 
 /// Commits as many epochs as a board has heads, and one more, which is refused.

@@ -201,18 +201,18 @@ fn no_collision_known(rt: HostRuntime) {
     }
 }
 
-/// The longest name with a key of 4,096 of one letter, below as many siblings as a proof can have.
+/// The longest name with the longest key of one letter, below as many siblings as a proof can have.
 fn longest(rt: &impl Abort, alloc: Global, name: &[u8], key: u8) -> Proof {
-    let end = here(rt, alloc, name, &repeated(rt, alloc, key, 4096));
+    let end = here(rt, alloc, name, &repeated(rt, alloc, key, 16_384));
     beside(rt, alloc, 256, end)
 }
 
-/// Whether bytes are what is hashed to the commitment to the longest name with a key of 4,096 of one letter.
+/// Whether bytes are what is hashed to the commitment to the longest name with the longest key of one letter.
 fn is_longest(rt: &impl Abort, alloc: Global, bytes: &[u8], name: &[u8], key: u8) -> bool {
-    let key = repeated(rt, alloc, key, 4096);
+    let key = repeated(rt, alloc, key, 16_384);
     is_joined(
         bytes,
-        &[b"C", &OPENING.0, b"\x00\xff", name, b"\0\0\x10\0", &key],
+        &[b"C", &OPENING.0, b"\x00\xff", name, b"\0\0\x40\0", &key],
     )
 }
 

@@ -6,8 +6,8 @@ ghost use Rattle.coniks_work.specs.declared.jobs.TheConstants.{MAX_DEPTH};
 
 use std::thread::Threads;
 
-/// How many workers build an epoch, 1 to 64, and the length in bits of the prefixes that they build apart, 0 to 8. No
-/// answer depends on either.
+/// How many workers build an epoch, and the length in bits of the prefixes that they build apart, both within the limits
+/// of `coniks_work::build`. No answer depends on either.
 #[derive(Drop)]
 pub struct Crew<'r, T: Threads + Sync> {
     pub rt: &'r T,

@@ -131,8 +131,9 @@ impl<'r, T: Threads + Sync> LineMachine for Script<'r, T> {
 }
 
 /// Answers each line of the reader by one line and one flush, until a read answers 0: `open`, `batch` and `lookup` over
-/// one directory, whose epochs are built by `workers` workers, 1 to 64, over prefixes of `depth` bits, 0 to 8. No answer
-/// depends on either. Tells whether each line was accepted. It may wait, as it joins its workers.
+/// one directory, whose epochs are built by `workers` workers over prefixes of `depth` bits, both within the limits of
+/// `coniks_work::build`. No answer depends on either. Tells whether each line was accepted. It may wait, as it joins its
+/// workers.
 ///
 /// # Errors
 ///

@@ -5,8 +5,8 @@ use clap::Error;
 /// What the words ask for.
 #[derive(Clone, Copy, Debug, PartialEq, Eq)]
 pub enum Settings<'a> {
-    /// Answer the lines of the standard input. Epochs are built by so many workers, 1 to 64, over prefixes of so many
-    /// bits, 0 to 8.
+    /// Answer the lines of the standard input. Epochs are built by so many workers over prefixes of so many bits, both
+    /// within the limits of `coniks_work::build`.
     Run {
         workers: usize,
         depth: usize,

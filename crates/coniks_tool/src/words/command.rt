@@ -32,10 +32,10 @@ fn depth_option<'a>(alloc: Global) -> Arg<'a>
 {
     Arg::new(alloc, "depth")
         .long("depth")
-        .value_parser(clap::value_parser!(u8).range(0..=8))
-        .value_name("0-8")
+        .value_parser(clap::value_parser!(u8).range(0..=12))
+        .value_name("0-12")
         .default_value("0")
-        .help("The length in bits of the prefixes that are built apart, 0 to 8")
+        .help("The length in bits of the prefixes that are built apart, 0 to 12")
 }
 
 fn run_command<'a>(alloc: Global) -> Result<Command<'a>, AllocError>

@@ -2,8 +2,9 @@
 
 ghost use Rattle.std.specs.Prelude.{◌≤◌};
 
-use crate::building::build;
+use crate::building::{MAX_WORKERS, build};
 use crate::gate::Gate;
+use crate::jobs::MAX_DEPTH;
 use coniks_proof::{Digest, Sha256Hash};
 use coniks_samples::{Bound, NONCE, changes_to, index_of, records_of};
 use coniks_tree::{Change, OutOfMemory, Tree};
@@ -43,7 +44,7 @@ pub fn first_epoch<G: Gate + Sync, R: Threads + Sync>(
     workers: usize,
     gate: &G,
 ) -> Result<(usize, Digest), OutOfMemory>
-    requires { (depth ≤ 8) × (1 ≤ workers) × (workers ≤ 64) }
+    requires { (depth ≤ MAX_DEPTH) × (1 ≤ workers) × (workers ≤ MAX_WORKERS) }
 {
     let changes = changes_of(alloc, bindings)?;
     let tree = Tree::new(alloc);

@@ -61,7 +61,7 @@ fn same_for_every_crew(rt: HostRuntime) {
         "2288c8bbb44a79286bb3a55394a2760c9e76740fc19461f8fc57104a8ed5e409",
     );
     for workers in [1, 2, 7, 64] {
-        for depth in [0, 1, 8] {
+        for depth in [0, 1, 8, 12] {
             let built = first_epoch(&rt, rt.alloc(), &names, depth, workers, &Open);
             let (nodes, root) = built.expect(&rt, "memory");
             assert_eq!(rt; nodes, 79);
@@ -73,7 +73,7 @@ fn same_for_every_crew(rt: HostRuntime) {
 #[test]
 fn jobs_of_four(rt: HostRuntime) {
     let changes = changes_of(rt.alloc(), &four()).expect(&rt, "memory");
-    for (depth, count) in [(0, 1), (1, 2), (2, 3), (3, 4), (8, 4)] {
+    for (depth, count) in [(0, 1), (1, 2), (2, 3), (3, 4), (12, 4)] {
         let jobs = split(rt.alloc(), &changes, depth).expect(&rt, "memory");
         assert_eq!(rt; jobs.len(), count);
     }
@@ -97,11 +97,12 @@ fn most(alloc: Global) -> Result<Vec<Bound>, AllocError> {
 fn most_jobs(rt: HostRuntime) {
     let names = most(rt.alloc()).expect(&rt, "memory");
     let changes = changes_of(rt.alloc(), &names).expect(&rt, "memory");
-    let jobs = split(rt.alloc(), &changes, 8).expect(&rt, "memory");
-    assert_eq!(rt; jobs.len(), 256);
-    let built = first_epoch(&rt, rt.alloc(), &names, 8, 64, &Open);
-    let (nodes, root) = built.expect(&rt, "memory");
-    assert_eq!(rt; nodes, 8191);
     let want = "b4a78889400c2799436e930a02ccd8c935afe40650dc0310e44c38c9f2b67f96";
-    assert_eq!(rt; root, digest(&rt, want));
+    let want = digest(&rt, want);
+    for (depth, count) in [(8, 256), (11, 2048), (12, 4096)] {
+        let jobs = split(rt.alloc(), &changes, depth).expect(&rt, "memory");
+        assert_eq!(rt; jobs.len(), count);
+        let built = first_epoch(&rt, rt.alloc(), &names, depth, 64, &Open);
+        assert_eq!(rt; built.expect(&rt, "memory"), (8191, want));
+    }
 }

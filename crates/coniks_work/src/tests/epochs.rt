@@ -4,6 +4,7 @@ ghost use Rattle.std.specs.Prelude.{◌≤◌};
 
 use crate::building::build;
 use crate::gate::Open;
+use crate::jobs::MAX_DEPTH;
 use coniks_proof::{Digest, Sha256Hash};
 use coniks_samples::{Added, Bound, NONCE, add, changes_to, known, records_of};
 use coniks_tree::{OutOfMemory, Root, Tree};
@@ -34,7 +35,7 @@ impl Epochs {
         depth: usize,
         bindings: &[Bound],
     ) -> Result<Added, OutOfMemory>
-        requires { depth ≤ 8 }
+        requires { depth ≤ MAX_DEPTH }
     {
         let records = records_of(self.alloc, &Sha256Hash, bindings)?;
         let changes = changes_to(self.alloc, self.tree.records(), &records)?;
