@@ -34,3 +34,6 @@ returns-then-is_err-2-clause-err g c =
     λ still.
     stops_at_flush answer state c.args.line.now c.deref.result.now (sink c.args.writer.now) (sink c.write_all.new.writer) (sink c.flush.new.self) still
     text wrote.ok wrote.flushes wrote.writes_on c.flush.ensures.written flushed failed
+
+pub returns-clause-ok : goal.returns-clause-ok
+returns-clause-ok g c = grind (arith, common_steps)

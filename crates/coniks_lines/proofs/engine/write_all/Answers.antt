@@ -1,4 +1,4 @@
-use Rattle.std.proofs.Common.{ℕ, ◌+◌, ◌-◌, List, length, take, drop, arith, ap, subst, ◌∙◌}
+use Rattle.std.proofs.Common.{ℕ, ◌+◌, ◌-◌, List, length, take, drop, arith, refl, ap, subst, ◌∙◌}
 use Rattle.std.proofs.Math.Seq.{take-add}
 use Rattle.std.proofs.lemmas.Grind.{common_steps}
 use Rattle.std.proofs.lemmas.List.{take_rest, length-drop}
@@ -25,3 +25,9 @@ loop-done-preserved g c =
       writes_on = WritesOn-then (sink c.args.writer.now) mid new c.loop-done.invariant.writes_on on;
       flushes = c.in-Ok.ensures.flushes ∙ c.loop-done.invariant.flushes;
     }
+
+pub returns-in_default-clause-err : goal.returns-in_default-clause-err
+returns-in_default-clause-err g c = refl
+
+pub returns-clause-ok : goal.returns-clause-ok
+returns-clause-ok g c = grind (arith, common_steps)

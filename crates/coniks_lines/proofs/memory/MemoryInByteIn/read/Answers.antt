@@ -1,4 +1,5 @@
-use Rattle.std.proofs.Common.{◌≡◌, ℕ, ◌+◌, ◌-◌, List, ◌≤◌, length, take, drop, ◌++◌, arith, ap, sym, ◌∙◌}
+use Rattle.std.proofs.Common.{◌≡◌, ℕ, ◌+◌, ◌-◌, List, ◌≤◌, length, take, drop, ◌++◌, arith, refl, ap, sym, ◌∙◌}
+use Rattle.std.proofs.lemmas.Grind.{common_steps}
 use Rattle.std.proofs.lemmas.List.{take-append-drop, drop-drop, length-take, take_at, take_rest}
 use Rattle.coniks_lines.proofs.memory.MemoryInByteIn.read.Goals as goal
 
@@ -21,3 +22,9 @@ returns-else-count-eq0-clause-taken c =
     let fits : c.min-count.result ≤ length (drop at bytes) = omega (arith, k, ap length slice) in
     let is : c.copy_from_slice.new.self ≡ take c.min-count.result (drop at bytes) = c.copy_from_slice.ensures.after ∙ ap (take c.min-count.result) slice in
     parts bytes c.copy_from_slice.new.self (drop c.min-count.result c.args.buffer.now) at c.min-count.result fits is
+
+pub returns-then-count-eq0-clause-none_left : goal.returns-then-count-eq0-clause-none_left
+returns-then-count-eq0-clause-none_left c = grind (arith, common_steps)
+
+pub returns-then-count-eq0-clause-ends : goal.returns-then-count-eq0-clause-ends
+returns-then-count-eq0-clause-ends c = rw c.if-count-eq0.true refl
