@@ -17,6 +17,7 @@
 #![tactic(auto)]
 
 pub mod bits;
+pub mod borrowed;
 pub mod bytes;
 pub mod checker;
 pub mod collision;
@@ -28,8 +29,9 @@ mod strings;
 pub mod values;
 
 pub use bits::{Prefix, bit};
+pub use borrowed::{BorrowedEnd, BorrowedProof, Siblings};
 pub use bytes::{Binding, Bytes, Digests};
-pub use checker::{CheckFault, check};
+pub use checker::{CheckFault, check, check_borrowed};
 pub use collision::{Collision, extract};
 pub use hashing::{Flat, Hash32, Sha256Hash, commit_hash, empty_hash, inner_hash, leaf_hash};
 pub use paths::{Answer, End, Proof};
