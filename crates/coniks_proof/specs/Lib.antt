@@ -7,6 +7,7 @@ pub mod Paths
 pub mod Maps
 pub mod Proofs
 pub mod Borrowed
+pub mod Wire
 pub mod Faults
 pub mod Collisions
 pub mod Meetings

@@ -27,6 +27,7 @@ mod meeting;
 pub mod paths;
 mod strings;
 pub mod values;
+pub mod wire;
 
 pub use bits::{Prefix, bit};
 pub use borrowed::{BorrowedEnd, BorrowedProof, Siblings};
@@ -38,3 +39,4 @@ pub use paths::{Answer, End, Proof};
 pub use values::{
     Digest, Head, Index, MAX_KEY, MAX_LEVEL, MAX_NAME, MAX_OPERATIONS, Nonce, Opening,
 };
+pub use wire::WireFault;
