@@ -5,10 +5,11 @@ use Rattle.std.specs.Simd.{first_chunks}
 use Rattle.std.specs.List.{IsSplitAt}
 use Rattle.std.proofs.Math.Seq.{drop-append_seam}
 use Rattle.std.proofs.lemmas.Nat.{be_bytes_2, be_bytes_4, from_be_bytes-to_be_bytes_2, from_be_bytes-to_be_bytes_4}
-use Rattle.std.proofs.lemmas.List.{length-append, length-drop, length-map, length-take-le, take-append-drop}
+use Rattle.std.proofs.lemmas.List.{length-append, length-drop, length-map, length-take-le, take-append-drop, take_more}
 use Rattle.coniks_proof.proofs.PreimageLemmas.{be2_same, commitment_same, split_same}
 use Rattle.coniks_proof.specs.Borrowed.{digest_of}
-use Rattle.coniks_proof.specs.Wire.{AreSized, EndHas, FrontHas, IsEndOf, IsFirstFault, IsFront, IsWire, IsWritable, IsWritableEnd, WireHas, after_key, after_name, count_in, end_bytes, end_in, kind_of, long_length, order, short_length, sibling_bytes}
+use Rattle.coniks_proof.specs.Proofs.{Accepts, EndFits}
+use Rattle.coniks_proof.specs.Wire.{AreSized, EndHas, FrontHas, HasRoom, IsEndOf, IsFirstFault, IsFront, IsWire, IsWritable, IsWritableEnd, WireHas, after_key, after_name, count_in, end_bytes, end_in, key_length, kind_of, long_length, name_length, order, short_length, sibling_bytes}
 use Rattle.coniks_proof.specs.declared.values.Digest.{Digest}
 use Rattle.coniks_proof.specs.declared.paths.Proof.{Proof}
 use Rattle.coniks_proof.specs.declared.paths.End.{End}
@@ -438,3 +439,36 @@ wire_same bytes p q wp wq =
     let siblings = same_siblings p.siblings q.siblings wp.writable.sized wq.writable.sized many parts.0 in
     let end = same_end p.end q.end wp.writable.end wq.writable.end both.0 parts.1 in
     same_proof p q siblings end
+
+-- ---- writing
+
+sized_more : (ds : List Digest) (d : Digest) → AreSized ds → length d.0 ≡ 32 → AreSized (ds ++ d ∷ [])
+sized_more [] d sized size = (size, tt)
+sized_more (e ∷ ds) d sized size = (sized.0, sized_more ds d sized.1 size)
+
+bytes_more : (ds : List Digest) (d : Digest) → sibling_bytes (ds ++ d ∷ []) ≡ sibling_bytes ds ++ d.0
+bytes_more [] d = append-nil d.0
+bytes_more (e ∷ ds) d = ap (λ ys. e.0 ++ ys) (bytes_more ds d) ∙ sym (append_assoc e.0 (sibling_bytes ds) d.0)
+
+-- one sibling more
+pub put_more : (start old new : List ℕ) (ds : List Digest) (k : ℕ) (e : Digest) → k < length ds → length (get_or ds k e).0 ≡ 32
+    → (old ≡ start ++ sibling_bytes (take k ds)) × AreSized (take k ds) → new ≡ old ++ (get_or ds k e).0
+    → (new ≡ start ++ sibling_bytes (take (k + 1) ds)) × AreSized (take (k + 1) ds)
+put_more start old new ds k e within size so_far more =
+    let d = get_or ds k e in
+    let taken : take (k + 1) ds ≡ take k ds ++ d ∷ [] = take_more ds k e within in (
+      more ∙ ap (λ ys. ys ++ d.0) so_far.0 ∙ append_assoc start (sibling_bytes (take k ds)) d.0 ∙ ap (λ ys. start ++ ys) (sym (bytes_more (take k ds) d))
+          ∙ ap (λ xs. start ++ sibling_bytes xs) (sym taken),
+      subst AreSized (sym taken) (sized_more (take k ds) d so_far.1 size),
+    )
+
+room_at : (index name : List ℕ) (level : ℕ) (end : End) → length name < 2 ^ 16 → EndFits index name level end → (name_length end < 2 ^ 16) × (key_length end < 2 ^ 32)
+room_at index name level Empty short fits = (omega arith, omega arith)
+room_at index name level (Other other commitment) short fits = (omega arith, omega arith)
+room_at index name level (Here here key opening) short fits = (omega (arith, ap length fits.0, short), omega (arith, fits.2))
+
+-- an accepted proof's lengths have room
+pub accepted-room : (hash : List ℕ → List ℕ) (nonce root index name : List ℕ) (proof : Proof) (answer : Option (List ℕ)) → Accepts hash nonce root index name proof answer → HasRoom proof
+accepted-room hash nonce root index name proof answer ok =
+    let room = room_at index name (length proof.siblings) proof.end (omega (arith, ok.well_formed.name_fits)) ok.well_formed.end_fits in
+    record { few = omega (arith, ok.well_formed.depth); name = room.0; key = room.1 }

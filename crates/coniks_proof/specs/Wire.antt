@@ -1,10 +1,12 @@
 -- The bytes of a proof, and what is wrong with bytes that are no proof's. Numbers have their high byte first.
-use Rattle.std.specs.Prelude.{◌≡◌, ◌<◌, ◌⊎◌, ℕ, ◌+◌, ◌*◌, ◌^◌, List, [], ◌∷◌, ◌++◌, length, take, drop, slice_index, flat_map}
+use Rattle.std.specs.Prelude.{◌≡◌, ◌<◌, ◌≤◌, ◌⊎◌, ℕ, ◌+◌, ◌*◌, ◌^◌, List, [], ◌∷◌, ◌++◌, length, take, drop, slice_index, flat_map}
 use Rattle.std.specs.Int.{w16, w32, to_be_bytes, from_be_bytes}
 use Rattle.coniks_proof.specs.declared.values.Digest.{Digest}
 use Rattle.coniks_proof.specs.declared.paths.Proof.{Proof}
 use Rattle.coniks_proof.specs.declared.paths.End.{End}
 use Rattle.coniks_proof.specs.declared.paths.End.TheVariants.{Empty, Other, Here}
+use Rattle.coniks_proof.specs.declared.wire.BytesFault.{BytesFault}
+use Rattle.coniks_proof.specs.declared.wire.BytesFault.TheVariants.{TooManySiblings, NameTooLong, KeyTooLong, OutOfMemory}
 use Rattle.coniks_proof.specs.declared.wire.WireFault.{WireFault}
 use Rattle.coniks_proof.specs.declared.wire.WireFault.TheVariants.{NoBytes, UnknownKind, CutInCount, CutInSiblings, CutInOther, CutInOpening, CutInName, CutInKey, BytesFollow}
 
@@ -49,6 +51,30 @@ pub record IsWritable (proof : Proof) : Type 0 where
 pub record IsWire (bytes : List ℕ) (proof : Proof) : Type 0 where
   pub writable : IsWritable proof
   pub same : bytes ≡ wire_form proof
+
+-- how long the name and the key of an end are, 0 where it has none
+abbrev pub name_length : End → ℕ
+name_length Empty = 0
+name_length (Other index commitment) = 0
+name_length (Here name key opening) = length name
+
+abbrev pub key_length : End → ℕ
+key_length Empty = 0
+key_length (Other index commitment) = 0
+key_length (Here name key opening) = length key
+
+-- each length has room in the bytes that are there for it
+pub record HasRoom (proof : Proof) : Type 0 where
+  pub few : length proof.siblings < 2 ^ 16
+  pub name : name_length proof.end < 2 ^ 16
+  pub key : key_length proof.end < 2 ^ 32
+
+-- why there are no bytes of a proof; each excludes the others
+abbrev pub Refuses : Proof → BytesFault → Type 0
+Refuses proof TooManySiblings = 2 ^ 16 ≤ length proof.siblings
+Refuses proof NameTooLong = (length proof.siblings < 2 ^ 16) × (2 ^ 16 ≤ name_length proof.end)
+Refuses proof KeyTooLong = (length proof.siblings < 2 ^ 16) × (name_length proof.end < 2 ^ 16) × (2 ^ 32 ≤ key_length proof.end)
+Refuses proof OutOfMemory = HasRoom proof
 
 -- the order of the faults
 abbrev pub order : WireFault → ℕ

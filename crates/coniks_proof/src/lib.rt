@@ -39,4 +39,4 @@ pub use paths::{Answer, End, Proof};
 pub use values::{
     Digest, Head, Index, MAX_KEY, MAX_LEVEL, MAX_NAME, MAX_OPERATIONS, Nonce, Opening,
 };
-pub use wire::WireFault;
+pub use wire::{BytesFault, WireFault};

@@ -1,13 +1,16 @@
 //! A proof in bytes: a byte string for each proof, and for each proof one.
 
-ghost use Rattle.std.specs.Prelude.{◌≡◌, ◌+◌, ◌++◌, ◌<◌, ◌^◌, IfErr, IfNone, IfOk, IfSome, IsOkAnd, length};
+ghost use Rattle.std.specs.Prelude.{◌≡◌, ◌+◌, ◌++◌, ◌<◌, ◌^◌, IfErr, IfNone, IfOk, IfSome, IsOkAnd, MatchOption, OnOk, length};
 ghost use Rattle.std.specs.Int.{to_be_bytes, w16, w32};
 ghost use Rattle.coniks_proof.specs.Borrowed.{listed, owned};
-ghost use Rattle.coniks_proof.specs.Wire.{EndHas, FrontHas, IsEndOf, IsFirstFault, IsFront, IsWire, WireHas, after_key, after_name, long_length, short_length};
+ghost use Rattle.coniks_proof.specs.Wire.{AreSized, EndHas, FrontHas, HasRoom, IsEndOf, IsFirstFault, IsFront, IsWire, IsWritableEnd, Refuses, WireHas, after_key, after_name, end_bytes, key_length, kind_of, long_length, name_length, short_length, sibling_bytes};
+ghost use Rattle.coniks_proof.specs.declared.wire.BytesFault.TheVariants.{OutOfMemory};
 ghost use Rattle.coniks_proof.specs.declared.paths.Proof.{Proof as Whole};
 
 use crate::borrowed::{BorrowedEnd, BorrowedProof, Siblings};
-use crate::values::{Digest, Index, Opening};
+use crate::paths::{End, Proof};
+use crate::values::{Digest, Index, Opening, in_range};
+use std::alloc::{AllocError, Global};
 use thiserror::Error;
 
 /// The first byte of a proof that ends with an empty node.
@@ -40,6 +43,27 @@ pub enum WireFault {
     CutInKey,
     #[error("bytes follow the proof")]
     BytesFollow,
+}
+
+/// Why there are no bytes of a proof: of what applies, the first in this order.
+#[derive(Clone, Copy, Debug, Drop, PartialEq, Eq, Error)]
+pub enum BytesFault {
+    #[error("the proof has more than 65,535 siblings")]
+    TooManySiblings,
+    #[error("the proof's name is longer than 65,535 bytes")]
+    NameTooLong,
+    #[error("the proof's key is longer than 4,294,967,295 bytes")]
+    KeyTooLong,
+    #[error("out of memory")]
+    OutOfMemory,
+}
+
+impl From<AllocError> for BytesFault {
+    ghost from_gives = { λ _ fault. fault ≡ OutOfMemory };
+
+    fn from(_: AllocError) -> BytesFault {
+        BytesFault::OutOfMemory
+    }
 }
 
 /// The kind and the siblings that bytes begin with, and what follows them.
@@ -141,5 +165,128 @@ impl<'a> BorrowedProof<'a> {
             return Err(WireFault::BytesFollow);
         }
         Ok(BorrowedProof::new(siblings, end))
+    }
+}
+
+/// What of a proof is too long for its bytes.
+fn excess(proof: &Proof) -> Option<BytesFault>
+    ensures { MatchOption result (HasRoom proof.now) (λ fault. Refuses proof.now fault) }
+{
+    if proof.siblings.as_slice().len() > usize::from(u16::MAX) {
+        return Some(BytesFault::TooManySiblings);
+    }
+    match &proof.end {
+        End::Here {
+            name,
+            key,
+            opening: _,
+        } => {
+            if name.as_slice().len() > usize::from(u16::MAX) {
+                Some(BytesFault::NameTooLong)
+            } else if key.as_slice().len() > u32::MAX as usize {
+                Some(BytesFault::KeyTooLong)
+            } else {
+                None
+            }
+        }
+        _ => None,
+    }
+}
+
+/// The first byte of a proof with this end.
+fn kind_byte(end: &End) -> u8
+    ensures { result ≡ kind_of end.now }
+{
+    match end {
+        End::Empty => EMPTY_KIND,
+        End::Other { .. } => OTHER_KIND,
+        End::Here { .. } => HERE_KIND,
+    }
+}
+
+/// How many bytes an end takes.
+fn end_size(end: &End) -> usize
+    requires name { name_length end.now < 2 ^ 16 }
+    requires key { key_length end.now < 2 ^ 32 }
+    ensures size { result ≡ length (end_bytes end.now) }
+    ensures small { result < 2 ^ 33 }
+{
+    match end {
+        End::Empty => 0,
+        End::Other { index, commitment } => {
+            in_range(&index.0);
+            in_range(&commitment.0);
+            index.0.len() + commitment.0.len()
+        }
+        End::Here { name, key, opening } => {
+            in_range(&opening.0);
+            opening.0.len() + 2 + name.as_slice().len() + 4 + key.as_slice().len()
+        }
+    }
+}
+
+/// Puts the siblings after the bytes.
+fn put_siblings(bytes: &mut Vec<u8>, siblings: &[Digest]) -> Result<(), AllocError>
+    ensures put { OnOk result (bytes.new.items ≡ bytes.old.items ++ sibling_bytes siblings.now) }
+    ensures sized { OnOk result (AreSized siblings.now) }
+{
+    for sibling in siblings {
+        in_range(&sibling.0);
+        bytes.extend_from_slice(&sibling.0)?;
+    }
+    Ok(())
+}
+
+/// Puts what follows the siblings after the bytes.
+fn put_end(bytes: &mut Vec<u8>, end: &End) -> Result<(), AllocError>
+    requires name { name_length end.now < 2 ^ 16 }
+    requires key { key_length end.now < 2 ^ 32 }
+    ensures put { OnOk result (bytes.new.items ≡ bytes.old.items ++ end_bytes end.now) }
+    ensures sized { OnOk result (IsWritableEnd end.now) }
+{
+    match end {
+        End::Empty => {}
+        End::Other { index, commitment } => {
+            in_range(&index.0);
+            in_range(&commitment.0);
+            bytes.extend_from_slice(&index.0)?;
+            bytes.extend_from_slice(&commitment.0)?;
+        }
+        End::Here { name, key, opening } => {
+            in_range(&opening.0);
+            let name = name.as_slice();
+            let key = key.as_slice();
+            bytes.extend_from_slice(&opening.0)?;
+            bytes.extend_from_slice(&(name.len() as u16).to_be_bytes())?;
+            bytes.extend_from_slice(name)?;
+            bytes.extend_from_slice(&(key.len() as u32).to_be_bytes())?;
+            bytes.extend_from_slice(key)?;
+        }
+    }
+    Ok(())
+}
+
+impl Proof {
+    /// The bytes of the proof, in one allocation.
+    ///
+    /// # Errors
+    ///
+    /// A length has no room in the bytes that are there for it, or memory was refused. No proof that `check` accepts is
+    /// too large.
+    pub fn bytes(&self, alloc: Global) -> Result<Vec<u8>, BytesFault>
+        ensures written { IfOk result (λ bytes. IsWire bytes.items self.now) }
+        ensures refused { IfErr result (λ fault. Refuses self.now fault) }
+    {
+        if let Some(fault) = excess(self) {
+            return Err(fault);
+        }
+        let siblings = self.siblings.as_slice();
+        let size = 3 + siblings.len() * 32 + end_size(&self.end);
+        let mut bytes = Vec::with_capacity(alloc, size)?;
+        bytes.extend_from_slice(&[kind_byte(&self.end)])?;
+        bytes.extend_from_slice(&(siblings.len() as u16).to_be_bytes())?;
+        put_siblings(&mut bytes, siblings)?;
+        put_end(&mut bytes, &self.end)?;
+        Ok(bytes)
     }
 }
