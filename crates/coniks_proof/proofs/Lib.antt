@@ -16,4 +16,5 @@ mod CollisionLemmas
 mod MeetingLemmas
 mod NameLemmas
 mod BatchLemmas
+mod WireLemmas
 pub mod Lemmas

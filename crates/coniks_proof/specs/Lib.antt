@@ -6,6 +6,8 @@ pub mod Changes
 pub mod Paths
 pub mod Maps
 pub mod Proofs
+pub mod Borrowed
+pub mod Wire
 pub mod Faults
 pub mod Collisions
 pub mod Meetings

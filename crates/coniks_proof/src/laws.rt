@@ -1,6 +1,6 @@
 //! Laws of the definitions, each the contract of a function that only reads.
 
-ghost use Rattle.std.specs.Prelude.{◌↔◌, ◌≡◌, ◌<◌, ◌≤◌, ◌∷◌, [], List, ℕ, Bool, None, false, length, map, not, slice_get, slice_index_or};
+ghost use Rattle.std.specs.Prelude.{◌↔◌, ◌≡◌, ◌<◌, ◌≤◌, ◌∷◌, [], List, ℕ, Bool, None, Option, false, length, map, not, slice_get, slice_index_or};
 ghost use Rattle.coniks_proof.specs.Batches.{MayFollow, Operation, after, first_fault};
 ghost use Rattle.coniks_proof.specs.Bits.{bit_at, child, first_bits};
 ghost use Rattle.coniks_proof.specs.Changes.{AreApart, AreIncreasing, AreInOrder};
@@ -14,6 +14,9 @@ ghost use Rattle.coniks_proof.specs.declared.checker.CheckFault.{CheckFault};
 ghost use Rattle.coniks_proof.specs.Registry.{AreWithin, HaveOwnIndices, IsFree, IsLength, Registry, entries_of, has_name, key_of, root_of};
 ghost use Rattle.coniks_proof.specs.Paths.{IsPath, end_of, siblings};
 ghost use Rattle.coniks_proof.specs.Tree.{node};
+ghost use Rattle.coniks_proof.specs.Wire.{HasRoom, IsWire, WireHas};
+ghost use Rattle.coniks_proof.specs.declared.paths.Proof.{Proof as Whole};
+ghost use Rattle.coniks_proof.specs.declared.wire.WireFault.{WireFault};
 
 use crate::hashing::Hash32;
 use crate::paths::Proof;
@@ -116,4 +119,13 @@ pub fn paths<T>()
 pub fn digits()
     ensures bytes { (prefix : List Bool) → IsIndex (packed prefix 32) }
     ensures bits { (prefix : List Bool) (k : ℕ) → k < 256 → bit_at (packed prefix 32) k ≡ slice_index_or prefix k false }
+{}
+
+/// Reading undoes writing, whoever reads: bytes are the wire form of one proof at most, and a proof has one wire form at
+/// most. The wire form of a proof has no fault. Each accepted proof has room in one.
+pub fn wire_forms()
+    ensures one_proof { (bytes : List ℕ) (p q : Whole) → IsWire bytes p → IsWire bytes q → p ≡ q }
+    ensures one_form { (bytes others : List ℕ) (p : Whole) → IsWire bytes p → IsWire others p → bytes ≡ others }
+    ensures no_fault { (bytes : List ℕ) (p : Whole) (fault : WireFault) → IsWire bytes p → WireHas bytes fault → ⊥ }
+    ensures room { (hash : List ℕ → List ℕ) (nonce root index name : List ℕ) (p : Whole) (answer : Option (List ℕ)) → Accepts hash nonce root index name p answer → HasRoom p }
 {}

@@ -17,6 +17,7 @@
 #![tactic(auto)]
 
 pub mod bits;
+pub mod borrowed;
 pub mod bytes;
 pub mod checker;
 pub mod collision;
@@ -26,13 +27,16 @@ mod meeting;
 pub mod paths;
 mod strings;
 pub mod values;
+pub mod wire;
 
 pub use bits::{Prefix, bit};
+pub use borrowed::{BorrowedEnd, BorrowedProof, Siblings};
 pub use bytes::{Binding, Bytes, Digests};
-pub use checker::{CheckFault, check};
+pub use checker::{CheckFault, check, check_borrowed};
 pub use collision::{Collision, extract};
 pub use hashing::{Flat, Hash32, Sha256Hash, commit_hash, empty_hash, inner_hash, leaf_hash};
 pub use paths::{Answer, End, Proof};
 pub use values::{
     Digest, Head, Index, MAX_KEY, MAX_LEVEL, MAX_NAME, MAX_OPERATIONS, Nonce, Opening,
 };
+pub use wire::{BytesFault, WireFault};

@@ -6,6 +6,7 @@ ghost use Rattle.coniks_proof.specs.Meetings.{CommitmentIs, PartsAt, PlaceFits};
 ghost use Rattle.coniks_proof.specs.Proofs.{LengthsFit, answer_of, end_preimage, preimage};
 
 use crate::bits::bit;
+use crate::borrowed::Siblings;
 use crate::bytes::Bytes;
 use crate::hashing::{Hash32, commit_hash};
 use crate::paths::{End, carried, joined_hash};
@@ -171,9 +172,11 @@ fn ending<'a, H: Hash32>(
     ensures fits { PlaceFits result.place }
     ensures place { PartsAt (H.digest_of h.now) nonce.now.0 index.now.0 level a.entry.siblings.now a.entry.end.now b.entry.siblings.now b.entry.end.now result.place }
 {
+    let siblings_a = Siblings::Listed(a.siblings);
+    let siblings_b = Siblings::Listed(b.siblings);
     Meeting {
-        a: carried(h, nonce, index, level, a.siblings, a.end),
-        b: carried(h, nonce, index, level, b.siblings, b.end),
+        a: carried(h, nonce, index, level, &siblings_a, &a.end.borrowed()),
+        b: carried(h, nonce, index, level, &siblings_b, &b.end.borrowed()),
         place: end_place(h, nonce, index, level, a, b),
     }
 }

@@ -2,9 +2,11 @@
 
 ghost use Rattle.std.specs.Prelude.{◌≡◌, ◌+◌, ◌<◌, ◌≤◌, length};
 ghost use Rattle.coniks_proof.specs.Bits.{bit_at};
+ghost use Rattle.coniks_proof.specs.Borrowed.{listed, owned};
 ghost use Rattle.coniks_proof.specs.Proofs.{LengthsFit, end_preimage, joined, preimage};
 
 use crate::bits::{Prefix, bit};
+use crate::borrowed::{BorrowedEnd, Siblings};
 use crate::bytes::{Bytes, Digests};
 use crate::hashing::{Hash32, commit_hash, empty_hash, inner_hash, leaf_hash};
 use crate::values::{Digest, Index, MAX_LEVEL, Nonce, Opening};
@@ -45,25 +47,25 @@ pub enum Answer<'a> {
 }
 
 /// The hash of the end of a path, at a level.
-pub(crate) fn end_hash<H: Hash32>(
+fn end_hash<H: Hash32>(
     h: &H,
     nonce: &Nonce,
     index: &Index,
     level: usize,
-    end: &End,
+    end: &BorrowedEnd<'_>,
 ) -> Digest
     requires level { level ≤ MAX_LEVEL }
-    requires fits { LengthsFit end.now }
-    ensures { result.0 ≡ H.digest_of h.now (end_preimage (H.digest_of h.now) nonce.now.0 index.now.0 level end.now) }
+    requires fits { LengthsFit (owned end.now) }
+    ensures { result.0 ≡ H.digest_of h.now (end_preimage (H.digest_of h.now) nonce.now.0 index.now.0 level (owned end.now)) }
 {
     match end {
-        End::Empty => empty_hash(h, nonce, &Prefix::of(index, level)),
-        End::Other {
+        BorrowedEnd::Empty => empty_hash(h, nonce, &Prefix::of(index, level)),
+        BorrowedEnd::Other {
             index: other,
             commitment,
         } => leaf_hash(h, nonce, other, level, commitment),
-        End::Here { name, key, opening } => {
-            let commitment = commit_hash(h, opening, name.as_slice(), key.as_slice());
+        BorrowedEnd::Here { name, key, opening } => {
+            let commitment = commit_hash(h, opening, *name, *key);
             leaf_hash(h, nonce, index, level, &commitment)
         }
     }
@@ -85,24 +87,24 @@ pub(crate) fn joined_hash<H: Hash32>(
     }
 }
 
-/// The hash at a level on the way to an index, carried up from the end over the siblings below.
+/// The hash at a level on the way to an index, carried up from the end over the siblings below, the deepest first.
 pub(crate) fn carried<H: Hash32>(
     h: &H,
     nonce: &Nonce,
     index: &Index,
     level: usize,
-    siblings: &[Digest],
-    end: &End,
+    siblings: &Siblings<'_>,
+    end: &BorrowedEnd<'_>,
 ) -> Digest
-    requires deep { level + length siblings.now ≤ MAX_LEVEL }
-    requires fits { LengthsFit end.now }
-    ensures { result.0 ≡ H.digest_of h.now (preimage (H.digest_of h.now) nonce.now.0 index.now.0 level siblings.now end.now) }
+    requires deep { level + length (listed siblings.now) ≤ MAX_LEVEL }
+    requires fits { LengthsFit (owned end.now) }
+    ensures { result.0 ≡ H.digest_of h.now (preimage (H.digest_of h.now) nonce.now.0 index.now.0 level (listed siblings.now) (owned end.now)) }
 {
-    match siblings.split_first() {
-        None => end_hash(h, nonce, index, level, end),
-        Some((sibling, rest)) => {
-            let below = carried(h, nonce, index, level + 1, rest, end);
-            joined_hash(h, bit(index, level), sibling, &below)
-        }
+    let mut place = siblings.len();
+    let mut hash = end_hash(h, nonce, index, level + place, end);
+    while place > 0 {
+        place -= 1;
+        hash = joined_hash(h, bit(index, level + place), &siblings.at(place), &hash);
     }
+    hash
 }

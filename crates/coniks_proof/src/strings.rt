@@ -6,6 +6,7 @@ ghost use Rattle.coniks_proof.specs.Preimages.{commitment_preimage, empty_preima
 ghost use Rattle.coniks_proof.specs.Proofs.{LengthsFit, end_preimage, joined, preimage};
 
 use crate::bits::{Prefix, bit};
+use crate::borrowed::Siblings;
 use crate::bytes::Bytes;
 use crate::hashing::{COMMITMENT_TAG, EMPTY_TAG, Hash32, INNER_TAG, LEAF_TAG, commit_hash};
 use crate::paths::{End, carried};
@@ -143,7 +144,8 @@ pub(crate) fn level_bytes<H: Hash32>(
     match siblings.split_first() {
         None => end_bytes(alloc, h, nonce, index, level, end),
         Some((sibling, rest)) => {
-            let below = carried(h, nonce, index, level + 1, rest, end);
+            let rest = Siblings::Listed(rest);
+            let below = carried(h, nonce, index, level + 1, &rest, &end.borrowed());
             joined_bytes(alloc, bit(index, level), sibling, &below)
         }
     }
