@@ -200,10 +200,10 @@ fn refuse_renewals<R: Threads + Sync + Abort>(rt: &R, clerk: &mut Clerk<Sha256Ha
         fault: OpFault::NameTaken,
     };
     for (depth, workers, fault) in [
-        (9, 0, BatchFault::Workers),
-        (9, 65, BatchFault::Workers),
-        (9, 64, BatchFault::Depth),
-        (8, 64, taken),
+        (13, 0, BatchFault::Workers),
+        (13, 65, BatchFault::Workers),
+        (13, 64, BatchFault::Depth),
+        (12, 64, taken),
     ] {
         assert_eq!(rt; fault_by(rt, clerk, depth, workers), Some(fault));
     }
