@@ -1,9 +1,15 @@
 -- What a client sees, and how often.
 use Rattle.std.specs.Prelude.{ℕ, ◌+◌, List, Bool, true, false, Option, Some, None, if◌then◌else◌}
+use Rattle.std.specs.Borrow.{Bor}
+use Rattle.std.specs.Option.{option_map}
 use Rattle.std.specs.Str.{bytes_eq}
 use Rattle.coniks_chain.specs.declared.seen.Seen.{Seen}
 use Rattle.coniks_chain.specs.declared.seen.Seen.TheVariants.{Same, Changed, Absent}
 use Rattle.coniks_chain.specs.declared.seen.Tally.{Tally}
+
+-- the key that stands there, if any
+abbrev pub key_of : Option (Bor (List ℕ)) → Option (List ℕ)
+key_of expected = option_map (λ key. key.now) expected
 
 -- what the client sees: the expectation, then the answer
 abbrev pub seen_of : Option (List ℕ) → Option (List ℕ) → Seen

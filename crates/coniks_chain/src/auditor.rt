@@ -30,12 +30,17 @@ pub enum AuditFault {
     Verdict,
 }
 
-/// Of an entry, what the next one is compared with.
+/// Of an entry, what the next one is compared with: all that an auditor keeps beside its hash. Copy it, store it, compare
+/// it, and go on from it by `Auditor::resume`.
 #[derive(Clone, Copy, Debug, PartialEq, Eq)]
 pub struct Before {
+    /// The entry's epoch.
     pub t: u64,
+    /// Its link, by which the next entry names it.
     pub link: Digest,
+    /// Its version, which is never lower again.
     pub version: u8,
+    /// Its nonce, which a next entry of version 1 keeps.
     pub nonce: Nonce,
 }
 
@@ -128,6 +133,21 @@ impl<H: Hash32 + Drop> Auditor<H> {
         ensures { result ≡ (h, None) }
     {
         Auditor { h, before: None }
+    }
+
+    /// An auditor that goes on where another one, of the same hash, stood when `before` was taken of it. None for one
+    /// that has seen no entry. Nothing is asked of the value: who stores it is trusted with it.
+    pub fn resume(h: H, before: Option<Before>) -> Self
+        ensures { result ≡ (h, before) }
+    {
+        Auditor { h, before }
+    }
+
+    /// What the auditor keeps of the last entry accepted, to be stored and given to `resume`. None before the first.
+    pub fn before(&self) -> Option<Before>
+        ensures { result ≡ self.now.1 }
+    {
+        self.before
     }
 
     /// The head of the last entry accepted: its epoch and its link. None before the first. Nothing is hashed.

@@ -41,6 +41,6 @@ pub mod signer;
 pub use auditor::{AuditFault, Auditor, Before, audit};
 pub use entry::{Body, Entry, Signature, link};
 pub use history::extract_history;
-pub use monitor::Monitor;
+pub use monitor::{Monitor, Wanted};
 pub use seen::{MonitorFault, Seen, Tally};
 pub use signer::{Sign, Verify};
