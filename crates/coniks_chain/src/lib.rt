@@ -43,4 +43,4 @@ pub use entry::{Body, Entry, Signature, link};
 pub use history::extract_history;
 pub use monitor::{Monitor, Wanted};
 pub use seen::{MonitorFault, Seen, Tally};
-pub use signer::{Sign, Verify};
+pub use signer::{Sign, SignatureSource, Signer, Signings, Verify};

@@ -1,6 +1,6 @@
 //! Who signs bodies, and who judges signatures.
 
-ghost use Rattle.std.specs.Prelude.{◌≡◌, ◌<◌, ◌+◌, ◌-◌, ◌^◌, List, ℕ, Bool, true, Option, Some, IfSome, IfNone};
+ghost use Rattle.std.specs.Prelude.{◌≡◌, ◌<◌, ◌+◌, ◌-◌, ◌^◌, List, ℕ, Bool, true, Option, Some, None, IfSome, IfNone};
 ghost use Rattle.coniks_chain.specs.Entries.{IsBody, body_bytes, signed};
 
 use crate::entry::{Body, Entry, Signature};
@@ -16,6 +16,9 @@ pub trait Verify {
 }
 
 /// Signs bodies, or refuses to, and counts both.
+///
+/// A type that writes this has its verdict on each signature proved. Most write `SignatureSource` instead, and are a signer
+/// by `Signer`.
 pub trait Sign: Verify {
     ghost use Rattle.coniks_chain.specs.declared.entry.Body.{Body};
     ghost use Rattle.coniks_chain.specs.declared.entry.Entry.{Entry};
@@ -54,4 +57,148 @@ pub trait Sign: Verify {
     /// The last body that it signed, with the signature. None before the first.
     fn last(&self) -> Option<Entry>
         ensures { result ≡ last_of self.now };
+}
+
+/// How often a signer signed and refused, and the last body that it signed, with the signature. A signer that proves its
+/// own verdicts keeps one; for any other there is `Signer`.
+#[derive(Clone, Copy, Debug, PartialEq, Eq)]
+pub struct Signings {
+    pub made: u64,
+    pub refused: u64,
+    pub last: Option<Entry>,
+}
+
+impl Signings {
+    /// Those of a signer that hasn't been asked.
+    pub fn none() -> Signings
+        ensures { result ≡ record { made = 0; refused = 0; last = None } }
+    {
+        Signings {
+            made: 0,
+            refused: 0,
+            last: None,
+        }
+    }
+
+    /// Counts a signature, and keeps it with the body that has these bytes.
+    pub fn signed(&mut self, body: &[u8; 145], signature: Signature)
+        requires { self.old.made < 2 ^ 64 - 1 }
+        ensures made { self.new.made ≡ self.old.made + 1 }
+        ensures refused { self.new.refused ≡ self.old.refused }
+        ensures last { (b : Body) → IsBody b → body_bytes b ≡ body.now → self.new.last ≡ Some (signed b signature) }
+    {
+        self.made += 1;
+        self.last = Some(Entry {
+            body: Body::read(body),
+            signature,
+        });
+    }
+
+    /// Counts a refusal.
+    pub fn refused(&mut self)
+        requires { self.old.refused < 2 ^ 64 - 1 }
+        ensures { self.new ≡ record self.old { refused = self.old.refused + 1 } }
+    {
+        self.refused += 1;
+    }
+}
+
+/// Where signatures come from: a key in memory, a device, another process. `Signer` makes a signer of it.
+///
+/// One whose signatures are made by another process keeps the body and answers None until the signature has arrived:
+///
+/// ```rust
+/// impl SignatureSource for Desk {
+///     fn signature(&mut self, body: &[u8; 145]) -> Option<Signature> {
+///         self.wanted = Some(*body);
+///         self.arrived.take()
+///     }
+/// }
+/// ```
+///
+/// The directory's `install` then answers `SignerRefused` and hands the update back. Handed in again at the same epoch, it
+/// asks for the same body, and goes in with the signature that has arrived meanwhile:
+///
+/// ```rust
+/// let (_, update) = refused.err().expect(rt, "a refusal");
+/// signer.source.arrived = Some(made_outside(&body));
+/// let installed = directory.install(update, 1, &mut signer, &mut publisher, &board);
+/// ```
+pub trait SignatureSource: Verify {
+    /// A signature for the bytes of a body, or None where there is none now. It may be a wrong one. No verdict changes.
+    fn signature(&mut self, body: &[u8; 145]) -> Option<Signature>
+        ensures verdicts_kept { (bytes signature : List ℕ) → Self.verdict_of self.new bytes signature ≡ Self.verdict_of self.old bytes signature };
+}
+
+/// A signer over a source of signatures: it judges each before it hands it on, refuses in place of a wrong one, and
+/// counts.
+#[derive(Drop)]
+pub struct Signer<S> {
+    /// The source.
+    pub source: S,
+    signings: Signings,
+}
+
+/// What the source gives for a body, where the verdict on it is yes.
+fn judged<S: SignatureSource>(source: &mut S, body: &[u8; 145]) -> Option<Signature>
+    ensures verdict { IfSome result (λ signature. S.verdict_of source.new body.now signature.0 ≡ true) }
+    ensures verdicts_kept { (bytes signature : List ℕ) → S.verdict_of source.new bytes signature ≡ S.verdict_of source.old bytes signature }
+{
+    let signature = source.signature(body)?;
+    if source.verdict(body, &signature) {
+        Some(signature)
+    } else {
+        None
+    }
+}
+
+impl<S> Signer<S> {
+    /// A signer over a source, which hasn't been asked.
+    pub fn new(source: S) -> Signer<S>
+        ensures source { result.source ≡ source }
+        ensures signings { result.signings ≡ record { made = 0; refused = 0; last = None } }
+    {
+        Signer {
+            source,
+            signings: Signings::none(),
+        }
+    }
+}
+
+impl<S: SignatureSource> Verify for Signer<S> {
+    ghost verdict_of = { λ signer body signature. S.verdict_of signer.source body signature };
+
+    fn verdict(&self, body: &[u8; 145], signature: &Signature) -> bool {
+        self.source.verdict(body, signature)
+    }
+}
+
+impl<S: SignatureSource> Sign for Signer<S> {
+    ghost made_of = { λ signer. signer.signings.made };
+
+    ghost refused_of = { λ signer. signer.signings.refused };
+
+    ghost last_of = { λ signer. signer.signings.last };
+
+    /// What the source gives, where the verdict on it is yes.
+    fn sign(&mut self, body: &[u8; 145]) -> Option<Signature> {
+        let signature = judged(&mut self.source, body);
+        match signature {
+            Some(signature) => self.signings.signed(body, signature),
+            None => self.signings.refused(),
+        }
+        signature
+    }
+
+    fn made(&self) -> u64 {
+        self.signings.made
+    }
+
+    fn refused(&self) -> u64 {
+        self.signings.refused
+    }
+
+    fn last(&self) -> Option<Entry> {
+        self.signings.last
+    }
 }

@@ -1,8 +1,8 @@
 //! Worked examples, whose digests and signatures were computed by other programs.
 
 use coniks_chain::{
-    AuditFault, Auditor, Body, Entry, Monitor, MonitorFault, Seen, Sign, Signature, Tally, Verify,
-    audit, extract_history, link,
+    AuditFault, Auditor, Before, Body, Entry, Monitor, MonitorFault, Seen, Sign, Signature,
+    SignatureSource, Signer, Tally, Verify, Wanted, audit, extract_history, link,
 };
 use coniks_proof::{
     Bytes, CheckFault, Digest, Digests, End, Flat, Hash32, Head, Index, Nonce, Opening, Proof,
@@ -72,56 +72,26 @@ impl Verify for Only {
     }
 }
 
-/// Gives one signature for everything, or refuses while it is closed.
+/// Gives what it is told to for everything, and takes one signature.
 #[derive(Drop)]
 struct Stamp {
-    closed: bool,
-    made: u64,
-    refused: u64,
-    last: Option<Entry>,
+    given: Option<Signature>,
+    taken: Only,
 }
 
 impl Verify for Stamp {
-    ghost use Rattle.std.specs.Prelude.{true};
+    ghost use Rattle.std.specs.Str.{bytes_eq};
 
-    ghost verdict_of = { λ _ _ _. true };
+    ghost verdict_of = { λ stamp _ signature. bytes_eq signature stamp.taken.0.0 };
 
-    fn verdict(&self, _body: &[u8; 145], _signature: &Signature) -> bool {
-        true
+    fn verdict(&self, body: &[u8; 145], signature: &Signature) -> bool {
+        self.taken.verdict(body, signature)
     }
 }
 
-impl Sign for Stamp {
-    ghost made_of = { λ stamp. stamp.made };
-
-    ghost refused_of = { λ stamp. stamp.refused };
-
-    ghost last_of = { λ stamp. stamp.last };
-
-    fn sign(&mut self, body: &[u8; 145]) -> Option<Signature> {
-        if self.closed {
-            self.refused += 1;
-            return None;
-        }
-        let signature = Signature([7; 64]);
-        self.made += 1;
-        self.last = Some(Entry {
-            body: Body::read(body),
-            signature,
-        });
-        Some(signature)
-    }
-
-    fn made(&self) -> u64 {
-        self.made
-    }
-
-    fn refused(&self) -> u64 {
-        self.refused
-    }
-
-    fn last(&self) -> Option<Entry> {
-        self.last
+impl SignatureSource for Stamp {
+    fn signature(&mut self, _body: &[u8; 145]) -> Option<Signature> {
+        self.given
     }
 }
 
@@ -370,6 +340,66 @@ fn heads_of_an_auditor(rt: HostRuntime) {
     }
 }
 
+/// A step over a proof of `a` with this key, by what a client stored, which expects the key `k`; and what it stores then.
+fn stored_step(
+    rt: &impl Abort,
+    alloc: Global,
+    stored: Option<Before>,
+    place: usize,
+    key: u8,
+) -> (Result<Seen, MonitorFault>, Option<Before>) {
+    let wanted = Wanted {
+        name: b"a",
+        index: Index([0; 32]),
+        expected: Some(b"k"),
+    };
+    let mut auditor = Auditor::resume(Sha256Hash, stored);
+    let proof = proof_of(rt, alloc, &[key]);
+    let seen = auditor.watch(&wanted, &entry_at(rt, place), &proof.borrowed(), &Yes);
+    (seen, auditor.before())
+}
+
+/// A client that keeps nothing but what it stores takes the steps of one that goes on.
+#[test]
+fn steps_of_a_stored_state(rt: HostRuntime) {
+    let alloc = rt.alloc();
+    let mut stored = None;
+    for (place, key, want, epoch) in [
+        (
+            1,
+            b'l',
+            Err(MonitorFault::Audit(AuditFault::PreviousEpoch)),
+            None,
+        ),
+        (0, b'k', Ok(Seen::Same), Some(1)),
+        (
+            0,
+            b'k',
+            Err(MonitorFault::Audit(AuditFault::NotLater)),
+            Some(1),
+        ),
+        (1, b'l', Ok(Seen::Changed), Some(4)),
+    ] {
+        let (seen, left) = stored_step(&rt, alloc, stored, place, key);
+        assert_eq!(rt; seen, want);
+        assert_eq!(rt; left.map(|before| before.t), epoch);
+        stored = left;
+    }
+    assert_eq!(rt; stored.map(|before| before.link), Some(link_at(&rt, 1)));
+}
+
+/// A monitor goes on from where another one stood.
+#[test]
+fn resumed_monitor(rt: HostRuntime) {
+    let alloc = rt.alloc();
+    let mut first = watch(&rt, alloc, b"a", Some(b"k"));
+    assert!(rt; first.before().is_none());
+    assert_eq!(rt; step_to(&rt, alloc, &mut first, 0, b'k'), Ok(Seen::Same));
+    let (name, key) = (copied(&rt, alloc, b"a"), copied(&rt, alloc, b"k"));
+    let mut next = Monitor::resume(Sha256Hash, first.before(), name, Index([0; 32]), Some(key));
+    assert_eq!(rt; step_to(&rt, alloc, &mut next, 1, b'l'), Ok(Seen::Changed));
+}
+
 /// Each fault of a first entry, together with the next one that can stand beside it.
 #[test]
 fn first_faults(rt: HostRuntime) {
@@ -505,22 +535,45 @@ fn texts_of_faults(rt: HostRuntime) {
 
 #[test]
 fn signed_or_refused(rt: HostRuntime) {
-    let mut stamp = Stamp {
-        closed: true,
-        made: 0,
-        refused: 0,
-        last: None,
-    };
-    let body = flat_entry(1, 0, 0).body;
-    assert!(rt; stamp.sign(&body.bytes()).is_none());
-    assert_eq!(rt; (stamp.made(), stamp.refused()), (0, 1));
-    assert!(rt; stamp.last().is_none());
-    stamp.closed = false;
     let signature = Signature([7; 64]);
-    assert!(rt; stamp.sign(&body.bytes()) == Some(signature));
-    assert_eq!(rt; (stamp.made(), stamp.refused()), (1, 1));
-    assert!(rt; stamp.last() == Some(Entry { body, signature }));
-    assert!(rt; stamp.verdict(&body.bytes(), &signature));
+    let mut signer = Signer::new(Stamp {
+        given: None,
+        taken: Only(signature),
+    });
+    let body = flat_entry(1, 0, 0).body;
+    assert!(rt; signer.sign(&body.bytes()).is_none());
+    assert_eq!(rt; (signer.made(), signer.refused()), (0, 1));
+    assert!(rt; signer.last().is_none());
+    signer.source.given = Some(signature);
+    assert!(rt; signer.sign(&body.bytes()) == Some(signature));
+    assert_eq!(rt; (signer.made(), signer.refused()), (1, 1));
+    assert!(rt; signer.last() == Some(Entry { body, signature }));
+    assert!(rt; signer.verdict(&body.bytes(), &signature));
+}
+
+/// A signature that is wrong in its last byte counts as a refusal, and the last entry stays.
+#[test]
+fn wrong_signatures_are_kept_back(rt: HostRuntime) {
+    let signature = Signature([7; 64]);
+    let mut wrong = signature;
+    wrong.0[63] = 8;
+    let mut signer = Signer::new(Stamp {
+        given: Some(signature),
+        taken: Only(signature),
+    });
+    let first = flat_entry(1, 0, 0).body;
+    assert!(rt; signer.sign(&first.bytes()) == Some(signature));
+    signer.source.given = Some(wrong);
+    let second = flat_entry(2, 1, 0).body;
+    assert!(rt; signer.sign(&second.bytes()).is_none());
+    assert_eq!(rt; (signer.made(), signer.refused()), (1, 1));
+    assert!(rt;
+        signer.last()
+            == Some(Entry {
+                body: first,
+                signature
+            })
+    );
 }
 
 /// Steps to the entry of one of the two epochs, with the proof of this key.
