@@ -37,8 +37,8 @@ fn main(rt: HostRuntime) -> Result<()> {
     }
     if let Some(crew) = &plan.crew {
         print_builds(&rt, &registry, &plan, crew)?;
-        print_renewals(&rt, &registry, crew)?;
         print_lookups(&rt, &registry)?;
+        print_renewals(&rt, &registry, crew)?;
     }
     Ok(())
 }

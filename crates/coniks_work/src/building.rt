@@ -15,10 +15,22 @@ use crate::rise::rise;
 use coniks_proof::{Hash32, Nonce, Prefix};
 use coniks_tree::{Change, OutOfMemory, Part, Root, Tree};
 use std::alloc::Global;
+use std::cmp::min;
 use std::thread::Threads;
 
 /// The most workers that one build has.
 pub const MAX_WORKERS: usize = 64;
+
+/// 2 to this power are the jobs of each worker beyond which more of them only cost.
+const ENOUGH_JOBS: u32 = 6;
+
+/// How deep changes are cut for so many workers: no deeper than was asked for, nor than gives each of them 64 jobs or more.
+pub(crate) fn cut_for(workers: usize, depth: usize) -> usize
+    requires { 1 ≤ workers }
+    ensures { result ≤ depth }
+{
+    min(depth, (workers.ilog2() + ENOUGH_JOBS) as usize)
+}
 
 /// The part where nothing changes.
 fn unchanged_part(root: Option<Root>) -> Part
@@ -33,7 +45,8 @@ fn unchanged_part(root: Option<Root>) -> Part
 /// The part of the empty prefix for an epoch: what the old root shows, or the empty map where there is none, overwritten
 /// by the changes. It is the same for every number of workers and every depth, and so is the count of its new nodes.
 ///
-/// `workers` is 1 to `MAX_WORKERS`, and `depth`, the length in bits of the prefixes that are grown apart, 0 to `MAX_DEPTH`.
+/// `workers` is 1 to `MAX_WORKERS`, and `depth`, the length in bits of the prefixes that are grown apart, 0 to `MAX_DEPTH`;
+/// they are shorter where that gives each worker 64 jobs, since more would only cost.
 /// The changes are in increasing order of index, and each index once. The caller's thread is one of the workers; there
 /// are never more workers than jobs, so a lone job starts no thread. Where a thread, a drawer or the claims can't be had
 /// there are fewer workers. It is `OutOfMemory` where a job is refused memory, in whatever worker, or the call itself. The
@@ -69,6 +82,7 @@ pub fn build<H: Hash32 + Sync, G: Gate + Sync, R: Threads + Sync>(
     if changes.is_empty() {
         return Ok(unchanged_part(root));
     }
+    let depth = cut_for(workers, depth);
     let jobs = all_jobs(alloc, changes, depth)?;
     let growing = Growing {
         tree,

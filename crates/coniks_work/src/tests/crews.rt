@@ -1,5 +1,6 @@
 //! Workers that do the jobs of one batch. Their digests were computed by another program.
 
+use crate::building::cut_for;
 use crate::gate::Open;
 use crate::jobs::split;
 use crate::tests::batches::{changes_of, digest, first_epoch, four};
@@ -79,6 +80,22 @@ fn jobs_of_four(rt: HostRuntime) {
     }
     let none = split(rt.alloc(), &[], 8).expect(&rt, "memory");
     assert_eq!(rt; none.len(), 0);
+}
+
+/// No deeper than was asked for, nor than gives each worker 64 jobs.
+#[test]
+fn cut_for_a_crew(rt: HostRuntime) {
+    for (workers, depth, cut) in [
+        (1, 12, 6),
+        (4, 12, 8),
+        (7, 12, 8),
+        (63, 12, 11),
+        (64, 12, 12),
+        (4, 3, 3),
+        (64, 0, 0),
+    ] {
+        assert_eq!(rt; cut_for(workers, depth), cut);
+    }
 }
 
 /// Sixteen names below each first byte, as many as a batch has, in the order of their indices.

@@ -25,7 +25,7 @@ rise-requires-clause-parts g c =
     let part : ℕ → Part → Type 0 = λ n x. (job : Job) × (slice_get jobs n ≡ Some job) × IsGrown hash nonce nodes records c.args.root job.prefix (entries_of (in_range job c.args.changes.now)) x in
     let done = numbered_done hash nonce nodes records c.args.root c.args.changes.now jobs part (λ n x p. p) 0 [] jobs parts refl refl
     c.in_ok-parts.ensures.0 (c.in_ok-parts.ensures.1 ∙ c.len.ensures ∙ sym c.deref.ensures.len) in
-    let ready = parts_ready hash nonce nodes records c.args.root c.args.depth c.root.result (entries_of c.args.changes.now) jobs c.in_ok-jobs.jobs.items parts
+    let ready = parts_ready hash nonce nodes records c.args.root c.cut_for-depth.result c.root.result (entries_of c.args.changes.now) jobs c.in_ok-jobs.jobs.items parts
     c.root.ensures c.deref.ensures.value c.in_ok-jobs.ensures.jobs done in
     ([], parts, refl, ready)
 
