@@ -1,33 +1,17 @@
 -- One step after another on bytes that may be told.
 use Rattle.std.proofs.Common.{◌≡◌, ℕ, List, [], ◌++◌, Option, Some, None, refl, subst, take}
-use Rattle.std.proofs.KnownBytes.{Appends-nil, Appends-trans, Appends-kept, Consumes-nil, Consumes-trans, Consumes-kept}
+use Rattle.std.proofs.KnownBytes.{Appends-trans, Consumes-trans}
 use Rattle.std.proofs.lemmas.List.{append-nil}
-use Rattle.std.specs.Io.KnownBytes.{Keeps, Consumes, IsAtEnd}
+use Rattle.std.specs.Io.KnownBytes.{Consumes, IsAtEnd}
 use Rattle.coniks_lines.specs.Known.{Source, Sink, Takes, Appends, HasNoneLeft}
 
 -- two writes are one
 pub Appends-then : (old mid new : Sink) (xs ys : List ℕ) → Appends old xs mid → Appends mid ys new → Appends old (xs ++ ys) new
 Appends-then old mid new xs ys e f = Appends-trans old.written mid.written new.written xs ys e f
 
--- no write
-pub Appends-none : (old : Sink) → Appends old [] old
-Appends-none old = Appends-nil old.written
-
--- what was written is as it was after an earlier write
-pub Appends-same : (old mid new : Sink) (xs : List ℕ) → Appends old xs mid → Keeps mid.written new.written → Appends old xs new
-Appends-same old mid new xs e same = Appends-kept old.written mid.written new.written xs e same
-
 -- two reads are one
 pub Takes-then : (old mid new : Source) (xs ys : List ℕ) → Takes old xs mid → Takes mid ys new → Takes old (xs ++ ys) new
 Takes-then old mid new xs ys e f = Consumes-trans old.left mid.left new.left xs ys e f
-
--- no read
-pub Takes-none : (old : Source) → Takes old [] old
-Takes-none old = Consumes-nil old.left
-
--- a read that failed
-pub Takes-same : (old mid new : Source) (bytes : List ℕ) → Takes old bytes mid → Keeps mid.left new.left → Takes old bytes new
-Takes-same old mid new bytes took kept = Consumes-kept old.left mid.left new.left bytes took kept
 
 -- a read that answered 0
 pub Takes-end : (old mid new : Source) (bytes buffer : List ℕ) (n : ℕ) → Takes old bytes mid → Takes mid (take n buffer) new → n ≡ 0 → Takes old bytes new

@@ -1,6 +1,7 @@
 -- Steps of a run.
 use Rattle.std.proofs.Common.{◌≡◌, ◌<◌, ◌⊎◌, ℕ, List, [], ◌∷◌, ◌++◌, Some, refl, ap, sym, ◌∙◌, append_assoc, Bool, true, false, ◌&&◌, subst, take, drop, inl, inr, ◌+◌, ◌%◌, ◌^◌, ◌≢◌, length, arith}
 use Rattle.std.proofs.lemmas.List.{take-append-drop, append-nil}
+use Rattle.std.proofs.KnownBytes.{Appends-nil, Appends-kept, Consumes-nil}
 use Rattle.std.specs.Io.KnownBytes.{Keeps}
 use Rattle.coniks_lines.specs.Known.{Source, Sink, Takes, Appends, HasNoneLeft, next_count}
 use Rattle.coniks_lines.specs.Lines.{whole_after, rest_after, last_line, lines_of, whole_lines}
@@ -8,7 +9,7 @@ use Rattle.coniks_lines.specs.Machine.{Answer, replies, state_after, all_accepte
 use Rattle.coniks_lines.specs.Runs.{IsBeginning, WritesOn, count_after, ComesToEnd, CannotWrite, CannotRead, AnswersLine, AnswersWhole, AnswersAll, WritesPart, Stops, Because, StopsFor, AreRead, EndsWell, EndsBadly}
 use Rattle.coniks_lines.specs.declared.fault.RunFault.{RunFault}
 use Rattle.coniks_lines.specs.declared.fault.RunFault.TheVariants.{Read, Write, OutOfMemory, NoBoard}
-use Rattle.coniks_lines.proofs.KnownLemmas.{Appends-then, Appends-none, Appends-same, Takes-none, taken_front, none_left-is}
+use Rattle.coniks_lines.proofs.KnownLemmas.{Appends-then, taken_front, none_left-is}
 use Rattle.coniks_lines.proofs.LinesLemmas.{NoNewlineBefore, whole_after-append, rest_after-append, line_ended, lines_around, no_lines}
 use Rattle.coniks_lines.proofs.MachineLemmas.{replies-append, state_after-append, all_accepted-append}
 
@@ -69,9 +70,9 @@ count_after-append n (line ∷ xs) ys = count_after-append (next_count n) xs ys
 
 module _ {S : Type 0} (answer : S → List ℕ → Answer S) where
   -- one part after another
-  pub AnswersWhole-then : (s t u : S) (held line rest xs ys : List ℕ) (old mid new : Sink) (a b : Bool)
+  pub AnswersWhole-then : {s t u : S} {held line rest xs ys : List ℕ} {old mid new : Sink} {a b : Bool}
       → AnswersWhole answer s held xs old mid t line a → AnswersWhole answer t line ys mid new u rest b → AnswersWhole answer s held (xs ++ ys) old new u rest (a && b)
-  AnswersWhole-then s t u held line rest xs ys old mid new a b p q =
+  AnswersWhole-then {s} {t} {u} {held} {line} {rest} {xs} {ys} {old} {mid} {new} {a} {b} p q =
       let first = whole_after held xs in
       let second = whole_after (rest_after held xs) ys in
       let from = state_after answer s first in
@@ -87,10 +88,17 @@ module _ {S : Type 0} (answer : S → List ℕ → Answer S) where
       moved.flushes_is ∙ (ap (λ (n : ℕ). count_after n second) p.flushes_is ∙ (sym (count_after-append old.flushes first second) ∙ ap (count_after old.flushes) (sym ls))) in
       record { written = both; state_is = state; rest_is = rest; all_is = all; flushes_is = flushes; writes_on = WritesOn-then old mid new p.writes_on q.writes_on }
 
+  -- the same under other names
+  pub AnswersWhole-same : {s t : S} {held bytes bytes' rest rest' : List ℕ} {old new : Sink} {a a' : Bool}
+      → AnswersWhole answer s held bytes old new t rest a → bytes' ≡ bytes → rest' ≡ rest → a' ≡ a → AnswersWhole answer s held bytes' old new t rest' a'
+  AnswersWhole-same {s} {t} {held} {bytes} {bytes'} {rest} {rest'} {old} {new} {a} {a'} p e_bytes e_rest e_a =
+      subst (λ (z : List ℕ). AnswersWhole answer s held z old new t rest' a') (sym e_bytes)
+      (subst (λ (z : List ℕ). AnswersWhole answer s held bytes old new t z a') (sym e_rest) (subst (λ (z : Bool). AnswersWhole answer s held bytes old new t rest z) (sym e_a) p))
+
   -- a line that a newline ends
-  pub line_answered : (t u : S) (line xs : List ℕ) (old new : Sink) (accepted : Bool) → NoNewlineBefore xs (length xs)
+  pub line_answered : {t u : S} (line xs : List ℕ) {old new : Sink} {accepted : Bool} → NoNewlineBefore xs (length xs)
       → AnswersLine answer t (line ++ xs) old new u accepted → AnswersWhole answer t line (xs ++ 10 ∷ []) old new u [] accepted
-  line_answered t u line xs old new accepted none h =
+  line_answered {t} {u} line xs {old} {new} {accepted} none h =
       let e = line_ended line xs [] none in
       let lines : (line ++ xs) ∷ [] ≡ whole_after line (xs ++ 10 ∷ []) = sym e.0 in
       record {
@@ -103,12 +111,12 @@ module _ {S : Type 0} (answer : S → List ℕ → Answer S) where
       }
 
   -- bytes with no newline, which are held
-  pub no_line_answered : (t : S) (line xs : List ℕ) (old : Sink) → NoNewlineBefore xs (length xs) → AnswersWhole answer t line xs old old t (line ++ xs) true
-  no_line_answered t line xs old none =
+  pub no_line_answered : {t : S} (line xs : List ℕ) {old : Sink} → NoNewlineBefore xs (length xs) → AnswersWhole answer t line xs old old t (line ++ xs) true
+  no_line_answered {t} line xs {old} none =
       let e = no_lines line xs none in
       let lines : [] ≡ whole_after line xs = sym e.0 in
       record {
-        written = subst (λ (ls : List (List ℕ)). Appends old (replies answer t ls) old) lines (Appends-none old);
+        written = subst (λ (ls : List (List ℕ)). Appends old (replies answer t ls) old) lines (Appends-nil old.written);
         state_is = ap (state_after answer t) lines;
         rest_is = sym e.1;
         all_is = ap (all_accepted answer t) lines;
@@ -193,7 +201,7 @@ module _ {S : Type 0} (answer : S → List ℕ → Answer S) where
       part = bytes;
       lines_are = refl;
       begins = record { more = []; whole = append-nil bytes ∙ is };
-      written = Appends-same old mid new bytes wrote kept;
+      written = Appends-kept old.written mid.written new.written bytes wrote kept;
       flushes_is = flushed ∙ before;
     },
     (refl, CannotWrite-then old mid new on (inl failed)),
@@ -202,7 +210,7 @@ module _ {S : Type 0} (answer : S → List ℕ → Answer S) where
   -- want of memory before a line is answered
   pub stops_before : (t : S) (line : List ℕ) (sink : Sink) (still : Source) → StopsFor answer t (line ∷ []) still still sink sink OutOfMemory
   unfolding Stops-between
-  stops_before t line sink still = (Stops-between t [] (line ∷ []) (line ∷ []) sink sink refl (Appends-none sink) refl, (refl, (WritesOn-none sink, refl)))
+  stops_before t line sink still = (Stops-between t [] (line ∷ []) (line ∷ []) sink sink refl (Appends-nil sink.written) refl, (refl, (WritesOn-none sink, refl)))
 
   -- no read is 2^63 reads, and none that is still has failed
   not_still : (still : Source) → CannotRead still still → ⊥
@@ -236,10 +244,10 @@ module _ {S : Type 0} (answer : S → List ℕ → Answer S) where
   StopsFor-longer s xs ys still old new e h = (Stops-longer s xs ys old new h.0, because-then e still old old new h.0.left (h.0.left ++ ys) h.0.part (WritesOn-none old) h.1)
 
   -- a fault at a line that ends in the chunk
-  pub stops_at_line : (s t : S) (held line chunk front xs ys : List ℕ) (still : Source) (old mid new : Sink) (a : Bool) (e : RunFault)
+  pub stops_at_line : {s t : S} {held line chunk front : List ℕ} (xs ys : List ℕ) (still : Source) (e : RunFault) {old mid new : Sink} {a : Bool}
       → chunk ≡ front ++ (xs ++ 10 ∷ ys) → NoNewlineBefore xs (length xs) → AnswersWhole answer s held front old mid t line a → StopsFor answer t ((line ++ xs) ∷ []) still still mid new e
       → StopsFor answer s (whole_after held chunk) still still old new e
-  stops_at_line s t held line chunk front xs ys still old mid new a e parts none p h =
+  stops_at_line {s} {t} {held} {line} {chunk} {front} xs ys still e {old} {mid} {new} {a} parts none p h =
       let first = whole_after held front in
       let from = state_after answer s first in
       let it = (rest_after held front ++ xs) ∷ [] in
@@ -251,10 +259,10 @@ module _ {S : Type 0} (answer : S → List ℕ → Answer S) where
       (StopsFor-then s first (it ++ later) still old mid new e p.writes_on p.written p.flushes_is (StopsFor-longer from it later still mid new e at_line))
 
   -- memory that was refused after the lines of a front
-  pub stops_after : (s t : S) (held line front rest chunk : List ℕ) (still : Source) (old new : Sink) (a : Bool)
+  pub stops_after : {s t : S} {held line front : List ℕ} (rest : List ℕ) {chunk : List ℕ} (still : Source) {old new : Sink} {a : Bool}
       → front ++ rest ≡ chunk → AnswersWhole answer s held front old new t line a → StopsFor answer s (whole_after held chunk) still still old new OutOfMemory
   unfolding Stops-between
-  stops_after s t held line front rest chunk still old new a parts p = (
+  stops_after {s} {t} {held} {line} {front} rest {chunk} still {old} {new} {a} parts p = (
     Stops-between s (whole_after held front) (whole_after (rest_after held front) rest) (whole_after held chunk) old new
         (sym (whole_after-append held front rest) ∙ ap (whole_after held) parts) p.written p.flushes_is,
     (refl, (p.writes_on, refl)),
@@ -318,9 +326,9 @@ module _ {S : Type 0} (answer : S → List ℕ → Answer S) where
   ends_unbegun s from to = record {
     bytes = [];
     lines = [];
-    read = Takes-none from;
+    read = Consumes-nil from.left;
     lines_are = inl refl;
-    stops = (Stops-between s [] [] [] to to refl (Appends-none to) refl, (refl, (WritesOn-none to, refl)));
+    stops = (Stops-between s [] [] [] to to refl (Appends-nil to.written) refl, (refl, (WritesOn-none to, refl)));
   }
 
   -- the end, where nothing is held
@@ -369,9 +377,9 @@ module _ {S : Type 0} (answer : S → List ℕ → Answer S) where
       (subst (λ (z : Sink). AnswersAll answer s bytes old z t a') (sym e_new) (subst (λ (z : Bool). AnswersAll answer s bytes old new t z) (sym e_a) p))
 
   -- all that was to be read was read
-  pub whole_input : (s t : S) (input : List ℕ) (from from' : Source) (to to' : Sink) (all : Bool)
+  pub whole_input : {s t : S} {input : List ℕ} {from from' : Source} {to to' : Sink} {all : Bool}
       → from.left ≡ Some input → EndsWell answer s from from' to to' t all → AnswersAll answer s input to to' t all
-  whole_input s t input from from' to to' all told h =
+  whole_input {s} {t} {input} {from} {from'} {to} {to'} {all} told h =
       let took = taken_front input from from' h.bytes told h.read in
       let same : h.bytes ≡ input = sym (took.1.1 ∙ ap (λ (r : List ℕ). h.bytes ++ r) (none_left-is took.0 from' took.1.0 h.at_end.none_left) ∙ append-nil h.bytes) in
       subst (λ (bytes : List ℕ). AnswersAll answer s bytes to to' t all) same h.answers
@@ -405,9 +413,9 @@ module _ {S : Type 0} (answer : S → List ℕ → Answer S) where
       }
 
   -- after a fault what was written begins the output of the whole input
-  pub part_of_input : (s : S) (input : List ℕ) (from from' : Source) (to to' : Sink) (e : RunFault)
+  pub part_of_input : {s : S} {input : List ℕ} {from from' : Source} {to to' : Sink} {e : RunFault}
       → from.left ≡ Some input → EndsBadly answer s from from' to to' e → WritesPart (output answer s input) to to'
-  part_of_input s input from from' to to' e told h =
+  part_of_input {s} {input} {from} {from'} {to} {to'} {e} told h =
       let took = taken_front input from from' h.bytes told h.read in
       subst (λ (bytes : List ℕ). WritesPart (output answer s bytes) to to') (sym took.1.1) (by_lines h.lines_are) where
         wrote : WritesPart (replies answer s h.lines) to to'

@@ -188,24 +188,22 @@ module _ (words : List (List ℕ)) (from from' : Source) (to to' : Sink) where
   unwritten-at_2 (Ok BadExpectation) ends refused bad is = bad (inr ends)
   unwritten-at_2 (Err fault) ends refused bad is = absurd (omega (arith, is))
 
-  -- neither a run nor help comes of a bad key
+  -- neither a run nor help comes of faultless words whose choice doesn't run
+  idle-from_2 : (outcome : Result Ending RunFault) → IfOk outcome (EndsFor words from from' to to') → fault_of keydir words ≡ []
+      → ((all : Bool) → Runs (chosen (subcommand_of keydir words)) from from' to to' all → ⊥) → 2 ≤ status_of outcome
+  idle-from_2 (Ok (Done true)) (inl ran) faultless idle = absurd (idle true ran.runs)
+  idle-from_2 (Ok (Done true)) (inr asks) faultless idle = absurd (no_kind (fault_of keydir words) asks.0 faultless asks.1.0)
+  idle-from_2 (Ok (Done false)) ran faultless idle = absurd (idle false ran.runs)
+  idle-from_2 (Ok (Refused text)) ends faultless idle = omega arith
+  idle-from_2 (Ok BadKey) ends faultless idle = omega arith
+  idle-from_2 (Ok BadExpectation) ends faultless idle = omega arith
+  idle-from_2 (Err fault) ends faultless idle = omega arith
+
   pub bad_key-from_2 : (outcome : Result Ending RunFault) → IfOk outcome (EndsFor words from from' to to') → HasBadKey words → 2 ≤ status_of outcome
-  bad_key-from_2 (Ok (Done true)) (inl ran) bad = absurd (runs-key (chosen (subcommand_of keydir words)) from from' to to' true ran.runs bad.no_key)
-  bad_key-from_2 (Ok (Done true)) (inr asks) bad = absurd (no_kind (fault_of keydir words) asks.0 bad.faultless asks.1.0)
-  bad_key-from_2 (Ok (Done false)) ran bad = absurd (runs-key (chosen (subcommand_of keydir words)) from from' to to' false ran.runs bad.no_key)
-  bad_key-from_2 (Ok (Refused text)) ends bad = omega arith
-  bad_key-from_2 (Ok BadKey) ends bad = omega arith
-  bad_key-from_2 (Ok BadExpectation) ends bad = omega arith
-  bad_key-from_2 (Err fault) ends bad = omega arith
+  bad_key-from_2 outcome ends bad = idle-from_2 outcome ends bad.faultless (λ all ran. runs-key (chosen (subcommand_of keydir words)) from from' to to' all ran bad.no_key)
 
   pub bad_expectation-from_2 : (outcome : Result Ending RunFault) → IfOk outcome (EndsFor words from from' to to') → HasBadExpectation words → 2 ≤ status_of outcome
-  bad_expectation-from_2 (Ok (Done true)) (inl ran) bad = absurd (runs-expectation (chosen (subcommand_of keydir words)) from from' to to' true ran.runs bad.no_expectation)
-  bad_expectation-from_2 (Ok (Done true)) (inr asks) bad = absurd (no_kind (fault_of keydir words) asks.0 bad.faultless asks.1.0)
-  bad_expectation-from_2 (Ok (Done false)) ran bad = absurd (runs-expectation (chosen (subcommand_of keydir words)) from from' to to' false ran.runs bad.no_expectation)
-  bad_expectation-from_2 (Ok (Refused text)) ends bad = omega arith
-  bad_expectation-from_2 (Ok BadKey) ends bad = omega arith
-  bad_expectation-from_2 (Ok BadExpectation) ends bad = omega arith
-  bad_expectation-from_2 (Err fault) ends bad = omega arith
+  bad_expectation-from_2 outcome ends bad = idle-from_2 outcome ends bad.faultless (λ all ran. runs-expectation (chosen (subcommand_of keydir words)) from from' to to' all ran bad.no_expectation)
 
   -- a bad key is told as one
   pub bad_key-at_2 : (outcome : Result Ending RunFault) (old new : Sink) → IfOk outcome (EndsFor words from from' to to') → TellsIf (told_of outcome) old new → HasBadKey words → status_of outcome ≡ 2 → Tells old bad_key_line new

@@ -1,5 +1,5 @@
 -- The command that reads the program's words, as `clap`'s definitions see it.
-use Rattle.std.specs.Prelude.{◌≡◌, codes, pos, false, true, [], ◌∷◌, Some}
+use Rattle.std.specs.Prelude.{◌≡◌, ℕ, ℤ, List, Bool, codes, pos, false, true, [], ◌∷◌, Some}
 use Rattle.clap.specs.Words.{App, Rule, app_of, new_app, new_rule, rule_of, with_rule, with_subcommand}
 use Rattle.clap.specs.Simple.{on_top}
 use Rattle.clap.specs.declared.builder.arg.Arg.{Arg}
@@ -7,23 +7,30 @@ use Rattle.clap.specs.declared.builder.command.Command.{Command}
 use Rattle.clap.specs.declared.builder.command.Command.TheViews.{out-Command as fields_of}
 use Rattle.clap.specs.declared.builder.value_parser.ValueParser.TheVariants as parser
 
+-- an option of this name, a number from one to another, and what it is where it is left out
+abbrev pub number_rule : List ℕ → List ℕ → ℤ → ℤ → Rule
+number_rule name missing least most = record (new_rule name) {
+  long = Some name;
+  value_names = 1;
+  defaults = missing ∷ [];
+  parser = Some (parser.Signed least most);
+}
+
+-- an option of this name, a text, and whether it is required
+abbrev pub text_rule : List ℕ → Bool → Rule
+text_rule name required = record (new_rule name) {
+  long = Some name;
+  value_names = 1;
+  required = required;
+}
+
 -- `--workers`, a number from 1 to 64
 abbrev pub workers_rule : Rule
-workers_rule = record (new_rule (codes "workers")) {
-  long = Some (codes "workers");
-  value_names = 1;
-  defaults = codes "1" ∷ [];
-  parser = Some (parser.Signed (pos 1) (pos 64));
-}
+workers_rule = number_rule (codes "workers") (codes "1") (pos 1) (pos 64)
 
 -- `--depth`, a number from 0 to 12
 abbrev pub depth_rule : Rule
-depth_rule = record (new_rule (codes "depth")) {
-  long = Some (codes "depth");
-  value_names = 1;
-  defaults = codes "0" ∷ [];
-  parser = Some (parser.Signed (pos 0) (pos 12));
-}
+depth_rule = number_rule (codes "depth") (codes "0") (pos 0) (pos 12)
 
 -- `run`, which has workers and a depth
 abbrev pub run_app : App
@@ -31,11 +38,7 @@ run_app = with_rule (with_rule (new_app (codes "run")) workers_rule) depth_rule
 
 -- `--key`, which is required
 abbrev pub key_rule : Rule
-key_rule = record (new_rule (codes "key")) {
-  long = Some (codes "key");
-  value_names = 1;
-  required = true;
-}
+key_rule = text_rule (codes "key") true
 
 -- `audit`, which has a key
 abbrev pub audit_app : App
@@ -47,18 +50,11 @@ check_app = new_app (codes "check")
 
 -- `--name`, which is required
 abbrev pub name_rule : Rule
-name_rule = record (new_rule (codes "name")) {
-  long = Some (codes "name");
-  value_names = 1;
-  required = true;
-}
+name_rule = text_rule (codes "name") true
 
 -- `--expect`, which may be left out
 abbrev pub expect_rule : Rule
-expect_rule = record (new_rule (codes "expect")) {
-  long = Some (codes "expect");
-  value_names = 1;
-}
+expect_rule = text_rule (codes "expect") false
 
 -- `monitor`, which has a key, a name and an expectation
 abbrev pub monitor_app : App

@@ -7,10 +7,10 @@ use Rattle.coniks_directory.specs.Batches.{operations}
 use Rattle.coniks_directory.specs.History.{Shown, latest_nonce, latest_registry, latest_version}
 use Rattle.coniks_directory.specs.Runs.{Batch, shown_by}
 use Rattle.coniks_directory.specs.State.{State as Directory, history_of}
-use Rattle.coniks_directory.specs.declared.batch.Op.{Op}
 use Rattle.coniks_shared.specs.Boards.{Boarded, BoardEnd}
 use Rattle.coniks_tool.specs.Script.{Opened, State}
 use Rattle.coniks_tool.specs.Seal.{is_seal}
+use Rattle.coniks_tool.specs.declared.run.batch.Batch.{Batch as BatchRead}
 use Rattle.coniks_tool.specs.declared.run.store.TheConstants.{BOARD_HEADS}
 use Rattle.coniks_tool.specs.declared.run.store.Service.{Service}
 
@@ -18,9 +18,9 @@ use Rattle.coniks_tool.specs.declared.run.store.Service.{Service}
 abbrev pub opened_by : List ℕ → Directory → Opened
 opened_by key s = record { key = key; nonce = s.nonce; policy = s.policy; history = history_of s }
 
--- a batch of these operations, which may bring a nonce
-abbrev pub batch_of : ℕ → Option (List ℕ) → List Op → Batch
-batch_of epoch brought ops = record { t = epoch; brought = brought; ops = operations ops }
+-- a batch that was read, without the form that the code gives to operations
+abbrev pub batch_of : BatchRead → Batch
+batch_of b = record { t = b.epoch; brought = b.brought; ops = operations b.ops.now }
 
 -- the epoch that a batch makes on a directory in this state
 abbrev pub shown_on : Directory → Batch → Shown

@@ -1,5 +1,6 @@
 //! The engine of `run`: a script's directory, and the answers to its lines.
 
+pub(crate) mod batch;
 mod committing;
 pub(crate) mod crew;
 pub mod laws;

@@ -1,8 +1,10 @@
 //! Members of lines, and what all engines print.
 
-ghost use Rattle.std.specs.Prelude.{◌≡◌, ◌++◌, IfOk, OnOk, OnErr, false};
+ghost use Rattle.std.specs.Prelude.{◌≡◌, ◌++◌, IfOk, OnOk, OnErr, codes, false};
+ghost use Rattle.serde_json.specs.Data.{member, no_members, put, string, object as object_of};
 ghost use Rattle.serde_json.specs.View.{view};
 ghost use Rattle.serde_json.specs.Written.{compact_text, has_float};
+ghost use Rattle.coniks_tool.specs.Objects.{data_of};
 ghost use Rattle.coniks_tool.specs.Replies.{bad_member_data, fault_data, member_name};
 
 use crate::lines::objects::{Field, Shown, object};
@@ -62,11 +64,12 @@ pub(crate) fn fault(alloc: Global, name: &str) -> Result<Value, AllocError>
 pub(crate) fn bad_member(alloc: Global, name: &str) -> Result<Value, AllocError>
     ensures { IfOk result (λ value. view value ≡ bad_member_data name.now) }
 {
-    object(
-        alloc,
-        &[
-            Field("fault", Shown::Text("Member")),
-            Field("member", Shown::Text(name)),
-        ],
-    )
+    fault_with(alloc, "Member", Field("member", Shown::Text(name)))
+}
+
+/// A refusal by its fault and one more member.
+pub(crate) fn fault_with(alloc: Global, name: &str, more: Field<'_>) -> Result<Value, AllocError>
+    ensures { IfOk result (λ value. view value ≡ object_of (put more.entry.0.now (data_of more.entry.1) (member (codes "fault") (string name.now) no_members))) }
+{
+    object(alloc, &[Field("fault", Shown::Text(name)), more])
 }

@@ -54,7 +54,10 @@ fn digests(alloc: Global, elements: &[Value]) -> Result<Option<Digests>, AllocEr
 fn digest(value: &Value) -> Option<Digest>
     ensures { result ≡ digest_in (view value.now) }
 {
-    Some(Digest(bytes_of_digits(value.as_str()?)?))
+    match bytes_of_digits(value.as_str()?) {
+        Some(bytes) => Some(Digest(bytes)),
+        None => None,
+    }
 }
 
 /// The end of a proof object.

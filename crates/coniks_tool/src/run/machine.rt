@@ -12,6 +12,7 @@ ghost use Rattle.coniks_tool.specs.Script.{State, ScriptFails, batch_turn, comma
 
 use crate::lines::members::{array, digits32, digits32_if_there, number, read_object, text};
 use crate::lines::printing::Member;
+use crate::run::batch::Batch;
 use crate::run::crew::Crew;
 use crate::run::operations::read_ops;
 use crate::run::reply::{Reply, print};
@@ -64,7 +65,14 @@ impl<'r, T: Threads + Sync> Script<'r, T> {
             return Ok(Reply::BadMember(Member::Ops));
         };
         match read_ops(self.alloc, elements)? {
-            Ok(ops) => self.store.install(&self.crew, epoch, brought, &ops),
+            Ok(ops) => {
+                let batch = Batch {
+                    epoch,
+                    brought,
+                    ops: &ops,
+                };
+                self.store.install(&self.crew, &batch)
+            }
             Err(place) => Ok(Reply::BadOperation(place)),
         }
     }

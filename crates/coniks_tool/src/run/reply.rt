@@ -8,7 +8,7 @@ ghost use Rattle.coniks_tool.specs.Paths.{path_of};
 ghost use Rattle.coniks_tool.specs.Replies.{outcome_of, reply_data, reply_text, member_name, fault_name, fault_data, placed_fault_data, looked_up_data, bad_member_data, bad_operation_data, epoch_not_later_data, opened_data, installed_data};
 
 use crate::lines::objects::{Field, Shown, members, object};
-use crate::lines::printing::{Member, bad_member, fault, member_text, print_value};
+use crate::lines::printing::{Member, bad_member, fault, fault_with, member_text, print_value};
 use crate::lines::proof_text::proof_value;
 use coniks_chain::Entry;
 use coniks_directory::{OpFault, SignedProof};
@@ -165,12 +165,10 @@ fn looked_up<'a>(alloc: Global, name: &'a str, found: &'a SignedProof) -> Result
 fn placed_fault(alloc: Global, name: &str, position: usize) -> Result<Value, AllocError>
     ensures { IfOk result (λ value. view value ≡ placed_fault_data name.now position) }
 {
-    object(
+    fault_with(
         alloc,
-        &[
-            Field("fault", Shown::Text(name)),
-            Field("position", Shown::Number(position as u64)),
-        ],
+        name,
+        Field("position", Shown::Number(position as u64)),
     )
 }
 
@@ -190,11 +188,9 @@ fn bad_operation(alloc: Global, position: usize) -> Result<Value, AllocError>
 fn epoch_not_later(alloc: Global, latest: u64) -> Result<Value, AllocError>
     ensures { IfOk result (λ value. view value ≡ epoch_not_later_data latest) }
 {
-    object(
+    fault_with(
         alloc,
-        &[
-            Field("fault", Shown::Text("EpochNotLater")),
-            Field("latest", Shown::Number(latest)),
-        ],
+        "EpochNotLater",
+        Field("latest", Shown::Number(latest)),
     )
 }

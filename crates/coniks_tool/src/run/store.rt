@@ -16,11 +16,12 @@ ghost use Rattle.coniks_tool.specs.Stores.{batch_of, opened_of, IsServed};
 
 use crate::demo::index::DemoIndex;
 use crate::demo::seal::DemoSeal;
+use crate::run::batch::Batch;
 use crate::run::committing::commit;
 use crate::run::crew::Crew;
 use crate::run::reply::Reply;
 use coniks_chain::Entry;
-use coniks_directory::{BatchFault, CommitFault, Directory, InstallFault, LookupFault, Op};
+use coniks_directory::{BatchFault, CommitFault, Directory, InstallFault, LookupFault};
 use coniks_lines::RunFault;
 use coniks_proof::{Nonce, Sha256Hash};
 use coniks_shared::{Board, Publisher};
@@ -55,9 +56,7 @@ impl Service {
     fn commit<T: Threads + Sync>(
         &mut self,
         crew: &Crew<'_, T>,
-        epoch: u64,
-        brought: Option<[u8; 32]>,
-        ops: &[Op],
+        batch: &Batch<'_>,
         publisher: &mut Publisher,
         board: &Board,
     ) -> Result<Entry, CommitFault>
@@ -66,18 +65,16 @@ impl Service {
         requires served { IsServed publisher.old self.old }
         ensures table { publisher.new.table ≡ publisher.old.table }
         ensures served { IsServed publisher.new self.new }
-        ensures ok { IfOk result (λ entry. Installs (opened_of self.old) (batch_of epoch brought ops.now) entry (opened_of self.new)) }
+        ensures ok { IfOk result (λ entry. Installs (opened_of self.old) (batch_of batch.now) entry (opened_of self.new)) }
         ensures last { IfOk result (λ entry. last_of publisher.new.heads ≡ Some (head_at sha256 entry)) }
-        ensures refused { IfErr result (IsRefusedBy (refusal (demo_index (opened_of self.old).key) (opened_of self.old).history epoch (operations ops.now))) }
+        ensures refused { IfErr result (IsRefusedBy (refusal (demo_index (opened_of self.old).key) (opened_of self.old).history batch.now.epoch (operations batch.now.ops.now))) }
         ensures unchanged { OnErr result (opened_of self.new ≡ opened_of self.old) }
     {
         let committed = commit(
             &mut self.directory,
             &mut self.signer,
             crew,
-            epoch,
-            brought,
-            ops,
+            batch,
             publisher,
             board,
         );
@@ -213,17 +210,15 @@ impl Store {
     pub fn install<T: Threads + Sync>(
         &mut self,
         crew: &Crew<'_, T>,
-        epoch: u64,
-        brought: Option<[u8; 32]>,
-        ops: &[Op],
+        batch: &Batch<'_>,
     ) -> Result<Reply, AllocError>
-        ensures reply { IfOk result (λ reply. outcome_of reply ≡ (batch_with self.old (batch_of epoch brought ops.now)).outcome) }
-        ensures state { OnOk result (self.new ≡ (batch_with self.old (batch_of epoch brought ops.now)).state) }
+        ensures reply { IfOk result (λ reply. outcome_of reply ≡ (batch_with self.old (batch_of batch.now)).outcome) }
+        ensures state { OnOk result (self.new ≡ (batch_with self.old (batch_of batch.now)).state) }
     {
         let Some(mut service) = self.opened.take() else {
             return Ok(Reply::NotOpen);
         };
-        let committed = service.commit(crew, epoch, brought, ops, &mut self.publisher, &self.board);
+        let committed = service.commit(crew, batch, &mut self.publisher, &self.board);
         self.opened = Some(service);
         let entry = match committed {
             Ok(entry) => entry,

@@ -1,11 +1,12 @@
 //! The command that reads the program's words.
 
-ghost use Rattle.std.specs.Prelude.{◌≡◌, IfOk, false, true};
+ghost use Rattle.std.specs.Prelude.{◌≡◌, ℤ, IfOk, false, true};
 ghost use Rattle.clap.specs.Words.{app_of, new_app, with_rule, with_subcommand, App, Rule};
 ghost use Rattle.clap.specs.declared.builder.command.Command.TheViews.{out-Command as fields_of};
-ghost use Rattle.coniks_tool.specs.Keydir.{audit_app, check_app, depth_rule, expect_rule, key_rule, keydir, keydir_top, monitor_app, name_rule, run_app, workers_rule, IsCommand, IsOption};
+ghost use Rattle.coniks_tool.specs.Keydir.{audit_app, check_app, key_rule, keydir, keydir_top, monitor_app, number_rule, run_app, text_rule, IsCommand, IsOption};
 
 use crate::words::help;
+use clap::builder::ValueParser;
 use clap::{Arg, Command};
 use std::alloc::{AllocError, Global};
 
@@ -16,105 +17,83 @@ fn command<'a>(alloc: Global, name: &'a str, about: &'a str, last: &'a str) -> C
     Command::new(alloc, name).about(about).after_help(last)
 }
 
-fn workers_option<'a>(alloc: Global) -> Arg<'a>
-    ensures { IsOption workers_rule result }
+/// An option that is a number, and what it is where it is left out.
+fn number_option<'a>(
+    alloc: Global,
+    name: &'a str,
+    missing: &'a str,
+    parser: ValueParser<'a>,
+    value_name: &'a str,
+    help: &'a str,
+) -> Arg<'a>
+    ensures { (least most : ℤ) → parser.entry ≡ ValueParser.Signed least most → IsOption (number_rule name.now missing.now least most) result }
 {
-    Arg::new(alloc, "workers")
-        .long("workers")
-        .value_parser(clap::value_parser!(u8).range(1..=64))
-        .value_name("1-64")
-        .default_value("1")
-        .help("How many workers build an epoch, 1 to 64")
+    Arg::new(alloc, name)
+        .long(name)
+        .value_parser(parser)
+        .value_name(value_name)
+        .default_value(missing)
+        .help(help)
 }
 
-fn depth_option<'a>(alloc: Global) -> Arg<'a>
-    ensures { IsOption depth_rule result }
+/// An option that is a text.
+fn text_option<'a>(
+    alloc: Global,
+    name: &'a str,
+    required: bool,
+    value_name: &'a str,
+    help: &'a str,
+) -> Arg<'a>
+    ensures { IsOption (text_rule name.now required) result }
 {
-    Arg::new(alloc, "depth")
-        .long("depth")
-        .value_parser(clap::value_parser!(u8).range(0..=12))
-        .value_name("0-12")
-        .default_value("0")
-        .help("The length in bits of the prefixes that are built apart, 0 to 12")
+    Arg::new(alloc, name)
+        .long(name)
+        .value_name(value_name)
+        .required(required)
+        .help(help)
 }
 
 fn run_command<'a>(alloc: Global) -> Result<Command<'a>, AllocError>
     ensures { IfOk result (IsCommand run_app) }
 {
-    let bare = command(
-        alloc,
-        "run",
-        "Answers the lines of the standard input",
-        help::OF_RUN,
-    );
-    let with_workers = with_option(Ok(bare), workers_option(alloc));
-    with_option(with_workers, depth_option(alloc))
+    let numbers = clap::value_parser!(u8);
+    let many = numbers.range(1..=64);
+    let deep = numbers.range(0..=12);
+    let workers = number_option(alloc, "workers", "1", many, "1-64", help::WORKERS);
+    let depth = number_option(alloc, "depth", "0", deep, "0-12", help::DEPTH);
+    let bare = command(alloc, "run", help::RUN, help::OF_RUN);
+    let with_workers = with_option(Ok(bare), workers);
+    with_option(with_workers, depth)
 }
 
 fn check_command<'a>(alloc: Global) -> Command<'a>
     ensures { IsCommand check_app result }
 {
-    command(
-        alloc,
-        "check",
-        "Checks the proofs of the standard input",
-        help::OF_CHECK,
-    )
+    command(alloc, "check", help::CHECK, help::OF_CHECK)
 }
 
 fn key_option<'a>(alloc: Global) -> Arg<'a>
     ensures { IsOption key_rule result }
 {
-    Arg::new(alloc, "key")
-        .long("key")
-        .value_name("HEX64")
-        .required(true)
-        .help("The directory's key, 64 hexadecimal digits")
+    text_option(alloc, "key", true, "HEX64", help::KEY)
 }
 
 fn audit_command<'a>(alloc: Global) -> Result<Command<'a>, AllocError>
     ensures { IfOk result (IsCommand audit_app) }
 {
-    let bare = command(
-        alloc,
-        "audit",
-        "Audits the entries of the standard input",
-        help::OF_AUDIT,
-    );
+    let bare = command(alloc, "audit", help::AUDIT, help::OF_AUDIT);
     with_option(Ok(bare), key_option(alloc))
-}
-
-fn name_option<'a>(alloc: Global) -> Arg<'a>
-    ensures { IsOption name_rule result }
-{
-    Arg::new(alloc, "name")
-        .long("name")
-        .value_name("TEXT")
-        .required(true)
-        .help("The name that is watched")
-}
-
-fn expect_option<'a>(alloc: Global) -> Arg<'a>
-    ensures { IsOption expect_rule result }
-{
-    Arg::new(alloc, "expect")
-        .long("expect")
-        .value_name("BASE64")
-        .help("The key that is expected, in base64; left out where none is")
 }
 
 fn monitor_command<'a>(alloc: Global) -> Result<Command<'a>, AllocError>
     ensures { IfOk result (IsCommand monitor_app) }
 {
-    let bare = command(
-        alloc,
-        "monitor",
-        "Watches a name over the standard input",
-        help::OF_MONITOR,
-    );
+    let name = text_option(alloc, "name", true, "TEXT", help::NAME);
+    let expect = text_option(alloc, "expect", false, "BASE64", help::EXPECT);
+    let bare = command(alloc, "monitor", help::MONITOR, help::OF_MONITOR);
     let with_key = with_option(Ok(bare), key_option(alloc));
-    let with_name = with_option(with_key, name_option(alloc));
-    with_option(with_name, expect_option(alloc))
+    let with_name = with_option(with_key, name);
+    with_option(with_name, expect)
 }
 
 /// The command without its subcommands.

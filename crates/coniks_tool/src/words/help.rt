@@ -1,4 +1,31 @@
-//! The texts at the end of the program's help.
+//! The texts of the program's help.
+
+/// What `run` does.
+pub(crate) const RUN: &str = "Answers the lines of the standard input";
+
+/// What `check` does.
+pub(crate) const CHECK: &str = "Checks the proofs of the standard input";
+
+/// What `audit` does.
+pub(crate) const AUDIT: &str = "Audits the entries of the standard input";
+
+/// What `monitor` does.
+pub(crate) const MONITOR: &str = "Watches a name over the standard input";
+
+/// What `--workers` is.
+pub(crate) const WORKERS: &str = "How many workers build an epoch, 1 to 64";
+
+/// What `--depth` is.
+pub(crate) const DEPTH: &str = "The length in bits of the prefixes that are built apart, 0 to 12";
+
+/// What `--key` is.
+pub(crate) const KEY: &str = "The directory's key, 64 hexadecimal digits";
+
+/// What `--name` is.
+pub(crate) const NAME: &str = "The name that is watched";
+
+/// What `--expect` is.
+pub(crate) const EXPECT: &str = "The key that is expected, in base64; left out where none is";
 
 /// At the end of the help of `keydir`.
 pub(crate) const OF_KEYDIR: &str = "Example:

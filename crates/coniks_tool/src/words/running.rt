@@ -97,13 +97,13 @@ fn audit_under<R: ByteIn, W: ByteOut>(
     ensures idle_writer { Lacks (Some (audit key.now)) → W.sink writer.new ≡ W.sink writer.old }
     ensures fails { IfErr result (Fails ⊥ (R.source reader.old) (R.source reader.new) (W.sink writer.old) (W.sink writer.new)) }
 {
-    let Some(key) = bytes_of_digits(key) else {
-        return Ok(Ending::BadKey);
-    };
-    Ok(Ending::Done(run_audit(alloc, key, reader, writer)?))
+    match bytes_of_digits(key) {
+        Some(key) => Ok(Ending::Done(run_audit(alloc, key, reader, writer)?)),
+        None => Ok(Ending::BadKey),
+    }
 }
 
-/// Watches a name under the key of a text.
+/// Watches a name under the key of a text, for a client that expects what a further text says.
 fn watch_under<R: ByteIn, W: ByteOut>(
     alloc: Global,
     key: &str,
@@ -119,28 +119,9 @@ fn watch_under<R: ByteIn, W: ByteOut>(
     ensures idle_writer { Lacks (Some (monitor key.now name.now (option_map (λ text. text.now) expect.entry))) → W.sink writer.new ≡ W.sink writer.old }
     ensures fails { IfErr result (Fails ⊥ (R.source reader.old) (R.source reader.new) (W.sink writer.old) (W.sink writer.new)) }
 {
-    match bytes_of_digits(key) {
-        Some(key) => watch(alloc, key, name, expect, reader, writer),
-        None => Ok(Ending::BadKey),
-    }
-}
-
-/// Watches a name under a key, once the text of an expectation was read.
-fn watch<R: ByteIn, W: ByteOut>(
-    alloc: Global,
-    key: [u8; 32],
-    name: &str,
-    expect: Option<&str>,
-    reader: &mut R,
-    writer: &mut W,
-) -> Result<Ending, RunFault>
-    requires reads { (R.source reader.old).failed + 1 < 2 ^ 64 }
-    requires writes { (W.sink writer.old).failed + 1 < 2 ^ 64 }
-    ensures ends { (digits : List ℕ) → key_in digits ≡ Some key → IfOk result (EndsBy (Some (monitor digits name.now (option_map (λ text. text.now) expect.entry))) (R.source reader.old) (R.source reader.new) (W.sink writer.old) (W.sink writer.new)) }
-    ensures idle_reader { expectation_in (option_map (λ text. text.now) expect.entry) ≡ None → R.source reader.new ≡ R.source reader.old }
-    ensures idle_writer { expectation_in (option_map (λ text. text.now) expect.entry) ≡ None → W.sink writer.new ≡ W.sink writer.old }
-    ensures fails { IfErr result (Fails ⊥ (R.source reader.old) (R.source reader.new) (W.sink writer.old) (W.sink writer.new)) }
-{
+    let Some(key) = bytes_of_digits(key) else {
+        return Ok(Ending::BadKey);
+    };
     let Some(expected) = expectation_of(alloc, expect)? else {
         return Ok(Ending::BadExpectation);
     };

@@ -1,9 +1,10 @@
 use Rattle.std.proofs.Common.{◌≡◌, ◌≢◌, ℕ, ◌+◌, ◌%◌, ◌^◌, List, [], ◌∷◌, ◌++◌, take, arith, ap, ◌∙◌, subst, inl, inr}
 use Rattle.std.proofs.lemmas.Result.{err_from_is_err_and}
 use Rattle.std.proofs.lemmas.Grind.{common_steps}
+use Rattle.std.proofs.KnownBytes.{Consumes-kept}
 use Rattle.std.specs.Io.KnownBytes.{Keeps}
 use Rattle.coniks_lines.specs.Runs.{AnswersLine, StopsFor}
-use Rattle.coniks_lines.proofs.KnownLemmas.{Takes-then, Takes-end, Takes-same}
+use Rattle.coniks_lines.proofs.KnownLemmas.{Takes-then, Takes-end}
 use Rattle.coniks_lines.proofs.RunsLemmas.{ReadsOn, Counted, AnswersWhole-then, ReadsOn-then, ReadsOn-end, ends_in_chunk, ends_at_last, ends_unread, Counted-next, Counted-some, ends_empty, ends_with_line, AnswersAll-same}
 use Rattle.coniks_lines.proofs.engine.read_lines.Goals as goal
 use Rattle.coniks_lines.proofs.engine.read_lines.Goals.{then-not-is_empty+in_ok-accepted, else-not-is_empty}
@@ -77,21 +78,17 @@ returns-in_err-accepted-2-clause-err g c =
 
 pub loop-reads-preserved : goal.loop-reads-preserved
 loop-reads-preserved g c =
-    let state = g.M.LineMachine.state in
-    let sink = g.W.ByteOut.sink in
     let source = g.R.ByteIn.source in
     let loop = c.loop-reads in
     let bytes = loop.invariant.0 in
     let inv = loop.invariant.1 in
     let chunk = take c.in-Ok.count c.read.new.buffer in
-    let new = c.take_chunk.new in
     let on : ReadsOn (source loop.reader) (source c.read.new.self) = grind (arith, common_steps) in (
       bytes ++ chunk,
       record {
         taken = Takes-then (source c.args.reader.now) (source loop.reader) (source c.read.new.self) bytes chunk inv.taken c.in-Ok.ensures.taken;
         counted = Counted-next loop._reads (source c.args.reader.now).reads (source loop.reader).reads (source c.read.new.self).reads inv.counted c.in-Ok.ensures.reads;
-        answers = AnswersWhole-then g.M.LineMachine.answer (state c.args.machine.now) (state loop.machine) (state new.machine) [] loop.held.items new.held.items bytes chunk
-            (sink c.args.writer.now) (sink loop.writer) (sink new.writer) loop.all c.in_ok-accepted-2.accepted inv.answers c.in_ok-accepted-2.ensures.ok;
+        answers = AnswersWhole-then g.M.LineMachine.answer inv.answers c.in_ok-accepted-2.ensures.ok;
         reads_on = ReadsOn-then (source c.args.reader.now) (source loop.reader) (source c.read.new.self) inv.reads_on on;
       },
     )
@@ -107,7 +104,7 @@ returns-in_default-clause-err g c =
     let kept : Keeps (source loop.reader).left from'.left = grind (arith, common_steps) in
     let failed : from'.failed ≡ (source loop.reader).failed + 1 = grind (arith, common_steps) in
     let ends : from'.ends ≡ (source loop.reader).ends = grind (arith, common_steps) in
-    let took = Takes-same (source c.args.reader.now) (source loop.reader) from' loop.invariant.0 inv.taken kept in
+    let took = Consumes-kept (source c.args.reader.now).left (source loop.reader).left from'.left loop.invariant.0 inv.taken kept in
     ends_unread g.M.LineMachine.answer took (ends ∙ inv.reads_on.not_ended, inl (failed ∙ ap (λ (n : ℕ). n + 1) inv.reads_on.none_failed)) inv.answers
 
 pub returns-clause-err : goal.returns-clause-err

@@ -32,3 +32,9 @@ settings_by-requires-clause-chosen g c = let is = taken g c in
 pub settings_by-requires-clause-limits : goal.settings_by-requires-clause-limits
 settings_by-requires-clause-limits g c = let is = taken g c in
     subst (λ (o : Option (List ℕ × List Row)). IfSome o IsLimited) is.1 (faultless-limited (map g.S.AsStr.text c.args.words.now) is.0)
+
+pub returns-in-Err-clause-refused : goal.returns-in-Err-clause-refused
+returns-in-Err-clause-refused g c = search rules
+
+pub returns-clause-ok : goal.returns-clause-ok
+returns-clause-ok g c = search rules

@@ -1,4 +1,4 @@
-use Rattle.std.proofs.Common.{◌∙◌, map, sym}
+use Rattle.std.proofs.Common.{◌∙◌, map, sym, rules}
 use Rattle.clap.specs.Words.{kind_of}
 use Rattle.coniks_tool.specs.Choice.{choice_of}
 use Rattle.coniks_tool.specs.Program.{AsksForBoard}
@@ -30,3 +30,9 @@ pub returns-in-Err-Clap-clause-fails : goal.returns-in-Err-Clap-clause-fails
 returns-in-Err-Clap-clause-fails g c =
     let from = g.R.ByteIn.source c.args.reader.now in
     fails_with_no_board (AsksForBoard (map g.S.AsStr.text c.args.words.now)) from from _ _ c.explain.result (c.explain.ensures.fails from)
+
+pub returns-in-Err-Clap-clause-idle_reader : goal.returns-in-Err-Clap-clause-idle_reader
+returns-in-Err-Clap-clause-idle_reader g c = search rules
+
+pub returns-in-Err-OutOfMemory-clause-fails : goal.returns-in-Err-OutOfMemory-clause-fails
+returns-in-Err-OutOfMemory-clause-fails g c = search rules

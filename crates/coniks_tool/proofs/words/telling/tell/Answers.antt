@@ -10,3 +10,6 @@ returns-in_err-write_all-clause-err g c =
     let part = c.in_err-write_all.ensures.part in
     let same : c.as_bytes.result.now ≡ c.args.text.now = search rules in
     rw p.1 (stops_in_text (sink c.args.writer.now) (sink c.write_all.new.writer) c.args.text.now c.as_bytes.result.now part.0 same part.1 c.in_err-write_all.ensures.because)
+
+pub returns-then-is_err-clause-fault : goal.returns-then-is_err-clause-fault
+returns-then-is_err-clause-fault g c = search rules

@@ -11,7 +11,7 @@ returns-clause-served g c =
     let e = c.commit-committed.ensures in
     let s = c.requires.served in
     let counts = made_and_room c.commit-committed.result c.args.self.now.directory c.commit-committed.new.directory c.args.publisher.now c.commit-committed.new.publisher
-    c.args.self.now.signer.made c.commit-committed.new.signer.made 0 0 c.args.epoch (length c.args.publisher.now.heads) c.args.board.now.capacity c.args.self.now.signer.last c.commit-committed.new.signer.last
+    c.args.self.now.signer.made c.commit-committed.new.signer.made 0 0 c.args.batch.now.epoch (length c.args.publisher.now.heads) c.args.board.now.capacity c.args.self.now.signer.last c.commit-committed.new.signer.last
     e.made e.chain e.may e.unsigned e.unchanged s.made s.room (as_many c.args.publisher.now.heads c.args.self.now.directory.state.chain s.heads) c.requires.capacity in
     record {
       verdicts = λ b x. e.verdicts_kept b x ∙ s.verdicts b x ∙ ap (λ (k : List ℕ). is_seal k b x) (sym e.same.index);
@@ -25,7 +25,7 @@ pub returns-clause-ok : goal.returns-clause-ok
 returns-clause-ok g c =
     let e = c.commit-committed.ensures in
     let s = c.requires.served in
-    installed_by c.args.self.now.directory.index c.commit-committed.new.directory.index c.args.self.now.directory.state c.commit-committed.new.directory.state (batch_of c.args.epoch c.args.brought c.args.ops.now) c.args.crew.now.depth c.args.crew.now.workers
+    installed_by c.args.self.now.directory.index c.commit-committed.new.directory.index c.args.self.now.directory.state c.commit-committed.new.directory.state (batch_of c.args.batch.now) c.args.crew.now.depth c.args.crew.now.workers
     (length c.args.publisher.now.heads) c.args.board.now.capacity (is_seal c.commit-committed.new.signer.key) c.commit-committed.result (λ b x. e.verdicts_kept b x ∙ s.verdicts b x) e.same.index e.grows e.history e.chain c.chain-chain.ensures.of_history (e.good s.good) e.accepted e.may
     (as_many c.args.publisher.now.heads c.args.self.now.directory.state.chain s.heads) c.requires.capacity s.room
 
@@ -33,8 +33,8 @@ pub returns-clause-refused : goal.returns-clause-refused
 returns-clause-refused g c =
     let e = c.commit-committed.ensures in
     let s = c.requires.served in
-    refused_by (demo_index c.args.self.now.directory.index) (demo_index c.commit-committed.new.directory.index) c.args.self.now.directory c.commit-committed.new.directory c.args.publisher.now c.commit-committed.new.publisher (operations c.args.ops.now)
-    c.args.crew.now.depth c.args.crew.now.workers c.args.epoch (length c.args.publisher.now.heads) c.args.board.now.capacity c.args.self.now.signer.made c.commit-committed.new.signer.made c.args.self.now.signer.last c.commit-committed.new.signer.last
+    refused_by (demo_index c.args.self.now.directory.index) (demo_index c.commit-committed.new.directory.index) c.args.self.now.directory c.commit-committed.new.directory c.args.publisher.now c.commit-committed.new.publisher (operations c.args.batch.now.ops.now)
+    c.args.crew.now.depth c.args.crew.now.workers c.args.batch.now.epoch (length c.args.publisher.now.heads) c.args.board.now.capacity c.args.self.now.signer.made c.commit-committed.new.signer.made c.args.self.now.signer.last c.commit-committed.new.signer.last
     c.commit-committed.result c.args.crew.now.within.0 c.args.crew.now.within.1 (as_many c.args.publisher.now.heads c.args.self.now.directory.state.chain s.heads) c.requires.capacity e.unsigned e.refused e.unchanged c.chain-chain.ensures.of_history
 
 pub returns-clause-last : goal.returns-clause-last

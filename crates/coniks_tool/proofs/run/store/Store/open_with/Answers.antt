@@ -1,4 +1,4 @@
-use Rattle.std.proofs.Common.{◌≡◌, Option, None, sym, subst, ◌∙◌}
+use Rattle.std.proofs.Common.{◌≡◌, Option, None, sym, subst, ◌∙◌, rules}
 use Rattle.coniks_tool.specs.Stores.{IsServedIf}
 use Rattle.coniks_tool.specs.declared.run.store.Service.{Service}
 use Rattle.coniks_tool.proofs.StoreLemmas.{none_opened}
@@ -13,3 +13,6 @@ invariant_of-self c =
       capacity = c.self.invariant.capacity;
       served = c.open.ensures.served c.self.inside.publisher (subst (λ (o : Option Service). IsServedIf c.self.inside.publisher o) none c.self.invariant.served);
     }
+
+pub returns-then-is_some-clause-reply : goal.returns-then-is_some-clause-reply
+returns-then-is_some-clause-reply c = search rules

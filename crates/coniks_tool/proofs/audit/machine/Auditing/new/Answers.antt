@@ -1,0 +1,5 @@
+use Rattle.std.proofs.Common.{rules}
+use Rattle.coniks_tool.proofs.audit.machine.Auditing.new.Goals as goal
+
+pub returns : goal.returns
+returns c = search rules
