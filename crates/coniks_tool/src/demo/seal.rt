@@ -3,9 +3,10 @@
 ghost use Rattle.std.specs.Prelude.{◌≡◌, ◌<◌, ◌+◌, ◌-◌, ◌^◌, ◌∷◌, ◌++◌, None, Some, IsSome, IfSome};
 ghost use Rattle.coniks_proof.specs.Sha256.{sha256};
 ghost use Rattle.coniks_chain.specs.Entries.{IsBody, body_bytes, signed};
+ghost use Rattle.coniks_chain.specs.declared.entry.Body.{Body};
 ghost use Rattle.coniks_tool.specs.Seal.{is_seal, seal_of};
 
-use coniks_chain::{Body, Entry, Sign, Signature, Verify};
+use coniks_chain::{Entry, Sign, Signature, Signings, Verify};
 use coniks_proof::{Digest, Hash32, Sha256Hash};
 use std::marker::Model;
 
@@ -16,12 +17,12 @@ const LOW_TAG: u8 = 0x41;
 const HIGH_TAG: u8 = 0x42;
 
 /// Signs bodies under a key, and judges such signatures. For demonstrations: it claims no security, and who can judge a
-/// signature can also make one. It never refuses. Contracts see its key, how many signatures it gave, and the last entry.
+/// signature can also make one. It never refuses, and its verdict on what it made is proved, so nothing is judged twice.
+/// Contracts see its key, how many signatures it gave, and the last entry.
 #[derive(Drop)]
 pub struct DemoSeal {
     key: [u8; 32],
-    made: u64,
-    last: Option<Entry>,
+    signings: Signings,
 }
 
 impl Model for DemoSeal {
@@ -29,7 +30,7 @@ impl Model for DemoSeal {
 
     ghost Value = { Sealer };
 
-    ghost view = { λ seal. record { key = seal.key; made = seal.made; last = seal.last } };
+    ghost view = { λ seal. record { key = seal.key; made = seal.signings.made; last = seal.signings.last } };
 }
 
 impl DemoSeal {
@@ -39,8 +40,7 @@ impl DemoSeal {
     {
         DemoSeal {
             key,
-            made: 0,
-            last: None,
+            signings: Signings::none(),
         }
     }
 
@@ -90,16 +90,12 @@ impl Sign for DemoSeal {
         ensures last { IfSome result (λ signature. (b : Body) → IsBody b → body_bytes b ≡ body.now → self.new.last ≡ Some (signed b signature)) }
     {
         let signature = self.seal(body);
-        self.made += 1;
-        self.last = Some(Entry {
-            body: Body::read(body),
-            signature,
-        });
+        self.signings.signed(body, signature);
         Some(signature)
     }
 
     fn made(&self) -> u64 {
-        self.made
+        self.signings.made
     }
 
     fn refused(&self) -> u64 {
@@ -107,6 +103,6 @@ impl Sign for DemoSeal {
     }
 
     fn last(&self) -> Option<Entry> {
-        self.last
+        self.signings.last
     }
 }
