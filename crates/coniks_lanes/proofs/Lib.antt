@@ -1,0 +1,3 @@
+mod MajorityLemmas
+mod WordLemmas
+mod PaddingLemmas

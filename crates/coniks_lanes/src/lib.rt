@@ -1,0 +1,14 @@
+//! SHA-256 (FIPS 180-4) of four messages at once, each in a lane of four words.
+//!
+//! What a message's hash is, the kit's `sha2` defines, and this crate has no definition of it beside that one. Four
+//! messages of two blocks take about half the time of four calls of `sha2`, where the processor has vectors of 16 bytes.
+//! `TwoBlocks::of` takes the pieces of a message, and `hash_four` four such messages.
+#![tactic(auto)]
+
+pub mod hashing;
+pub mod message;
+mod rounds;
+mod words;
+
+pub use hashing::hash_four;
+pub use message::{MAX_TWO_BLOCKS, MIN_TWO_BLOCKS, TwoBlocks};
