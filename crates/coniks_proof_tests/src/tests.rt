@@ -1,6 +1,7 @@
 //! Worked examples, whose digests were computed by other programs.
 
 mod collisions;
+mod wire;
 
 use coniks_proof::{
     Answer, Bytes, CheckFault, Digest, Digests, End, Flat, Hash32, Head, Index, MAX_KEY, MAX_NAME,
