@@ -1,0 +1,30 @@
+-- What stands in the structs that cross between C and the libraries.
+use Rattle.std.specs.Prelude.{◌==◌, ◌≡◌, ℕ, List, Bool, Option, Some, None, if◌then◌else◌}
+use Rattle.coniks_chain.specs.Entries.{body_bytes}
+use Rattle.coniks_chain.specs.declared.auditor.Before.{Before}
+use Rattle.coniks_chain.specs.declared.entry.Body.{Body}
+use Rattle.coniks_chain.specs.declared.entry.Entry.{Entry}
+use Rattle.coniks_c.specs.declared.values.AuditorState.{AuditorState}
+use Rattle.coniks_c.specs.declared.values.EntryBody.{EntryBody}
+
+-- what stands before the next entry; nothing at epoch 0
+abbrev pub before_in : AuditorState → Option Before
+before_in state =
+    if state.epoch == 0 then None
+    else Some (record { t = state.epoch; link = record { 0 = state.link.bytes }; version = state.version; nonce = record { 0 = state.nonce.bytes } })
+
+-- the body that was filled in
+abbrev pub body_in : EntryBody → Body
+body_in body = record {
+  version = body.version;
+  t = body.epoch;
+  t_prev = body.previous_epoch;
+  root = record { 0 = body.root.bytes };
+  previous = record { 0 = body.previous_link.bytes };
+  nonce = record { 0 = body.nonce.bytes };
+  policy = body.policy.bytes;
+}
+
+-- of the entry's signature the caller was told by this function: it is good where the number is 1
+abbrev pub IsToldBy : (List ℕ → List ℕ → Bool) → Entry → ℕ → Type 0
+IsToldBy verdict entry told = verdict (body_bytes entry.body) entry.signature.0 ≡ (told == 1)

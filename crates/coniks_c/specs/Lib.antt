@@ -1,0 +1,4 @@
+pub mod Checked
+pub mod Crossing
+pub mod Statuses
+pub mod Watched

@@ -1,0 +1,45 @@
+-- The numbers that a call answers.
+use Rattle.std.specs.Prelude.{◌≡◌, ◌+◌, ℕ, List, Option, Some, None}
+use Rattle.coniks_proof.specs.Faults.{number}
+use Rattle.coniks_proof.specs.Wire.{order}
+use Rattle.coniks_proof.specs.declared.checker.CheckFault.{CheckFault}
+use Rattle.coniks_proof.specs.declared.wire.WireFault.{WireFault}
+use Rattle.coniks_chain.specs.Chain.{place_of}
+use Rattle.coniks_chain.specs.declared.auditor.AuditFault.{AuditFault}
+use Rattle.coniks_chain.specs.declared.seen.Seen.{Seen}
+use Rattle.coniks_chain.specs.declared.seen.Seen.TheVariants.{Same, Changed, Absent}
+use Rattle.coniks_c.specs.declared.text.Refusal.{Refusal}
+use Rattle.coniks_c.specs.declared.text.Refusal.TheVariants.{Check, Wire, Audit, EntryLength, NoEntry}
+
+-- the status of an answer
+abbrev pub status_of_answer : Option (List ℕ) → ℕ
+status_of_answer (Some key) = 0
+status_of_answer None = 1
+
+-- the status of what a client sees
+abbrev pub status_of_seen : Seen → ℕ
+status_of_seen Same = 0
+status_of_seen Absent = 1
+status_of_seen Changed = 9
+
+-- a fault of a proof, of bytes that are no proof's, and of an entry
+abbrev pub IsCheckStatus : ℕ → Type 0
+IsCheckStatus status = (fault : CheckFault) × (status ≡ number fault + 1)
+
+abbrev pub IsWireStatus : ℕ → Type 0
+IsWireStatus status = (fault : WireFault) × (status ≡ order fault + 16)
+
+abbrev pub IsAuditStatus : ℕ → Type 0
+IsAuditStatus status = (fault : AuditFault) × (status ≡ place_of fault + 33)
+
+-- what a client sees
+abbrev pub IsSeenStatus : ℕ → Type 0
+IsSeenStatus status = (seen : Seen) × (status ≡ status_of_seen seen)
+
+-- the status of whatever is refused
+abbrev pub status_of : Refusal → ℕ
+status_of (Check fault) = number fault + 1
+status_of (Wire fault) = order fault + 16
+status_of (Audit fault) = place_of fault + 33
+status_of EntryLength = 48
+status_of NoEntry = 49

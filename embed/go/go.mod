@@ -1,0 +1,3 @@
+module example.org/coniks
+
+go 1.19

@@ -1,0 +1,293 @@
+"""The client's side of a CONIKS key directory: a checker of proofs, an auditor of a chain, a monitor of one name.
+
+It calls libconiks.so by ctypes and judges nothing itself: what is accepted is what the proved library accepts. The library
+is looked for where the variable CONIKS_LIBRARY says, then beside this file, then in embed/out, then where the system has
+its libraries.
+
+    key = coniks.check(entry.nonce, entry.root, index, "alice", proof)     # bytes, or None where the name is bound to none
+    auditor = coniks.Auditor()
+    auditor.feed(entry_bytes, signature_is_good=True)                      # raises coniks.Refused, and then is as it was
+
+Nonces, roots, indices, links and digests are 32 bytes, entries 209. A name is text or bytes, a proof its bytes (see
+`proof_bytes`). Wrong types raise TypeError, wrong sizes ValueError, and what the library refuses `Refused`.
+"""
+
+from __future__ import annotations
+
+import base64
+import ctypes
+import ctypes.util
+import enum
+import os
+from dataclasses import dataclass
+from pathlib import Path
+from typing import Any, Mapping, Optional, Union
+
+Name = Union[str, bytes]
+
+BODY_LENGTH = 145
+ENTRY_LENGTH = 209
+
+
+class Status(enum.IntEnum):
+    """Why something is refused, by the numbers of coniks.h."""
+
+    TOO_DEEP = 2
+    NAME_LENGTH = 3
+    KEY_LENGTH = 4
+    WRONG_NAME = 5
+    OTHER_IS_SAME = 6
+    OTHER_OFF_PATH = 7
+    ROOT_MISMATCH = 8
+    NO_BYTES = 17
+    UNKNOWN_KIND = 18
+    CUT_IN_COUNT = 19
+    CUT_IN_SIBLINGS = 20
+    CUT_IN_OTHER = 21
+    CUT_IN_OPENING = 22
+    CUT_IN_NAME = 23
+    CUT_IN_KEY = 24
+    BYTES_FOLLOW = 25
+    VERSION_UNKNOWN = 33
+    VERSION_BACK = 34
+    FIRST_EPOCH = 35
+    NOT_LATER = 36
+    PREVIOUS_EPOCH = 37
+    PREVIOUS_LINK = 38
+    NONCE_CHANGED = 39
+    SIGNATURE = 40
+    ENTRY_LENGTH = 48
+    NO_ENTRY = 49
+
+
+class Seen(enum.Enum):
+    """What a proof shows, against what the client expects."""
+
+    SAME = 0
+    ABSENT = 1
+    CHANGED = 9
+
+
+class Refused(Exception):
+    """The library refuses a proof or an entry. `status` says why, and the text in words."""
+
+    def __init__(self, status: int):
+        self.status = Status(status)
+        super().__init__(text(status))
+
+
+class _Bytes32(ctypes.Structure):
+    _fields_ = [("bytes", ctypes.c_uint8 * 32)]
+
+
+class _Bytes145(ctypes.Structure):
+    _fields_ = [("bytes", ctypes.c_uint8 * 145)]
+
+
+class _State(ctypes.Structure):
+    _fields_ = [
+        ("epoch", ctypes.c_uint64),
+        ("link", _Bytes32),
+        ("nonce", _Bytes32),
+        ("version", ctypes.c_uint8),
+        ("unused", ctypes.c_uint8 * 7),
+    ]
+
+
+class _Body(ctypes.Structure):
+    _fields_ = [
+        ("epoch", ctypes.c_uint64),
+        ("previous_epoch", ctypes.c_uint64),
+        ("root", _Bytes32),
+        ("previous_link", _Bytes32),
+        ("nonce", _Bytes32),
+        ("policy", _Bytes32),
+        ("version", ctypes.c_uint8),
+        ("unused", ctypes.c_uint8 * 7),
+    ]
+
+
+def _load() -> ctypes.CDLL:
+    here = Path(__file__).resolve().parent
+    chosen = os.environ.get("CONIKS_LIBRARY")
+    tried = [chosen] if chosen else [here / "libconiks.so", here.parent / "out" / "libconiks.so", ctypes.util.find_library("coniks")]
+    for place in tried:
+        if place and (chosen or not isinstance(place, Path) or place.exists()):
+            return ctypes.CDLL(str(place))
+    raise ImportError("libconiks.so isn't there: run embed/build, or set CONIKS_LIBRARY")
+
+
+_library = _load()
+_run = [ctypes.c_char_p, ctypes.c_size_t]
+_32 = ctypes.POINTER(_Bytes32)
+_size = ctypes.POINTER(ctypes.c_size_t)
+for _name, _result, _arguments in [
+    ("coniks_check", ctypes.c_uint32, [_32, _32, _32, *_run, *_run, _size, _size]),
+    ("coniks_auditor_begin", None, [ctypes.POINTER(_State)]),
+    ("coniks_auditor_feed", ctypes.c_uint32, [ctypes.POINTER(_State), *_run, ctypes.c_uint32]),
+    ("coniks_auditor_head", ctypes.c_uint32, [ctypes.POINTER(_State), ctypes.POINTER(ctypes.c_uint64), _32]),
+    ("coniks_monitor_step", ctypes.c_uint32, [ctypes.POINTER(_State), _32, *_run, *_run, *_run, ctypes.c_uint32, *_run]),
+    ("coniks_entry_body", ctypes.c_uint32, [*_run, ctypes.POINTER(_Body)]),
+    ("coniks_body_bytes", None, [ctypes.POINTER(_Body), ctypes.POINTER(_Bytes145)]),
+    ("coniks_link", ctypes.c_uint32, [*_run, _32]),
+    ("coniks_text", ctypes.c_size_t, [ctypes.c_uint32, ctypes.c_char_p, ctypes.c_size_t]),
+]:
+    _call = getattr(_library, _name)
+    _call.restype, _call.argtypes = _result, _arguments
+
+
+def _bytes(value: Any, what: str) -> bytes:
+    if not isinstance(value, (bytes, bytearray, memoryview)):
+        raise TypeError(f"{what} is bytes, not {type(value).__name__}")
+    return bytes(value)
+
+
+def _bytes32(value: Any, what: str) -> _Bytes32:
+    value = _bytes(value, what)
+    if len(value) != 32:
+        raise ValueError(f"{what} has 32 bytes, not {len(value)}")
+    return _Bytes32.from_buffer_copy(value)
+
+
+def _name(name: Name) -> bytes:
+    return name.encode() if isinstance(name, str) else _bytes(name, "the name")
+
+
+def text(status: int) -> str:
+    """What a status says; the empty text for one that is no fault's."""
+    room = ctypes.create_string_buffer(128)
+    size = _library.coniks_text(status, room, len(room))
+    return room.raw[:size].decode()
+
+
+def check(nonce: bytes, root: bytes, index: bytes, name: Name, proof: bytes) -> Optional[bytes]:
+    """The key that a proof shows for a name at its index, under a root and a nonce; None where it shows that the name is
+    bound to none. Raises `Refused` where the proof isn't accepted."""
+    name, proof = _name(name), _bytes(proof, "the proof")
+    start, length = ctypes.c_size_t(), ctypes.c_size_t()
+    status = _library.coniks_check(
+        _bytes32(nonce, "the nonce"), _bytes32(root, "the root"), _bytes32(index, "the index"),
+        name, len(name), proof, len(proof), ctypes.byref(start), ctypes.byref(length),
+    )  # fmt: skip
+    if status == 0:
+        return proof[start.value : start.value + length.value]
+    if status == 1:
+        return None
+    raise Refused(status)
+
+
+@dataclass(frozen=True)
+class Head:
+    """The last entry accepted: its epoch and its link."""
+
+    epoch: int
+    link: bytes
+
+
+class Auditor:
+    """Follows a chain of entries. Whoever has the directory's public key judges each signature before."""
+
+    def __init__(self, state: Optional[bytes] = None):
+        """An auditor that has seen no entry, or one that goes on from a `state` that another one had."""
+        self._state = _State()
+        if state is None:
+            _library.coniks_auditor_begin(ctypes.byref(self._state))
+        elif len(_bytes(state, "the state")) != ctypes.sizeof(_State):
+            raise ValueError(f"a state has {ctypes.sizeof(_State)} bytes, not {len(state)}")
+        else:
+            self._state = _State.from_buffer_copy(state)
+
+    @property
+    def state(self) -> bytes:
+        """All that the auditor keeps, to be stored and handed to another one."""
+        return bytes(self._state)
+
+    @property
+    def head(self) -> Optional[Head]:
+        """The head of the last entry accepted, None before the first."""
+        epoch, link = ctypes.c_uint64(), _Bytes32()
+        if _library.coniks_auditor_head(ctypes.byref(self._state), ctypes.byref(epoch), ctypes.byref(link)):
+            return None
+        return Head(epoch.value, bytes(link.bytes))
+
+    def feed(self, entry: bytes, signature_is_good: bool) -> None:
+        """Takes an entry that follows the last one; else raises `Refused`, and the auditor is as it was."""
+        entry = _bytes(entry, "the entry")
+        status = _library.coniks_auditor_feed(ctypes.byref(self._state), entry, len(entry), signature_is_good is True)
+        if status:
+            raise Refused(status)
+
+
+class Monitor(Auditor):
+    """Watches one name over a chain, for a client that expects a key of it, or none."""
+
+    def __init__(self, name: Name, index: bytes, expected: Optional[bytes], state: Optional[bytes] = None):
+        super().__init__(state)
+        self._name, self._index, self.expected = _name(name), _bytes32(index, "the index"), expected
+
+    def step(self, entry: bytes, signature_is_good: bool, proof: bytes) -> Seen:
+        """What the proof shows at the entry's epoch, where both are accepted; else raises `Refused`, and the monitor is
+        as it was."""
+        entry, proof = _bytes(entry, "the entry"), _bytes(proof, "the proof")
+        expected = b"" if self.expected is None else _bytes(self.expected, "the expected key")
+        status = _library.coniks_monitor_step(
+            ctypes.byref(self._state), self._index, self._name, len(self._name), expected, len(expected),
+            entry, len(entry), signature_is_good is True, proof, len(proof),
+        )  # fmt: skip
+        try:
+            return Seen(status)
+        except ValueError:
+            raise Refused(status) from None
+
+
+@dataclass(frozen=True)
+class Body:
+    """What an entry says of an epoch, without its signature."""
+
+    version: int
+    epoch: int
+    previous_epoch: int
+    root: bytes
+    previous_link: bytes
+    nonce: bytes
+    policy: bytes
+
+    @classmethod
+    def of_entry(cls, entry: bytes) -> Body:
+        """The body of an entry's 209 bytes. Nothing is judged."""
+        entry, body = _bytes(entry, "the entry"), _Body()
+        status = _library.coniks_entry_body(entry, len(entry), ctypes.byref(body))
+        if status:
+            raise Refused(status)
+        parts = [bytes(it.bytes) for it in (body.root, body.previous_link, body.nonce, body.policy)]
+        return cls(body.version, body.epoch, body.previous_epoch, *parts)
+
+    def __bytes__(self) -> bytes:
+        """The 145 bytes that are signed."""
+        body, out = _Body(self.epoch, self.previous_epoch, version=self.version), _Bytes145()
+        body.root, body.previous_link = _bytes32(self.root, "the root"), _bytes32(self.previous_link, "the link")
+        body.nonce, body.policy = _bytes32(self.nonce, "the nonce"), _bytes32(self.policy, "the policy")
+        _library.coniks_body_bytes(ctypes.byref(body), ctypes.byref(out))
+        return bytes(out.bytes)
+
+
+def link(entry: bytes) -> bytes:
+    """The link of an entry, by which the next one names it."""
+    entry, out = _bytes(entry, "the entry"), _Bytes32()
+    status = _library.coniks_link(entry, len(entry), ctypes.byref(out))
+    if status:
+        raise Refused(status)
+    return bytes(out.bytes)
+
+
+def proof_bytes(proof: Mapping[str, Any]) -> bytes:
+    """The bytes of a proof that `keydir run` printed as an object."""
+    end, siblings = proof["end"], [bytes.fromhex(it) for it in proof["siblings"]]
+    kind = ["empty", "other", "here"].index(end["kind"])
+    front = bytes([kind]) + len(siblings).to_bytes(2, "big") + b"".join(siblings)
+    if kind == 0:
+        return front
+    if kind == 1:
+        return front + bytes.fromhex(end["index"]) + bytes.fromhex(end["commitment"])
+    name, key = end["name"].encode(), base64.b64decode(end["key"], validate=True)
+    return front + bytes.fromhex(end["opening"]) + len(name).to_bytes(2, "big") + name + len(key).to_bytes(4, "big") + key
