@@ -1,0 +1,145 @@
+// The proved library, as a module of the browser. What is accepted is what it accepts; nothing else in this page judges.
+
+import { toHex } from "./bytes.js";
+
+/** @typedef {{status: number, key: Uint8Array | null}} Checked */
+
+const GOOD = 0;
+
+/** A place in the module's memory for what one call takes. */
+class Desk {
+  /** @param {WebAssembly.Memory} memory @param {bigint} base */
+  constructor(memory, base) {
+    this.memory = memory;
+    this.base = Number(base);
+    this.at = this.base;
+  }
+
+  clear() {
+    this.at = this.base;
+  }
+
+  /** @param {number} size @returns {number} where so many bytes have room */
+  room(size) {
+    const here = this.at;
+    this.at += (size + 15) & ~15;
+    const missing = this.at + 16 - this.memory.buffer.byteLength;
+    if (missing > 0) /** @type {any} */ (this.memory).grow(BigInt(Math.ceil(missing / 65536)));
+    return here;
+  }
+
+  /** @param {Uint8Array} bytes @returns {bigint} */
+  put(bytes) {
+    const here = this.room(bytes.length);
+    new Uint8Array(this.memory.buffer).set(bytes, here);
+    return BigInt(here);
+  }
+
+  /** @param {bigint} here @param {number} size @returns {Uint8Array} */
+  take(here, size) {
+    return new Uint8Array(this.memory.buffer).slice(Number(here), Number(here) + size);
+  }
+
+  /** @param {bigint} here @returns {number} */
+  number(here) {
+    return Number(new DataView(this.memory.buffer).getBigUint64(Number(here), true));
+  }
+}
+
+const STATE = 80;
+
+export class Coniks {
+  /** @param {WebAssembly.Instance} instance */
+  constructor(instance) {
+    /** @type {any} */
+    this.calls = instance.exports;
+    this.desk = new Desk(this.calls.memory, this.calls.__heap_base.value);
+  }
+
+  /** @param {BufferSource} bytes @returns {Promise<Coniks>} */
+  static async of(bytes) {
+    const made = await WebAssembly.instantiate(bytes, {});
+    return new Coniks(/** @type {any} */ (made).instance);
+  }
+
+  /**
+   * What a proof's bytes say of a name at its index, under a root and a nonce.
+   * @param {Uint8Array} nonce @param {Uint8Array} root @param {Uint8Array} index @param {Uint8Array} name @param {Uint8Array} proof
+   * @returns {Checked}
+   */
+  check(nonce, root, index, name, proof) {
+    const desk = this.desk;
+    desk.clear();
+    const [a, b, c, d, e] = [nonce, root, index, name, proof].map((it) => desk.put(it));
+    const [start, length] = [desk.put(new Uint8Array(8)), desk.put(new Uint8Array(8))];
+    const status = this.calls.coniks_check(a, b, c, d, BigInt(name.length), e, BigInt(proof.length), start, length);
+    if (status !== GOOD) return { status, key: null };
+    const at = desk.number(start);
+    return { status, key: proof.slice(at, at + desk.number(length)) };
+  }
+
+  /** The state of an auditor that has seen no entry. @returns {Uint8Array} */
+  begin() {
+    return new Uint8Array(STATE);
+  }
+
+  /**
+   * Shows an entry to an auditor, whose state changes where it follows.
+   * @param {Uint8Array} state @param {Uint8Array} entry @param {boolean} isGood
+   * @returns {number}
+   */
+  feed(state, entry, isGood) {
+    this.desk.clear();
+    const here = this.desk.put(state);
+    const status = this.calls.coniks_auditor_feed(here, this.desk.put(entry), BigInt(entry.length), isGood ? 1 : 0);
+    state.set(this.desk.take(here, STATE));
+    return status;
+  }
+
+  /**
+   * Shows a client's monitor an entry and a proof. An expected key of no bytes is none.
+   * @param {Uint8Array} state
+   * @param {{index: Uint8Array, name: Uint8Array, expected: Uint8Array}} wanted
+   * @param {Uint8Array} entry @param {boolean} isGood @param {Uint8Array} proof
+   * @returns {number}
+   */
+  step(state, wanted, entry, isGood, proof) {
+    this.desk.clear();
+    const here = this.desk.put(state);
+    const [index, name, expected, seen, shown] = [wanted.index, wanted.name, wanted.expected, entry, proof].map((it) => this.desk.put(it));
+    const [n, x, e, p] = [wanted.name, wanted.expected, entry, proof].map((it) => BigInt(it.length));
+    const status = this.calls.coniks_monitor_step(here, index, name, n, expected, x, seen, e, isGood ? 1 : 0, shown, p);
+    state.set(this.desk.take(here, STATE));
+    return status;
+  }
+
+  /** The link of an entry of 209 bytes, in hexadecimal digits; the empty text of any other bytes. @param {Uint8Array} entry @returns {string} */
+  link(entry) {
+    this.desk.clear();
+    const out = this.desk.put(new Uint8Array(32));
+    const status = this.calls.coniks_link(this.desk.put(entry), BigInt(entry.length), out);
+    return status === GOOD ? toHex(this.desk.take(out, 32)) : "";
+  }
+
+  /**
+   * What an entry says; null of bytes that are none.
+   * @param {Uint8Array} entry
+   * @returns {{epoch: bigint, root: string, nonce: string, version: number} | null}
+   */
+  body(entry) {
+    this.desk.clear();
+    const out = this.desk.put(new Uint8Array(152));
+    if (this.calls.coniks_entry_body(this.desk.put(entry), BigInt(entry.length), out) !== GOOD) return null;
+    const bytes = this.desk.take(out, 152);
+    const epoch = new DataView(bytes.buffer).getBigUint64(0, true);
+    return { epoch, root: toHex(bytes.slice(16, 48)), nonce: toHex(bytes.slice(80, 112)), version: bytes[144] };
+  }
+
+  /** What a fault's status says. @param {number} status @returns {string} */
+  text(status) {
+    this.desk.clear();
+    const room = this.desk.put(new Uint8Array(128));
+    const size = Number(this.calls.coniks_text(status, room, 128n));
+    return new TextDecoder().decode(this.desk.take(room, Math.min(size, 128)));
+  }
+}
