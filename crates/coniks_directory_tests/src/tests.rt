@@ -10,6 +10,7 @@ mod epochs;
 mod gates;
 mod installs;
 mod largest;
+mod outside;
 mod refused;
 mod renewals;
 mod runs;

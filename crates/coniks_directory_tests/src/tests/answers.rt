@@ -4,6 +4,8 @@ use crate::tests::clerk::{Letters, NONCE};
 use coniks_directory::{Directory, IndexSource, LookupFault};
 use coniks_proof::{Answer, Digest, Nonce, Proof, Sha256Hash, check};
 use std::process::Abort;
+use std::thread;
+use std::thread::Threads;
 
 /// What a lookup tells, once its proof is checked against the epoch's root.
 #[derive(Clone, Copy, Debug, PartialEq, Eq)]
@@ -76,4 +78,12 @@ pub fn decoded<const N: usize>(rt: &impl Abort, digits: &str) -> [u8; N] {
 /// The digest with these hexadecimal digits.
 pub fn digest(rt: &impl Abort, digits: &str) -> Digest {
     Digest(decoded(rt, digits))
+}
+
+/// Whether two threads that ask the same are both told that it is so.
+pub fn both<F: Fn() -> bool + Sync, R: Threads + Sync>(rt: &R, is_so: &F) -> bool
+    requires { F.IsAlwaysCallable is_so.now }
+{
+    let (one, other) = thread::join(rt, || is_so(), || is_so());
+    one && other
 }

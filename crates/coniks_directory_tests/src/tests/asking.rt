@@ -1,7 +1,7 @@
 //! How often the source of indices is asked.
 
 use crate::tests::batches::sized;
-use crate::tests::clerk::{NONCE, POLICY, Stamp};
+use crate::tests::clerk::{NONCE, POLICY, refusing};
 use coniks_chain::Sign;
 use coniks_directory::{Directory, IndexSource, LookupFault};
 use coniks_proof::{Index, Sha256Hash};
@@ -79,7 +79,7 @@ fn with_epoch<'a, R: Threads + Sync + Abort>(
     calls: &'a Cell<u64>,
 ) -> Directory<Sha256Hash, Asked<'a>> {
     let (board, mut publisher) = Board::new(alloc, 1).expect(rt, "a board");
-    let mut signer = Stamp::refusing(u64::MAX);
+    let mut signer = refusing(u64::MAX);
     assert!(rt; signer.made() < u64::MAX && signer.refused() < u64::MAX);
     let ops = [sized(rt, alloc, 1, 1)];
     let mut directory = Directory::open(alloc, Sha256Hash, Asked { calls }, NONCE, POLICY);

@@ -5,7 +5,7 @@ ghost use Rattle.coniks_directory.specs.Chain.{heads_of};
 ghost use Rattle.coniks_directory_tests.specs.Letters.{high as high_of, index_of_letter, low as low_of};
 ghost use Rattle.coniks_directory.specs.Updates.{Grows, IsUpdateOf};
 
-use coniks_chain::{Body, Entry, Sign, Signature, Verify};
+use coniks_chain::{Entry, Sign, Signature, SignatureSource, Signer, Verify};
 use coniks_directory::laws::updates_stay;
 use coniks_directory::{
     BatchFault, CommitFault, Directory, IndexSource, InstallFault, Op, OpKind, Prepared,
@@ -71,36 +71,8 @@ impl IndexSource for Letters {
 #[derive(Drop)]
 pub struct Stamp {
     pub letter: u8,
-    made: u64,
-    refused: u64,
-    last: Option<Entry>,
+    calls: u64,
     refused_call: u64,
-}
-
-impl Stamp {
-    /// A signer that refuses the call of this number.
-    pub fn refusing(refused_call: u64) -> Stamp
-        ensures made { result.made ≡ 0 }
-        ensures refused { result.refused ≡ 0 }
-    {
-        Stamp {
-            letter: 0x55,
-            made: 0,
-            refused: 0,
-            last: None,
-            refused_call,
-        }
-    }
-
-    /// How often it signed.
-    pub fn times_made(&self) -> u64 {
-        self.made
-    }
-
-    /// How often it refused.
-    pub fn times_refused(&self) -> u64 {
-        self.refused
-    }
 }
 
 impl Verify for Stamp {
@@ -114,38 +86,28 @@ impl Verify for Stamp {
     }
 }
 
-impl Sign for Stamp {
-    ghost made_of = { λ stamp. stamp.made };
-
-    ghost refused_of = { λ stamp. stamp.refused };
-
-    ghost last_of = { λ stamp. stamp.last };
-
-    fn sign(&mut self, body: &[u8; 145]) -> Option<Signature> {
-        if self.made.wrapping_add(self.refused) == self.refused_call {
-            self.refused += 1;
-            return None;
+impl SignatureSource for Stamp {
+    fn signature(&mut self, _body: &[u8; 145]) -> Option<Signature> {
+        let call = self.calls;
+        self.calls = call.wrapping_add(1);
+        if call == self.refused_call {
+            None
+        } else {
+            Some(Signature([self.letter; 64]))
         }
-        let signature = Signature([self.letter; 64]);
-        self.made += 1;
-        self.last = Some(Entry {
-            body: Body::read(body),
-            signature,
-        });
-        Some(signature)
     }
+}
 
-    fn made(&self) -> u64 {
-        self.made
-    }
-
-    fn refused(&self) -> u64 {
-        self.refused
-    }
-
-    fn last(&self) -> Option<Entry> {
-        self.last
-    }
+/// A signer that refuses the call of this number.
+pub fn refusing(refused_call: u64) -> Signer<Stamp>
+    ensures made { result.signings.made ≡ 0 }
+    ensures refused { result.signings.refused ≡ 0 }
+{
+    Signer::new(Stamp {
+        letter: 0x55,
+        calls: 0,
+        refused_call,
+    })
 }
 
 /// An operation as the tests write it: its kind, its name and its key, each of one letter.
@@ -175,7 +137,7 @@ pub fn ops_of(alloc: Global, written: &[Written]) -> Result<Vec<Op>, AllocError>
 pub struct Clerk<'a, H: Hash32> {
     pub alloc: Global,
     pub directory: Directory<H, Letters>,
-    pub signer: Stamp,
+    pub signer: Signer<Stamp>,
     pub publisher: Publisher,
     pub board: &'a Board,
     ghost tabled: { publisher.table ≡ board.now.table },
@@ -198,7 +160,7 @@ impl<'a, H: Hash32 + Sync> Clerk<'a, H> {
         Clerk {
             alloc,
             directory: Directory::open(alloc, h, Letters, NONCE, POLICY),
-            signer: Stamp::refusing(refused_call),
+            signer: refusing(refused_call),
             publisher,
             board,
         }
@@ -214,7 +176,7 @@ impl<'a, H: Hash32 + Sync> Clerk<'a, H> {
 
     /// Whether the signer may be asked once more.
     pub fn may_sign(&self) -> bool
-        ensures { result ≡ true → (self.now.signer.made < 2 ^ 64 - 1) × (self.now.signer.refused < 2 ^ 64 - 1) }
+        ensures { result ≡ true → (self.now.signer.signings.made < 2 ^ 64 - 1) × (self.now.signer.signings.refused < 2 ^ 64 - 1) }
     {
         self.signer.made() < u64::MAX && self.signer.refused() < u64::MAX
     }

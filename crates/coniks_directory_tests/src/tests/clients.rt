@@ -50,7 +50,7 @@ fn shown_by<R: Threads + Sync + Abort>(rt: &R, clerk: &mut Clerk<Flat>, key: u8)
 fn showing<R: Threads + Sync + Abort>(rt: &R, alloc: Global, key: u8, letter: u8) -> Shown {
     let (board, publisher) = Board::new(alloc, 1).expect(rt, "a board");
     let mut clerk = Clerk::new(alloc, Flat, &board, publisher, u64::MAX);
-    clerk.signer.letter = letter;
+    clerk.signer.source.letter = letter;
     shown_by(rt, &mut clerk, key)
 }
 

@@ -10,32 +10,40 @@ use std::process::Abort;
 use std::sync::atomic::{AtomicU64, Ordering};
 use std::thread::Threads;
 
-/// Holds the first job until so many have come in all, and notes whether they did.
+/// Holds the first job until so many have come in all, that one among them, and notes whether they did.
 #[derive(Drop)]
-struct Meeting {
+pub struct Meeting {
     wanted: u64,
     came: AtomicU64,
+    held: AtomicU64,
     met: AtomicU64,
 }
 
 impl Meeting {
-    fn of(wanted: u64) -> Meeting {
+    pub fn of(wanted: u64) -> Meeting {
         Meeting {
             wanted,
             came: AtomicU64::new(0),
+            held: AtomicU64::new(0),
             met: AtomicU64::new(0),
         }
     }
 
+    /// A job comes, or who does none.
+    pub fn come(&self) {
+        self.came.fetch_add(1, Ordering::SeqCst);
+    }
+
     /// Whether so many had come while the first was held.
-    fn met(&self) -> bool {
+    pub fn met(&self) -> bool {
         self.met.load(Ordering::SeqCst) == 1
     }
 }
 
 impl Gate for Meeting {
     fn enter(&self, _job: usize) {
-        if self.came.fetch_add(1, Ordering::SeqCst) > 0 {
+        self.come();
+        if self.held.fetch_add(1, Ordering::SeqCst) > 0 {
             return;
         }
         for _ in 0..1u64 << 32 {

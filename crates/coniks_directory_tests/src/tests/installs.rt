@@ -1,7 +1,7 @@
 //! Installs that are refused.
 
 use crate::tests::clerk::{Clerk, Written, with_clerk};
-use coniks_chain::Entry;
+use coniks_chain::{Entry, Sign};
 use coniks_directory::OpKind::{Change, Register};
 use coniks_directory::{BatchFault, CommitFault, InstallFault, OpFault};
 use coniks_proof::Sha256Hash;
@@ -12,8 +12,8 @@ use std::thread::Threads;
 fn counts(clerk: &Clerk<Sha256Hash>) -> (u64, u64, usize, usize) {
     let published = clerk.publisher.published();
     (
-        clerk.signer.times_made(),
-        clerk.signer.times_refused(),
+        clerk.signer.made(),
+        clerk.signer.refused(),
         clerk.directory.chain().len(),
         published,
     )

@@ -2,7 +2,7 @@
 
 use crate::tests::answers::digest;
 use crate::tests::batches::sized;
-use crate::tests::clerk::{Clerk, NONCE, POLICY, Stamp};
+use crate::tests::clerk::{Clerk, NONCE, POLICY, refusing};
 use coniks_directory::{CommitFault, Directory, IndexSource, InstallFault, Op, OpKind};
 use coniks_proof::{Answer, Bytes, Flat, Hash32, Index, Opening, Sha256Hash, check};
 use coniks_shared::{Board, MAX_HEADS};
@@ -67,7 +67,7 @@ fn largest_batch(rt: HostRuntime) {
     let ops = most(&rt, rt.alloc());
     let (board, mut publisher) = Board::new(rt.alloc(), 1).expect(&rt, "a board");
     let mut directory = Directory::open(rt.alloc(), Sha256Hash, Hashed, NONCE, POLICY);
-    let mut signer = Stamp::refusing(u64::MAX);
+    let mut signer = refusing(u64::MAX);
     let entry = directory.commit(
         &rt,
         &ops,

@@ -8,7 +8,7 @@ ghost use Rattle.coniks_directory.specs.Updates.{IsUpdateOf};
 
 use crate::tests::answers::{Told, asked, digest};
 use crate::tests::clerk::{Clerk, RENEWED, Written, ops_of, with_clerk};
-use coniks_chain::Entry;
+use coniks_chain::{Entry, Sign};
 use coniks_directory::OpKind::{Change, Register};
 use coniks_directory::{BatchFault, InstallFault, LookupFault, Op, Prepared};
 use coniks_proof::{Digest, Hash32, Head, Nonce, Sha256Hash};
@@ -50,7 +50,7 @@ fn seen(clerk: &Clerk<Sha256Hash>) -> Snapshot {
         root: clerk.directory.root_at(1),
         published: clerk.publisher.published(),
         head: clerk.publisher.last(),
-        signed: (clerk.signer.times_made(), clerk.signer.times_refused()),
+        signed: (clerk.signer.made(), clerk.signer.refused()),
     }
 }
 
@@ -150,54 +150,42 @@ fn renewed_epoch<R: Threads + Sync + Abort>(
     second_by(rt, clerk, Some(RENEWED), workers, RENEWED_LINK)
 }
 
-/// Writes whether the call was refused memory.
-fn tell(rt: &HostRuntime, is_refused: bool) {
+/// Takes steps with the clerk of a new directory, and writes whether the call was refused memory.
+fn tell<F: FnOnce(&mut Clerk<Sha256Hash>) -> bool, R: Abort + AllocGlobal + Print>(rt: &R, steps: F)
+    requires { F.IsAlwaysCallable steps }
+{
+    let is_refused = with_clerk(rt, rt.alloc(), 4, u64::MAX, steps);
     let _ = println!(rt; "{}", if is_refused { "refused" } else { "answered" });
 }
 
 /// Where a lone worker builds the epoch, each refusal is the call's.
 #[test]
 fn prepare_by_one(rt: HostRuntime) {
-    let refused = with_clerk(&rt, rt.alloc(), 4, u64::MAX, |clerk| {
-        second_epoch(&rt, clerk, 1)
-    });
-    tell(&rt, refused);
+    tell(&rt, |clerk| second_epoch(&rt, clerk, 1));
 }
 
 /// With three workers a refusal in a job of either is the call's, and one that only costs a worker changes no answer.
 #[test]
 fn prepare_by_three(rt: HostRuntime) {
-    let refused = with_clerk(&rt, rt.alloc(), 4, u64::MAX, |clerk| {
-        second_epoch(&rt, clerk, 3)
-    });
-    tell(&rt, refused);
+    tell(&rt, |clerk| second_epoch(&rt, clerk, 3));
 }
 
 /// Where the batch brings a nonce, so that the whole map is listed and built anew, each refusal is the call's.
 #[test]
 fn renew_by_one(rt: HostRuntime) {
-    let refused = with_clerk(&rt, rt.alloc(), 4, u64::MAX, |clerk| {
-        renewed_epoch(&rt, clerk, 1)
-    });
-    tell(&rt, refused);
+    tell(&rt, |clerk| renewed_epoch(&rt, clerk, 1));
 }
 
 /// So it is with three workers, but that a refusal may cost only a worker.
 #[test]
 fn renew_by_three(rt: HostRuntime) {
-    let refused = with_clerk(&rt, rt.alloc(), 4, u64::MAX, |clerk| {
-        renewed_epoch(&rt, clerk, 3)
-    });
-    tell(&rt, refused);
+    tell(&rt, |clerk| renewed_epoch(&rt, clerk, 3));
 }
 
 /// Room for the first nodes, records, epochs and entries.
 #[test]
 fn install(rt: HostRuntime) {
-    let refused = with_clerk(&rt, rt.alloc(), 4, u64::MAX, |clerk| {
-        first_epoch(&rt, clerk)
-    });
-    tell(&rt, refused);
+    tell(&rt, |clerk| first_epoch(&rt, clerk));
 }
 
 /// Looks a name up at an epoch, once more where memory is refused, and says whether it was.
@@ -230,8 +218,5 @@ fn look_up_three<R: Threads + Sync + Abort>(rt: &R, clerk: &mut Clerk<Sha256Hash
 
 #[test]
 fn lookup(rt: HostRuntime) {
-    let refused = with_clerk(&rt, rt.alloc(), 4, u64::MAX, |clerk| {
-        look_up_three(&rt, clerk)
-    });
-    tell(&rt, refused);
+    tell(&rt, |clerk| look_up_three(&rt, clerk));
 }

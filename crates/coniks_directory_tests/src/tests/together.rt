@@ -2,70 +2,25 @@
 
 ghost use Rattle.std.specs.Prelude.{◌≡◌};
 
-use crate::tests::answers::{Told, asked};
+use crate::tests::answers::{Told, asked, both};
 use crate::tests::clerk::{Clerk, Letters, ops_of, with_clerk};
+use crate::tests::gates::Meeting;
 use coniks_chain::link;
 use coniks_directory::Directory;
 use coniks_directory::OpKind::Register;
 use coniks_proof::{Head, Sha256Hash};
 use coniks_shared::{Board, Watcher};
-use coniks_work::Gate;
 use std::alloc::Global;
 use std::process::Abort;
-use std::sync::atomic::{AtomicU64, Ordering};
 use std::thread;
 use std::thread::Threads;
-
-/// Holds the first job until so many others have done what they do, and notes whether they had.
-#[derive(Drop)]
-struct Until {
-    wanted: u64,
-    entered: AtomicU64,
-    done: AtomicU64,
-    met: AtomicU64,
-}
-
-impl Until {
-    fn of(wanted: u64) -> Until {
-        Until {
-            wanted,
-            entered: AtomicU64::new(0),
-            done: AtomicU64::new(0),
-            met: AtomicU64::new(0),
-        }
-    }
-
-    /// One of the others has done it.
-    fn one_did(&self) {
-        self.done.fetch_add(1, Ordering::SeqCst);
-    }
-
-    /// Whether so many had done it while the first job was held.
-    fn met(&self) -> bool {
-        self.met.load(Ordering::SeqCst) == 1
-    }
-}
-
-impl Gate for Until {
-    fn enter(&self, _job: usize) {
-        if self.entered.fetch_add(1, Ordering::SeqCst) > 0 {
-            return;
-        }
-        for _ in 0..1u64 << 32 {
-            if self.done.load(Ordering::SeqCst) >= self.wanted {
-                self.met.store(1, Ordering::SeqCst);
-                return;
-            }
-        }
-    }
-}
 
 /// Prepares a batch through the gate, and says whether it was accepted.
 fn prepares<R: Threads + Sync>(
     rt: &R,
     alloc: Global,
     directory: &Directory<Sha256Hash, Letters>,
-    gate: &Until,
+    gate: &Meeting,
 ) -> bool {
     match ops_of(alloc, &[(Register, b'b', b'k')]) {
         Ok(ops) => directory.prepare(rt, &ops, 1, 2, gate).is_ok(),
@@ -74,9 +29,9 @@ fn prepares<R: Threads + Sync>(
 }
 
 /// Looks the name up once, and tells the gate.
-fn looks_up(directory: &Directory<Sha256Hash, Letters>, gate: &Until) -> bool {
+fn looks_up(directory: &Directory<Sha256Hash, Letters>, gate: &Meeting) -> bool {
     let told = asked(directory, 1, "a");
-    gate.one_did();
+    gate.come();
     told == Told::Key(0, b'k')
 }
 
@@ -84,14 +39,9 @@ fn looks_up(directory: &Directory<Sha256Hash, Letters>, gate: &Until) -> bool {
 fn both_look_up<R: Threads + Sync>(
     rt: &R,
     directory: &Directory<Sha256Hash, Letters>,
-    gate: &Until,
+    gate: &Meeting,
 ) -> bool {
-    let (one, other) = thread::join(
-        rt,
-        || looks_up(directory, gate),
-        || looks_up(directory, gate),
-    );
-    one && other
+    both(rt, &|| looks_up(directory, gate))
 }
 
 /// Whether a batch is prepared while two threads look up.
@@ -99,7 +49,7 @@ fn prepares_beside<R: Threads + Sync>(
     rt: &R,
     alloc: Global,
     directory: &Directory<Sha256Hash, Letters>,
-    gate: &Until,
+    gate: &Meeting,
 ) -> bool {
     let (prepared, both) = thread::join(
         rt,
@@ -112,7 +62,7 @@ fn prepares_beside<R: Threads + Sync>(
 /// Commits an epoch, and prepares the next batch beside two lookups.
 fn prepare_held<R: Threads + Sync + Abort>(rt: &R, clerk: &mut Clerk<Sha256Hash>) {
     assert!(rt; clerk.register_a(rt, 1).is_ok());
-    let gate = Until::of(2);
+    let gate = Meeting::of(3);
     assert!(rt; prepares_beside(rt, clerk.alloc, &clerk.directory, &gate));
     assert!(rt; gate.met());
 }
@@ -126,11 +76,11 @@ fn look_up_while_preparing(rt: HostRuntime) {
 }
 
 /// Looks at the board once, and tells the gate.
-fn looks_once(watcher: &mut Watcher, board: &Board, gate: &Until) -> Option<Head>
+fn looks_once(watcher: &mut Watcher, board: &Board, gate: &Meeting) -> Option<Head>
     requires { watcher.old.table ≡ board.now.table }
 {
     let seen = watcher.latest(board);
-    gate.one_did();
+    gate.come();
     seen
 }
 
@@ -139,7 +89,7 @@ fn seen_beside<R: Threads + Sync>(
     rt: &R,
     clerk: &Clerk<Sha256Hash>,
     watcher: &mut Watcher,
-    gate: &Until,
+    gate: &Meeting,
 ) -> Option<Head>
     requires { watcher.old.table ≡ clerk.now.board.now.table }
 {
@@ -162,7 +112,7 @@ fn watch_held<R: Threads + Sync + Abort>(rt: &R, clerk: &mut Clerk<Sha256Hash>) 
         epoch: 1,
         link: link(&Sha256Hash, &entry),
     };
-    let gate = Until::of(1);
+    let gate = Meeting::of(2);
     assert!(rt; seen_beside(rt, clerk, &mut watcher, &gate) == Some(head));
     assert!(rt; gate.met());
 }

@@ -2,7 +2,7 @@
 
 ghost use Rattle.std.specs.Prelude.{◌≡◌, ◌<◌, length, All};
 
-use crate::tests::answers::{Told, asked};
+use crate::tests::answers::{Told, asked, both};
 use crate::tests::clerk::{Clerk, Letters, Written, prepared, with_clerk};
 use coniks_chain::{Entry, link};
 use coniks_directory::Directory;
@@ -89,12 +89,7 @@ fn both_look_up<R: Threads + Sync>(
     directory: &Directory<Sha256Hash, Letters>,
     latest: u64,
 ) -> bool {
-    let (one, other) = thread::join(
-        rt,
-        || look_up_often(directory, latest),
-        || look_up_often(directory, latest),
-    );
-    one && other
+    both(rt, &|| look_up_often(directory, latest))
 }
 
 /// Prepares the next batch while two threads look up, and installs it.
