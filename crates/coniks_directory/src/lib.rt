@@ -9,7 +9,7 @@
 //! Hash, source of indices and signer are the user's own, and the publisher is that of a board (`coniks_shared`):
 //!
 //! ```rust
-//! let mut signer = DemoSigner::new([8; 32]);
+//! let mut signer = Signer::new(DemoKey { key: [8; 32] });
 //! let mut directory = Directory::open(alloc, TaggedHash, INDEX, NONCE, POLICY);
 //!
 //! // Two workers build an epoch, apart for each prefix of one bit. The directory is only read meanwhile.

@@ -1,12 +1,12 @@
-//! What a user of the libraries brings: a hash, a source of indices and a signer.
+//! What a user of the libraries brings: a hash, a source of indices and a source of signatures.
 //!
-//! All three are made of SHA-256 with tags of their own. Index and signer are for demonstrations and claim no security: a
+//! All three are made of SHA-256 with tags of their own. Index and signature are for demonstrations and claim no security: a
 //! provider has a verifiable unpredictable function and a signature in their place.
 
-ghost use Rattle.std.specs.Prelude.{◌≡◌, ◌<◌, ◌+◌, ◌-◌, ◌^◌, ◌++◌, ◌∷◌, []};
+ghost use Rattle.std.specs.Prelude.{◌≡◌, ◌++◌, ◌∷◌, []};
 ghost use Rattle.coniks_proof.specs.Sha256.{sha256};
 
-use coniks_chain::{Body, Entry, Sign, Signature, Verify};
+use coniks_chain::{Signature, SignatureSource, Verify};
 use coniks_directory::IndexSource;
 use coniks_proof::{Digest, Hash32, Index, Sha256Hash};
 
@@ -37,26 +37,14 @@ impl IndexSource for KeyedIndex {
     }
 }
 
-/// Signs by SHA-256 of the byte 03, a key and the body, written twice. Who can judge such a signature can also make one.
-#[derive(Drop)]
-pub struct DemoSigner {
-    key: [u8; 32],
-    made: u64,
-    last: Option<Entry>,
+/// A key that signs by SHA-256 of the byte 03, the key and the body, written twice. Who can judge such a signature can also
+/// make one.
+#[derive(Clone, Copy, Drop)]
+pub struct DemoKey {
+    pub key: [u8; 32],
 }
 
-impl DemoSigner {
-    /// The signer of a key, which has signed nothing.
-    pub fn new(key: [u8; 32]) -> DemoSigner
-        ensures { result.made ≡ 0 }
-    {
-        DemoSigner {
-            key,
-            made: 0,
-            last: None,
-        }
-    }
-
+impl DemoKey {
     /// The signature of a body's bytes.
     fn seal(&self, body: &[u8; 145]) -> Signature
         ensures { result.0 ≡ sha256 (3 ∷ self.now.key ++ body.now) ++ sha256 (3 ∷ self.now.key ++ body.now) }
@@ -66,42 +54,18 @@ impl DemoSigner {
     }
 }
 
-impl Verify for DemoSigner {
+impl Verify for DemoKey {
     ghost use Rattle.std.specs.Str.{bytes_eq};
 
-    ghost verdict_of = { λ signer body signature. bytes_eq signature (sha256 (3 ∷ signer.key ++ body) ++ sha256 (3 ∷ signer.key ++ body)) };
+    ghost verdict_of = { λ demo body signature. bytes_eq signature (sha256 (3 ∷ demo.key ++ body) ++ sha256 (3 ∷ demo.key ++ body)) };
 
     fn verdict(&self, body: &[u8; 145], signature: &Signature) -> bool {
         signature.0 == self.seal(body).0
     }
 }
 
-impl Sign for DemoSigner {
-    ghost made_of = { λ signer. signer.made };
-
-    ghost refused_of = { λ _. 0 };
-
-    ghost last_of = { λ signer. signer.last };
-
-    fn sign(&mut self, body: &[u8; 145]) -> Option<Signature> {
-        let signature = self.seal(body);
-        self.made += 1;
-        self.last = Some(Entry {
-            body: Body::read(body),
-            signature,
-        });
-        Some(signature)
-    }
-
-    fn made(&self) -> u64 {
-        self.made
-    }
-
-    fn refused(&self) -> u64 {
-        0
-    }
-
-    fn last(&self) -> Option<Entry> {
-        self.last
+impl SignatureSource for DemoKey {
+    fn signature(&mut self, body: &[u8; 145]) -> Option<Signature> {
+        Some(self.seal(body))
     }
 }

@@ -1,7 +1,8 @@
 //! A provider: a directory with two epochs, and the board on which its watchers look.
 
-use crate::own::{DemoSigner, KeyedIndex, TaggedHash};
+use crate::own::{DemoKey, KeyedIndex, TaggedHash};
 use anyhow::{Result, bail};
+use coniks_chain::Signer;
 use coniks_directory::{Directory, Op, OpKind};
 use coniks_proof::{Bytes, Nonce, Opening};
 use coniks_shared::Board;
@@ -22,7 +23,7 @@ const POLICY: [u8; 32] = [6; 32];
 #[derive(Drop)]
 pub struct Provider {
     pub directory: Directory<TaggedHash, KeyedIndex>,
-    pub signer: DemoSigner,
+    pub signer: Signer<DemoKey>,
 }
 
 /// An operation that registers a name, or changes its key.
@@ -54,7 +55,7 @@ pub fn two_epochs<R: Threads + Sync + Print + AllocGlobal>(rt: &R) -> Result<Pro
     let (board, mut publisher) = Board::new(alloc, 8)?;
     let mut watcher = publisher.watcher(&board)?;
 
-    let mut signer = DemoSigner::new([8; 32]);
+    let mut signer = Signer::new(DemoKey { key: [8; 32] });
     let mut directory = Directory::open(alloc, TaggedHash, INDEX, NONCE, POLICY);
 
     // Two workers build an epoch, apart for each prefix of one bit. The directory is only read meanwhile.
