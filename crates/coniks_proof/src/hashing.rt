@@ -8,6 +8,7 @@ use crate::bits::Prefix;
 use crate::values::{Digest, Index, MAX_KEY, MAX_LEVEL, MAX_NAME, Nonce, Opening};
 use coniks_lanes::{TwoBlocks, hash_four};
 use sha2::{Digest as _, Sha256};
+use std::marker::Model;
 
 /// A hash of 32 bytes: a function of the message, however it is cut into pieces.
 pub trait Hash32 {
@@ -108,7 +109,7 @@ pub(crate) const LEAF_TAG: u8 = 0x4C;
 pub(crate) const INNER_TAG: u8 = 0x49;
 
 /// The tag of a commitment's preimage.
-pub(crate) const COMMITMENT_TAG: u8 = 0x43;
+const COMMITMENT_TAG: u8 = 0x43;
 
 /// The hash of an empty node, which stands for a prefix that begins no index of the tree (CONIKS, section 3.1).
 pub fn empty_hash<H: Hash32>(h: &H, nonce: &Nonce, prefix: &Prefix) -> Digest
@@ -140,6 +141,55 @@ pub fn inner_hash<H: Hash32>(h: &H, left: &Digest, right: &Digest) -> Digest
     h.hash(&[&[INNER_TAG], &left.0, &right.0])
 }
 
+/// The byte list that a commitment is the hash of; opening, name and key stay where they are.
+#[derive(Drop)]
+pub struct CommitmentPreimage<'a> {
+    opening: &'a Opening,
+    name_length: [u8; 2],
+    name: &'a [u8],
+    key_length: [u8; 4],
+    key: &'a [u8],
+}
+
+impl<'a> Model for CommitmentPreimage<'a> {
+    ghost use Rattle.std.specs.Prelude.{List, ℕ, ◌∷◌, ◌++◌};
+
+    ghost Value = { List ℕ };
+
+    ghost view = { λ p. 0x43 ∷ p.opening.now.0 ++ p.name_length ++ p.name.now ++ p.key_length ++ p.key.now };
+}
+
+impl<'a> CommitmentPreimage<'a> {
+    /// The byte list for a name of at most `MAX_NAME` bytes and its key of at most `MAX_KEY`.
+    pub fn of(opening: &'a Opening, name: &'a [u8], key: &'a [u8]) -> CommitmentPreimage<'a>
+        requires name { length name.now ≤ MAX_NAME }
+        requires key { length key.now ≤ MAX_KEY }
+        ensures { result ≡ commitment_preimage opening.now.0 name.now key.now }
+    {
+        CommitmentPreimage {
+            opening,
+            name_length: (name.len() as u16).to_be_bytes(),
+            name,
+            key_length: (key.len() as u32).to_be_bytes(),
+            key,
+        }
+    }
+
+    /// Its pieces, one after another.
+    pub(crate) fn pieces(&'a self) -> [&'a [u8]; 6]
+        ensures { flat_map (λ piece. piece.now) result ≡ self.now }
+    {
+        [
+            &[COMMITMENT_TAG],
+            &self.opening.0,
+            &self.name_length,
+            self.name,
+            &self.key_length,
+            self.key,
+        ]
+    }
+}
+
 /// The commitment to a name of at most `MAX_NAME` bytes and its key of at most `MAX_KEY` (CONIKS, section 3.1).
 pub fn commit_hash<'a, H: Hash32>(
     h: &H,
@@ -151,14 +201,21 @@ pub fn commit_hash<'a, H: Hash32>(
     requires key { length key.now ≤ MAX_KEY }
     ensures { result.0 ≡ H.digest_of h.now (commitment_preimage opening.now.0 name.now key.now) }
 {
-    let name_length = (name.len() as u16).to_be_bytes();
-    let key_length = (key.len() as u32).to_be_bytes();
-    h.hash(&[
-        &[COMMITMENT_TAG],
-        &opening.0,
-        &name_length,
-        name,
-        &key_length,
-        key,
-    ])
+    h.hash(&CommitmentPreimage::of(opening, name, key).pieces())
+}
+
+/// Four commitments, each of its own byte list.
+pub fn commit_four<H: Hash32>(
+    h: &H,
+    a: &CommitmentPreimage,
+    b: &CommitmentPreimage,
+    c: &CommitmentPreimage,
+    d: &CommitmentPreimage,
+) -> (Digest, Digest, Digest, Digest)
+    ensures first { result.0.0 ≡ H.digest_of h.now a.now }
+    ensures second { result.1.0 ≡ H.digest_of h.now b.now }
+    ensures third { result.2.0 ≡ H.digest_of h.now c.now }
+    ensures fourth { result.3.0 ≡ H.digest_of h.now d.now }
+{
+    h.hash_four(&a.pieces(), &b.pieces(), &c.pieces(), &d.pieces())
 }

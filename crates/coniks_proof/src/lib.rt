@@ -34,7 +34,10 @@ pub use borrowed::{BorrowedEnd, BorrowedProof, Siblings};
 pub use bytes::{Binding, Bytes, Digests};
 pub use checker::{CheckFault, check, check_borrowed};
 pub use collision::{Collision, extract};
-pub use hashing::{Flat, Hash32, Sha256Hash, commit_hash, empty_hash, inner_hash, leaf_hash};
+pub use hashing::{
+    CommitmentPreimage, Flat, Hash32, Sha256Hash, commit_four, commit_hash, empty_hash, inner_hash,
+    leaf_hash,
+};
 pub use paths::{Answer, End, Proof};
 pub use values::{
     Digest, Head, Index, MAX_KEY, MAX_LEVEL, MAX_NAME, MAX_OPERATIONS, Nonce, Opening,

@@ -8,7 +8,7 @@ ghost use Rattle.coniks_proof.specs.Proofs.{LengthsFit, end_preimage, joined, pr
 use crate::bits::{Prefix, bit};
 use crate::borrowed::Siblings;
 use crate::bytes::Bytes;
-use crate::hashing::{COMMITMENT_TAG, EMPTY_TAG, Hash32, INNER_TAG, LEAF_TAG, commit_hash};
+use crate::hashing::{CommitmentPreimage, EMPTY_TAG, Hash32, INNER_TAG, LEAF_TAG, commit_hash};
 use crate::paths::{End, carried};
 use crate::values::{Digest, Index, MAX_KEY, MAX_LEVEL, MAX_NAME, Nonce, Opening};
 use std::alloc::{AllocError, Global};
@@ -75,17 +75,8 @@ fn commitment_bytes<'a>(
     requires key { length key.now ≤ MAX_KEY }
     ensures { IfOk result (λ bytes. bytes ≡ commitment_preimage opening.now.0 name.now key.now) }
 {
-    let name_length = (name.len() as u16).to_be_bytes();
-    let key_length = (key.len() as u32).to_be_bytes();
-    let pieces: [&[u8]; 6] = [
-        &[COMMITMENT_TAG],
-        &opening.0,
-        &name_length,
-        name,
-        &key_length,
-        key,
-    ];
-    bytes_of(alloc, 39 + name.len() + key.len(), &pieces)
+    let preimage = CommitmentPreimage::of(opening, name, key);
+    bytes_of(alloc, 39 + name.len() + key.len(), &preimage.pieces())
 }
 
 /// What an end's commitment is the hash of; no bytes where the end opens none.
