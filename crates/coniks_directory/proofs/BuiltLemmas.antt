@@ -1,6 +1,6 @@
 -- What a part and the records of a batch leave.
 use Rattle.std.proofs.Common.{◌≡◌, ◌<◌, ◌≤◌, ◌+◌, ◌*◌, ℕ, suc, List, [], ◌∷◌, ◌++◌, length, map, arith, Bool, true, false, refl, sym, ap, subst, ◌∙◌, inl, inr, Option, Some, None, slice_get}
-use Rattle.coniks_directory.proofs.Words.{AllPlaced, AreApart, AreChangesOf, AreDrafts, AreInOrder, BTreeMap, Change, Entry, Extends, Fits}
+use Rattle.coniks_directory.proofs.Words.{AllPlaced, AreApart, AreChangesOf, AreDrafts, AreSealed, AreInOrder, BTreeMap, Change, Entry, Extends, Fits}
 use Rattle.coniks_directory.proofs.Words.{Growth, IsBuilt, IsIn, IsIndex, IsMap, IsGrowth, IsOldMap, IsSmall, IsStored, MayFollow, Mirrors, Node, Numbered, Operation, Part}
 use Rattle.coniks_directory.proofs.Words.{Placed, Record, Registered, Registry, Root, SameEntries, ShowsLatest, Stands, after, backed_by}
 use Rattle.coniks_directory.proofs.Words.{bound_by, entries_of, entry_of, entry_of_change, entry_of_record, false_from_ne_true, first_fault}
@@ -24,14 +24,14 @@ get-behind (x ∷ xs) ys n = let step : suc (length xs) + n ≡ suc (length xs +
 
 module _ (hash of : List ℕ → List ℕ) (old : List Record) (es : List Numbered) (registry : Registry) (m : Mirrors hash of old es registry)
     (ops : List Operation) (new : List Record) (numbers : BTreeMap (List ℕ) ℕ) (s : AreDrafts hash of (map bound_by ops) new numbers)
-    (cs : List Numbered) (c : AreChangesOf (length old) new cs) (may : MayFollow of registry ops) where
+    (z : AreSealed hash new) (cs : List Numbered) (c : AreChangesOf (length old) new cs) (may : MayFollow of registry ops) where
   -- what the record of a number binds, of all records
   abbrev binding : ℕ → Registered
   binding n = registered_at (old ++ new) n
 
   -- the entry of a new record, with its binding behind it
   new_entry : (n : ℕ) (r : Record) → slice_get new n ≡ Some r → entry_of hash of (registered_of r) ≡ backed_by binding (entry_of_record (length old + n) r)
-  new_entry n r at = let sealed = s.sealed n r at in let found = get-behind old new n ∙ at in rw (found, sealed.indexed, sealed.committed) refl
+  new_entry n r at = let draft = s.drafted n r at in let found = get-behind old new n ∙ at in rw (found, draft.indexed, z n r at) refl
 
   -- and that of an old one is what it was
   old_entry : (x : Numbered) → IsIn x es → backed_by (registered_at old) x ≡ backed_by binding x
@@ -41,7 +41,7 @@ module _ (hash of : List ℕ → List ℕ) (old : List Record) (es : List Number
   record_of : (b : Registered) → IsIn b (map bound_by ops) → (n : ℕ) × (r : Record) × (slice_get new n ≡ Some r) × (registered_of r ≡ b) × (r.index.0 ≡ of b.name)
   record_of b there =
       let k = in_records new b (subst (λ (xs : List Registered). IsIn b xs) (sym s.binds) there) in
-      (k.0, k.1, k.2, k.3, (s.sealed k.0 k.1 k.2).indexed ∙ ap (λ (x : Registered). of x.name) k.3)
+      (k.0, k.1, k.2, k.3, (s.drafted k.0 k.1 k.2).indexed ∙ ap (λ (x : Registered). of x.name) k.3)
 
   pub stored_new : (e : Numbered) → IsIn e cs → IsStored (old ++ new) e
   stored_new e there = let k = c.only e there in subst (IsStored (old ++ new)) k.3 (k.1, get-behind old new k.0 ∙ k.2, refl)
@@ -52,7 +52,7 @@ module _ (hash of : List ℕ → List ℕ) (old : List Record) (es : List Number
       IsMap-overlaid hash of (registry ++ bs) registry bs
       (λ x y in_x in_y apart same. apart (may.apart x.name y.name (named_in x (registry ++ bs) in_x) (named_in y (registry ++ bs) in_y) same))
       (λ b there. IsIn-append_left b registry bs there)
-      (λ b there. let r = record_of b there in (IsIn-append_right b registry bs there, subst IsIndex r.4 (s.sealed r.0 r.1 r.2).ranged))
+      (λ b there. let r = record_of b there in (IsIn-append_right b registry bs there, subst IsIndex r.4 (s.drafted r.0 r.1 r.2).ranged))
       m.names
 
   there : (x : Numbered) → IsIn x (overwritten es cs) → IsIn (backed_by binding x) (entries_of hash of (after registry ops))
@@ -142,7 +142,7 @@ few_kept None = omega arith
 module _ (hash of : List ℕ → List ℕ) (nonce latest : List ℕ) (nodes : List Node) (records : List Record) (root : Option Root) (registry : Registry) (ops : List Operation)
     (new : List Record) (numbers : BTreeMap (List ℕ) ℕ) (changes : List Change) (growth : Growth) (p : Part)
     (shown : ShowsLatest hash of latest nodes records root registry) (none : first_fault of registry ops ≡ None) (s : AreDrafts hash of (map bound_by ops) new numbers)
-    (c : AreChangesOf (length records) new (entries_of_changes changes)) where
+    (z : AreSealed hash new) (c : AreChangesOf (length records) new (entries_of_changes changes)) where
   -- there are as many changes as operations
   as_many : length changes ≡ length ops
   as_many = sym (length-map changes entry_of_change) ∙ c.counted ∙ sym (length-map new registered_of) ∙ ap length s.binds ∙ length-map ops bound_by
@@ -166,10 +166,10 @@ module _ (hash of : List ℕ → List ℕ) (nonce latest : List ℕ) (nodes : Li
 
   mirrored : Mirrors hash of (records ++ new) changed (after registry ops)
   unfolding changed
-  mirrored = Mirrors-after hash of records old.0 registry old.2 ops new numbers s (entries_of_changes changes) c may
+  mirrored = Mirrors-after hash of records old.0 registry old.2 ops new numbers s z (entries_of_changes changes) c may
 
   stored : AllPlaced (records ++ new) changes
-  stored = placed_all (records ++ new) changes (stored_new hash of records old.0 registry old.2 ops new numbers s (entries_of_changes changes) c may)
+  stored = placed_all (records ++ new) changes (stored_new hash of records old.0 registry old.2 ops new numbers s z (entries_of_changes changes) c may)
 
   -- what `build` says of the part
   pub record IsMade : Type 0 where

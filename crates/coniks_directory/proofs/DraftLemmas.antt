@@ -1,6 +1,6 @@
 -- The records of the operations that were judged, and one more.
 use Rattle.std.proofs.Common.{◌≡◌, ◌≢◌, ℕ, zero, suc, ◌+◌, List, [], ◌∷◌, ◌++◌, length, map, arith, length-append, true, false, refl, sym, ap, subst, ◌∙◌, cond, inl, inr, Some, None, slice_get}
-use Rattle.coniks_directory.proofs.Words.{AreDrafts, BTreeMap, IsFree, IsHeld, IsIn, IsIndex, IsOrdered, IsSealed, Record, Registered}
+use Rattle.coniks_directory.proofs.Words.{AreDrafts, BTreeMap, IsFree, IsHeld, IsIn, IsIndex, IsDraft, IsOrdered, Record, Registered}
 use Rattle.coniks_directory.proofs.Words.{btree_map_len, bytes_eq, bytes_eq-Decides, false_from_ne_true, has_name, is_eq, is_eq-slice_cmp}
 use Rattle.coniks_directory.proofs.Words.{map-append, nat_cmp, number_at, registered_of, slice_cmp}
 use Rattle.coniks_tree.proofs.Lemmas.{Extends-append, get-last, get-push}
@@ -31,7 +31,7 @@ module _ (hash of : List ℕ → List ℕ) (bound : List Registered) (records : 
   pub drafts_free : (i : List ℕ) → number_at numbers i ≡ None → IsFree of bound i
   drafts_free i none = λ name at. false_from_ne_true (has_name bound name) (λ h.
       let k = bound_record name h in
-      let index-is : k.1.index.0 ≡ i = (s.sealed k.0 k.1 k.2).indexed ∙ ap of k.3 ∙ at in
+      let index-is : k.1.index.0 ≡ i = (s.drafted k.0 k.1 k.2).indexed ∙ ap of k.3 ∙ at in
       let some : number_at numbers i ≡ Some k.0 = subst (λ x. number_at numbers x ≡ Some k.0) index-is (s.all k.0 k.1 k.2) in
       cc)
 
@@ -42,11 +42,11 @@ module _ (hash of : List ℕ → List ℕ) (bound : List Registered) (records : 
       let same : k.0 ≡ r = cc in
       let index-is : r.index.0 ≡ i = subst (λ (x : Record). x.index.0 ≡ i) same k.2 in
       record {
-        at = sym (s.sealed n r at).indexed ∙ index-is;
+        at = sym (s.drafted n r at).indexed ∙ index-is;
         has = has_record n r at;
         only = λ name there h.
             let m = bound_record name h in
-            let m-index : m.1.index.0 ≡ i = (s.sealed m.0 m.1 m.2).indexed ∙ ap of m.3 ∙ there in
+            let m-index : m.1.index.0 ≡ i = (s.drafted m.0 m.1 m.2).indexed ∙ ap of m.3 ∙ there in
             let also : number_at numbers i ≡ Some m.0 = subst (λ x. number_at numbers x ≡ Some m.0) m-index (s.all m.0 m.1 m.2) in
             let number : m.0 ≡ n = cc in
             let here : slice_get records n ≡ Some m.1 = subst (λ x. slice_get records x ≡ Some m.1) number m.2 in
@@ -60,23 +60,23 @@ module _ (hash of : List ℕ → List ℕ) (bound : List Registered) (records : 
     | None ↦ λ is. is
     | Some n ↦ λ is.
         let k = s.kept i n is in
-        let gone = free k.0.binding.name (sym (s.sealed n k.0 k.1).indexed ∙ k.2) in
+        let gone = free k.0.binding.name (sym (s.drafted n k.0 k.1).indexed ∙ k.2) in
         let has = has_record n k.0 k.1 in
         absurd (let never = sym has ∙ gone in cc)
   ]) refl
 
   -- one record more
-  pub drafts_next : (numbers' : BTreeMap (List ℕ) ℕ) (r : Record) → IsSealed hash of r → IsFree of bound r.index.0
+  pub drafts_next : (numbers' : BTreeMap (List ℕ) ℕ) (r : Record) → IsDraft of r → IsFree of bound r.index.0
       → ((i : List ℕ) → number_at numbers' i ≡ cond (is_eq (slice_cmp nat_cmp r.index.0 i)) (Some (length records)) (number_at numbers i))
       → IsOrdered (slice_cmp nat_cmp) numbers' → btree_map_len numbers' ≡ btree_map_len numbers + 1 → AreDrafts hash of (bound ++ registered_of r ∷ []) (records ++ r ∷ []) numbers'
-  drafts_next numbers' r sealed free updates ordered longer =
+  drafts_next numbers' r drafted free updates ordered longer =
       let here : number_at numbers' r.index.0 ≡ Some (length records) = updates r.index.0 ∙ rw (is_eq-slice_cmp r.index.0 r.index.0, eq_same r.index.0 r.index.0 refl) refl in
       let other : (i : List ℕ) → r.index.0 ≢ i → number_at numbers' i ≡ number_at numbers i = λ i apart. updates i ∙ rw (is_eq-slice_cmp r.index.0 i, eq_apart r.index.0 i apart) refl in
       let fresh : (n : ℕ) (x : Record) → slice_get records n ≡ Some x → r.index.0 ≢ x.index.0 = λ n x at same.
-      let gone = free x.binding.name (sym (s.sealed n x at).indexed ∙ sym same) in let has = has_record n x at in cc in
+      let gone = free x.binding.name (sym (s.drafted n x at).indexed ∙ sym same) in let has = has_record n x at in cc in
       record {
         binds = map-append registered_of records (r ∷ []) ∙ ap (λ (bs : List Registered). bs ++ registered_of r ∷ []) s.binds;
-        sealed = λ n x at. elim (get-push records r n x at) [ inl old ↦ s.sealed n x old | inr new ↦ subst (IsSealed hash of) new.1 sealed ];
+        drafted = λ n x at. elim (get-push records r n x at) [ inl old ↦ s.drafted n x old | inr new ↦ subst (IsDraft of) new.1 drafted ];
         kept = λ i n some. (elim (bytes_eq r.index.0 i) as (λ v. bytes_eq r.index.0 i ≡ v → (x : Record) × (slice_get (records ++ r ∷ []) n ≡ Some x) × (x.index.0 ≡ i)) [
           | true ↦ λ on.
               let same : r.index.0 ≡ i = (bytes_eq-Decides r.index.0 i).0 on in
@@ -93,6 +93,6 @@ module _ (hash of : List ℕ → List ℕ) (bound : List Registered) (records : 
         ];
         ordered = ordered;
         counted = let long = s.counted in omega (arith, length-append records (r ∷ []));
-        distinct = IsMap-one_more hash of bound (registered_of r) s.distinct (subst IsIndex sealed.indexed sealed.ranged) (λ c there same.
-            let gone = free c.name (same ∙ sym sealed.indexed) in let has = has_of bound c.name c there refl in cc);
+        distinct = IsMap-one_more hash of bound (registered_of r) s.distinct (subst IsIndex drafted.indexed drafted.ranged) (λ c there same.
+            let gone = free c.name (same ∙ sym drafted.indexed) in let has = has_of bound c.name c there refl in cc);
       }

@@ -5,6 +5,7 @@ mod MirrorLemmas
 mod HolderLemmas
 mod JudgeLemmas
 mod DraftLemmas
+mod SealLemmas
 mod OrderLemmas
 mod OverlaidLemmas
 mod GrowthLemmas

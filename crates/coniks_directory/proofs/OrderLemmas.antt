@@ -1,7 +1,7 @@
 -- The changes of a batch, in the order of the map of their records.
 use Rattle.std.proofs.Common.{◌≡◌, ℕ, zero, suc, ◌+◌, ◌<◌, List, [], ◌∷◌, ◌++◌, length, map, arith, true, false, refl, sym, ap, ◌∙◌, inl, inr, cond, slice_index, Some, slice_get}
 use Rattle.coniks_directory.proofs.Words.{All, All-found, All-map, AllAfter, AllByRecursion, AreChangesOf, AreDrafts, AreIncreasing, BTreeMap}
-use Rattle.coniks_directory.proofs.Words.{IsBefore, IsIn, IsIndex, IsSealed, IsStrictlySortedBy, Less, Numbered, Record, Registered, by_ranked}
+use Rattle.coniks_directory.proofs.Words.{IsBefore, IsIn, IsDraft, IsIndex, IsStrictlySortedBy, Less, Numbered, Record, Registered, by_ranked}
 use Rattle.coniks_directory.proofs.Words.{entry_of_record, is_at, is_eq, keys_of, length-map, lookup, map-append, nat_cmp, nat_list_cmp_total}
 use Rattle.coniks_directory.proofs.Words.{option_map_or, ranked, slice_cmp, slice_get_within, values, values_of}
 
@@ -37,13 +37,13 @@ maps-push f g xs ys x y are is = map-append g ys (y ∷ []) ∙ ap (λ zs. zs ++
 abbrev IsKept : List Record → List ℕ × ℕ → Type 0
 IsKept records p = (r : Record) × (slice_get records p.1 ≡ Some r) × (r.index.0 ≡ p.0)
 
-module _ (hash of : List ℕ → List ℕ) (base : ℕ) (records : List Record) (sealed : (n : ℕ) (r : Record) → slice_get records n ≡ Some r → IsSealed hash of r) where
+module _ (of : List ℕ → List ℕ) (base : ℕ) (records : List Record) (drafted : (n : ℕ) (r : Record) → slice_get records n ≡ Some r → IsDraft of r) where
   after : (x : List ℕ) (ps : List (List ℕ × ℕ)) → IsIndex x → All (IsKept records) ps → AllByRecursion (λ y. slice_cmp nat_cmp x y ≡ Less) (keys_of ps)
       → AllAfter x (map (entry_at base records) (values_of ps))
   after x [] ix kept sorted = tt
   after x (p ∷ ps) ix kept sorted =
       let k = kept 0 p (omega arith) in
-      let here = before x k.0.index.0 ix (sealed p.1 k.0 k.1).ranged (ap (slice_cmp nat_cmp x) k.2 ∙ sorted.0) in
+      let here = before x k.0.index.0 ix (drafted p.1 k.0 k.1).ranged (ap (slice_cmp nat_cmp x) k.2 ∙ sorted.0) in
       (rw k.1 here, after x ps ix (λ i d below. kept (suc i) d (omega arith)) sorted.1)
 
   increasing : (ps : List (List ℕ × ℕ)) → All (IsKept records) ps → IsStrictlySortedBy (slice_cmp nat_cmp) (keys_of ps) → AreIncreasing (map (entry_at base records) (values_of ps))
@@ -52,7 +52,7 @@ module _ (hash of : List ℕ → List ℕ) (base : ℕ) (records : List Record) 
   increasing (p ∷ ps) kept sorted =
       let k = kept 0 p (omega arith) in
       let more : All (IsKept records) ps = λ i d below. kept (suc i) d (omega arith) in
-      let ranged = (sealed p.1 k.0 k.1).ranged in
+      let ranged = (drafted p.1 k.0 k.1).ranged in
       (rw k.1 ranged, rw k.1 (after k.0.index.0 ps ranged more (rw k.2 sorted.0)), increasing ps more sorted.1)
 
 -- an entry is that of a record
@@ -83,7 +83,7 @@ module _ (hash of : List ℕ → List ℕ) (bound : List Registered) (records : 
 
   pub changes : (base : ℕ) → AreChangesOf base records (map (entry_at base records) (values numbers))
   changes base = record {
-    increasing = increasing hash of base records s.sealed numbers.entries all_kept s.ordered;
+    increasing = increasing of base records s.drafted numbers.entries all_kept s.ordered;
     each = λ n r at. rw at at (each base records numbers.entries r.index.0 n (s.all n r at));
     only = λ e there. only base records numbers.entries e all_kept there;
     counted = length-map (values numbers) (entry_at base records) ∙ length-map numbers.entries (λ (p : List ℕ × ℕ). p.1) ∙ s.counted;

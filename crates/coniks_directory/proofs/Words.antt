@@ -26,9 +26,9 @@ unfoldable pub use Rattle.coniks_proof.specs.Changes.{overwritten}
 pub use Rattle.coniks_proof.specs.Entries.{Entry, IsIn, backed_by}
 pub use Rattle.coniks_proof.specs.Maps.{IsIndex, IsMap, IsNew, SameEntries}
 pub use Rattle.coniks_proof.specs.Paths.{EndIs, IsPath}
-pub use Rattle.coniks_proof.specs.Preimages.{zeros}
+pub use Rattle.coniks_proof.specs.Preimages.{commitment_preimage, zeros}
 pub use Rattle.coniks_proof.specs.Proofs.{Accepts}
-pub use Rattle.coniks_proof.specs.Registry.{AreWithin, HaveOwnIndices, IsFree, IsLength, Registered, Registry, entries_of, entry_of, has_name, key_of, overlaid, rebound, root_of}
+pub use Rattle.coniks_proof.specs.Registry.{AreWithin, HaveOwnIndices, IsFree, IsLength, Registered, Registry, commitment_to, entries_of, entry_of, has_name, key_of, overlaid, rebound, root_of}
 pub use Rattle.coniks_proof.specs.Tree.{node}
 pub use Rattle.coniks_proof.specs.declared.paths.Proof.{Proof}
 pub use Rattle.coniks_proof.specs.declared.values.Digest.{Digest}
@@ -58,7 +58,7 @@ pub use Rattle.coniks_directory.specs.History.{AllHaveOwnIndices, AreRising, Are
 pub use Rattle.coniks_directory.specs.History.{latest_registry, latest_version, nonce_after, numbers_of, root_at, shown_at, version_after}
 pub use Rattle.coniks_directory.specs.Holders.{HolderIs, IsHeld, IsLatestRoot, ShowsLatest}
 pub use Rattle.coniks_directory.specs.Installed.{IsEntered, IsNext, IsSigned, Leaves}
-pub use Rattle.coniks_directory.specs.Judged.{AreChangesOf, AreDrafts, IsJudged, IsJudgedFault, IsSealed, number_at}
+pub use Rattle.coniks_directory.specs.Judged.{AreChangesOf, AreDrafts, AreSealed, AreSealedTo, IsDraft, IsJudged, IsJudgedFault, number_at, sealed_by}
 pub use Rattle.coniks_directory.specs.Lookups.{IsAcceptedAt, IsFound}
 pub use Rattle.coniks_directory.specs.Runs.{AreAccepted, AreAcceptedFrom, Batch, Run, committed, defined, epochs_from, installed, opened, shown_by, stayed}
 pub use Rattle.coniks_directory.specs.State.{HoldsEpoch, IsAt, IsInstalled, IsStored, Mirrors, ShowsRegistry, State, View, Whole, history_of, last_count, registered_of, shown_of, state_of}

@@ -1,5 +1,5 @@
 -- The operations of a batch that were judged: their records, found by index.
-use Rattle.std.specs.Prelude.{◌≡◌, ◌+◌, ℕ, List, length, map, take, drop, slice_get, Option, Some}
+use Rattle.std.specs.Prelude.{◌≡◌, ◌+◌, ◌++◌, ℕ, List, length, map, take, drop, slice_get, Option, Some}
 use Rattle.std.specs.Ordering.{nat_cmp}
 use Rattle.std.specs.Cmp.Lexicographic.{slice_cmp}
 use Rattle.std.specs.BTreeMap.{BTreeMap, btree_map_len, get, IsOrdered}
@@ -16,13 +16,28 @@ use Rattle.coniks_directory.specs.State.{registered_of}
 use Rattle.coniks_directory.specs.declared.batch.BatchFault.{BatchFault}
 use Rattle.coniks_directory.specs.declared.batch.BatchFault.TheVariants.{Workers, Depth, BatchTooLong, At, OutOfMemory}
 
--- the record's index is its name's, and its commitment is that to its binding
-pub record IsSealed (hash of : List ℕ → List ℕ) (r : Record) : Type 0 where
+-- the record's index is its name's, and name and key are within their limits
+pub record IsDraft (of : List ℕ → List ℕ) (r : Record) : Type 0 where
   pub indexed : r.index.0 ≡ of r.binding.name
   pub ranged : IsIndex r.index.0
-  pub committed : r.commitment.0 ≡ commitment_to hash (registered_of r)
   pub named : IsLength MAX_NAME r.binding.name
   pub keyed : IsLength MAX_KEY r.binding.key
+
+-- the record with the commitment to its binding
+abbrev pub sealed_by : (List ℕ → List ℕ) → Record → Record
+sealed_by hash r = record r { commitment = record { 0 = commitment_to hash (registered_of r) } }
+
+-- these bytes are the commitment to what the record at a place binds
+abbrev pub IsCommitmentAt : (List ℕ → List ℕ) → List Record → ℕ → List ℕ → Type 0
+IsCommitmentAt hash records place bytes = (b : Registered) → slice_get (map registered_of records) place ≡ Some b → bytes ≡ commitment_to hash b
+
+-- the records as they were, up to a place with the commitments to their bindings
+abbrev pub AreSealedTo : (List ℕ → List ℕ) → List Record → ℕ → List Record → Type 0
+AreSealedTo hash records place sealed = sealed ≡ map (sealed_by hash) (take place records) ++ drop place records
+
+-- the records' commitments are those to their bindings
+abbrev pub AreSealed : (List ℕ → List ℕ) → List Record → Type 0
+AreSealed hash records = (n : ℕ) (r : Record) → slice_get records n ≡ Some r → r.commitment.0 ≡ commitment_to hash (registered_of r)
 
 -- the number of the record at an index
 abbrev pub number_at : BTreeMap (List ℕ) ℕ → List ℕ → Option ℕ
@@ -31,7 +46,7 @@ number_at numbers index = get (slice_cmp nat_cmp) numbers index
 -- the records are those of the bindings, in their order, with indices of their own, and the map finds each by its index, and no other
 pub record AreDrafts (hash of : List ℕ → List ℕ) (bound : List Registered) (records : List Record) (numbers : BTreeMap (List ℕ) ℕ) : Type 0 where
   pub binds : map registered_of records ≡ bound
-  pub sealed : (n : ℕ) (r : Record) → slice_get records n ≡ Some r → IsSealed hash of r
+  pub drafted : (n : ℕ) (r : Record) → slice_get records n ≡ Some r → IsDraft of r
   pub kept : (index : List ℕ) (n : ℕ) → number_at numbers index ≡ Some n → (r : Record) × (slice_get records n ≡ Some r) × (r.index.0 ≡ index)
   pub all : (n : ℕ) (r : Record) → slice_get records n ≡ Some r → number_at numbers r.index.0 ≡ Some n
   pub ordered : IsOrdered (slice_cmp nat_cmp) numbers

@@ -1,18 +1,22 @@
-//! The operations of a batch that were judged: their records, found by index.
+//! The operations of a batch that were judged: their records, found by index, and the commitments of these.
 
-ghost use Rattle.std.specs.Prelude.{◌≡◌, ◌++◌, ◌∷◌, [], List, ℕ, IfOk, MatchOption, None, OnOk, Some, slice_get};
+ghost use Rattle.std.specs.Prelude.{◌≡◌, ◌++◌, ◌∷◌, [], List, ℕ, IfOk, MatchOption, None, OnOk, Some, map, slice_get};
 ghost use Rattle.coniks_proof.specs.Batches.{bound_by};
-ghost use Rattle.coniks_proof.specs.Registry.{IsFree, IsLength, Registered};
+ghost use Rattle.coniks_proof.specs.Registry.{AreWithin, IsFree, IsLength, Registered};
 ghost use Rattle.coniks_directory.specs.Batches.{operation_of};
 ghost use Rattle.coniks_directory.specs.Holders.{HolderIs};
-ghost use Rattle.coniks_directory.specs.Judged.{AreDrafts, IsSealed};
+ghost use Rattle.coniks_directory.specs.Judged.{AreDrafts, AreSealed, IsDraft};
 ghost use Rattle.coniks_directory.specs.State.{registered_of};
 
 use crate::batch::Op;
-use coniks_proof::{Binding, Bytes, Hash32, Index, MAX_KEY, MAX_NAME, commit_hash};
+use crate::sealing::seal_all;
+use coniks_proof::{Binding, Bytes, Digest, Hash32, Index, MAX_KEY, MAX_NAME};
 use coniks_tree::Record;
 use std::alloc::{AllocError, Global};
 use std::collections::BTreeMap;
+
+/// What stands in a record for its commitment until all operations of the batch were judged.
+const UNSEALED: Digest = Digest([0; 32]);
 
 /// The records of the operations that were judged, in their order, and the number of the record at each index.
 #[derive(Drop)]
@@ -44,7 +48,7 @@ impl Drafts {
     /// Adds the record of the next operation, at whose index there is none.
     pub(crate) fn add(&mut self, made: Record) -> Result<(), AllocError>
         ensures { OnOk result ((hash of : List ℕ → List ℕ) (bound : List Registered) → AreDrafts hash of bound self.old.records.items self.old.numbers
-            → IsSealed hash of made → IsFree of bound made.index.0
+            → IsDraft of made → IsFree of bound made.index.0
             → AreDrafts hash of (bound ++ registered_of made ∷ []) self.new.records.items self.new.numbers) }
     {
         let index = made.index.0;
@@ -52,6 +56,16 @@ impl Drafts {
         self.records.push(made)?;
         self.numbers.insert(index, number)?;
         Ok(())
+    }
+
+    /// Puts its commitment into each record.
+    pub(crate) fn seal<H: Hash32>(&mut self, h: &H)
+        requires { AreWithin (map registered_of self.old.records.items) }
+        ensures sealed { AreSealed (H.digest_of h.now) self.new.records.items }
+        ensures drafts { (hash of : List ℕ → List ℕ) (bound : List Registered) → AreDrafts hash of bound self.old.records.items self.old.numbers
+            → AreDrafts hash of bound self.new.records.items self.new.numbers }
+    {
+        seal_all(h, &mut self.records);
     }
 }
 
@@ -62,27 +76,21 @@ fn record_at(records: &[Record], number: usize) -> Option<&Record>
     records.get(number)
 }
 
-/// The record of an operation, whose name has this index.
-pub(crate) fn record_of<H: Hash32>(
-    alloc: Global,
-    h: &H,
-    index: Index,
-    op: &Op,
-) -> Result<Record, AllocError>
+/// The record of an operation, whose name has this index. Its commitment comes later.
+pub(crate) fn record_of(alloc: Global, index: Index, op: &Op) -> Result<Record, AllocError>
     requires name { IsLength MAX_NAME op.now.name }
     requires key { IsLength MAX_KEY op.now.key }
     ensures binds { IfOk result (λ r. registered_of r ≡ bound_by (operation_of op.now)) }
-    ensures sealed { IfOk result (λ r. (of : List ℕ → List ℕ) → index.0 ≡ of op.now.name → IsSealed (H.digest_of h.now) of r) }
+    ensures drafted { IfOk result (λ r. (of : List ℕ → List ℕ) → index.0 ≡ of op.now.name → IsDraft of r) }
     ensures indexed { IfOk result (λ r. r.index.0 ≡ index.0) }
 {
     index.known();
-    let commitment = commit_hash(h, &op.opening, op.name.as_slice(), op.key.as_slice());
     let name = Bytes::copy_of(alloc, op.name.as_slice())?;
     let key = Bytes::copy_of(alloc, op.key.as_slice())?;
     Ok(Record {
         index,
         binding: Binding { name, key },
         opening: op.opening,
-        commitment,
+        commitment: UNSEALED,
     })
 }

@@ -48,6 +48,7 @@ pub mod laws;
 mod lengths;
 pub mod lookup;
 mod preparing;
+mod sealing;
 pub mod source;
 mod stand;
 pub mod update;

@@ -9,7 +9,7 @@ ghost use Rattle.coniks_directory.specs.Batches.{AreWorkers, operations};
 ghost use Rattle.coniks_directory.specs.Built.{IsBuilt, IsUpdateBy};
 ghost use Rattle.coniks_directory.specs.History.{latest_registry, nonce_after, version_after};
 ghost use Rattle.coniks_directory.specs.Holders.{ShowsLatest};
-ghost use Rattle.coniks_directory.specs.Judged.{AreDrafts, IsJudgedFault};
+ghost use Rattle.coniks_directory.specs.Judged.{AreDrafts, AreSealed, IsJudgedFault};
 ghost use Rattle.coniks_directory.specs.State.{Whole, history_of, state_of};
 
 use crate::batch::{BatchFault, Op};
@@ -67,7 +67,7 @@ fn part_of<H: Hash32 + Sync, G: Gate + Sync, R: Threads + Sync>(
     requires workers { AreWorkers workers }
     ensures { IfOk result (λ part. (of : List ℕ → List ℕ) (latest : List ℕ) (registry : Registry) (ops : List Operation) → (is_anew ≡ false → latest ≡ nonce.now.0)
         → ShowsLatest (H.digest_of h.now) of latest tree.now.nodes.items tree.now.records.items root registry
-        → AreDrafts (H.digest_of h.now) of (map bound_by ops) drafts.now.records.items drafts.now.numbers → first_fault of registry ops ≡ None
+        → AreDrafts (H.digest_of h.now) of (map bound_by ops) drafts.now.records.items drafts.now.numbers → AreSealed (H.digest_of h.now) drafts.now.records.items → first_fault of registry ops ≡ None
         → IsBuilt (H.digest_of h.now) of nonce.now.0 tree.now.nodes.items tree.now.records.items root registry ops is_anew part drafts.now.records.items) }
 {
     let changes = changes_of(alloc, tree.records(), drafts)?;

@@ -1,0 +1,91 @@
+-- The records of a batch and their commitments.
+use Rattle.std.proofs.Common.{◌≡◌, ◌<◌, ◌≤◌, ◌+◌, ℕ, zero, suc, List, [], ◌∷◌, ◌++◌, length, map, take, drop, set, get_or, arith, length-append, take-append-drop, refl, sym, ap, subst, ◌∙◌, Some, slice_get}
+use Rattle.std.proofs.lemmas.List.{drop_all}
+use Rattle.std.proofs.lemmas.List.Edits.{map_over_more}
+use Rattle.std.proofs.Math.Seq.{map-set_same}
+use Rattle.coniks_directory.proofs.Words.{AreDrafts, AreSealed, AreSealedTo, AreWithin, BTreeMap, Digest, IsDraft, IsLength, MAX_KEY, MAX_NAME, Record, Registered}
+use Rattle.coniks_directory.proofs.Words.{append-nil, commitment_to, length-map, map-map, number_at, option_map, registered_of, sealed_by}
+use Rattle.coniks_directory.proofs.Words.{slice_get-map, slice_get_read, take_all}
+
+-- the record with another commitment
+abbrev pub with_commitment : Record → Digest → Record
+with_commitment r c = record r { commitment = c }
+
+-- what is written to all of a list stands in its place
+pub written_back : {T : Type 0} (old new : List T) (n : ℕ) → length new ≡ length old → n ≡ length old → take n (new ++ drop (length new) old) ≡ new
+written_back old new n many all = rw (drop_all (length new) old (omega (arith, many)), append-nil) (take_all n new (omega (arith, many, all)))
+
+-- ---- one record after another
+
+-- name and key of a record are within their limits
+pub within_at : (records : List Record) (n : ℕ) (r : Record) → AreWithin (map registered_of records) → n < length records → r ≡ get_or records n r
+    → IsLength MAX_NAME r.binding.name × IsLength MAX_KEY r.binding.key
+within_at [] n r within there is = absurd (omega arith)
+within_at (x ∷ xs) zero r within there is = rw is (within.0, within.1)
+within_at (x ∷ xs) (suc n) r within there is = within_at xs n r within.2 (omega arith) is
+
+-- what the record at a place binds
+pub found_at : (records : List Record) (n : ℕ) (r : Record) → n < length records → r ≡ get_or records n r → slice_get (map registered_of records) n ≡ Some (registered_of r)
+found_at records n r there is = slice_get-map registered_of records n ∙ ap (option_map registered_of) (slice_get_read records (length records) n r refl there is)
+
+pub bound_at : (records : List Record) (n : ℕ) (r : Record) (b : Registered) → n < length records → r ≡ get_or records n r → slice_get (map registered_of records) n ≡ Some b → registered_of r ≡ b
+bound_at records n r b there is at = let found = found_at records n r there is in cc
+
+-- what is bound stays
+pub binds_still : (records : List Record) (place : ℕ) (r : Record) (c : Digest) → r ≡ get_or records place r
+    → map registered_of (set records place (with_commitment r c)) ≡ map registered_of records
+binds_still records place r c is = map-set_same registered_of records place (with_commitment r c) r (ap registered_of is)
+
+module _ (hash : List ℕ → List ℕ) where
+  as_many : (all records : List Record) (place : ℕ) → AreSealedTo hash all place records → length records ≡ length all
+  as_many all records place so =
+      ap length so ∙ length-append (map (sealed_by hash) (take place all)) (drop place all) ∙ ap (λ n. n + length (drop place all)) (length-map (take place all) (sealed_by hash))
+      ∙ sym (length-append (take place all) (drop place all)) ∙ ap length (take-append-drop place all)
+
+  -- one record more is sealed
+  pub sealed_next : (all records : List Record) (place : ℕ) (r : Record) (c : Digest) → place < length records → r ≡ get_or records place r → c.0 ≡ commitment_to hash (registered_of r)
+      → AreSealedTo hash all place records → AreSealedTo hash all (place + 1) (set records place (with_commitment r c))
+  sealed_next all records place r c there is sealed so =
+      let same : with_commitment r c ≡ sealed_by hash r = ap (λ d. with_commitment r (record { 0 = d })) sealed in
+      rw same (map_over_more (sealed_by hash) all records place r (omega (arith, there, as_many all records place so)) so is)
+
+  -- ---- all records
+
+  pub sealed_end : (all records : List Record) (place : ℕ) → length records ≤ place → AreSealedTo hash all place records → records ≡ map (sealed_by hash) all
+  sealed_end all records place past so =
+      let long : length all ≤ place = let many = as_many all records place so in omega arith in
+      rw (take_all place all long, drop_all place all long, append-nil) at so
+
+  sealed_at : (records : List Record) (n : ℕ) (r : Record) → slice_get (map (sealed_by hash) records) n ≡ Some r
+      → (x : Record) × (slice_get records n ≡ Some x) × (sealed_by hash x ≡ r)
+  sealed_at [] n r at = absurd (let never = at in cc)
+  sealed_at (x ∷ xs) zero r at = let same : sealed_by hash x ≡ r = cc in (x, refl, same)
+  sealed_at (x ∷ xs) (suc n) r at = sealed_at xs n r at
+
+  at_sealed : (records : List Record) (n : ℕ) (x : Record) → slice_get records n ≡ Some x → slice_get (map (sealed_by hash) records) n ≡ Some (sealed_by hash x)
+  at_sealed records n x at = rw (slice_get-map, at) refl
+
+  pub are_sealed : (records : List Record) → AreSealed hash (map (sealed_by hash) records)
+  are_sealed records n r at = let k = sealed_at records n r at in subst (λ (x : Record). x.commitment.0 ≡ commitment_to hash (registered_of x)) k.2 refl
+
+  -- sealed drafts are drafts
+  module _ (other of : List ℕ → List ℕ) (bound : List Registered) (records : List Record) (numbers : BTreeMap (List ℕ) ℕ) (s : AreDrafts other of bound records numbers) where
+    pub drafts_sealed : AreDrafts other of bound (map (sealed_by hash) records) numbers
+    drafts_sealed = record {
+      binds = map-map registered_of (sealed_by hash) records ∙ s.binds;
+      drafted = λ n r at. let k = sealed_at records n r at in let d = s.drafted n k.0 k.1 in subst (IsDraft of) k.2 (record { indexed = d.indexed; ranged = d.ranged; named = d.named; keyed = d.keyed });
+      kept = λ index n some. let k = s.kept index n some in (sealed_by hash k.0, at_sealed records n k.0 k.1, k.2);
+      all = λ n r at. let k = sealed_at records n r at in subst (λ (x : Record). number_at numbers x.index.0 ≡ Some n) k.2 (s.all n k.0 k.1);
+      ordered = s.ordered;
+      counted = s.counted ∙ sym (length-map records (sealed_by hash));
+      distinct = s.distinct;
+    }
+
+-- the drafts' names and keys are within their limits
+within_all : (of : List ℕ → List ℕ) (records : List Record) → ((n : ℕ) (r : Record) → slice_get records n ≡ Some r → IsDraft of r) → AreWithin (map registered_of records)
+within_all of [] drafted = tt
+within_all of (x ∷ xs) drafted = let d = drafted 0 x refl in (d.named, d.keyed, within_all of xs (λ n r at. drafted (suc n) r at))
+
+pub drafts_within : (hash of : List ℕ → List ℕ) (bound : List Registered) (records : List Record) (numbers : BTreeMap (List ℕ) ℕ) → AreDrafts hash of bound records numbers
+    → AreWithin (map registered_of records)
+drafts_within hash of bound records numbers s = within_all of records s.drafted

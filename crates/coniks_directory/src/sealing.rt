@@ -1,0 +1,103 @@
+//! The commitments of a batch's records: by fours, and what is left over one by one.
+
+ghost use Rattle.std.specs.Prelude.{◌≡◌, ◌+◌, ◌*◌, ◌/◌, ◌<◌, ◌≤◌, List, ℕ, Some, length, map, slice_get};
+ghost use Rattle.coniks_proof.specs.Preimages.{commitment_preimage};
+ghost use Rattle.coniks_proof.specs.Registry.{AreWithin, Registered};
+ghost use Rattle.coniks_directory.specs.Judged.{AreSealedTo, IsCommitmentAt, sealed_by};
+ghost use Rattle.coniks_directory.specs.State.{registered_of};
+
+use coniks_proof::{CommitmentPreimage, Digest, Hash32, commit_four, commit_hash};
+use coniks_tree::Record;
+
+/// What the commitment of the record at a place is the hash of.
+fn preimage_at(records: &[Record], place: usize) -> CommitmentPreimage<'_>
+    requires there { place < length records.now }
+    requires within { AreWithin (map registered_of records.now) }
+    ensures { (b : Registered) → slice_get (map registered_of records.now) place ≡ Some b → result ≡ commitment_preimage b.opening b.name b.key }
+{
+    let draft = &records[place];
+    CommitmentPreimage::of(
+        &draft.opening,
+        draft.binding.name.as_slice(),
+        draft.binding.key.as_slice(),
+    )
+}
+
+/// The commitment of the record at a place.
+fn commitment_at<H: Hash32>(h: &H, records: &[Record], place: usize) -> Digest
+    requires there { place < length records.now }
+    requires within { AreWithin (map registered_of records.now) }
+    ensures { IsCommitmentAt (H.digest_of h.now) records.now place result.0 }
+{
+    let draft = &records[place];
+    commit_hash(
+        h,
+        &draft.opening,
+        draft.binding.name.as_slice(),
+        draft.binding.key.as_slice(),
+    )
+}
+
+/// Puts its commitment into the record at a place.
+fn put(records: &mut [Record], place: usize, commitment: Digest)
+    requires { place < length records.old }
+    ensures binds { map registered_of records.new ≡ map registered_of records.old }
+    ensures sealed { (hash : List ℕ → List ℕ) (all : List Record) → IsCommitmentAt hash records.old place commitment.0 → AreSealedTo hash all place records.old
+        → AreSealedTo hash all (place + 1) records.new }
+{
+    records[place].commitment = commitment;
+}
+
+/// Seals four records from a place on.
+fn seal_four<H: Hash32>(h: &H, records: &mut [Record], place: usize)
+    requires there { place + 4 ≤ length records.old }
+    requires within { AreWithin (map registered_of records.old) }
+    ensures binds { map registered_of records.new ≡ map registered_of records.old }
+    ensures sealed { (all : List Record) → AreSealedTo (H.digest_of h.now) all place records.old → AreSealedTo (H.digest_of h.now) all (place + 4) records.new }
+{
+    let (a, b, c, d) = commit_four(
+        h,
+        &preimage_at(records, place),
+        &preimage_at(records, place + 1),
+        &preimage_at(records, place + 2),
+        &preimage_at(records, place + 3),
+    );
+    put(records, place, a);
+    put(records, place + 1, b);
+    put(records, place + 2, c);
+    put(records, place + 3, d);
+}
+
+/// Seals the first so many groups of four.
+fn seal_groups<H: Hash32>(h: &H, records: &mut [Record], groups: usize)
+    requires there { 4 * groups ≤ length records.old }
+    requires within { AreWithin (map registered_of records.old) }
+    ensures binds { map registered_of records.new ≡ map registered_of records.old }
+    ensures sealed { AreSealedTo (H.digest_of h.now) records.old (4 * groups) records.new }
+{
+    for group in 0..groups {
+        seal_four(h, records, 4 * group);
+    }
+}
+
+/// Seals the records from a place on.
+fn seal_rest<H: Hash32>(h: &H, records: &mut [Record], from: usize)
+    requires there { from ≤ length records.old }
+    requires within { AreWithin (map registered_of records.old) }
+    ensures { (all : List Record) → AreSealedTo (H.digest_of h.now) all from records.old → records.new ≡ map (sealed_by (H.digest_of h.now)) all }
+{
+    for place in from..records.len() {
+        let commitment = commitment_at(h, records, place);
+        put(records, place, commitment);
+    }
+}
+
+/// Puts its commitment into each record.
+pub(crate) fn seal_all<H: Hash32>(h: &H, records: &mut [Record])
+    requires { AreWithin (map registered_of records.old) }
+    ensures { records.new ≡ map (sealed_by (H.digest_of h.now)) records.old }
+{
+    let groups = records.len() / 4;
+    seal_groups(h, records, groups);
+    seal_rest(h, records, 4 * groups);
+}
