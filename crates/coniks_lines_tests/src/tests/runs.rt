@@ -1,4 +1,5 @@
 //! Runs, and what they write.
+ghost use Rattle.std.specs.Prelude.{◌≡◌};
 
 use crate::tests::machine::{Echo, echoed};
 use crate::tests::streams::{SlowIn, SlowOut, Stop};
@@ -35,21 +36,31 @@ fn input_of(rt: &impl Abort, alloc: Global, bytes: &[u8]) -> Vec<u8> {
     Vec::from_slice(alloc, bytes).expect(rt, "memory")
 }
 
-/// How a run ended: its answer, whether just the wanted bytes are written, and how often a read or a write failed.
+/// How a run ended: its answer, whether just the wanted bytes are written, and how often a read and a write failed.
 #[derive(Clone, Copy)]
 struct Ended {
     all: Result<bool, RunFault>,
     wrote: bool,
-    failures: u64,
+    unread: u64,
+    unwritten: u64,
 }
 
-/// A run over memory.
-fn memory_run(rt: &impl Abort, alloc: Global, input: &[u8], wanted: &[u8]) -> Ended {
-    let (writer, all) = echoed(alloc, input_of(rt, alloc, input)).expect(rt, "a run");
+/// A run over a reader and a slow writer.
+fn slow_run<R: ByteIn + Drop>(
+    alloc: Global,
+    mut reader: R,
+    mut writer: SlowOut,
+    wanted: &[u8],
+) -> Ended
+    requires reads { (R.source reader).failed ≡ 0 }
+    requires writes { (⟦<SlowOut as ByteOut>⟧.sink writer).failed ≡ 0 }
+{
+    let all = run_lines(alloc, &mut Echo { odd: false }, &mut reader, &mut writer);
     Ended {
-        all: Ok(all),
-        wrote: writer.bytes() == wanted,
-        failures: writer.failures(),
+        all,
+        wrote: writer.bytes.as_slice() == wanted,
+        unread: reader.failures(),
+        unwritten: writer.failures(),
     }
 }
 
@@ -57,22 +68,10 @@ fn memory_run(rt: &impl Abort, alloc: Global, input: &[u8], wanted: &[u8]) -> En
 fn over_memory(rt: HostRuntime) {
     let alloc = rt.alloc();
     for (input, wanted, accepted) in RUNS {
-        let ended = memory_run(&rt, alloc, input, wanted);
-        assert!(rt; ended.wrote);
-        assert!(rt; ended.all == Ok(accepted));
-        assert_eq!(rt; ended.failures, 0);
-    }
-}
-
-/// A run over a reader and a writer that stop nowhere.
-fn slow_run(alloc: Global, input: Vec<u8>, gives: usize, takes: usize, wanted: &[u8]) -> Ended {
-    let mut reader = SlowIn::new(input, gives, MANY);
-    let mut writer = SlowOut::new(alloc, takes, MANY, Stop::Fails);
-    let all = run_lines(alloc, &mut Echo { odd: false }, &mut reader, &mut writer);
-    Ended {
-        all,
-        wrote: writer.bytes.as_slice() == wanted,
-        failures: writer.failures(),
+        let (writer, all) = echoed(alloc, input_of(&rt, alloc, input)).expect(&rt, "a run");
+        assert!(rt; writer.bytes() == wanted);
+        assert_eq!(rt; all, accepted);
+        assert_eq!(rt; writer.failures(), 0);
     }
 }
 
@@ -82,8 +81,9 @@ fn little_at_a_time(rt: HostRuntime) {
     for (input, wanted, accepted) in RUNS {
         for gives in 1..6 {
             for takes in 1..4 {
-                let input = input_of(&rt, alloc, input);
-                let ended = slow_run(alloc, input, gives, takes, wanted);
+                let reader = SlowIn::new(input_of(&rt, alloc, input), gives, MANY);
+                let writer = SlowOut::new(alloc, takes, MANY, Stop::Fails);
+                let ended = slow_run(alloc, reader, writer, wanted);
                 assert!(rt; ended.all == Ok(accepted));
                 assert!(rt; ended.wrote);
             }
@@ -137,14 +137,8 @@ fn many_lines(rt: HostRuntime) {
 
 /// A run whose writer takes a byte a write, and stops at a call.
 fn stopped_run(alloc: Global, input: Vec<u8>, calls: u64, stop: Stop, wanted: &[u8]) -> Ended {
-    let mut reader = MemoryIn::new(input);
-    let mut writer = SlowOut::new(alloc, 1, calls, stop);
-    let all = run_lines(alloc, &mut Echo { odd: false }, &mut reader, &mut writer);
-    Ended {
-        all,
-        wrote: writer.bytes.as_slice() == wanted,
-        failures: writer.failures(),
-    }
+    let writer = SlowOut::new(alloc, 1, calls, stop);
+    slow_run(alloc, MemoryIn::new(input), writer, wanted)
 }
 
 #[test]
@@ -161,7 +155,7 @@ fn a_write_stops(rt: HostRuntime) {
             assert!(rt; ended.all == Err(RunFault::Write), "at call {k}");
             assert!(rt; ended.wrote, "at call {k}");
             let fails = stop == Stop::Fails || flushes.contains(&k);
-            assert_eq!(rt; ended.failures, fails as u64, "at call {k}");
+            assert_eq!(rt; ended.unwritten, fails as u64, "at call {k}");
         }
         let input = input_of(&rt, alloc, b"ab\n!c\nd");
         let ended = stopped_run(alloc, input, 12, stop, wanted);
@@ -170,16 +164,10 @@ fn a_write_stops(rt: HostRuntime) {
     }
 }
 
-/// A run whose reader gives two bytes a read, and fails at one; with how often it failed.
+/// A run whose reader gives two bytes a read, and fails at one.
 fn unread_run(alloc: Global, input: Vec<u8>, reads: u64, wanted: &[u8]) -> Ended {
-    let mut reader = SlowIn::new(input, 2, reads);
-    let mut writer = SlowOut::new(alloc, 100, MANY, Stop::Fails);
-    let all = run_lines(alloc, &mut Echo { odd: false }, &mut reader, &mut writer);
-    Ended {
-        all,
-        wrote: writer.bytes.as_slice() == wanted,
-        failures: reader.failures(),
-    }
+    let writer = SlowOut::new(alloc, 100, MANY, Stop::Fails);
+    slow_run(alloc, SlowIn::new(input, 2, reads), writer, wanted)
 }
 
 #[test]
@@ -192,13 +180,13 @@ fn a_read_fails(rt: HostRuntime) {
         let ended = unread_run(alloc, input, k as u64, wanted[k]);
         assert!(rt; ended.all == Err(RunFault::Read), "at read {k}");
         assert!(rt; ended.wrote, "at read {k}");
-        assert_eq!(rt; ended.failures, 1, "at read {k}");
+        assert_eq!(rt; ended.unread, 1, "at read {k}");
     }
     let input = input_of(&rt, alloc, b"ab\ncd\nef");
     let ended = unread_run(alloc, input, 5, b"0ab\n1cd\n0ef\n");
     assert!(rt; ended.all == Ok(true));
     assert!(rt; ended.wrote);
-    assert_eq!(rt; ended.failures, 0);
+    assert_eq!(rt; ended.unread, 0);
 }
 
 #[test]
