@@ -1,6 +1,7 @@
 -- Lines that are audited one after another.
 use Rattle.std.proofs.Common.{◌≡◌, ℕ, zero, suc, List, [], ◌∷◌, ◌++◌, map, Bool, true, false, Option, Some, None, refl, sym, ap, subst, ◌∙◌}
 use Rattle.std.specs.Prelude.{◌↔◌, is_some, slice_get, option_and_then, Result, Ok, Err, IfOk}
+use Rattle.std.specs.Option.{option_map_or}
 use Rattle.std.proofs.lemmas.Option.{same_Some}
 use Rattle.std.proofs.lemmas.Bool.{and_parts, false≢true}
 use Rattle.serde_json.specs.Data.{Data}
@@ -18,8 +19,9 @@ use Rattle.coniks_tool.specs.Members.{object_in}
 use Rattle.coniks_tool.specs.Seal.{is_seal}
 use Rattle.coniks_tool.specs.EntryLines.{entry_in, entry_on}
 use Rattle.coniks_tool.specs.AuditFaults.{audit_fault}
-use Rattle.coniks_tool.specs.AuditReplies.{is_audited}
-use Rattle.coniks_tool.specs.Audit.{AuditState, AuditTurn, none_audited, judged_turn, entry_turn, audit_object_turn, audit_turn, audit_answer}
+use Rattle.coniks_tool.specs.AuditReplies.{is_audited, not_json}
+use Rattle.coniks_tool.specs.Audit.{AuditState, AuditTurn, none_audited, judged_turn, entry_turn, audit_turn, audit_answer}
+use Rattle.coniks_tool.specs.Turns.{refused}
 use Rattle.coniks_tool.specs.AuditChain.{HoldsGoodChain, if_accepted, accepted_entries}
 use Rattle.coniks_tool.proofs.AuditFaultLemmas.{follows-none, none-follows}
 
@@ -46,7 +48,7 @@ entry_says : (s : AuditState) (found : Option Entry) → Says s found (entry_tur
 entry_says s None = (λ no. absurd (false≢true no), λ _. refl)
 entry_says s (Some e) = judged_says s e (audit_fault (is_seal s.key) s.before e) refl
 
-object_says : (s : AuditState) (object : Option Data) → Says s (option_and_then entry_in object) (audit_object_turn s object)
+object_says : (s : AuditState) (object : Option Data) → Says s (option_and_then entry_in object) (option_map_or (λ d. entry_turn s (entry_in d)) object (refused s not_json))
 object_says s None = (λ no. absurd (false≢true no), λ _. refl)
 object_says s (Some d) = entry_says s (entry_in d)
 
@@ -60,7 +62,7 @@ Takes s e t = (is_audited t.outcome ≡ true) × (t.state ≡ after s e)
 takes_entry : (s : AuditState) (e : Entry) → audit_fault (is_seal s.key) s.before e ≡ None → Takes s e (entry_turn s (Some e))
 takes_entry s e none = subst (λ f. Takes s e (judged_turn s e f)) (sym none) (refl, refl)
 
-takes_object : (s : AuditState) (object : Option Data) (e : Entry) → option_and_then entry_in object ≡ Some e → audit_fault (is_seal s.key) s.before e ≡ None → Takes s e (audit_object_turn s object)
+takes_object : (s : AuditState) (object : Option Data) (e : Entry) → option_and_then entry_in object ≡ Some e → audit_fault (is_seal s.key) s.before e ≡ None → Takes s e (option_map_or (λ d. entry_turn s (entry_in d)) object (refused s not_json))
 takes_object s None e there none = absurd (false≢true (ap is_some there))
 takes_object s (Some d) e there none = subst (λ found. Takes s e (entry_turn s found)) (sym there) (takes_entry s e none)
 

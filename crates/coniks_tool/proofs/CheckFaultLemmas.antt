@@ -1,8 +1,8 @@
 -- The first fault of a proof is the one that is computed.
-use Rattle.std.proofs.Common.{◌≡◌, ◌<◌, ◌+◌, ℕ, suc, List, [], ◌∷◌, length, Bool, true, false, Option, Some, None, refl, sym, ap, subst, ◌∙◌, arith, inl, inr, Decides}
-use Rattle.std.specs.Prelude.{◌==◌, is_some, if◌then◌else◌}
-use Rattle.std.proofs.lemmas.Option.{same_Some}
-use Rattle.std.proofs.lemmas.Bool.{cases_lt, false≢true, false_from_ne_true}
+use Rattle.std.proofs.Common.{◌≡◌, ◌+◌, ◌-◌, ℕ, List, [], ◌∷◌, length, Bool, true, false, Option, Some, None, refl, sym, ◌∙◌, arith, Decides}
+use Rattle.std.specs.Prelude.{slice_get}
+use Rattle.std.proofs.lemmas.Option.{slice_get_within}
+use Rattle.std.proofs.lemmas.Bool.{false≢true, false_from_ne_true}
 use Rattle.std.proofs.lemmas.Bool.Decides.{Decides-eqb, Decides-ltb, Decides-not, Decides-or}
 use Rattle.std.proofs.lemmas.Slice.Eq.{bytes_eq-Decides}
 use Rattle.coniks_proof.specs.declared.values.TheConstants.{MAX_KEY}
@@ -12,10 +12,11 @@ use Rattle.coniks_proof.proofs.Lemmas.{accepts-no_fault, no_fault-accepts}
 use Rattle.coniks_proof.specs.Faults.{EndHas, Has, IsFirst, number}
 use Rattle.coniks_proof.specs.declared.paths.Proof.{Proof}
 use Rattle.coniks_proof.specs.declared.paths.End.{End}
-use Rattle.coniks_proof.specs.declared.paths.End.TheVariants.{Empty, Other, Here}
+use Rattle.coniks_proof.specs.declared.paths.End.TheVariants.{Other, Here}
 use Rattle.coniks_proof.specs.declared.checker.CheckFault.{CheckFault}
 use Rattle.coniks_proof.specs.declared.checker.CheckFault.TheVariants.{TooDeep, NameLength, KeyLength, WrongName, OtherIsSame, OtherOffPath, RootMismatch}
-use Rattle.coniks_tool.specs.CheckFaults.{same_bits, end_has, has, first_had, check_faults, check_fault}
+use Rattle.coniks_tool.specs.CheckFaults.{same_bits, end_has, has, check_faults, check_fault}
+use Rattle.coniks_tool.proofs.FirstLemmas.{AreNumbered, first-found, found-first, found-none, none-found, number-at}
 
 cons_rest : (x y : Bool) (xs ys : List Bool) → x ∷ xs ≡ y ∷ ys → xs ≡ ys
 cons_rest x y xs ys same = cc
@@ -46,83 +47,21 @@ never = (λ on. false≢true on, λ no. absurd no)
 end-decides : (index name : List ℕ) (level : ℕ) (end : End) (fault : CheckFault) → Decides (end_has index name level end fault) (EndHas index name level end fault)
 end-decides index name level (Here here key o) KeyLength = Decides-or _ _ (Decides-eqb (length key) 0) (Decides-ltb MAX_KEY (length key))
 end-decides index name level (Here here key o) WrongName = Decides-not _ (bytes_eq-Decides here name)
-end-decides index name level (Here here key o) TooDeep = never
-end-decides index name level (Here here key o) NameLength = never
-end-decides index name level (Here here key o) OtherIsSame = never
-end-decides index name level (Here here key o) OtherOffPath = never
-end-decides index name level (Here here key o) RootMismatch = never
 end-decides index name level (Other other c) OtherIsSame = bytes_eq-Decides other.0 index
 end-decides index name level (Other other c) OtherOffPath = Decides-not _ (same_bits-decides (first_bits other.0 level) (first_bits index level))
-end-decides index name level (Other other c) TooDeep = never
-end-decides index name level (Other other c) NameLength = never
-end-decides index name level (Other other c) KeyLength = never
-end-decides index name level (Other other c) WrongName = never
-end-decides index name level (Other other c) RootMismatch = never
-end-decides index name level Empty TooDeep = never
-end-decides index name level Empty NameLength = never
-end-decides index name level Empty KeyLength = never
-end-decides index name level Empty WrongName = never
-end-decides index name level Empty OtherIsSame = never
-end-decides index name level Empty OtherOffPath = never
-end-decides index name level Empty RootMismatch = never
+end-decides index name level _ _ = never
 
--- the fault of a number
-fault_of : ℕ → Option CheckFault
-fault_of n =
-    if n == 1 then Some TooDeep
-    else (if n == 2 then Some NameLength
-    else (if n == 3 then Some KeyLength
-    else (if n == 4 then Some WrongName
-    else (if n == 5 then Some OtherIsSame
-    else (if n == 6 then Some OtherOffPath
-    else Some RootMismatch)))))
+-- each fault stands at the place before its number
+at_place : (fault : CheckFault) → slice_get check_faults (number fault - 1) ≡ Some fault
+at_place TooDeep = refl
+at_place _ = refl
 
-numbered : (fault : CheckFault) → fault_of (number fault) ≡ Some fault
-unfolding fault_of
-numbered TooDeep = refl
-numbered NameLength = refl
-numbered KeyLength = refl
-numbered WrongName = refl
-numbered OtherIsSame = refl
-numbered OtherOffPath = refl
-numbered RootMismatch = refl
+-- and at no other
+in_order : AreNumbered number 1 check_faults
+in_order = (refl, (refl, (refl, (refl, (refl, (refl, (refl, tt)))))))
 
-same_number : (a b : CheckFault) → number a ≡ number b → a ≡ b
-same_number a b same = same_Some a b (sym (numbered a) ∙ (ap fault_of same ∙ numbered b))
-
--- the faults of some stand one after another from a number on
-abbrev IsFrom : ℕ → List CheckFault → Type 0
-IsFrom n [] = Unit {0}
-IsFrom n (fault ∷ rest) = (number fault ≡ n) × IsFrom (suc n) rest
-
-module _ (h : CheckFault → Bool) where
-  -- none of the faults below a number is there
-  abbrev NoneBelow : ℕ → Type 0
-  NoneBelow n = (other : CheckFault) → number other < n → h other ≡ false
-
-  none_more : (n : ℕ) (fault : CheckFault) → number fault ≡ n → h fault ≡ false → NoneBelow n → NoneBelow (suc n)
-  none_more n fault is none below other less =
-      elim (cases_lt (number other) n) [ inl lower ↦ below other lower | inr most ↦ subst (λ f. h f ≡ false) (same_number fault other (is ∙ omega arith)) none ]
-
-  first_by : (f : CheckFault) (fs : List CheckFault) (n : ℕ) (fault : CheckFault) (m : Bool) → h f ≡ m → number f ≡ n → NoneBelow n
-      → (NoneBelow (suc n) → first_had h fs ≡ Some fault → (h fault ≡ true) × NoneBelow (number fault)) → (if m then Some f else first_had h fs) ≡ Some fault → (h fault ≡ true) × NoneBelow (number fault)
-  first_by f fs n fault true on is below rest some = subst (λ g. (h g ≡ true) × NoneBelow (number g)) (same_Some f fault some) (on, subst NoneBelow (sym is) below)
-  first_by f fs n fault false off is below rest some = rest (none_more n f is off below) some
-
-  -- the one that is found is there, and none below it
-  first_is : (fs : List CheckFault) (n : ℕ) (fault : CheckFault) → IsFrom n fs → NoneBelow n → first_had h fs ≡ Some fault → (h fault ≡ true) × NoneBelow (number fault)
-  first_is [] n fault run below some = absurd (false≢true (ap is_some some))
-  first_is (f ∷ fs) n fault run below some = first_by f fs n fault (h f) refl run.0 below (first_is fs (suc n) fault run.1) some
-
-  none_by : (f : CheckFault) (fs : List CheckFault) (n : ℕ) (m : Bool) → h f ≡ m → number f ≡ n → NoneBelow n
-      → (NoneBelow (suc n) → first_had h fs ≡ None → NoneBelow (suc n + length fs)) → (if m then Some f else first_had h fs) ≡ None → NoneBelow (suc n + length fs)
-  none_by f fs n true on is below rest none = absurd (false≢true (sym (ap is_some none)))
-  none_by f fs n false off is below rest none = rest (none_more n f is off below) none
-
-  -- where none is found, none is there
-  none_is : (fs : List CheckFault) (n : ℕ) → IsFrom n fs → NoneBelow n → first_had h fs ≡ None → NoneBelow (n + length fs)
-  none_is [] n run below none = λ other less. below other (omega arith)
-  none_is (f ∷ fs) n run below none = λ other less. none_by f fs n (h f) refl run.0 below (none_is fs (suc n) run.1) none other (omega arith)
+numbered : (fault : CheckFault) → number fault ≡ 1 + (number fault - 1)
+numbered fault = number-at number check_faults 1 (number fault - 1) fault in_order (at_place fault)
 
 module _ (hash : List ℕ → List ℕ) (nonce root index name : List ℕ) (proof : Proof) where
   -- the test of a proof tells whether it has the fault
@@ -138,66 +77,36 @@ module _ (hash : List ℕ → List ℕ) (nonce root index name : List ℕ) (proo
   off : (fault : CheckFault) → ¬ Has hash nonce root index name proof fault → has hash nonce root index name proof fault ≡ false
   off fault none = false_from_ne_true _ (λ on. none ((decides fault).0 on))
 
+  absent : (fault : CheckFault) → has hash nonce root index name proof fault ≡ false → ¬ Has hash nonce root index name proof fault
+  absent fault none there = false≢true (sym none ∙ (decides fault).1 there)
+
   -- no fault
   pub none-none : ((fault : CheckFault) → ¬ Has hash nonce root index name proof fault) → check_fault hash nonce root index name proof ≡ None
   unfolding check_fault
-  none-none none =
-      rw (off TooDeep (none TooDeep), off NameLength (none NameLength), off KeyLength (none KeyLength), off WrongName (none WrongName), off OtherIsSame (none OtherIsSame), off OtherOffPath (none OtherOffPath), off RootMismatch (none RootMismatch)) refl
-
-  -- the first fault
-  pub first-some : (fault : CheckFault) → IsFirst (Has hash nonce root index name proof) fault → check_fault hash nonce root index name proof ≡ Some fault
-  unfolding check_fault
-  first-some TooDeep is = rw ((decides TooDeep).1 is.there) refl
-  first-some NameLength is = rw (off TooDeep (is.first TooDeep (omega arith)), (decides NameLength).1 is.there) refl
-  first-some KeyLength is = rw (off TooDeep (is.first TooDeep (omega arith)), off NameLength (is.first NameLength (omega arith)), (decides KeyLength).1 is.there) refl
-  first-some WrongName is =
-      rw (off TooDeep (is.first TooDeep (omega arith)), off NameLength (is.first NameLength (omega arith)), off KeyLength (is.first KeyLength (omega arith)), (decides WrongName).1 is.there) refl
-  first-some OtherIsSame is =
-      rw (off TooDeep (is.first TooDeep (omega arith)), off NameLength (is.first NameLength (omega arith)), off KeyLength (is.first KeyLength (omega arith)), off WrongName (is.first WrongName (omega arith)), (decides OtherIsSame).1 is.there) refl
-  first-some OtherOffPath is =
-      rw (off TooDeep (is.first TooDeep (omega arith)), off NameLength (is.first NameLength (omega arith)), off KeyLength (is.first KeyLength (omega arith)), off WrongName (is.first WrongName (omega arith)), off OtherIsSame (is.first OtherIsSame (omega arith)), (decides OtherOffPath).1 is.there) refl
-  first-some RootMismatch is =
-      rw (off TooDeep (is.first TooDeep (omega arith)), off NameLength (is.first NameLength (omega arith)), off KeyLength (is.first KeyLength (omega arith)), off WrongName (is.first WrongName (omega arith)), off OtherIsSame (is.first OtherIsSame (omega arith)), off OtherOffPath (is.first OtherOffPath (omega arith)), (decides RootMismatch).1 is.there) refl
+  none-none none = none-found (has hash nonce root index name proof) check_faults (λ k fault less at. off fault (none fault))
 
   -- an accepted proof has no fault
   pub accepts-none : (answer : Option (List ℕ)) → Accepts hash nonce root index name proof answer → check_fault hash nonce root index name proof ≡ None
   accepts-none answer ok = none-none (λ fault has. accepts-no_fault hash nonce root index name proof answer fault ok has)
 
-  no_lower : (other : CheckFault) → number other < 1 → has hash nonce root index name proof other ≡ false
-  no_lower TooDeep less = absurd (omega arith)
-  no_lower NameLength less = absurd (omega arith)
-  no_lower KeyLength less = absurd (omega arith)
-  no_lower WrongName less = absurd (omega arith)
-  no_lower OtherIsSame less = absurd (omega arith)
-  no_lower OtherOffPath less = absurd (omega arith)
-  no_lower RootMismatch less = absurd (omega arith)
-
-  below_eight : (fault : CheckFault) → number fault < 8
-  below_eight TooDeep = omega arith
-  below_eight NameLength = omega arith
-  below_eight KeyLength = omega arith
-  below_eight WrongName = omega arith
-  below_eight OtherIsSame = omega arith
-  below_eight OtherOffPath = omega arith
-  below_eight RootMismatch = omega arith
-
-  -- the faults stand in the order of their numbers
-  in_order : IsFrom 1 check_faults
-  in_order = (refl, (refl, (refl, (refl, (refl, (refl, (refl, tt)))))))
-
-  absent : (fault : CheckFault) → has hash nonce root index name proof fault ≡ false → Has hash nonce root index name proof fault → ⊥
-  absent fault none there = false≢true (sym none ∙ (decides fault).1 there)
-
   -- a proof with no fault is accepted
   pub none-accepts : check_fault hash nonce root index name proof ≡ None → Accepts hash nonce root index name proof (answer_of proof.end)
   unfolding check_fault
   none-accepts none =
-      no_fault-accepts hash nonce root index name proof (λ fault there.
-      absent fault (none_is (has hash nonce root index name proof) check_faults 1 in_order no_lower none fault (below_eight fault)) there)
+      let all = found-none (has hash nonce root index name proof) check_faults none in
+      no_fault-accepts hash nonce root index name proof (λ fault.
+      absent fault (all (number fault - 1) fault (slice_get_within check_faults (number fault - 1) fault (at_place fault)) (at_place fault)))
 
   -- the fault that is told is the first
+  pub first-some : (fault : CheckFault) → IsFirst (Has hash nonce root index name proof) fault → check_fault hash nonce root index name proof ≡ Some fault
+  unfolding check_fault
+  first-some fault is =
+      first-found (has hash nonce root index name proof) check_faults (number fault - 1) fault (at_place fault) ((decides fault).1 is.there)
+      (λ k other less at. let other_is = number-at number check_faults 1 k other in_order at in let fault_is = numbered fault in off other (is.first other (omega arith)))
+
   pub some-first : (fault : CheckFault) → check_fault hash nonce root index name proof ≡ Some fault → IsFirst (Has hash nonce root index name proof) fault
   unfolding check_fault
   some-first fault some =
-      let found = first_is (has hash nonce root index name proof) check_faults 1 fault in_order no_lower some in
-      record { there = (decides fault).0 found.0; first = λ other less there. absent other (found.1 other less) there }
+      let found = found-first (has hash nonce root index name proof) check_faults fault some in
+      let fault_is = number-at number check_faults 1 found.place fault in_order found.at in
+      record { there = (decides fault).0 found.passes; first = λ other less. let other_is = numbered other in absent other (found.earlier (number other - 1) other (omega arith) (at_place other)) }

@@ -4,6 +4,7 @@ mod CheckFaultLemmas
 mod CheckLemmas
 mod CommandLemmas
 mod CommitLemmas
+mod FirstLemmas
 mod FoundLemmas
 mod LimitLemmas
 mod MonitorLemmas

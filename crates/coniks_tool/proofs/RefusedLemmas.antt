@@ -1,6 +1,7 @@
 -- A refused line leaves the state as it was.
 use Rattle.std.proofs.Common.{◌≡◌, ◌⊎◌, inl, inr, ℕ, List, Bool, true, false, Option, Some, None, refl, sym}
 use Rattle.std.specs.Prelude.{codes, Result, Ok, Err, if◌then◌else◌}
+use Rattle.std.specs.Option.{option_map_or}
 use Rattle.std.specs.Str.{bytes_eq}
 use Rattle.std.proofs.lemmas.Bool.{false≢true}
 use Rattle.serde_json.specs.Data.{Data, Items}
@@ -13,32 +14,36 @@ use Rattle.coniks_chain.specs.declared.entry.Entry.{Entry}
 use Rattle.coniks_chain.specs.declared.seen.Seen.{Seen}
 use Rattle.coniks_chain.specs.Seen.{seen_of}
 use Rattle.coniks_proof.specs.Proofs.{answer_of}
-use Rattle.coniks_tool.specs.Audit.{AuditState, AuditTurn, audit_object_turn, audit_turn, entry_turn, judged_turn}
+use Rattle.coniks_tool.specs.Audit.{AuditState, AuditTurn, audit_turn, entry_turn, judged_turn}
 use Rattle.coniks_tool.specs.AuditFaults.{audit_fault}
 use Rattle.coniks_tool.specs.AuditReplies.{is_audited}
+use Rattle.coniks_tool.specs.AuditReplies as audit
 use Rattle.coniks_tool.specs.CheckFaults.{check_fault}
 use Rattle.coniks_tool.specs.Demo.{demo_index}
 use Rattle.coniks_tool.specs.EntryLines.{entry_in}
 use Rattle.coniks_tool.specs.Expectations.{expected_in}
 use Rattle.coniks_tool.specs.Members.{object_in, text_in, number_in, array_in, digits_in, if_there}
-use Rattle.coniks_tool.specs.Monitor.{MonitorState, MonitorTurn, audited_turn, checked_turn, expect_turn, is_expect, monitor_object_turn, monitor_turn, watch_turn}
+use Rattle.coniks_tool.specs.Monitor.{MonitorState, MonitorTurn, audited_turn, checked_turn, expect_turn, is_expect, monitor_turn, object_turn, watch_turn}
 use Rattle.coniks_tool.specs.MonitorReplies.{expecting, watched}
+use Rattle.coniks_tool.specs.MonitorReplies as monitor
 use Rattle.coniks_tool.specs.Operations.{operations_in}
 use Rattle.coniks_tool.specs.ProofObjects.{proof_in}
 use Rattle.coniks_tool.specs.Refusals.{Refusal, refusal}
-use Rattle.coniks_tool.specs.Replies.{is_accepted}
+use Rattle.coniks_tool.specs.Replies.{is_accepted, not_json}
 use Rattle.coniks_directory.specs.Runs.{Batch}
-use Rattle.coniks_tool.specs.Script.{Opened, State, Turn, batch_on, batch_read, batch_turn, batch_with, command_turn, object_turn, open_turn, open_with, turn}
+use Rattle.coniks_tool.specs.Script.{Opened, State, ScriptTurn, batch_on, batch_read, batch_turn, batch_with, command_turn, open_turn, open_with, turn}
 use Rattle.coniks_tool.specs.Seal.{is_seal}
+use Rattle.coniks_tool.specs.Turns.{refused}
+
+-- what holds of both
+either : {T : Type 0} → (P : T → Type 0) (b : Bool) (t u : T) → P t → P u → P (if b then t else u)
+either P true t u first second = first
+either P false t u first second = second
 
 -- a line of `run`
 
-abbrev Keeps : State → Turn → Type 0
+abbrev Keeps : State → ScriptTurn → Type 0
 Keeps s t = is_accepted t.outcome ≡ false → t.state ≡ s
-
-if_keeps : (s : State) (b : Bool) (t u : Turn) → Keeps s t → Keeps s u → Keeps s (if b then t else u)
-if_keeps s true t u first second = first
-if_keeps s false t u first second = second
 
 open_with-keeps : (s : State) (key nonce policy : List ℕ) → Keeps s (open_with s key nonce policy)
 open_with-keeps None key nonce policy off = absurd (false≢true (sym off))
@@ -71,11 +76,11 @@ batch-keeps s (Some epoch) (Some brought) (Some items) off = batch_read-keeps s 
 command-keeps : (s : State) (d : Data) (name : Option (List ℕ)) → Keeps s (command_turn s d name)
 command-keeps s d None = λ off. refl
 command-keeps s d (Some name) =
-    if_keeps s (bytes_eq name (codes "open")) _ _ (open-keeps s (digits_in 32 (codes "key") d) (digits_in 32 (codes "nonce") d) (digits_in 32 (codes "policy") d))
-    (if_keeps s (bytes_eq name (codes "batch")) _ _ (batch-keeps s (number_in (codes "epoch") d) (if_there (codes "nonce") d (digits_in 32 (codes "nonce") d)) (array_in (codes "ops") d))
-    (if_keeps s (bytes_eq name (codes "lookup")) _ _ (λ off. refl) (λ off. refl)))
+    either (Keeps s) (bytes_eq name (codes "open")) _ _ (open-keeps s (digits_in 32 (codes "key") d) (digits_in 32 (codes "nonce") d) (digits_in 32 (codes "policy") d))
+    (either (Keeps s) (bytes_eq name (codes "batch")) _ _ (batch-keeps s (number_in (codes "epoch") d) (if_there (codes "nonce") d (digits_in 32 (codes "nonce") d)) (array_in (codes "ops") d))
+    (either (Keeps s) (bytes_eq name (codes "lookup")) _ _ (λ off. refl) (λ off. refl)))
 
-object-keeps : (s : State) (d : Option Data) → Keeps s (object_turn s d)
+object-keeps : (s : State) (d : Option Data) → Keeps s (option_map_or (λ d. command_turn s d (text_in (codes "cmd") d)) d (refused s not_json))
 object-keeps s None = λ off. refl
 object-keeps s (Some d) = command-keeps s d (text_in (codes "cmd") d)
 
@@ -95,7 +100,7 @@ entry-keeps : (s : AuditState) (entry : Option Entry) → KeepsAudit s (entry_tu
 entry-keeps s None off = refl
 entry-keeps s (Some entry) off = judged-keeps s entry (audit_fault (is_seal s.key) s.before entry) off
 
-audit_object-keeps : (s : AuditState) (d : Option Data) → KeepsAudit s (audit_object_turn s d)
+audit_object-keeps : (s : AuditState) (d : Option Data) → KeepsAudit s (option_map_or (λ d. entry_turn s (entry_in d)) d (refused s audit.not_json))
 audit_object-keeps s None off = refl
 audit_object-keeps s (Some d) off = entry-keeps s (entry_in d) off
 
@@ -127,14 +132,10 @@ expect-keeps : (s : MonitorState) (expected : Option (Option (List ℕ))) → Ke
 expect-keeps s None = inl refl
 expect-keeps s (Some expected) = inr (inl refl)
 
-either-keeps : (s : MonitorState) (b : Bool) (t u : MonitorTurn) → KeepsMonitor s t → KeepsMonitor s u → KeepsMonitor s (if b then t else u)
-either-keeps s true t u first second = first
-either-keeps s false t u first second = second
-
-monitor_object-keeps : (s : MonitorState) (d : Option Data) → KeepsMonitor s (monitor_object_turn s d)
+monitor_object-keeps : (s : MonitorState) (d : Option Data) → KeepsMonitor s (option_map_or (object_turn s) d (refused s monitor.not_json))
 monitor_object-keeps s None = inl refl
 monitor_object-keeps s (Some d) =
-    either-keeps s (is_expect (text_in (codes "cmd") d)) (expect_turn s (expected_in d)) (watch_turn s (entry_in d) (proof_in d)) (expect-keeps s (expected_in d)) (watch-keeps s (entry_in d) (proof_in d))
+    either (KeepsMonitor s) (is_expect (text_in (codes "cmd") d)) (expect_turn s (expected_in d)) (watch_turn s (entry_in d) (proof_in d)) (expect-keeps s (expected_in d)) (watch-keeps s (entry_in d) (proof_in d))
 
 pub monitor-keeps : (s : MonitorState) (line : List ℕ) → KeepsMonitor s (monitor_turn s line)
 monitor-keeps s line = monitor_object-keeps s (object_in line)

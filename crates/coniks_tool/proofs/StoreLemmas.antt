@@ -26,7 +26,8 @@ use Rattle.coniks_tool.specs.Demo.{demo_index}
 use Rattle.coniks_tool.specs.Refusals.{IsRefusedBy, Refusal, not_later, refusal}
 use Rattle.coniks_tool.specs.Replies.{Outcome, installed, outcome_of}
 use Rattle.coniks_tool.specs.declared.run.reply.Reply.{Reply}
-use Rattle.coniks_tool.specs.Script.{Installs, Opened, State as Held, Turn, batch_on, batch_with, refusal_outcome, refused, shown_next as shown_epoch}
+use Rattle.coniks_tool.specs.Script.{Installs, Opened, State as Held, ScriptTurn, batch_on, batch_with, refusal_outcome, shown_next as shown_epoch}
+use Rattle.coniks_tool.specs.Turns.{refused}
 use Rattle.coniks_tool.specs.Seal.{is_seal}
 use Rattle.coniks_tool.specs.Stores.{opened_by, opened_of, shown_on, state_of}
 use Rattle.coniks_tool.specs.declared.run.store.Service.{Service}
@@ -161,7 +162,7 @@ refused_turn o b None outcome is = absurd (let never = is in cc)
 refused_turn o b (Some why) outcome is = let same : refusal_outcome why ≡ outcome = cc in ap (refused (Some o)) same
 
 -- what comes of a batch that adds this entry
-abbrev pub turn_of : Entry → Opened → Turn
+abbrev pub turn_of : Entry → Opened → ScriptTurn
 turn_of entry o = record { outcome = installed entry (sha256 (link_preimage entry)); state = Some o }
 
 -- an installed batch
@@ -177,7 +178,7 @@ pub reply_refused : {E : Type 0} (o : Opened) (b : Batch) (v : Held) (result : R
     → IfOk result (λ reply. option_map refusal_outcome (refusal (demo_index o.key) o.history b.t b.ops) ≡ Some (outcome_of reply)) → IfOk result (λ reply. outcome_of reply ≡ (batch_with v b).outcome)
 reply_refused {E} o b v (Err e) same told = tt
 reply_refused {E} o b v (Ok reply) same told =
-    sym (ap (λ (s : Held). (batch_with s b).outcome) same ∙ ap (λ (t : Turn). t.outcome) (refused_turn o b (refusal (demo_index o.key) o.history b.t b.ops) (outcome_of reply) told))
+    sym (ap (λ (s : Held). (batch_with s b).outcome) same ∙ ap (λ (t : ScriptTurn). t.outcome) (refused_turn o b (refusal (demo_index o.key) o.history b.t b.ops) (outcome_of reply) told))
 
 -- and leaves the state
 pub state_refused : {E : Type 0} (o o' : Opened) (b : Batch) (v : Held) (result : Result Reply E) → v ≡ Some o → o' ≡ o
@@ -185,7 +186,7 @@ pub state_refused : {E : Type 0} (o o' : Opened) (b : Batch) (v : Held) (result 
 state_refused {E} o o' b v (Err e) same kept told = tt
 state_refused {E} o o' b v (Ok reply) same kept told =
     ap (λ (p : Opened). let w : Held = Some p in w) kept
-    ∙ sym (ap (λ (s : Held). (batch_with s b).state) same ∙ ap (λ (t : Turn). t.state) (refused_turn o b (refusal (demo_index o.key) o.history b.t b.ops) (outcome_of reply) told))
+    ∙ sym (ap (λ (s : Held). (batch_with s b).state) same ∙ ap (λ (t : ScriptTurn). t.state) (refused_turn o b (refusal (demo_index o.key) o.history b.t b.ops) (outcome_of reply) told))
 
 -- what an open store shows
 pub shown_open : (opened : Option Service) (service : Service) (v : Held) → Some service ≡ opened → state_of opened ≡ v → v ≡ Some (opened_of service)

@@ -1,5 +1,5 @@
 -- The first fault of an entry, computed.
-use Rattle.std.specs.Prelude.{ℕ, List, [], ◌∷◌, ◌==◌, ◌||◌, Bool, true, Option, Some, None, is_some, nat_lt, if◌then◌else◌, not}
+use Rattle.std.specs.Prelude.{ℕ, List, ◌==◌, ◌||◌, Bool, true, Option, is_some, nat_lt, not, find}
 use Rattle.std.specs.Option.{option_map_or}
 use Rattle.std.specs.Str.{bytes_eq}
 use Rattle.coniks_chain.specs.declared.entry.Entry.{Entry}
@@ -20,11 +20,6 @@ meets verdict before entry PreviousLink = bytes_eq entry.body.previous.0 (link_b
 meets verdict before entry NonceChanged = option_map_or (λ b. not (entry.body.version == 1) || bytes_eq entry.body.nonce.0 b.nonce.0) before true
 meets verdict before entry Verdict = verdict (body_bytes entry.body) entry.signature.0
 
--- the first of some faults that an entry has
-abbrev pub first_unmet : (List ℕ → List ℕ → Bool) → Option Before → Entry → List AuditFault → Option AuditFault
-first_unmet verdict before entry [] = None
-first_unmet verdict before entry (fault ∷ rest) = if meets verdict before entry fault then first_unmet verdict before entry rest else Some fault
-
 -- the first fault of an entry after what is before it
 abbrev pub audit_fault : (List ℕ → List ℕ → Bool) → Option Before → Entry → Option AuditFault
-audit_fault verdict before entry = first_unmet verdict before entry faults
+audit_fault verdict before entry = find (λ fault. not (meets verdict before entry fault)) faults

@@ -1,7 +1,6 @@
 -- What `audit` prints for a line.
 use Rattle.std.specs.Prelude.{ℕ, List, codes, Bool, true, false}
 use Rattle.serde_json.specs.Data.{Data, string, number, unsigned, object, member, no_members}
-use Rattle.serde_json.specs.Written.{compact_text}
 use Rattle.coniks_chain.specs.declared.auditor.AuditFault.{AuditFault}
 use Rattle.coniks_chain.specs.declared.auditor.AuditFault.TheVariants.{Version, VersionBack, FirstEpoch, NotLater, PreviousEpoch, PreviousLink, NonceChanged, Verdict}
 use Rattle.coniks_tool.specs.ProofTexts.{digits}
@@ -52,10 +51,6 @@ audit_data (audited epoch link) = audited_data epoch link
 audit_data not_json = fault_data (codes "Json")
 audit_data no_entry = bad_member_data (codes "entry")
 audit_data (at_fault fault) = fault_data (audit_fault_name fault)
-
--- the text of a reply: JSON (RFC 8259) with no white space
-abbrev pub audit_text : AuditOutcome → List ℕ
-audit_text outcome = compact_text (audit_data outcome)
 
 -- the line was accepted
 abbrev pub is_audited : AuditOutcome → Bool

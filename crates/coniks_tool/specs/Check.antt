@@ -1,5 +1,6 @@
 -- What `check` answers to a line.
 use Rattle.std.specs.Prelude.{ℕ, List, codes, Option, Some, None, Result, Ok, Err}
+use Rattle.std.specs.Option.{option_map_or}
 use Rattle.serde_json.specs.Data.{Data}
 use Rattle.coniks_lines.specs.Machine.{Answer}
 use Rattle.coniks_proof.specs.Sha256.{sha256}
@@ -9,7 +10,8 @@ use Rattle.coniks_proof.specs.declared.checker.CheckFault.{CheckFault}
 use Rattle.coniks_tool.specs.Members.{object_in, text_in, digits_in}
 use Rattle.coniks_tool.specs.ProofObjects.{proof_in}
 use Rattle.coniks_tool.specs.CheckFaults.{check_fault}
-use Rattle.coniks_tool.specs.CheckReplies.{CheckOutcome, answered, not_json, no_member, at_fault, check_text, is_answered}
+use Rattle.coniks_tool.specs.CheckReplies.{CheckOutcome, answered, not_json, no_member, at_fault, check_data, is_answered}
+use Rattle.coniks_tool.specs.Turns.{Turn, answer_by}
 use Rattle.coniks_tool.specs.declared.check.question.Question.{Question}
 use Rattle.coniks_tool.specs.declared.lines.printing.Member.{Member}
 use Rattle.coniks_tool.specs.declared.lines.printing.Member.TheVariants.{Index, Name, Nonce, Root, Proof}
@@ -56,15 +58,14 @@ abbrev pub question_outcome : Result Asked Member → CheckOutcome
 question_outcome (Err m) = no_member m
 question_outcome (Ok q) = judged q (check_fault sha256 q.nonce q.root q.index q.name q.proof)
 
--- a line, where it is an object
-abbrev pub object_outcome : Option Data → CheckOutcome
-object_outcome None = not_json
-object_outcome (Some d) = question_outcome (asked_in d)
-
 -- no line is answered by what stood before it
 pub data Stateless : Type 0 where
   stateless : Stateless
 
+-- what comes of a line
+abbrev pub check_turn : Stateless → List ℕ → Turn CheckOutcome Stateless
+check_turn s line = record { outcome = option_map_or (λ d. question_outcome (asked_in d)) (object_in line) not_json; state = s }
+
 -- what a line is answered by
 abbrev pub check_answer : Stateless → List ℕ → Answer Stateless
-check_answer s line = let outcome = object_outcome (object_in line) in record { text = check_text outcome; accepted = is_answered outcome; state = s }
+check_answer s line = answer_by check_data is_answered (check_turn s line)

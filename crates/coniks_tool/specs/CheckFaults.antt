@@ -1,5 +1,5 @@
 -- The first fault of a proof, computed.
-use Rattle.std.specs.Prelude.{ℕ, List, [], ◌∷◌, length, ◌==◌, ◌||◌, Bool, true, false, not, nat_lt, Option, Some, None, if◌then◌else◌}
+use Rattle.std.specs.Prelude.{ℕ, List, [], ◌∷◌, length, ◌==◌, ◌||◌, Bool, true, false, not, nat_lt, Option, find, if◌then◌else◌}
 use Rattle.std.specs.Str.{bytes_eq}
 use Rattle.coniks_proof.specs.Bits.{first_bits}
 use Rattle.coniks_proof.specs.Proofs.{preimage}
@@ -37,15 +37,10 @@ has hash nonce root index name proof NameLength = is_off MAX_NAME (length name)
 has hash nonce root index name proof RootMismatch = not (bytes_eq (hash (preimage hash nonce index 0 proof.siblings proof.end)) root)
 has hash nonce root index name proof fault = end_has index name (length proof.siblings) proof.end fault
 
--- the first of some faults that a proof has
-abbrev pub first_had : (CheckFault → Bool) → List CheckFault → Option CheckFault
-first_had has [] = None
-first_had has (fault ∷ rest) = if has fault then Some fault else first_had has rest
-
 -- the faults in the order in which they are judged
 abbrev pub check_faults : List CheckFault
 check_faults = TooDeep ∷ NameLength ∷ KeyLength ∷ WrongName ∷ OtherIsSame ∷ OtherOffPath ∷ RootMismatch ∷ []
 
 -- the first fault of a proof
 unfoldable pub check_fault : (List ℕ → List ℕ) → List ℕ → List ℕ → List ℕ → List ℕ → Proof → Option CheckFault
-check_fault hash nonce root index name proof = first_had (has hash nonce root index name proof) check_faults
+check_fault hash nonce root index name proof = find (has hash nonce root index name proof) check_faults

@@ -1,7 +1,6 @@
 -- What `check` prints for a line.
 use Rattle.std.specs.Prelude.{ℕ, List, codes, Bool, true, false, Option, Some, None}
 use Rattle.serde_json.specs.Data.{Data, string, object, member, no_members}
-use Rattle.serde_json.specs.Written.{compact_text}
 use Rattle.base64.specs.GeneralPurpose.{encode_of}
 use Rattle.base64.specs.Engines.{standard}
 use Rattle.coniks_proof.specs.Proofs.{said}
@@ -67,13 +66,7 @@ check_data not_json = fault_data (codes "Json")
 check_data (no_member m) = bad_member_data (member_name m)
 check_data (at_fault fault) = fault_data (check_fault_name fault)
 
--- the text of a reply: JSON (RFC 8259) with no white space
-abbrev pub check_text : CheckOutcome → List ℕ
-check_text outcome = compact_text (check_data outcome)
-
 -- the line was accepted
 abbrev pub is_answered : CheckOutcome → Bool
 is_answered (answered answer) = true
-is_answered not_json = false
-is_answered (no_member m) = false
-is_answered (at_fault fault) = false
+is_answered _ = false

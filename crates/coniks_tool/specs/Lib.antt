@@ -25,3 +25,4 @@ pub mod Replies
 pub mod Script
 pub mod Seal
 pub mod Stores
+pub mod Turns

@@ -21,9 +21,10 @@ use Rattle.coniks_tool.specs.Demo.{demo_index}
 use Rattle.coniks_tool.specs.EntryLines.{entry_in}
 use Rattle.coniks_tool.specs.Expectations.{expected_in}
 use Rattle.coniks_tool.specs.Members.{object_in, text_in}
-use Rattle.coniks_tool.specs.MonitorReplies.{MonitorOutcome, watched, expecting, not_json, no_member, at_fault, monitor_text, is_as_expected}
+use Rattle.coniks_tool.specs.MonitorReplies.{MonitorOutcome, watched, expecting, not_json, no_member, at_fault, monitor_data, is_as_expected}
 use Rattle.coniks_tool.specs.ProofObjects.{proof_in}
 use Rattle.coniks_tool.specs.Seal.{is_seal}
+use Rattle.coniks_tool.specs.Turns.{Turn, refused, answer_by}
 use Rattle.coniks_tool.specs.declared.lines.printing.Member.TheVariants.{Key, Proof, Entry}
 
 -- the key of the seal, the name and its index, what the next entry is compared with, and the key that is expected, if one is
@@ -43,18 +44,17 @@ abbrev pub watching : {H : Type 0} → List ℕ → Watched H → MonitorState
 watching key w = record { key = key; name = w.name; index = w.index; before = w.before; expected = w.expected }
 
 -- what comes of a line, and the state after it
-pub record MonitorTurn : Type 0 where
-  pub outcome : MonitorOutcome
-  pub state : MonitorState
+abbrev pub MonitorTurn : Type 0
+MonitorTurn = Turn MonitorOutcome MonitorState
 
 -- an accepted entry with a proof that has this first fault: the state stays. One with none is what the next one is compared with
 abbrev pub checked_turn : MonitorState → EntryOf → ProofOf → Option CheckFault → MonitorTurn
-checked_turn s entry proof (Some fault) = record { outcome = at_fault (Check fault); state = s }
+checked_turn s entry proof (Some fault) = refused s (at_fault (Check fault))
 checked_turn s entry proof None = record { outcome = watched entry.body.t (seen_of s.expected (answer_of proof.end)); state = record s { before = Some (before_of sha256 entry) } }
 
 -- an entry with this first fault is refused and the state stays; under one with none the proof is checked, for the name at its index
 abbrev pub audited_turn : MonitorState → EntryOf → ProofOf → Option AuditFault → MonitorTurn
-audited_turn s entry proof (Some fault) = record { outcome = at_fault (Audit fault); state = s }
+audited_turn s entry proof (Some fault) = refused s (at_fault (Audit fault))
 audited_turn s entry proof None = checked_turn s entry proof (check_fault sha256 entry.body.nonce.0 entry.body.root.0 s.index s.name proof)
 
 -- an entry with its proof
@@ -63,13 +63,13 @@ step_turn s entry proof = audited_turn s entry proof (audit_fault (is_seal s.key
 
 -- a line with this entry and this proof, where there are such
 abbrev pub watch_turn : MonitorState → Option EntryOf → Option ProofOf → MonitorTurn
-watch_turn s None proof = record { outcome = no_member Entry; state = s }
-watch_turn s (Some entry) None = record { outcome = no_member Proof; state = s }
+watch_turn s None proof = refused s (no_member Entry)
+watch_turn s (Some entry) None = refused s (no_member Proof)
 watch_turn s (Some entry) (Some proof) = step_turn s entry proof
 
 -- a line that sets the expectation
 abbrev pub expect_turn : MonitorState → Option (Option (List ℕ)) → MonitorTurn
-expect_turn s None = record { outcome = no_member Key; state = s }
+expect_turn s None = refused s (no_member Key)
 expect_turn s (Some expected) = record { outcome = expecting; state = record s { expected = expected } }
 
 -- the line sets the expectation
@@ -80,15 +80,10 @@ is_expect command = option_map_or (λ text. bytes_eq text (codes "expect")) comm
 abbrev pub object_turn : MonitorState → Data → MonitorTurn
 object_turn s d = if is_expect (text_in (codes "cmd") d) then expect_turn s (expected_in d) else watch_turn s (entry_in d) (proof_in d)
 
--- a line, where it is an object
-abbrev pub monitor_object_turn : MonitorState → Option Data → MonitorTurn
-monitor_object_turn s None = record { outcome = not_json; state = s }
-monitor_object_turn s (Some d) = object_turn s d
-
 -- what comes of a line
 abbrev pub monitor_turn : MonitorState → List ℕ → MonitorTurn
-monitor_turn s line = monitor_object_turn s (object_in line)
+monitor_turn s line = option_map_or (object_turn s) (object_in line) (refused s not_json)
 
 -- what a line is answered by
 abbrev pub monitor_answer : MonitorState → List ℕ → Answer MonitorState
-monitor_answer s line = let t = monitor_turn s line in record { text = monitor_text t.outcome; accepted = is_as_expected t.outcome; state = t.state }
+monitor_answer s line = answer_by monitor_data is_as_expected (monitor_turn s line)

@@ -1,7 +1,6 @@
 -- What `monitor` prints for a line.
 use Rattle.std.specs.Prelude.{ℕ, List, codes, Bool, true, false}
 use Rattle.serde_json.specs.Data.{Data, string, number, unsigned, object, member, no_members}
-use Rattle.serde_json.specs.Written.{compact_text}
 use Rattle.coniks_chain.specs.Seen.{is_same}
 use Rattle.coniks_chain.specs.declared.seen.Seen.{Seen}
 use Rattle.coniks_chain.specs.declared.seen.Seen.TheVariants.{Same, Changed, Absent}
@@ -66,14 +65,8 @@ monitor_data not_json = fault_data (codes "Json")
 monitor_data (no_member m) = bad_member_data (member_name m)
 monitor_data (at_fault fault) = fault_data (monitor_fault_name fault)
 
--- the text of a reply: JSON (RFC 8259) with no white space
-abbrev pub monitor_text : MonitorOutcome → List ℕ
-monitor_text outcome = compact_text (monitor_data outcome)
-
 -- the line was accepted, and nothing else than the expected answer was seen
 abbrev pub is_as_expected : MonitorOutcome → Bool
 is_as_expected (watched epoch seen) = is_same seen
 is_as_expected expecting = true
-is_as_expected not_json = false
-is_as_expected (no_member m) = false
-is_as_expected (at_fault fault) = false
+is_as_expected _ = false

@@ -4,10 +4,11 @@ use Rattle.serde_json.specs.Data.{Data, Members, string, number, unsigned, put}
 use Rattle.base64.specs.GeneralPurpose.{encode_of}
 use Rattle.base64.specs.Engines.{standard}
 use Rattle.coniks_chain.specs.Entries.{entry_bytes}
-use Rattle.coniks_tool.specs.ProofTexts.{digits}
+use Rattle.coniks_tool.specs.Paths.{path_of}
+use Rattle.coniks_tool.specs.ProofTexts.{digits, proof_data}
 use Rattle.coniks_tool.specs.declared.lines.objects.Field.{Field}
 use Rattle.coniks_tool.specs.declared.lines.objects.Shown.{Shown}
-use Rattle.coniks_tool.specs.declared.lines.objects.Shown.TheVariants.{Digits, Entry, Base64, Text, Number}
+use Rattle.coniks_tool.specs.declared.lines.objects.Shown.TheVariants.{Digits, Entry, Base64, Text, Number, Proof}
 
 -- what stands for a value
 abbrev pub data_of : Shown → Data
@@ -16,6 +17,7 @@ data_of (Entry entry) = digits (entry_bytes entry.now)
 data_of (Base64 bytes) = string (encode_of standard bytes.now)
 data_of (Text text) = string text.now
 data_of (Number n) = number (unsigned n)
+data_of (Proof proof) = proof_data (path_of proof.now)
 
 -- members with these put among them, one after another
 abbrev pub with_all : List Field → Members → Members

@@ -2,7 +2,6 @@
 use Rattle.std.specs.Prelude.{ℕ, List, codes, Bool, true, false}
 use Rattle.std.specs.String.{string_bytes}
 use Rattle.serde_json.specs.Data.{Data, string, number, unsigned, object, member, no_members}
-use Rattle.serde_json.specs.Written.{compact_text}
 use Rattle.coniks_proof.specs.Batches.{Fault, name_length, key_length, name_twice, name_taken, name_unknown, index_clash}
 use Rattle.coniks_chain.specs.declared.entry.Entry.{Entry}
 use Rattle.coniks_directory.specs.Batches.{fault_is}
@@ -164,10 +163,6 @@ reply_data (epoch_not_later latest) = epoch_not_later_data latest
 reply_data board_full = fault_data (codes "BoardFull")
 reply_data unknown_epoch = fault_data (codes "UnknownEpoch")
 reply_data bad_name_length = fault_data (codes "NameLength")
-
--- the text of a reply: JSON (RFC 8259) with no white space
-abbrev pub reply_text : Outcome → List ℕ
-reply_text outcome = compact_text (reply_data outcome)
 
 -- the line was accepted
 abbrev pub is_accepted : Outcome → Bool

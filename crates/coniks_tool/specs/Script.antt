@@ -1,5 +1,6 @@
 -- What `run` answers to a line.
 use Rattle.std.specs.Prelude.{◌≡◌, ◌==◌, ℕ, List, [], ◌∷◌, ◌++◌, codes, find, map, zip, Option, Some, None, Result, Ok, Err, if◌then◌else◌}
+use Rattle.std.specs.Option.{option_map_or}
 use Rattle.std.specs.Str.{bytes_eq}
 use Rattle.serde_json.specs.Data.{Data, Items}
 use Rattle.coniks_lines.specs.Known.{Source, Sink}
@@ -20,7 +21,8 @@ use Rattle.coniks_tool.specs.Members.{object_in, text_in, number_in, array_in, d
 use Rattle.coniks_tool.specs.Operations.{operations_in}
 use Rattle.coniks_tool.specs.Paths.{path_to}
 use Rattle.coniks_tool.specs.Refusals.{Refusal, refusal, too_long, at, not_later, full}
-use Rattle.coniks_tool.specs.Replies.{Outcome, opened, installed, looked_up, unknown_epoch, bad_name_length, not_json, no_command, bad_member, bad_operation, not_open, already_open, batch_too_long, bad_batch, epoch_not_later, board_full, reply_text, is_accepted}
+use Rattle.coniks_tool.specs.Replies.{Outcome, opened, installed, looked_up, unknown_epoch, bad_name_length, not_json, no_command, bad_member, bad_operation, not_open, already_open, batch_too_long, bad_batch, epoch_not_later, board_full, reply_data, is_accepted}
+use Rattle.coniks_tool.specs.Turns.{Turn, refused, answer_by}
 use Rattle.coniks_tool.specs.declared.lines.printing.Member.TheVariants.{Key, Nonce, Policy, Epoch, Ops, Name}
 
 -- a directory that was opened: its key, nonce and policy, and its history
@@ -35,21 +37,16 @@ abbrev pub State : Type 0
 State = Option Opened
 
 -- what comes of a line, and the state after it
-pub record Turn : Type 0 where
-  pub outcome : Outcome
-  pub state : State
-
--- the line is refused with this, and the state stays
-abbrev pub refused : State → Outcome → Turn
-refused s outcome = record { outcome = outcome; state = s }
+abbrev pub ScriptTurn : Type 0
+ScriptTurn = Turn Outcome State
 
 -- a directory is opened once
-abbrev pub open_with : State → List ℕ → List ℕ → List ℕ → Turn
+abbrev pub open_with : State → List ℕ → List ℕ → List ℕ → ScriptTurn
 open_with None key nonce policy = record { outcome = opened; state = Some (record { key = key; nonce = nonce; policy = policy; history = [] }) }
 open_with (Some o) key nonce policy = refused (Some o) already_open
 
 -- `open`, by its members in the order of reading
-abbrev pub open_turn : State → Option (List ℕ) → Option (List ℕ) → Option (List ℕ) → Turn
+abbrev pub open_turn : State → Option (List ℕ) → Option (List ℕ) → Option (List ℕ) → ScriptTurn
 open_turn s None _ _ = refused s (bad_member Key)
 open_turn s (Some key) None _ = refused s (bad_member Nonce)
 open_turn s (Some key) (Some nonce) None = refused s (bad_member Policy)
@@ -77,7 +74,7 @@ pub record Installs (old : Opened) (batch : Batch) (entry : Entry) (new : Opened
   pub state_is : new ≡ record old { history = old.history ++ shown_next old batch ∷ [] }
 
 -- a batch on an opened directory: it is refused, or installed as an epoch of its own
-abbrev pub batch_on : Opened → Batch → Option Refusal → Turn
+abbrev pub batch_on : Opened → Batch → Option Refusal → ScriptTurn
 batch_on o batch (Some why) = refused (Some o) (refusal_outcome why)
 batch_on o batch None =
     let shown = shown_next o batch in
@@ -88,17 +85,17 @@ batch_on o batch None =
     }
 
 -- a batch that was read
-abbrev pub batch_with : State → Batch → Turn
+abbrev pub batch_with : State → Batch → ScriptTurn
 batch_with None batch = refused None not_open
 batch_with (Some o) batch = batch_on o batch (refusal (demo_index o.key) o.history batch.t batch.ops)
 
 -- the operations were read, or one was not
-abbrev pub batch_read : State → ℕ → Option (List ℕ) → Result (List Operation) ℕ → Turn
+abbrev pub batch_read : State → ℕ → Option (List ℕ) → Result (List Operation) ℕ → ScriptTurn
 batch_read s epoch brought (Err place) = refused s (bad_operation place)
 batch_read s epoch brought (Ok ops) = batch_with s (record { t = epoch; brought = brought; ops = ops })
 
 -- `batch`, by its members in the order of reading; the nonce may be missing
-abbrev pub batch_turn : State → Option ℕ → Option (Option (List ℕ)) → Option Items → Turn
+abbrev pub batch_turn : State → Option ℕ → Option (Option (List ℕ)) → Option Items → ScriptTurn
 batch_turn s None brought items = refused s (bad_member Epoch)
 batch_turn s (Some epoch) None items = refused s (bad_member Nonce)
 batch_turn s (Some epoch) (Some brought) None = refused s (bad_member Ops)
@@ -135,11 +132,11 @@ lookup_outcome s (Some epoch) None = bad_member Name
 lookup_outcome s (Some epoch) (Some name) = lookup_with s epoch name
 
 -- a lookup leaves the state as it is
-abbrev pub lookup_turn : State → Option ℕ → Option (List ℕ) → Turn
+abbrev pub lookup_turn : State → Option ℕ → Option (List ℕ) → ScriptTurn
 lookup_turn s epoch name = record { outcome = lookup_outcome s epoch name; state = s }
 
 -- an object, by its command
-abbrev pub command_turn : State → Data → Option (List ℕ) → Turn
+abbrev pub command_turn : State → Data → Option (List ℕ) → ScriptTurn
 command_turn s d None = refused s no_command
 command_turn s d (Some name) =
     if bytes_eq name (codes "open") then open_turn s (digits_in 32 (codes "key") d) (digits_in 32 (codes "nonce") d) (digits_in 32 (codes "policy") d)
@@ -147,18 +144,13 @@ command_turn s d (Some name) =
     else (if bytes_eq name (codes "lookup") then lookup_turn s (number_in (codes "epoch") d) (text_in (codes "name") d)
     else refused s no_command))
 
--- a line, where it is an object
-abbrev pub object_turn : State → Option Data → Turn
-object_turn s None = refused s not_json
-object_turn s (Some d) = command_turn s d (text_in (codes "cmd") d)
-
 -- what comes of a line
-abbrev pub turn : State → List ℕ → Turn
-turn s line = object_turn s (object_in line)
+abbrev pub turn : State → List ℕ → ScriptTurn
+turn s line = option_map_or (λ d. command_turn s d (text_in (codes "cmd") d)) (object_in line) (refused s not_json)
 
 -- what a line is answered by
 abbrev pub script_answer : State → List ℕ → Answer State
-script_answer s line = let t = turn s line in record { text = reply_text t.outcome; accepted = is_accepted t.outcome; state = t.state }
+script_answer s line = answer_by reply_data is_accepted (turn s line)
 
 -- what stands after a fault of `run`: that of its lines; where no board could be had, nothing was read or written
 abbrev pub ScriptFails : Source → Source → Sink → Sink → RunFault → Type 0

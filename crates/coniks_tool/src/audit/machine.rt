@@ -8,7 +8,7 @@ ghost use Rattle.coniks_tool.specs.Audit.{AuditState, audit_answer, audit_turn, 
 ghost use Rattle.coniks_tool.specs.AuditChain.{HoldsGoodChain};
 ghost use Rattle.coniks_tool.specs.AuditReplies.{audit_outcome};
 
-use crate::audit::reply::{AuditReply, print_audit};
+use crate::audit::reply::AuditReply;
 use crate::demo::seal::DemoSeal;
 use crate::lines::entries::read_entry;
 use crate::lines::members::read_object;
@@ -78,7 +78,7 @@ impl LineMachine for Auditing {
 
     fn step(&mut self, line: &[u8], out: &mut Vec<u8>) -> Result<bool, AllocError> {
         let reply = self.reply(line)?;
-        print_audit(self.alloc, &reply, out)?;
+        reply.object(self.alloc)?.print(self.alloc, out)?;
         Ok(reply.is_accepted())
     }
 }

@@ -1,14 +1,14 @@
 //! What `audit` answers to a line, and its text.
 
-ghost use Rattle.std.specs.Prelude.{◌≡◌, ◌++◌, IfOk, OnOk, OnErr};
+ghost use Rattle.std.specs.Prelude.{◌≡◌, IfOk};
 ghost use Rattle.serde_json.specs.View.{view};
-ghost use Rattle.coniks_tool.specs.AuditReplies.{audit_data, audit_fault_name, audit_outcome, audit_text, audited_data};
+ghost use Rattle.coniks_tool.specs.AuditReplies.{audit_data, audit_fault_name, audit_outcome, audited_data};
 
 use crate::lines::objects::{Field, Shown, object};
-use crate::lines::printing::{bad_member, fault, print_value};
+use crate::lines::printable::Printable;
+use crate::lines::printing::{bad_member, fault};
 use coniks_chain::AuditFault;
 use coniks_proof::Digest;
-use serde_json::Value;
 use std::alloc::{AllocError, Global};
 
 /// What `audit` answers to a line.
@@ -36,25 +36,17 @@ impl AuditReply {
             AuditReply::NotJson | AuditReply::NoEntry | AuditReply::AtFault(_) => false,
         }
     }
-}
 
-/// Adds the text of a reply, with no newline, as for the replies of `run`.
-pub fn print_audit(alloc: Global, reply: &AuditReply, out: &mut Vec<u8>) -> Result<(), AllocError>
-    ensures ok { OnOk result (out.new.items ≡ out.old.items ++ audit_text (audit_outcome reply.now)) }
-    ensures err { OnErr result (out.new.items ≡ out.old.items) }
-{
-    let value = value_of(alloc, reply)?;
-    print_value(alloc, &value, out)
-}
-
-fn value_of(alloc: Global, reply: &AuditReply) -> Result<Value, AllocError>
-    ensures { IfOk result (λ value. view value ≡ audit_data (audit_outcome reply.now)) }
-{
-    match reply {
-        AuditReply::Audited { epoch, link } => audited(alloc, *epoch, link),
-        AuditReply::NotJson => fault(alloc, "Json"),
-        AuditReply::NoEntry => bad_member(alloc, "entry"),
-        AuditReply::AtFault(found) => fault(alloc, audit_fault_text(*found)),
+    /// The object that is printed.
+    pub fn object(&self, alloc: Global) -> Result<Printable, AllocError>
+        ensures { IfOk result (λ object. view object.value ≡ audit_data (audit_outcome self.now)) }
+    {
+        match self {
+            AuditReply::Audited { epoch, link } => audited(alloc, *epoch, link),
+            AuditReply::NotJson => fault(alloc, "Json"),
+            AuditReply::NoEntry => bad_member(alloc, "entry"),
+            AuditReply::AtFault(found) => fault(alloc, audit_fault_text(*found)),
+        }
     }
 }
 
@@ -74,8 +66,8 @@ pub fn audit_fault_text(fault: AuditFault) -> &'static str
     }
 }
 
-fn audited(alloc: Global, epoch: u64, link: &Digest) -> Result<Value, AllocError>
-    ensures { IfOk result (λ value. view value ≡ audited_data epoch link.now.0) }
+fn audited(alloc: Global, epoch: u64, link: &Digest) -> Result<Printable, AllocError>
+    ensures { IfOk result (λ object. view object.value ≡ audited_data epoch link.now.0) }
 {
     object(
         alloc,

@@ -2,13 +2,14 @@
 
 ghost use Rattle.std.specs.Prelude.{◌≡◌, ◌<◌, ◌+◌, ◌^◌, ◌++◌, ℕ, List, Ok, IfOk, IfErr, OnOk, OnErr, Some};
 ghost use Rattle.serde_json.specs.View.{view};
+ghost use Rattle.serde_json.specs.Written.{compact_text};
 ghost use Rattle.coniks_lines.specs.Machine.{output};
 ghost use Rattle.coniks_lines.specs.Runs.{AnswersAll, EndsBadly, EndsWell, WritesPart};
 ghost use Rattle.coniks_tool.specs.Check.{Stateless, asked_by, asked_in, check_answer, question_outcome, stateless};
-ghost use Rattle.coniks_tool.specs.CheckReplies.{check_outcome, check_text, is_answered};
+ghost use Rattle.coniks_tool.specs.CheckReplies.{check_data, check_outcome, is_answered};
 
 use crate::check::question::{Question, read_question};
-use crate::check::reply::{CheckReply, print_check};
+use crate::check::reply::CheckReply;
 use crate::lines::members::read_object;
 use coniks_lines::{ByteIn, ByteOut, LineMachine, RunFault, run_lines};
 use coniks_proof::{Sha256Hash, check};
@@ -40,10 +41,10 @@ fn judge<'q>(question: &'q Question<'_>) -> CheckReply<'q>
 
 /// Adds a reply's text, and tells whether the line was accepted.
 fn reply(alloc: Global, reply: &CheckReply<'_>, out: &mut Vec<u8>) -> Result<bool, AllocError>
-    ensures text { OnOk result (out.new.items ≡ out.old.items ++ check_text (check_outcome reply.now)) }
+    ensures text { OnOk result (out.new.items ≡ out.old.items ++ compact_text (check_data (check_outcome reply.now))) }
     ensures accepted { IfOk result (λ accepted. accepted ≡ is_answered (check_outcome reply.now)) }
 {
-    print_check(alloc, reply, out)?;
+    reply.object(alloc)?.print(alloc, out)?;
     Ok(reply.is_accepted())
 }
 
@@ -68,7 +69,7 @@ impl LineMachine for Checking {
 
 /// Answers a line that is an object.
 fn answer(alloc: Global, object: &Value, out: &mut Vec<u8>) -> Result<bool, AllocError>
-    ensures text { OnOk result (out.new.items ≡ out.old.items ++ check_text (question_outcome (asked_in (view object.now)))) }
+    ensures text { OnOk result (out.new.items ≡ out.old.items ++ compact_text (check_data (question_outcome (asked_in (view object.now))))) }
     ensures accepted { IfOk result (λ accepted. accepted ≡ is_answered (question_outcome (asked_in (view object.now)))) }
 {
     match read_question(alloc, object)? {

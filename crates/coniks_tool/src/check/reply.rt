@@ -1,14 +1,14 @@
 //! What `check` answers to a line, and its text.
 
-ghost use Rattle.std.specs.Prelude.{◌≡◌, ◌++◌, IfOk, OnOk, OnErr};
+ghost use Rattle.std.specs.Prelude.{◌≡◌, IfOk};
 ghost use Rattle.serde_json.specs.View.{view};
 ghost use Rattle.coniks_proof.specs.Proofs.{said};
-ghost use Rattle.coniks_tool.specs.CheckReplies.{answer_data, key_data, check_data, check_fault_name, check_outcome, check_text};
+ghost use Rattle.coniks_tool.specs.CheckReplies.{answer_data, key_data, check_data, check_fault_name, check_outcome};
 
 use crate::lines::objects::{Field, Shown, object};
-use crate::lines::printing::{Member, bad_member, fault, member_text, print_value};
+use crate::lines::printable::Printable;
+use crate::lines::printing::{Member, bad_member, fault, member_text};
 use coniks_proof::{Answer, CheckFault};
-use serde_json::Value;
 use std::alloc::{AllocError, Global};
 
 /// What `check` answers to a line.
@@ -36,34 +36,22 @@ impl CheckReply<'_> {
             CheckReply::NotJson | CheckReply::NoMember(_) | CheckReply::AtFault(_) => false,
         }
     }
-}
 
-/// Adds the text of a reply, with no newline, as for the replies of `run`.
-pub fn print_check(
-    alloc: Global,
-    reply: &CheckReply<'_>,
-    out: &mut Vec<u8>,
-) -> Result<(), AllocError>
-    ensures ok { OnOk result (out.new.items ≡ out.old.items ++ check_text (check_outcome reply.now)) }
-    ensures err { OnErr result (out.new.items ≡ out.old.items) }
-{
-    let value = value_of(alloc, reply)?;
-    print_value(alloc, &value, out)
-}
-
-fn value_of(alloc: Global, reply: &CheckReply<'_>) -> Result<Value, AllocError>
-    ensures { IfOk result (λ value. view value ≡ check_data (check_outcome reply.now)) }
-{
-    match reply {
-        CheckReply::Answered(answer) => answer_value(alloc, answer),
-        CheckReply::NotJson => fault(alloc, "Json"),
-        CheckReply::NoMember(member) => bad_member(alloc, member_text(*member)),
-        CheckReply::AtFault(found) => fault(alloc, check_fault_text(*found)),
+    /// The object that is printed.
+    pub fn object(&self, alloc: Global) -> Result<Printable, AllocError>
+        ensures { IfOk result (λ object. view object.value ≡ check_data (check_outcome self.now)) }
+    {
+        match self {
+            CheckReply::Answered(answer) => answer_value(alloc, answer),
+            CheckReply::NotJson => fault(alloc, "Json"),
+            CheckReply::NoMember(member) => bad_member(alloc, member_text(*member)),
+            CheckReply::AtFault(found) => fault(alloc, check_fault_text(*found)),
+        }
     }
 }
 
-fn answer_value(alloc: Global, answer: &Answer<'_>) -> Result<Value, AllocError>
-    ensures { IfOk result (λ value. view value ≡ answer_data (said answer.now)) }
+fn answer_value(alloc: Global, answer: &Answer<'_>) -> Result<Printable, AllocError>
+    ensures { IfOk result (λ object. view object.value ≡ answer_data (said answer.now)) }
 {
     match answer {
         Answer::Key(key) => key_value(alloc, *key),
@@ -77,8 +65,8 @@ fn answer_value(alloc: Global, answer: &Answer<'_>) -> Result<Value, AllocError>
     }
 }
 
-fn key_value(alloc: Global, key: &[u8]) -> Result<Value, AllocError>
-    ensures { IfOk result (λ value. view value ≡ key_data key.now) }
+fn key_value(alloc: Global, key: &[u8]) -> Result<Printable, AllocError>
+    ensures { IfOk result (λ object. view object.value ≡ key_data key.now) }
 {
     object(
         alloc,

@@ -5,8 +5,11 @@ ghost use Rattle.serde_json.specs.Data.{no_members, object as object_of};
 ghost use Rattle.serde_json.specs.View.{members_view, view};
 ghost use Rattle.coniks_tool.specs.Objects.{data_of, with_all};
 
+use crate::lines::printable::Printable;
+use crate::lines::proof_text::proof_value;
 use base64::engine::general_purpose::STANDARD;
 use coniks_chain::Entry;
+use coniks_proof::Proof;
 use serde_json::{Map, Value, put};
 use std::alloc::{AllocError, Global};
 
@@ -23,6 +26,8 @@ pub(crate) enum Shown<'a> {
     Text(&'a str),
     /// A number.
     Number(u64),
+    /// A proof.
+    Proof(&'a Proof),
 }
 
 /// A member: its name and its value.
@@ -39,11 +44,12 @@ pub(crate) fn value_of(alloc: Global, shown: Shown<'_>) -> Result<Value, AllocEr
         Shown::Base64(bytes) => Ok(Value::String(STANDARD.encode(alloc, bytes)?)),
         Shown::Text(text) => Ok(Value::String(String::from_str(alloc, text)?)),
         Shown::Number(number) => Ok(Value::from(number)),
+        Shown::Proof(proof) => proof_value(alloc, proof),
     }
 }
 
 /// The members, in the order of their names' bytes.
-pub(crate) fn members(alloc: Global, fields: &[Field<'_>]) -> Result<Map<String, Value>, AllocError>
+fn members(alloc: Global, fields: &[Field<'_>]) -> Result<Map<String, Value>, AllocError>
     ensures { IfOk result (λ map. members_view map.entries ≡ with_all fields.now no_members) }
 {
     let mut map = Map::new(alloc);
@@ -55,8 +61,10 @@ pub(crate) fn members(alloc: Global, fields: &[Field<'_>]) -> Result<Map<String,
 }
 
 /// The object of these members.
-pub(crate) fn object(alloc: Global, fields: &[Field<'_>]) -> Result<Value, AllocError>
-    ensures { IfOk result (λ value. view value ≡ object_of (with_all fields.now no_members)) }
+pub(crate) fn object(alloc: Global, fields: &[Field<'_>]) -> Result<Printable, AllocError>
+    ensures { IfOk result (λ object. view object.value ≡ object_of (with_all fields.now no_members)) }
 {
-    Ok(Value::Object(members(alloc, fields)?))
+    Ok(Printable {
+        value: Value::Object(members(alloc, fields)?),
+    })
 }

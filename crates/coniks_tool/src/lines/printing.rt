@@ -1,14 +1,13 @@
 //! Members of lines, and what all engines print.
 
-ghost use Rattle.std.specs.Prelude.{◌≡◌, ◌++◌, IfOk, OnOk, OnErr, codes, false};
+ghost use Rattle.std.specs.Prelude.{◌≡◌, IfOk, codes};
 ghost use Rattle.serde_json.specs.Data.{member, no_members, put, string, object as object_of};
 ghost use Rattle.serde_json.specs.View.{view};
-ghost use Rattle.serde_json.specs.Written.{compact_text, has_float};
 ghost use Rattle.coniks_tool.specs.Objects.{data_of};
 ghost use Rattle.coniks_tool.specs.Replies.{bad_member_data, fault_data, member_name};
 
 use crate::lines::objects::{Field, Shown, object};
-use serde_json::Value;
+use crate::lines::printable::Printable;
 use std::alloc::{AllocError, Global};
 
 /// A member of a line.
@@ -44,32 +43,27 @@ pub(crate) fn member_text(member: Member) -> &'static str
     }
 }
 
-/// Adds the text of a value.
-pub(crate) fn print_value(alloc: Global, value: &Value, out: &mut Vec<u8>) -> Result<(), AllocError>
-    ensures ok { has_float (view value.now) ≡ false → OnOk result (out.new.items ≡ out.old.items ++ compact_text (view value.now)) }
-    ensures err { OnErr result (out.new.items ≡ out.old.items) }
-{
-    let text = value.to_vec(alloc)?;
-    out.extend_from_slice(&text)
-}
-
 /// A refusal by its fault alone.
-pub(crate) fn fault(alloc: Global, name: &str) -> Result<Value, AllocError>
-    ensures { IfOk result (λ value. view value ≡ fault_data name.now) }
+pub(crate) fn fault(alloc: Global, name: &str) -> Result<Printable, AllocError>
+    ensures { IfOk result (λ object. view object.value ≡ fault_data name.now) }
 {
     object(alloc, &[Field("fault", Shown::Text(name))])
 }
 
 /// The refusal of a line for one of its members.
-pub(crate) fn bad_member(alloc: Global, name: &str) -> Result<Value, AllocError>
-    ensures { IfOk result (λ value. view value ≡ bad_member_data name.now) }
+pub(crate) fn bad_member(alloc: Global, name: &str) -> Result<Printable, AllocError>
+    ensures { IfOk result (λ object. view object.value ≡ bad_member_data name.now) }
 {
     fault_with(alloc, "Member", Field("member", Shown::Text(name)))
 }
 
 /// A refusal by its fault and one more member.
-pub(crate) fn fault_with(alloc: Global, name: &str, more: Field<'_>) -> Result<Value, AllocError>
-    ensures { IfOk result (λ value. view value ≡ object_of (put more.entry.0.now (data_of more.entry.1) (member (codes "fault") (string name.now) no_members))) }
+pub(crate) fn fault_with(
+    alloc: Global,
+    name: &str,
+    more: Field<'_>,
+) -> Result<Printable, AllocError>
+    ensures { IfOk result (λ object. view object.value ≡ object_of (put more.entry.0.now (data_of more.entry.1) (member (codes "fault") (string name.now) no_members))) }
 {
     object(alloc, &[Field("fault", Shown::Text(name)), more])
 }

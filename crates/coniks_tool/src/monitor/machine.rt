@@ -18,7 +18,7 @@ use crate::lines::members::{read_object, text};
 use crate::lines::printing::Member;
 use crate::lines::proof_object::read_proof;
 use crate::monitor::expectation::read_expectation;
-use crate::monitor::reply::{MonitorReply, print_monitor};
+use crate::monitor::reply::MonitorReply;
 use coniks_chain::{Entry, Monitor};
 use coniks_directory::IndexSource;
 use coniks_lines::{ByteIn, ByteOut, LineMachine, RunFault, run_lines};
@@ -132,7 +132,7 @@ impl LineMachine for Monitoring {
 
     fn step(&mut self, line: &[u8], out: &mut Vec<u8>) -> Result<bool, AllocError> {
         let reply = self.reply(line)?;
-        print_monitor(self.alloc, &reply, out)?;
+        reply.object(self.alloc)?.print(self.alloc, out)?;
         Ok(reply.is_as_expected())
     }
 }

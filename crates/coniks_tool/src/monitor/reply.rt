@@ -1,15 +1,15 @@
 //! What `monitor` answers to a line, and its text.
 
-ghost use Rattle.std.specs.Prelude.{◌≡◌, ◌++◌, IfOk, OnOk, OnErr};
+ghost use Rattle.std.specs.Prelude.{◌≡◌, IfOk};
 ghost use Rattle.serde_json.specs.View.{view};
-ghost use Rattle.coniks_tool.specs.MonitorReplies.{expecting_data, monitor_data, monitor_fault_name, monitor_outcome, monitor_text, seen_name, watched_data};
+ghost use Rattle.coniks_tool.specs.MonitorReplies.{expecting_data, monitor_data, monitor_fault_name, monitor_outcome, seen_name, watched_data};
 
 use crate::audit::reply::audit_fault_text;
 use crate::check::reply::check_fault_text;
 use crate::lines::objects::{Field, Shown, object};
-use crate::lines::printing::{Member, bad_member, fault, member_text, print_value};
+use crate::lines::printable::Printable;
+use crate::lines::printing::{Member, bad_member, fault, member_text};
 use coniks_chain::{MonitorFault, Seen};
-use serde_json::Value;
 use std::alloc::{AllocError, Global};
 
 /// What `monitor` answers to a line.
@@ -40,35 +40,23 @@ impl MonitorReply {
             MonitorReply::NotJson | MonitorReply::NoMember(_) | MonitorReply::AtFault(_) => false,
         }
     }
-}
 
-/// Adds the text of a reply, with no newline, as for the replies of `run`.
-pub fn print_monitor(
-    alloc: Global,
-    reply: &MonitorReply,
-    out: &mut Vec<u8>,
-) -> Result<(), AllocError>
-    ensures ok { OnOk result (out.new.items ≡ out.old.items ++ monitor_text (monitor_outcome reply.now)) }
-    ensures err { OnErr result (out.new.items ≡ out.old.items) }
-{
-    let value = value_of(alloc, reply)?;
-    print_value(alloc, &value, out)
-}
-
-fn value_of(alloc: Global, reply: &MonitorReply) -> Result<Value, AllocError>
-    ensures { IfOk result (λ value. view value ≡ monitor_data (monitor_outcome reply.now)) }
-{
-    match reply {
-        MonitorReply::Watched { epoch, seen } => watched(alloc, *epoch, seen_text(*seen)),
-        MonitorReply::Expecting => expecting(alloc),
-        MonitorReply::NotJson => fault(alloc, "Json"),
-        MonitorReply::NoMember(member) => bad_member(alloc, member_text(*member)),
-        MonitorReply::AtFault(found) => fault(alloc, monitor_fault_text(*found)),
+    /// The object that is printed.
+    pub fn object(&self, alloc: Global) -> Result<Printable, AllocError>
+        ensures { IfOk result (λ object. view object.value ≡ monitor_data (monitor_outcome self.now)) }
+    {
+        match self {
+            MonitorReply::Watched { epoch, seen } => watched(alloc, *epoch, seen_text(*seen)),
+            MonitorReply::Expecting => expecting(alloc),
+            MonitorReply::NotJson => fault(alloc, "Json"),
+            MonitorReply::NoMember(member) => bad_member(alloc, member_text(*member)),
+            MonitorReply::AtFault(found) => fault(alloc, monitor_fault_text(*found)),
+        }
     }
 }
 
-fn watched(alloc: Global, epoch: u64, seen: &str) -> Result<Value, AllocError>
-    ensures { IfOk result (λ value. view value ≡ watched_data epoch seen.now) }
+fn watched(alloc: Global, epoch: u64, seen: &str) -> Result<Printable, AllocError>
+    ensures { IfOk result (λ object. view object.value ≡ watched_data epoch seen.now) }
 {
     object(
         alloc,
@@ -80,8 +68,8 @@ fn watched(alloc: Global, epoch: u64, seen: &str) -> Result<Value, AllocError>
     )
 }
 
-fn expecting(alloc: Global) -> Result<Value, AllocError>
-    ensures { IfOk result (λ value. view value ≡ expecting_data) }
+fn expecting(alloc: Global) -> Result<Printable, AllocError>
+    ensures { IfOk result (λ object. view object.value ≡ expecting_data) }
 {
     object(alloc, &[Field("ok", Shown::Text("expect"))])
 }

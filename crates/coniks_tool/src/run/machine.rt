@@ -15,7 +15,7 @@ use crate::lines::printing::Member;
 use crate::run::batch::Batch;
 use crate::run::crew::Crew;
 use crate::run::operations::read_ops;
-use crate::run::reply::{Reply, print};
+use crate::run::reply::Reply;
 use crate::run::store::Store;
 use coniks_lines::{ByteIn, ByteOut, LineMachine, RunFault, run_lines};
 use serde_json::Value;
@@ -133,7 +133,7 @@ impl<'r, T: Threads + Sync> LineMachine for Script<'r, T> {
 
     fn step(&mut self, line: &[u8], out: &mut Vec<u8>) -> Result<bool, AllocError> {
         let reply = self.reply(line)?;
-        print(self.alloc, &reply, out)?;
+        reply.object(self.alloc)?.print(self.alloc, out)?;
         Ok(reply.is_accepted())
     }
 }

@@ -1,19 +1,17 @@
 //! What a line is answered by, and its text.
 
-ghost use Rattle.std.specs.Prelude.{◌≡◌, ◌++◌, IfOk, OnOk, OnErr, false};
+ghost use Rattle.std.specs.Prelude.{◌≡◌, IfOk};
 ghost use Rattle.serde_json.specs.View.{view};
-ghost use Rattle.serde_json.specs.Written.{compact_text, has_float};
 ghost use Rattle.coniks_directory.specs.Batches.{fault_is};
 ghost use Rattle.coniks_tool.specs.Paths.{path_of};
-ghost use Rattle.coniks_tool.specs.Replies.{outcome_of, reply_data, reply_text, member_name, fault_name, fault_data, placed_fault_data, looked_up_data, bad_member_data, bad_operation_data, epoch_not_later_data, opened_data, installed_data};
+ghost use Rattle.coniks_tool.specs.Replies.{outcome_of, reply_data, member_name, fault_name, fault_data, placed_fault_data, looked_up_data, bad_member_data, bad_operation_data, epoch_not_later_data, opened_data, installed_data};
 
-use crate::lines::objects::{Field, Shown, members, object};
-use crate::lines::printing::{Member, bad_member, fault, fault_with, member_text, print_value};
-use crate::lines::proof_text::proof_value;
+use crate::lines::objects::{Field, Shown, object};
+use crate::lines::printable::Printable;
+use crate::lines::printing::{Member, bad_member, fault, fault_with, member_text};
 use coniks_chain::Entry;
 use coniks_directory::{OpFault, SignedProof};
 use coniks_proof::Digest;
-use serde_json::{Value, put};
 use std::alloc::{AllocError, Global};
 
 /// What a line is answered by.
@@ -74,37 +72,32 @@ impl Reply {
             | Reply::NameLength => false,
         }
     }
-}
 
-/// Adds the text of a reply, with no newline: an object with its members in the order of their
-/// names' bytes, no white space, and lower case hexadecimal digits.
-pub fn print(alloc: Global, reply: &Reply, out: &mut Vec<u8>) -> Result<(), AllocError>
-    ensures ok { OnOk result (out.new.items ≡ out.old.items ++ reply_text (outcome_of reply.now)) }
-    ensures err { OnErr result (out.new.items ≡ out.old.items) }
-{
-    let value = value_of(alloc, reply)?;
-    print_value(alloc, &value, out)
-}
-
-fn value_of(alloc: Global, reply: &Reply) -> Result<Value, AllocError>
-    ensures { IfOk result (λ value. view value ≡ reply_data (outcome_of reply.now)) }
-{
-    match reply {
-        Reply::Opened => opened(alloc),
-        Reply::Installed { entry, link } => installed(alloc, entry, link),
-        Reply::LookedUp { name, found } => looked_up(alloc, name.as_str(), found),
-        Reply::NotJson => fault(alloc, "Json"),
-        Reply::NoCommand => fault(alloc, "Command"),
-        Reply::BadMember(member) => bad_member(alloc, member_text(*member)),
-        Reply::BadOperation(place) => bad_operation(alloc, *place),
-        Reply::NotOpen => fault(alloc, "NotOpen"),
-        Reply::AlreadyOpen => fault(alloc, "AlreadyOpen"),
-        Reply::BatchTooLong => fault(alloc, "BatchTooLong"),
-        Reply::BadBatch { position, fault } => placed_fault(alloc, fault_text(*fault), *position),
-        Reply::EpochNotLater { latest } => epoch_not_later(alloc, *latest),
-        Reply::BoardFull => fault(alloc, "BoardFull"),
-        Reply::UnknownEpoch => fault(alloc, "UnknownEpoch"),
-        Reply::NameLength => fault(alloc, "NameLength"),
+    /// The object that is printed.
+    pub fn object(&self, alloc: Global) -> Result<Printable, AllocError>
+        ensures { IfOk result (λ object. view object.value ≡ reply_data (outcome_of self.now)) }
+    {
+        match self {
+            Reply::Opened => opened(alloc),
+            Reply::Installed { entry, link } => installed(alloc, entry, link),
+            Reply::LookedUp { name, found } => looked_up(alloc, name.as_str(), found),
+            Reply::NotJson => fault(alloc, "Json"),
+            Reply::NoCommand => fault(alloc, "Command"),
+            Reply::BadMember(member) => bad_member(alloc, member_text(*member)),
+            Reply::BadOperation(place) => bad_operation(alloc, *place),
+            Reply::NotOpen => fault(alloc, "NotOpen"),
+            Reply::AlreadyOpen => fault(alloc, "AlreadyOpen"),
+            Reply::BatchTooLong => fault(alloc, "BatchTooLong"),
+            Reply::BadBatch { position, fault } => placed_fault(
+                alloc,
+                fault_text(*fault),
+                *position,
+            ),
+            Reply::EpochNotLater { latest } => epoch_not_later(alloc, *latest),
+            Reply::BoardFull => fault(alloc, "BoardFull"),
+            Reply::UnknownEpoch => fault(alloc, "UnknownEpoch"),
+            Reply::NameLength => fault(alloc, "NameLength"),
+        }
     }
 }
 
@@ -121,14 +114,14 @@ fn fault_text(fault: OpFault) -> &'static str
     }
 }
 
-fn opened(alloc: Global) -> Result<Value, AllocError>
-    ensures { IfOk result (λ value. view value ≡ opened_data) }
+fn opened(alloc: Global) -> Result<Printable, AllocError>
+    ensures { IfOk result (λ object. view object.value ≡ opened_data) }
 {
     object(alloc, &[Field("ok", Shown::Text("open"))])
 }
 
-fn installed<'a>(alloc: Global, entry: &'a Entry, link: &'a Digest) -> Result<Value, AllocError>
-    ensures { IfOk result (λ value. view value ≡ installed_data entry.now link.now.0) }
+fn installed<'a>(alloc: Global, entry: &'a Entry, link: &'a Digest) -> Result<Printable, AllocError>
+    ensures { IfOk result (λ object. view object.value ≡ installed_data entry.now link.now.0) }
 {
     object(
         alloc,
@@ -142,11 +135,15 @@ fn installed<'a>(alloc: Global, entry: &'a Entry, link: &'a Digest) -> Result<Va
     )
 }
 
-fn looked_up<'a>(alloc: Global, name: &'a str, found: &'a SignedProof) -> Result<Value, AllocError>
-    ensures { IfOk result (λ value. view value ≡ looked_up_data found.now.entry found.now.index.0 name.now (path_of found.now.proof)) }
+fn looked_up<'a>(
+    alloc: Global,
+    name: &'a str,
+    found: &'a SignedProof,
+) -> Result<Printable, AllocError>
+    ensures { IfOk result (λ object. view object.value ≡ looked_up_data found.now.entry found.now.index.0 name.now (path_of found.now.proof)) }
 {
     let body = &found.entry.body;
-    let mut map = members(
+    object(
         alloc,
         &[
             Field("entry", Shown::Entry(&found.entry)),
@@ -155,15 +152,14 @@ fn looked_up<'a>(alloc: Global, name: &'a str, found: &'a SignedProof) -> Result
             Field("name", Shown::Text(name)),
             Field("nonce", Shown::Digits(&body.nonce.0)),
             Field("ok", Shown::Text("lookup")),
+            Field("proof", Shown::Proof(&found.proof)),
             Field("root", Shown::Digits(&body.root.0)),
         ],
-    )?;
-    put(&mut map, alloc, "proof", proof_value(alloc, &found.proof)?)?;
-    Ok(Value::Object(map))
+    )
 }
 
-fn placed_fault(alloc: Global, name: &str, position: usize) -> Result<Value, AllocError>
-    ensures { IfOk result (λ value. view value ≡ placed_fault_data name.now position) }
+fn placed_fault(alloc: Global, name: &str, position: usize) -> Result<Printable, AllocError>
+    ensures { IfOk result (λ object. view object.value ≡ placed_fault_data name.now position) }
 {
     fault_with(
         alloc,
@@ -172,8 +168,8 @@ fn placed_fault(alloc: Global, name: &str, position: usize) -> Result<Value, All
     )
 }
 
-fn bad_operation(alloc: Global, position: usize) -> Result<Value, AllocError>
-    ensures { IfOk result (λ value. view value ≡ bad_operation_data position) }
+fn bad_operation(alloc: Global, position: usize) -> Result<Printable, AllocError>
+    ensures { IfOk result (λ object. view object.value ≡ bad_operation_data position) }
 {
     object(
         alloc,
@@ -185,8 +181,8 @@ fn bad_operation(alloc: Global, position: usize) -> Result<Value, AllocError>
     )
 }
 
-fn epoch_not_later(alloc: Global, latest: u64) -> Result<Value, AllocError>
-    ensures { IfOk result (λ value. view value ≡ epoch_not_later_data latest) }
+fn epoch_not_later(alloc: Global, latest: u64) -> Result<Printable, AllocError>
+    ensures { IfOk result (λ object. view object.value ≡ epoch_not_later_data latest) }
 {
     fault_with(
         alloc,

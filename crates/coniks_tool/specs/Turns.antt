@@ -1,0 +1,18 @@
+-- What comes of a line, and how it is answered.
+use Rattle.std.specs.Prelude.{Bool}
+use Rattle.serde_json.specs.Data.{Data}
+use Rattle.serde_json.specs.Written.{compact_text}
+use Rattle.coniks_lines.specs.Machine.{Answer}
+
+-- what comes of a line, and the state after it
+pub record Turn (Outcome State : Type 0) : Type 0 where
+  pub outcome : Outcome
+  pub state : State
+
+-- the line is refused with this, and the state stays
+abbrev pub refused : {Outcome State : Type 0} → State → Outcome → Turn Outcome State
+refused s outcome = record { outcome = outcome; state = s }
+
+-- a line is answered by the object of what comes of it, as JSON (RFC 8259) with no white space
+abbrev pub answer_by : {Outcome State : Type 0} → (Outcome → Data) → (Outcome → Bool) → Turn Outcome State → Answer State
+answer_by object accepted t = record { text = compact_text (object t.outcome); accepted = accepted t.outcome; state = t.state }
