@@ -1,7 +1,7 @@
 //! Runs what the words chose.
 
 ghost use Rattle.std.specs.Prelude.{◌≡◌, ◌<◌, ◌≤◌, ◌+◌, ◌^◌, IfOk, List, None, Some, option_map, ℕ, IfErr};
-ghost use Rattle.coniks_tool.specs.Choice.{audit, check, choice_of, key_in, monitor, run, IsWithin, Lacks};
+ghost use Rattle.coniks_tool.specs.Choice.{audit, choice_of, key_in, monitor, IsWithin, Lacks};
 ghost use Rattle.coniks_tool.specs.Expectations.{expectation_in};
 ghost use Rattle.coniks_tool.specs.Program.{EndsBy, Fails, HasBoard};
 ghost use Rattle.coniks_directory.specs.Batches.{AreWorkers};
@@ -39,48 +39,15 @@ pub(crate) fn run_settings<T: Threads + Sync, R: ByteIn, W: ByteOut>(
 {
     match settings {
         Settings::Run { workers, depth } => {
-            answer_lines(rt, alloc, workers, depth, reader, writer)
+            let all = run_script(rt, alloc, reader, writer, workers, depth)?;
+            Ok(Ending::Done(all))
         }
-        Settings::Check => check_lines(alloc, reader, writer),
+        Settings::Check => Ok(Ending::Done(run_check(alloc, reader, writer)?)),
         Settings::Audit { key } => audit_under(alloc, key, reader, writer),
         Settings::Monitor { key, name, expect } => {
             watch_under(alloc, key, name, expect, reader, writer)
         }
     }
-}
-
-/// Answers the lines by so many workers, over prefixes of so many bits.
-fn answer_lines<T: Threads + Sync, R: ByteIn, W: ByteOut>(
-    rt: &T,
-    alloc: Global,
-    workers: usize,
-    depth: usize,
-    reader: &mut R,
-    writer: &mut W,
-) -> Result<Ending, RunFault>
-    requires workers { AreWorkers workers }
-    requires depth { depth ≤ MAX_DEPTH }
-    requires reads { (R.source reader.old).failed + 1 < 2 ^ 64 }
-    requires writes { (W.sink writer.old).failed + 1 < 2 ^ 64 }
-    ensures ends { IfOk result (EndsBy (Some (run workers depth)) (R.source reader.old) (R.source reader.new) (W.sink writer.old) (W.sink writer.new)) }
-    ensures fails { IfErr result (Fails (Unit {0}) (R.source reader.old) (R.source reader.new) (W.sink writer.old) (W.sink writer.new)) }
-{
-    let all = run_script(rt, alloc, reader, writer, workers, depth)?;
-    Ok(Ending::Done(all))
-}
-
-/// Checks the proofs of the lines.
-fn check_lines<R: ByteIn, W: ByteOut>(
-    alloc: Global,
-    reader: &mut R,
-    writer: &mut W,
-) -> Result<Ending, RunFault>
-    requires reads { (R.source reader.old).failed + 1 < 2 ^ 64 }
-    requires writes { (W.sink writer.old).failed + 1 < 2 ^ 64 }
-    ensures ends { IfOk result (EndsBy (Some check) (R.source reader.old) (R.source reader.new) (W.sink writer.old) (W.sink writer.new)) }
-    ensures fails { IfErr result (Fails ⊥ (R.source reader.old) (R.source reader.new) (W.sink writer.old) (W.sink writer.new)) }
-{
-    Ok(Ending::Done(run_check(alloc, reader, writer)?))
 }
 
 /// Audits under the key of a text.
