@@ -1,6 +1,6 @@
 //! Streams that fail: each status, and what is told.
 
-use crate::tests::program::{Cut, Way, ends_untold, run_of, status_after_cuts, status_cut};
+use crate::tests::program::{Cut, Given, Way, ends_untold, run_of, status_after_cuts, status_cut};
 use crate::tests::scripts::{
     ANSWERED, AUDIT, AUDITED, CHANGED, CHECKED, ENTRIES, LOOKUP, MONITOR, SCRIPT,
 };
@@ -16,14 +16,22 @@ const SCRIPTS: [(&[&str], &str, &str); 4] = [
     (&MONITOR, LOOKUP, CHANGED),
 ];
 
+/// A row of these.
+fn given<'a>(row: &(&'a [&'a str], &'a str, &'a str)) -> Given<'a> {
+    Given {
+        words: row.0,
+        input: row.1.as_bytes(),
+        whole: row.2.as_bytes(),
+    }
+}
+
 /// Each read fails in turn, then each write or flush, and then each write takes 0 bytes, until a run meets none.
 #[test]
 fn one_failing_call(rt: HostRuntime) {
-    for (words, input, whole) in &SCRIPTS {
+    for row in &SCRIPTS {
         for way in [Way::Reads, Way::Writes, Way::Stalls] {
-            let (input, whole) = (input.as_bytes(), whole.as_bytes());
-            let found = status_after_cuts(&rt, rt.alloc(), *words, input, whole, way);
-            assert!(rt; found == Some(1), "{words:?}, {way:?}");
+            let found = status_after_cuts(&rt, rt.alloc(), &given(row), way);
+            assert!(rt; found == Some(1), "{:?}, {way:?}", row.0);
         }
     }
 }
@@ -31,15 +39,14 @@ fn one_failing_call(rt: HostRuntime) {
 /// A reader of one byte a call and a writer of one byte a call.
 #[test]
 fn byte_by_byte(rt: HostRuntime) {
-    for (words, input, whole) in &SCRIPTS {
+    for row in &SCRIPTS {
         let cut = Cut {
             way: Way::Reads,
             call: u64::MAX,
             piece: 1,
         };
-        let (input, whole) = (input.as_bytes(), whole.as_bytes());
-        let found = status_cut(&rt, rt.alloc(), *words, input, whole, cut);
-        assert!(rt; found == Some(1), "{words:?}");
+        let found = status_cut(&rt, rt.alloc(), &given(row), cut);
+        assert!(rt; found == Some(1), "{:?}", row.0);
     }
 }
 
@@ -47,7 +54,12 @@ fn byte_by_byte(rt: HostRuntime) {
 fn status_of_help_cut(rt: &(impl Threads + Abort + Sync), alloc: Global) -> Option<u8> {
     const WORDS: [&str; 2] = ["keydir", "help"];
     let help = run_of(rt, alloc, &WORDS, b"");
-    status_after_cuts(rt, alloc, &WORDS, b"", help.output.bytes(), Way::Writes)
+    let given = Given {
+        words: &WORDS,
+        input: b"",
+        whole: help.output.bytes(),
+    };
+    status_after_cuts(rt, alloc, &given, Way::Writes)
 }
 
 #[test]

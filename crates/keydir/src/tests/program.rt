@@ -94,14 +94,20 @@ pub(crate) struct Cut {
     pub(crate) piece: usize,
 }
 
+/// What the program is given, and what answers it.
+#[derive(Clone, Copy)]
+pub(crate) struct Given<'a> {
+    pub(crate) words: &'a [&'a str],
+    pub(crate) input: &'a [u8],
+    pub(crate) whole: &'a [u8],
+}
+
 /// The status of a run that is cut. Where it meets the failure it ends with status 3, has written a part of its whole output
 /// and tells of the failure; else it writes the whole and tells nothing. No status where it doesn't.
 pub(crate) fn status_cut(
     rt: &(impl Threads + Abort + Sync),
     alloc: Global,
-    words: &[&str],
-    input: &[u8],
-    whole: &[u8],
+    given: &Given<'_>,
     cut: Cut,
 ) -> Option<u8> {
     let (reads, writes, stop) = match cut.way {
@@ -109,16 +115,23 @@ pub(crate) fn status_cut(
         Way::Writes => (u64::MAX, cut.call, Stop::Fails),
         Way::Stalls => (u64::MAX, cut.call, Stop::Stalls),
     };
-    let input = Vec::from_slice(alloc, input).expect(rt, "memory");
+    let input = Vec::from_slice(alloc, given.input).expect(rt, "memory");
     let mut reader = FailIn::new(input, cut.piece, reads);
     let mut output = FailOut::new(Vec::new(alloc), cut.piece, writes, stop);
     let mut errors = MemoryOut::new(alloc);
-    let status = program(rt, alloc, words, &mut reader, &mut output, &mut errors);
+    let status = program(
+        rt,
+        alloc,
+        given.words,
+        &mut reader,
+        &mut output,
+        &mut errors,
+    );
     let is_so = if reader.is_met() || output.is_met() {
         let is_told = errors.bytes() == text_of(cut.way).as_bytes();
-        status == 3 && is_told && is_part(&output.bytes, whole, cut.way)
+        status == 3 && is_told && is_part(&output.bytes, given.whole, cut.way)
     } else {
-        output.bytes.as_slice() == whole && errors.bytes().is_empty()
+        output.bytes.as_slice() == given.whole && errors.bytes().is_empty()
     };
     is_so.then_some(status)
 }
@@ -128,9 +141,7 @@ pub(crate) fn status_cut(
 pub(crate) fn status_after_cuts(
     rt: &(impl Threads + Abort + Sync),
     alloc: Global,
-    words: &[&str],
-    input: &[u8],
-    whole: &[u8],
+    given: &Given<'_>,
     way: Way,
 ) -> Option<u8> {
     for call in 0..1000 {
@@ -139,7 +150,7 @@ pub(crate) fn status_after_cuts(
             call,
             piece: 64,
         };
-        let status = status_cut(rt, alloc, words, input, whole, cut);
+        let status = status_cut(rt, alloc, given, cut);
         if status != Some(3) {
             return status;
         }
