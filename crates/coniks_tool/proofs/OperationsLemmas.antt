@@ -1,7 +1,7 @@
 -- The loop over the elements of a batch line.
-use Rattle.std.proofs.Common.{◌≡◌, ℕ, ◌+◌, ◌<◌, List, [], ◌∷◌, ◌++◌, length, drop, get_or, refl, ap, ap₂, sym, ◌∙◌, append_assoc, add-one, drop-cons}
+use Rattle.std.proofs.Common.{◌≡◌, ℕ, ◌+◌, ◌<◌, ◌≤◌, List, [], ◌∷◌, ◌++◌, length, drop, get_or, refl, ap, ap₂, sym, ◌∙◌, append_assoc, add-one, drop-cons, drop_of_length-le}
 use Rattle.std.specs.Prelude.{Some, map, Result, Ok, Err}
-use Rattle.std.proofs.lemmas.List.{map-append}
+use Rattle.std.proofs.lemmas.List.{append-nil, map-append}
 use Rattle.serde_json.specs.Data.{item}
 use Rattle.serde_json.specs.View.{view, items_view}
 use Rattle.serde_json.specs.declared.value.Value.{Value}
@@ -33,3 +33,9 @@ pub one_more_operation : (vs : List Value) (i : ℕ) (v : Value) (found new : Li
 one_more_operation vs i v found new op lt is some pushed so_far =
     so_far ∙ (ap (λ items. after (map operation_of found) (operations_from i items)) (here vs i v lt is)
     ∙ (rw (← some, pushed) (after-with_first found op (operations_from (i + 1) (items_view (drop (i + 1) vs))))))
+
+-- where no element is left, what was found is what the list gives
+pub all_read : (vs : List Value) (i : ℕ) (found : List Op) → length vs ≤ i
+    → operations_from 0 (items_view vs) ≡ after (map operation_of found) (operations_from i (items_view (drop i vs))) → Ok (map operation_of found) ≡ operations_from 0 (items_view vs)
+all_read vs i found past so_far =
+    sym (so_far ∙ (ap (λ (left : List Value). after (map operation_of found) (operations_from i (items_view left))) (drop_of_length-le vs past) ∙ ap Ok (append-nil (map operation_of found))))

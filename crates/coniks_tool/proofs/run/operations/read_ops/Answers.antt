@@ -4,7 +4,7 @@ use Rattle.std.proofs.lemmas.Grind.{common_steps}
 use Rattle.serde_json.specs.View.{view}
 use Rattle.coniks_directory.specs.Batches.{operation_of}
 use Rattle.coniks_tool.specs.Operations.{operation_in}
-use Rattle.coniks_tool.proofs.OperationsLemmas.{one_more_operation}
+use Rattle.coniks_tool.proofs.OperationsLemmas.{all_read, one_more_operation}
 use Rattle.coniks_tool.proofs.run.operations.read_ops.Goals as goal
 
 pub loop-place-preserved : goal.loop-place-preserved
@@ -14,4 +14,4 @@ loop-place-preserved c =
     one_more_operation c.args.list.now c.loop-place.place c.index-list-place.result c.loop-place.found.items c.push.new.self.items c.in-Some.op c.loop-place-test.true c.index-list-place.is some pushed c.loop-place.invariant
 
 pub returns : goal.returns
-returns c = grind (arith, common_steps)
+returns c = all_read c.args.list.now c.loop-place.place c.loop-place.found.items c.loop-place-test.false c.loop-place.invariant
