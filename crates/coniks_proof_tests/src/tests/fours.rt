@@ -1,0 +1,103 @@
+//! Four messages at once, of 55, 56, 119 and 120 bytes: where each has from 56 to 119 bytes they go by lanes.
+
+use crate::tests::{OPENING, digest, repeated};
+use coniks_proof::{
+    CommitmentPreimage, Digest, Flat, Hash32, MAX_KEY, MAX_NAME, Sha256Hash, commit_four,
+};
+use std::alloc::Global;
+use std::process::Abort;
+
+/// The bytes 3, 10, 17 and so on, modulo 256.
+fn counted() -> [u8; 120] {
+    let mut bytes = [3u8; 120];
+    for i in 1..120usize {
+        bytes[i] = bytes[i - 1].wrapping_add(7);
+    }
+    bytes
+}
+
+/// The digest of the first so many counted bytes, and that of the commitment whose message has as many.
+fn wanted(rt: &impl Abort, length: usize) -> (Digest, Digest) {
+    let (hash, commitment) = match length {
+        55 => (
+            "e7313d333c272e639f790978283f9eb392e843d0f29b7016828bb1daa4aac70b",
+            "184b233b31af79ed54aa6e89a1fce86540fea438ed900c4b80d34d548eada3d8",
+        ),
+        56 => (
+            "4324d65f3c103567f5589c710bc08f8523f929a9272e3af36fc968e52abc6c27",
+            "a7b32c6a5bd867d346d63c20812ea8158a8eaa5c03e00c3118b7c75937e574c8",
+        ),
+        119 => (
+            "9ce7368e4daf32341631b492e80359dc9f594b48453cd0dd5bf0b19279cc177e",
+            "765beca86f69d6c95de504ef483155a655489e08844f8480dafd425eda73e295",
+        ),
+        _ => (
+            "7836b787757e95e58b3ca5aec90b1b004e8deba1e50e9675af9cabf1a13a04b5",
+            "6c49753ca7320199d02d8d1e5db79a8f0774504ea4d566d48205356e8c9e2f74",
+        ),
+    };
+    (digest(rt, hash), digest(rt, commitment))
+}
+
+/// Lengths of four messages: mixed, each as the first of its kind in another place, and all by lanes.
+const GROUPS: [[usize; 4]; 6] = [
+    [55, 56, 119, 120],
+    [56, 119, 56, 119],
+    [119, 119, 56, 56],
+    [119, 120, 56, 119],
+    [120, 56, 119, 55],
+    [56, 56, 119, 55],
+];
+
+#[test]
+fn hashes(rt: HostRuntime) {
+    let bytes = counted();
+    let front = |length: usize| bytes.get(..length).expect(&rt, "within");
+    for [a, b, c, d] in GROUPS {
+        let cut = &[front(10), front(a).get(10..).expect(&rt, "within")];
+        let got = Sha256Hash.hash_four(cut, &[front(b)], &[front(c), b""], &[b"", front(d)]);
+        assert!(rt; got.0 == wanted(&rt, a).0);
+        assert!(rt; got.1 == wanted(&rt, b).0);
+        assert!(rt; got.2 == wanted(&rt, c).0);
+        assert!(rt; got.3 == wanted(&rt, d).0);
+    }
+    let zeros = Flat.hash_four(&[], &[b"a"], &[], &[]);
+    assert!(rt;
+        zeros
+            == (
+                Digest([0; 32]),
+                Digest([0; 32]),
+                Digest([0; 32]),
+                Digest([0; 32])
+            )
+    );
+}
+
+/// A key of letters `k`, by which the commitment to the name `n` has a message of so many bytes.
+fn key(rt: &impl Abort, alloc: Global, length: usize) -> Vec<u8> {
+    repeated(rt, alloc, b'k', length.saturating_sub(40))
+}
+
+/// What the commitment to the name `n` and a key is the hash of.
+fn preimage<'a>(rt: &impl Abort, key: &'a [u8]) -> CommitmentPreimage<'a> {
+    assert!(rt; 1 <= MAX_NAME && key.len() <= MAX_KEY);
+    CommitmentPreimage::of(&OPENING, b"n", key)
+}
+
+#[test]
+fn commitments(rt: HostRuntime) {
+    let alloc = rt.alloc();
+    for [a, b, c, d] in GROUPS {
+        let got = commit_four(
+            &Sha256Hash,
+            &preimage(&rt, &key(&rt, alloc, a)),
+            &preimage(&rt, &key(&rt, alloc, b)),
+            &preimage(&rt, &key(&rt, alloc, c)),
+            &preimage(&rt, &key(&rt, alloc, d)),
+        );
+        assert!(rt; got.0 == wanted(&rt, a).1);
+        assert!(rt; got.1 == wanted(&rt, b).1);
+        assert!(rt; got.2 == wanted(&rt, c).1);
+        assert!(rt; got.3 == wanted(&rt, d).1);
+    }
+}
