@@ -62,7 +62,8 @@ Takes s e t = (is_audited t.outcome ≡ true) × (t.state ≡ after s e)
 takes_entry : (s : AuditState) (e : Entry) → audit_fault (is_seal s.key) s.before e ≡ None → Takes s e (entry_turn s (Some e))
 takes_entry s e none = subst (λ f. Takes s e (judged_turn s e f)) (sym none) (refl, refl)
 
-takes_object : (s : AuditState) (object : Option Data) (e : Entry) → option_and_then entry_in object ≡ Some e → audit_fault (is_seal s.key) s.before e ≡ None → Takes s e (option_map_or (λ d. entry_turn s (entry_in d)) object (refused s not_json))
+takes_object : (s : AuditState) (object : Option Data) (e : Entry) → option_and_then entry_in object ≡ Some e → audit_fault (is_seal s.key) s.before e ≡ None
+    → Takes s e (option_map_or (λ d. entry_turn s (entry_in d)) object (refused s not_json))
 takes_object s None e there none = absurd (false≢true (ap is_some there))
 takes_object s (Some d) e there none = subst (λ found. Takes s e (entry_turn s found)) (sym there) (takes_entry s e none)
 
