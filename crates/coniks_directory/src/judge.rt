@@ -47,7 +47,8 @@ fn judge_one<X: IndexSource>(
     Ok(None)
 }
 
-/// The records of a batch's operations, sealed once all are judged, or the first operation at fault and the first fault that applies to it.
+/// The records of a batch's operations, sealed once all are judged, or the first operation at fault and the first fault
+/// that applies to it.
 pub(crate) fn judged<H: Hash32, X: IndexSource>(
     alloc: Global,
     h: &H,
