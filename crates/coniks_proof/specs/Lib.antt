@@ -1,5 +1,6 @@
 pub mod Bits
 pub mod Preimages
+pub mod Messages
 pub mod Entries
 pub mod Tree
 pub mod Changes

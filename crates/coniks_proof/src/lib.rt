@@ -24,6 +24,7 @@ pub mod collision;
 pub mod hashing;
 pub mod laws;
 mod meeting;
+pub mod messages;
 pub mod paths;
 mod strings;
 pub mod values;
@@ -38,6 +39,7 @@ pub use hashing::{
     CommitmentPreimage, Flat, Hash32, Sha256Hash, commit_four, commit_hash, empty_hash, inner_hash,
     leaf_hash,
 };
+pub use messages::{Message, empty_message, hash_all, leaf_message};
 pub use paths::{Answer, End, Proof};
 pub use values::{
     Digest, Head, Index, MAX_KEY, MAX_LEVEL, MAX_NAME, MAX_OPERATIONS, Nonce, Opening,

@@ -3,4 +3,6 @@ mod PartLemmas
 mod PushLemmas
 mod PathLemmas
 mod EntriesLemmas
+mod JoinLemmas
+mod LevelLemmas
 pub mod Lemmas

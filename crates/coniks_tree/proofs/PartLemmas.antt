@@ -166,7 +166,7 @@ count_side : (before after : Part) (h n : ℕ) → is_made before ≡ false → 
 count_side before after h zero old same more = omega (arith, count-unmade before old, ap node_count (same refl))
 count_side before after h (suc n) old same more = more old (omega arith)
 
-count_sum : (h l r a b joined : ℕ) → a ≤ 1 + 2 * (h * l) → b ≤ 1 + 2 * (h * r) → joined ≤ a + b + 1 → 0 < l + r → joined ≤ 1 + 2 * ((h + 1) * (l + r))
+pub count_sum : (h l r a b joined : ℕ) → a ≤ 1 + 2 * (h * l) → b ≤ 1 + 2 * (h * r) → joined ≤ a + b + 1 → 0 < l + r → joined ≤ 1 + 2 * ((h + 1) * (l + r))
 count_sum h l r a b joined ha hb hj some = omega arith
 
 -- how many nodes a part takes that grew

@@ -2,3 +2,5 @@ pub mod Table
 pub mod Parts
 pub mod Paths
 pub mod Entries
+pub mod Joins
+pub mod Levels

@@ -8,10 +8,17 @@ ghost use Rattle.coniks_tree.specs.declared.part.Part.{Entry};
 ghost use Rattle.coniks_tree.specs.Parts.{Stands, Fits, Placed, AllPlaced, node_count, is_made, entries_of, entry_of_change};
 
 use crate::halving::opened;
+use crate::levels::grow_by_levels;
 use crate::part::{Change, Part, join_parts, lefts};
 use crate::table::{Node, Record};
 use coniks_proof::{Hash32, Index, MAX_LEVEL, Nonce, Prefix};
 use std::alloc::{AllocError, Global};
+
+/// The fewest changes for which a part is grown level by level: with fewer, four nodes of a level are too seldom there.
+const FEWEST_BY_LEVELS: usize = 8;
+
+/// The most: with more, what is kept for a level would leave the processor's own memory.
+const MOST_BY_LEVELS: usize = 512;
 
 /// The changes that go left at a level, and those that go right.
 pub fn sides(changes: &[Change], level: usize) -> (&[Change], &[Change])
@@ -99,6 +106,9 @@ pub(crate) fn grow_part<H: Hash32>(
     let level = prefix.len();
     if let Some(change) = only_change(level, &part, changes) {
         return Ok(Part::Entry(change));
+    }
+    if changes.len() >= FEWEST_BY_LEVELS && changes.len() <= MOST_BY_LEVELS {
+        return Ok(grow_by_levels(alloc, nodes, records, h, nonce, part, prefix, changes)?);
     }
     let (left, right) = opened(nodes, records, level, part);
     let (changes_left, changes_right) = sides(changes, level);

@@ -1,11 +1,11 @@
 //! Parts: what is to stand under one prefix.
 
-ghost use Rattle.std.specs.Prelude.{◌≡◌, ◌<◌, ◌≤◌, ◌+◌, ◌-◌, ◌^◌, List, ℕ, length, IfOk, false, true, min};
+ghost use Rattle.std.specs.Prelude.{◌≡◌, ◌<◌, ◌≤◌, ◌+◌, ◌-◌, ◌^◌, List, ℕ, length, Bool, IfOk, false, true, min};
 ghost use Rattle.coniks_proof.specs.Bits.{child};
 ghost use Rattle.coniks_proof.specs.Entries.{half};
 ghost use Rattle.coniks_proof.specs.Tree.{node};
 ghost use Rattle.coniks_tree.specs.Table.{Numbered};
-ghost use Rattle.coniks_tree.specs.Parts.{Stands, Fits, Placed, entries_of, node_count, weight_of};
+ghost use Rattle.coniks_tree.specs.Parts.{Stands, Fits, Placed, IsSubtree, entries_of, node_count, weight_of};
 
 use crate::table::{Node, Record, RecordNo, Root, node_of};
 use coniks_proof::{Digest, Hash32, Index, Nonce, Prefix, bit, empty_hash, inner_hash, leaf_hash};
@@ -104,7 +104,41 @@ pub(crate) fn weight(part: &Part) -> usize
     }
 }
 
+/// A new subtree over two parts, whose hashes and whose node's hash are given.
+#[inline(always)]
+pub(crate) fn made(
+    alloc: Global,
+    left: Part,
+    right: Part,
+    left_hash: Digest,
+    right_hash: Digest,
+    hash: Digest,
+) -> Result<Part, AllocError>
+    ensures fits { IfOk result (λ part. (n level : ℕ) → level < 256 → Fits n (level + 1) left → Fits n (level + 1) right → Fits n level part) }
+    ensures count { IfOk result (λ part. node_count part ≡ node_count left + node_count right + 1) }
+    ensures placed { IfOk result (λ part. (all : List Record) → Placed all left → Placed all right → Placed all part) }
+    ensures stands { IfOk result (λ part. (of : List ℕ → List ℕ) (nonce : List ℕ) (nodes : List Node) (records : List Record) (prefix : List Bool) (entries : List Numbered)
+        → IsSubtree of nonce prefix entries hash left_hash right_hash (Stands of nonce nodes records left) (Stands of nonce nodes records right)
+        → Stands of nonce nodes records part prefix entries) }
+{
+    let count = new_nodes(&left)
+        .saturating_add(new_nodes(&right))
+        .saturating_add(1);
+    Ok(Part::Made(Box::new(
+        alloc,
+        Subtree {
+            hash,
+            left_hash,
+            right_hash,
+            count,
+            left,
+            right,
+        },
+    )?))
+}
+
 /// Two parts of neighbouring prefixes as the part of the prefix above.
+#[inline(always)]
 pub(crate) fn join_parts<H: Hash32>(
     alloc: Global,
     nodes: &[Node],
@@ -135,18 +169,5 @@ pub(crate) fn join_parts<H: Hash32>(
     let left_hash = hash_at(nodes, h, nonce, &prefix.child(false), &left);
     let right_hash = hash_at(nodes, h, nonce, &prefix.child(true), &right);
     let hash = inner_hash(h, &left_hash, &right_hash);
-    let count = new_nodes(&left)
-        .saturating_add(new_nodes(&right))
-        .saturating_add(1);
-    Ok(Part::Made(Box::new(
-        alloc,
-        Subtree {
-            hash,
-            left_hash,
-            right_hash,
-            count,
-            left,
-            right,
-        },
-    )?))
+    Ok(made(alloc, left, right, left_hash, right_hash, hash)?)
 }

@@ -19,7 +19,7 @@ struct Step {
     entries: &'static str,
 }
 
-const STEPS: [Step; 3] = [
+const STEPS: [Step; 4] = [
     Step {
         from: 0,
         to: 200,
@@ -43,6 +43,14 @@ const STEPS: [Step; 3] = [
         nodes: 350,
         root: "590c613c14f9b6e9fabe6bc79de4a1613f7dbad5bc55af1b25e172e7ab171163",
         entries: "f38c6c587d6eacedae6e0fcb0d09bae9141179c64c6bfb42bc29f5d10b981fe8",
+    },
+    Step {
+        from: 300,
+        to: 2900,
+        key: b'k',
+        nodes: 8507,
+        root: "c6e5e9a90e33aa242f7c682ec89fd810f63f3ad799958c98605fada88c8e1ab4",
+        entries: "a71685d650a79b487180254136359834ded9be0197d692729ceedbfcea57c86f",
     },
 ];
 

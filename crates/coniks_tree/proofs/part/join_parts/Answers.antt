@@ -29,7 +29,7 @@ returns-clause-stands g c = λ records entries sl sr.
     let below : Bool → List Bool → List ℕ = λ b q. node hash nonce q (half b (length p) entries) in
     let left-at : c.hash_at-left_hash.result.0 ≡ below false (child p false) = left ∙ ap (below false) c.child.ensures in
     let right-at : c.hash_at-right_hash.result.0 ≡ below true (child p true) = right ∙ ap (below true) c.child-2.ensures in
-    rw c.in_ok-new.ensures.ok
+    c.in_ok-made.ensures.stands hash nonce nodes records p entries
     (record {
       many = many;
       is_hash = hash_made hash nonce p c.child.result c.child-2.result entries _ _ _ c.requires.short many c.child.ensures c.child-2.ensures c.inner_hash-hash.ensures left right;

@@ -1,0 +1,99 @@
+//! What is hashed for a node, kept until it is hashed, by fours.
+
+ghost use Rattle.std.specs.Prelude.{◌≡◌, ◌++◌, ◌∷◌, [], ◌≤◌, List, ℕ, flat_map, map, IfOk, OnOk};
+ghost use Rattle.coniks_proof.specs.Messages.{preimage_of};
+ghost use Rattle.coniks_proof.specs.Preimages.{empty_preimage, leaf_preimage};
+
+use crate::bits::Prefix;
+use crate::hashing::{EMPTY_TAG, Hash32, INNER_TAG, LEAF_TAG};
+use crate::values::{Digest, Index, MAX_LEVEL, Nonce};
+use std::alloc::{AllocError, Global};
+use std::collections::VecDeque;
+
+/// What is hashed for a node under a nonce: of an empty node its prefix, of a leaf its index and commitment, both with the
+/// two bytes of their level, and of an interior node the hashes of its children.
+#[derive(Drop)]
+pub enum Message {
+    Empty(Prefix, [u8; 2]),
+    Leaf(Index, [u8; 2], Digest),
+    Inner(Digest, Digest),
+}
+
+impl Message {
+    /// The pieces that are hashed.
+    fn pieces<'a>(&'a self, nonce: &'a Nonce) -> [&'a [u8]; 5]
+        ensures { flat_map (λ piece. piece.now) result ≡ preimage_of nonce.now.0 self.now }
+    {
+        match self {
+            Message::Empty(prefix, level) => [&[EMPTY_TAG], &nonce.0, prefix.bytes(), level, &[]],
+            Message::Leaf(index, level, commitment) => {
+                [&[LEAF_TAG], &nonce.0, &index.0, level, &commitment.0]
+            }
+            Message::Inner(left, right) => [&[INNER_TAG], &left.0, &right.0, &[], &[]],
+        }
+    }
+}
+
+/// The message of an empty node.
+pub fn empty_message(prefix: Prefix) -> Message
+    ensures { (nonce : List ℕ) → preimage_of nonce result ≡ empty_preimage nonce prefix }
+{
+    let level = (prefix.len() as u16).to_be_bytes();
+    Message::Empty(prefix, level)
+}
+
+/// The message of a leaf, at a level of at most 256.
+pub fn leaf_message(index: &Index, level: usize, commitment: &Digest) -> Message
+    requires { level ≤ MAX_LEVEL }
+    ensures { (nonce : List ℕ) → preimage_of nonce result ≡ leaf_preimage nonce index.now.0 level commitment.now.0 }
+{
+    Message::Leaf(*index, (level as u16).to_be_bytes(), *commitment)
+}
+
+/// Puts the hashes of four messages at the end of a list.
+fn hash_next<H: Hash32>(
+    h: &H,
+    nonce: &Nonce,
+    a: &Message,
+    b: &Message,
+    c: &Message,
+    d: &Message,
+    hashes: &mut VecDeque<Digest>,
+) -> Result<(), AllocError>
+    ensures { OnOk result (map (λ hash. hash.0) hashes.new.items ≡ map (λ hash. hash.0) hashes.old.items
+        ++ H.digest_of h.now (preimage_of nonce.now.0 a.now) ∷ H.digest_of h.now (preimage_of nonce.now.0 b.now)
+        ∷ H.digest_of h.now (preimage_of nonce.now.0 c.now) ∷ H.digest_of h.now (preimage_of nonce.now.0 d.now) ∷ []) }
+{
+    let (a, b, c, d) = h.hash_four(
+        &a.pieces(nonce),
+        &b.pieces(nonce),
+        &c.pieces(nonce),
+        &d.pieces(nonce),
+    );
+    hashes.push_back(a)?;
+    hashes.push_back(b)?;
+    hashes.push_back(c)?;
+    hashes.push_back(d)?;
+    Ok(())
+}
+
+/// The hashes of messages, in their order, four at once as long as there are four.
+pub fn hash_all<H: Hash32>(
+    alloc: Global,
+    h: &H,
+    nonce: &Nonce,
+    messages: &[Message],
+) -> Result<VecDeque<Digest>, AllocError>
+    ensures { IfOk result (λ hashes. map (λ hash. hash.0) hashes.items ≡ map (λ message. H.digest_of h.now (preimage_of nonce.now.0 message)) messages.now) }
+{
+    let mut hashes = VecDeque::with_capacity(alloc, messages.len())?;
+    let mut rest = messages;
+    while let [a, b, c, d, others @ ..] = rest {
+        hash_next(h, nonce, a, b, c, d, &mut hashes)?;
+        rest = others;
+    }
+    for message in rest {
+        hashes.push_back(h.hash(&message.pieces(nonce)))?;
+    }
+    Ok(hashes)
+}

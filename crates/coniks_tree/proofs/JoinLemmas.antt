@@ -1,0 +1,148 @@
+-- Joins of many pairs of parts.
+use Rattle.std.proofs.Common.{◌≡◌, ℕ, ◌+◌, ◌≤◌, List, [], ◌∷◌, ◌++◌, length, map, Bool, true, false, refl, sym, ap, subst, ◌∙◌, arith, append_assoc}
+use Rattle.std.proofs.lemmas.List.{append-nil, length-append, length-map, map-append}
+use Rattle.coniks_proof.specs.Bits.{child}
+use Rattle.coniks_proof.specs.Preimages.{empty_preimage, leaf_preimage}
+use Rattle.coniks_proof.specs.declared.values.Digest.{Digest}
+use Rattle.coniks_tree.specs.Joins.{AllHalved, AllJoined, IsHalved, IsHashAt, IsJoined, PairFits, PairsFit, asked_at, asked_of, inner_of}
+use Rattle.coniks_tree.proofs.PartLemmas.{hash_nothing, hash_entry}
+use Rattle.coniks_tree.specs.declared.table.Node.{Node}
+use Rattle.coniks_tree.specs.declared.part.Change.{Change}
+use Rattle.coniks_tree.specs.declared.part.Part.{Part, Nothing, Entry, Kept, Made'}
+use Rattle.coniks_tree.specs.declared.joining.Pair.{Pair}
+use Rattle.coniks_tree.specs.declared.joining.Halved.{Halved}
+
+same_front : {X : Type 0} (x y : X) (xs ys : List X) → x ∷ xs ≡ y ∷ ys → (x ≡ y) × (xs ≡ ys)
+same_front x y xs ys same = (cc, cc)
+
+-- an empty side takes the first of the hashes
+pub side_nothing : (hash : List ℕ → List ℕ) (nonce : List ℕ) (nodes : List Node) (part : Part) (p : List Bool) (rest : List (List ℕ)) (old new : List Digest) (d : Digest)
+    → part ≡ Nothing → old ≡ d ∷ new → map (λ x. x.0) old ≡ map hash (asked_at nonce p part ++ rest)
+    → IsHashAt hash nonce nodes p part d × (map (λ x. x.0) new ≡ map hash rest)
+side_nothing hash nonce nodes part p rest old new d is old-is asked =
+    let first = same_front d.0 (hash (empty_preimage nonce p)) (map (λ x. x.0) new) (map hash rest)
+    (sym (ap (map (λ x. x.0)) old-is) ∙ asked ∙ ap (λ q. map hash (asked_at nonce p q ++ rest)) is) in
+    (λ records es s. hash_nothing hash nonce nodes records part p es d.0 is first.0 s, first.1)
+
+-- a leaf takes the first of the hashes
+pub side_entry : (hash : List ℕ → List ℕ) (nonce : List ℕ) (nodes : List Node) (part : Part) (p : List Bool) (rest : List (List ℕ)) (old new : List Digest) (d : Digest) (c : Change)
+    → part ≡ Entry c → old ≡ d ∷ new → map (λ x. x.0) old ≡ map hash (asked_at nonce p part ++ rest)
+    → IsHashAt hash nonce nodes p part d × (map (λ x. x.0) new ≡ map hash rest)
+side_entry hash nonce nodes part p rest old new d c is old-is asked =
+    let first = same_front d.0 (hash (leaf_preimage nonce c.index.0 (length p) c.commitment.0)) (map (λ x. x.0) new) (map hash rest)
+    (sym (ap (map (λ x. x.0)) old-is) ∙ asked ∙ ap (λ q. map hash (asked_at nonce p q ++ rest)) is) in
+    (λ records es s. hash_entry hash nonce nodes records part p es d.0 c (length p) is refl first.0 s, first.1)
+
+-- how many are asked for doesn't depend on nonce or prefix
+pub asked_at-length : (nonce : List ℕ) (p : List Bool) (part : Part) → length (asked_at nonce p part) ≡ length (asked_at [] [] part)
+asked_at-length nonce p Nothing = refl
+asked_at-length nonce p (Entry c) = refl
+asked_at-length nonce p (Kept root) = refl
+asked_at-length nonce p (Made' ptr d lh rh count l r) = refl
+
+pub asked_of-length : (nonce : List ℕ) (pairs : List Pair) → length (asked_of nonce pairs) ≡ length (asked_of [] pairs)
+asked_of-length nonce [] = refl
+asked_of-length nonce (pair ∷ pairs) =
+    omega (
+      arith,
+      length-append (asked_at nonce (child pair.prefix false) pair.left) (asked_at nonce (child pair.prefix true) pair.right ++ asked_of nonce pairs),
+      length-append (asked_at nonce (child pair.prefix true) pair.right) (asked_of nonce pairs),
+      length-append (asked_at [] (child pair.prefix false) pair.left) (asked_at [] (child pair.prefix true) pair.right ++ asked_of [] pairs),
+      length-append (asked_at [] (child pair.prefix true) pair.right) (asked_of [] pairs),
+      asked_at-length nonce (child pair.prefix false) pair.left,
+      asked_at-length nonce (child pair.prefix true) pair.right,
+      asked_at-length [] (child pair.prefix false) pair.left,
+      asked_at-length [] (child pair.prefix true) pair.right,
+      asked_of-length nonce pairs,
+    )
+
+-- ---- the pairs get their hashes
+
+pub AllHalved-push : (of : List ℕ → List ℕ) (nonce : List ℕ) (nodes : List Node) (hs : List Halved) (h : Halved) → AllHalved of nonce nodes hs → IsHalved of nonce nodes h
+    → AllHalved of nonce nodes (hs ++ h ∷ [])
+AllHalved-push of nonce nodes [] h all one = (one, tt)
+AllHalved-push of nonce nodes (x ∷ hs) h all one = (all.0, AllHalved-push of nonce nodes hs h all.1 one)
+
+-- fewer are asked for once a pair has its hashes
+pub asked-fewer : (before rest : List Pair) (pair : Pair) (m n : ℕ) → before ≡ pair ∷ rest → length (asked_of [] before) ≤ m
+    → n + length (asked_at [] [] pair.left) + length (asked_at [] [] pair.right) ≡ m → length (asked_of [] rest) ≤ n
+asked-fewer before rest pair m n is enough fewer =
+    omega (
+      arith,
+      ap (λ ps. length (asked_of [] ps)) is,
+      length-append (asked_at [] (child pair.prefix false) pair.left) (asked_at [] (child pair.prefix true) pair.right ++ asked_of [] rest),
+      length-append (asked_at [] (child pair.prefix true) pair.right) (asked_of [] rest),
+      asked_at-length [] (child pair.prefix false) pair.left,
+      asked_at-length [] (child pair.prefix true) pair.right,
+    )
+
+-- the first pair needs no more than there are
+pub asked-first : (before rest : List Pair) (pair : Pair) (m : ℕ) → before ≡ pair ∷ rest → length (asked_of [] before) ≤ m
+    → length (asked_at [] [] pair.left) + length (asked_at [] [] pair.right) ≤ m
+asked-first before rest pair m is enough =
+    omega (
+      arith,
+      ap (λ ps. length (asked_of [] ps)) is,
+      length-append (asked_at [] (child pair.prefix false) pair.left) (asked_at [] (child pair.prefix true) pair.right ++ asked_of [] rest),
+      length-append (asked_at [] (child pair.prefix true) pair.right) (asked_of [] rest),
+      asked_at-length [] (child pair.prefix false) pair.left,
+      asked_at-length [] (child pair.prefix true) pair.right,
+    )
+
+-- the pairs that have their hashes, and the others, are still all of them
+pub same-more : (all before rest : List Pair) (pair : Pair) (hs new : List Halved) (h : Halved) → before ≡ pair ∷ rest → new ≡ hs ++ h ∷ [] → h.pair ≡ pair
+    → map (λ x. x.pair) hs ++ before ≡ all → map (λ x. x.pair) new ++ rest ≡ all
+same-more all before rest pair hs new h is new-is h-is whole =
+    let pairs : List Halved → List Pair = map (λ (x : Halved). x.pair) in
+    ap (λ xs. pairs xs ++ rest) new-is ∙ ap (λ xs. xs ++ rest) (map-append (λ (x : Halved). x.pair) hs (h ∷ []))
+    ∙ append_assoc (pairs hs) (h.pair ∷ []) rest ∙ ap (λ x. pairs hs ++ x ∷ rest) h-is ∙ ap (λ xs. pairs hs ++ xs) (sym is) ∙ whole
+
+-- ---- the pairs are joined
+
+-- what is left of the pairs, their nodes' hashes, and the parts that are made
+pub record Closing (of : List ℕ → List ℕ) (nonce : List ℕ) (nodes : List Node) (all : List Pair) (hs : List Halved) (hashes : List Digest) (parts : List Part) : Type 0 where
+  pub fits : PairsFit (length nodes) (map (λ h. h.pair) hs)
+  pub halved : AllHalved of nonce nodes hs
+  pub hashed : map (λ d. d.0) hashes ≡ map (λ h. of (inner_of h)) hs
+  pub so_far : (more : List Part) → AllJoined of nonce nodes (map (λ h. h.pair) hs) more → AllJoined of nonce nodes all (parts ++ more)
+
+pub Closing-step : (of : List ℕ → List ℕ) (nonce : List ℕ) (nodes : List Node) (all : List Pair) (hs rest : List Halved) (h : Halved) (hashes others : List Digest) (hash : Digest)
+    (parts new : List Part) (part : Part)
+    → hs ≡ h ∷ rest → hashes ≡ hash ∷ others → new ≡ parts ++ part ∷ []
+    → (PairFits (length nodes) h.pair → IsHalved of nonce nodes h → hash.0 ≡ of (inner_of h) → IsJoined of nonce nodes h.pair.prefix h.pair.left h.pair.right part)
+    → Closing of nonce nodes all hs hashes parts → Closing of nonce nodes all rest others new
+Closing-step of nonce nodes all hs rest h hashes others hash parts new part is hashes-is new-is joined before =
+    let fits = subst (λ xs. PairsFit (length nodes) (map (λ (x : Halved). x.pair) xs)) is before.fits in
+    let halved = subst (AllHalved of nonce nodes) is before.halved in
+    let front = same_front hash.0 (of (inner_of h)) (map (λ (d : Digest). d.0) others) (map (λ (x : Halved). of (inner_of x)) rest)
+    (sym (ap (map (λ (d : Digest). d.0)) hashes-is) ∙ before.hashed ∙ ap (map (λ (x : Halved). of (inner_of x))) is) in
+    record {
+      fits = fits.1;
+      halved = halved.1;
+      hashed = front.1;
+      so_far = λ more js. subst (AllJoined of nonce nodes all) (sym (ap (λ xs. xs ++ more) new-is ∙ append_assoc parts (part ∷ []) more))
+          (before.so_far (part ∷ more) (subst (λ xs. AllJoined of nonce nodes (map (λ (x : Halved). x.pair) xs) (part ∷ more)) (sym is) (joined fits.0 halved.0 front.0, js)));
+    }
+
+pub Closing-end : (of : List ℕ → List ℕ) (nonce : List ℕ) (nodes : List Node) (all : List Pair) (hs : List Halved) (hashes : List Digest) (parts : List Part)
+    → hs ≡ [] → Closing of nonce nodes all hs hashes parts → AllJoined of nonce nodes all parts
+Closing-end of nonce nodes all hs hashes parts is closing =
+    subst (AllJoined of nonce nodes all) (append-nil parts) (closing.so_far [] (subst (λ xs. AllJoined of nonce nodes (map (λ (x : Halved). x.pair) xs) []) (sym is) tt))
+
+-- ---- the hashes of what is asked for
+
+-- the hashes of messages are those of their byte lists
+pub map-hash : {X : Type 0} (of : List ℕ → List ℕ) (f : X → List ℕ) (xs : List X) → map (λ x. of (f x)) xs ≡ map of (map f xs)
+map-hash of f [] = refl
+map-hash of f (x ∷ xs) = ap (λ ys. of (f x) ∷ ys) (map-hash of f xs)
+
+pub hashed_as : {X Y : Type 0} (of : List ℕ → List ℕ) (f : X → List ℕ) (g : Y → List ℕ) (xs : List X) (ys : List Y) (ds : List Digest)
+    → map (λ d. d.0) ds ≡ map (λ x. of (f x)) xs → map f xs ≡ map g ys → map (λ d. d.0) ds ≡ map (λ y. of (g y)) ys
+hashed_as of f g xs ys ds hashed same = hashed ∙ map-hash of f xs ∙ ap (map of) same ∙ sym (map-hash of g ys)
+
+pub hashed_all : {X : Type 0} (of : List ℕ → List ℕ) (f : X → List ℕ) (xs : List X) (all : List (List ℕ)) (ds : List Digest)
+    → map (λ d. d.0) ds ≡ map (λ x. of (f x)) xs → map f xs ≡ all → map (λ d. d.0) ds ≡ map of all
+hashed_all of f xs all ds hashed same = hashed ∙ map-hash of f xs ∙ ap (map of) same
+
+pub hashed-length : {X Y : Type 0} (f : X → List ℕ) (g : Y → List ℕ) (xs : List X) (ys : List Y) → map f xs ≡ map g ys → length xs ≡ length ys
+hashed-length f g xs ys same = sym (length-map xs f) ∙ ap length same ∙ length-map ys g

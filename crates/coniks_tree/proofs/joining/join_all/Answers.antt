@@ -1,0 +1,32 @@
+use Rattle.std.proofs.Common.{length, sym, subst, map, ap, ◌∙◌, arith}
+use Rattle.std.proofs.lemmas.List.{length-map}
+use Rattle.coniks_proof.specs.Messages.{preimage_of}
+use Rattle.coniks_tree.specs.Joins.{AllJoined, PairsFit, asked_of, inner_of}
+use Rattle.coniks_tree.proofs.JoinLemmas.{hashed_all, hashed_as}
+use Rattle.coniks_tree.proofs.joining.join_all.Goals as goal
+
+pub asked-requires : goal.asked-requires
+asked-requires g c = (length c.args.nodes.now, subst (PairsFit (length c.args.nodes.now)) (sym c.deref.ensures.value) c.requires)
+
+pub joined_all-requires : goal.joined_all-requires
+joined_all-requires g c =
+    let nonce = c.args.nonce.now.0 in
+    let halved = c.in_ok-halved.halved.items in
+    let hashed = hashed_as (g.H.Hash32.digest_of c.args.h.now) (preimage_of nonce) inner_of c.deref-3.result.now halved c.in_ok-hashes-2.hashes.items c.in_ok-hashes-2.ensures
+    (ap (map (preimage_of nonce)) c.deref-3.ensures.value ∙ c.in_ok-halved.ensures.inner nonce) in
+    omega (arith, ap length hashed, length-map c.in_ok-hashes-2.hashes.items (λ d. d.0), length-map halved (λ h. g.H.Hash32.digest_of c.args.h.now (inner_of h)))
+
+pub returns : goal.returns
+returns g c =
+    let of = g.H.Hash32.digest_of c.args.h.now in
+    let nonce = c.args.nonce.now.0 in
+    let nodes = c.args.nodes.now in
+    let pairs = c.args.pairs.items in
+    let same = c.in_ok-halved.ensures.same in
+    -- the hashes that were asked for, and those of the nodes above
+    let sides = hashed_all of (preimage_of nonce) c.deref-2.result.now (asked_of nonce pairs) c.in_ok-hashes.hashes.items c.in_ok-hashes.ensures
+    (ap (map (preimage_of nonce)) c.deref-2.ensures.value ∙ c.in_ok-messages.ensures nonce ∙ ap (asked_of nonce) c.deref.ensures.value) in
+    let inner = hashed_as of (preimage_of nonce) inner_of c.deref-3.result.now c.in_ok-halved.halved.items c.in_ok-hashes-2.hashes.items c.in_ok-hashes-2.ensures
+    (ap (map (preimage_of nonce)) c.deref-3.ensures.value ∙ c.in_ok-halved.ensures.inner nonce) in
+    subst (λ ps. AllJoined of nonce nodes ps c.in_ok-joined_all.field-0.items) same
+    (c.in_ok-joined_all.ensures of nonce nodes (subst (PairsFit (length nodes)) (sym same) c.requires) (c.in_ok-halved.ensures.halved of nonce sides) inner)

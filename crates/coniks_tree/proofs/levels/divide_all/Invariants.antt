@@ -1,0 +1,16 @@
+use Rattle.std.proofs.Common.{◌++◌, ◌+◌, List, ℕ, length}
+use Rattle.coniks_tree.specs.Levels.{AllDivide, AllOpen}
+use Rattle.coniks_tree.specs.declared.levels.Growing.{Growing}
+use Rattle.coniks_tree.specs.declared.levels.Opened.{Opened}
+use Rattle.coniks_tree.proofs.levels.divide_all.Given as goal
+
+abbrev pub invariant-loop-one : goal.invariant-loop-one
+invariant-loop-one l = record {
+  open_before : AllOpen (length l.nodes) l.level l.growing.items;
+  open_below : AllOpen (length l.nodes) (l.level + 1) l.next.items;
+  so_far : (of : List ℕ → List ℕ) (nonce : List ℕ) (opened : List Opened) (next : List Growing) → AllDivide of nonce l.nodes l.records l.growing.items opened next
+      → AllDivide of nonce l.nodes l.records l.initial.growing.items (l.opened.items ++ opened) (l.next.items ++ next);
+}
+
+abbrev pub decreases-loop-one : goal.decreases-loop-one
+decreases-loop-one l = length l.growing.items

@@ -1,0 +1,91 @@
+-- Parts that are grown level by level.
+use Rattle.std.specs.Prelude.{◌≡◌, ◌<◌, ◌≤◌, ◌+◌, ◌*◌, ◌-◌, ℕ, List, [], ◌∷◌, ◌++◌, length, Bool, false, Option, Some, None}
+use Rattle.coniks_proof.specs.Changes.{overwritten, AreApart, AreInOrder}
+use Rattle.coniks_tree.specs.Table.{Extends, Numbered}
+use Rattle.coniks_tree.specs.Parts.{Stands, Fits, Placed, AllPlaced, node_count, is_made, entries_of}
+use Rattle.coniks_tree.specs.Joins.{IsJoined}
+use Rattle.coniks_tree.specs.declared.table.Node.{Node}
+use Rattle.coniks_tree.specs.declared.table.Record.{Record}
+use Rattle.coniks_tree.specs.declared.part.Change.{Change}
+use Rattle.coniks_tree.specs.declared.part.Part.{Part, Nothing}
+use Rattle.coniks_tree.specs.declared.joining.Pair.{Pair}
+use Rattle.coniks_tree.specs.declared.levels.Growing.{Growing}
+use Rattle.coniks_tree.specs.declared.levels.Opened.{Opened}
+
+-- the part is to be opened at this level, for some changes
+pub record IsOpen (n level : ℕ) (g : Growing) : Type 0 where
+  pub long : length g.prefix ≡ level
+  pub short : level < 256
+  pub some : 0 < length g.changes.now
+  pub fits : Fits n (length g.prefix) g.part
+
+-- each of the parts is
+abbrev pub AllOpen : ℕ → ℕ → List Growing → Type 0
+AllOpen n level [] = Unit {0}
+AllOpen n level (g ∷ gs) = IsOpen n level g × AllOpen n level gs
+
+-- a side that is done, and else the first of the parts from below
+abbrev pub side_from : Option Part → List Part → Part
+side_from (Some part) below = part
+side_from None [] = Nothing
+side_from None (part ∷ below) = part
+
+-- the parts from below that a side leaves
+abbrev pub left_by : Option Part → List Part → List Part
+left_by (Some part) below = below
+left_by None [] = []
+left_by None (part ∷ below) = below
+
+-- the opened parts with all their sides, which are taken from below in order where they aren't done
+abbrev pub filled : List Opened → List Part → List Pair
+filled [] below = []
+filled (o ∷ os) below =
+    record { prefix = o.prefix; left = side_from o.left below; right = side_from o.right (left_by o.left below) } ∷ filled os (left_by o.right (left_by o.left below))
+
+module _ (hash : List ℕ → List ℕ) (nonce : List ℕ) (nodes : List Node) (records : List Record) where
+  -- the part of a prefix, overwritten by changes
+  pub record IsGrown (prefix : List Bool) (part : Part) (changes : List Change) (grown : Part) : Type 0 where
+    pub fits : Fits (length nodes) (length prefix) grown
+    pub placed : (all : List Record) → Extends records all → Placed all part → AllPlaced all changes → Placed all grown
+    pub count : is_made part ≡ false → node_count grown ≤ 1 + 2 * ((256 - length prefix) * length changes)
+    pub stands : (entries : List Numbered)
+        → AreInOrder (length prefix) (entries_of changes)
+        → AreApart (length prefix) (overwritten entries (entries_of changes))
+        → Stands hash nonce nodes records part prefix entries
+        → Stands hash nonce nodes records grown prefix (overwritten entries (entries_of changes))
+
+  -- the parts are, in order, those that grow
+  abbrev pub AllGrown : List Growing → List Part → Type 0
+  AllGrown [] [] = Unit {0}
+  AllGrown [] (part ∷ parts) = ⊥
+  AllGrown (g ∷ gs) [] = ⊥
+  AllGrown (g ∷ gs) (part ∷ parts) = IsGrown g.prefix g.part g.changes.now part × AllGrown gs parts
+
+  -- two parts whose join is the part that grows
+  pub record IsDivided (prefix : List Bool) (part : Part) (changes : List Change) (left right : Part) : Type 0 where
+    pub short : length prefix < 256
+    pub left_fits : Fits (length nodes) (length prefix + 1) left
+    pub right_fits : Fits (length nodes) (length prefix + 1) right
+    pub joined : (whole : Part) → IsJoined hash nonce nodes prefix left right whole → IsGrown prefix part changes whole
+
+  -- the pairs are, in order, those of the parts that grow
+  abbrev pub AllDivided : List Growing → List Pair → Type 0
+  AllDivided [] [] = Unit {0}
+  AllDivided [] (pair ∷ pairs) = ⊥
+  AllDivided (g ∷ gs) [] = ⊥
+  AllDivided (g ∷ gs) (pair ∷ pairs) = (g.prefix ≡ pair.prefix) × IsDivided g.prefix g.part g.changes.now pair.left pair.right × AllDivided gs pairs
+
+  -- the side is the part overwritten by the changes, or what the one that is left to grow below becomes
+  abbrev pub SideGrows : List Bool → Part → List Change → Option Part → List Growing → Type 0
+  SideGrows prefix part changes side next = (below rest : List Part) → AllGrown next below
+      → IsGrown prefix part changes (side_from side (below ++ rest)) × (left_by side (below ++ rest) ≡ rest)
+
+  -- the two sides of a part that grows, with those that are left to grow below
+  abbrev pub Divides : List Bool → Part → List Change → Option Part → Option Part → List Growing → Type 0
+  Divides prefix part changes left right next = (below rest : List Part) → AllGrown next below
+      → IsDivided prefix part changes (side_from left (below ++ rest)) (side_from right (left_by left (below ++ rest)))
+      × (left_by right (left_by left (below ++ rest)) ≡ rest)
+
+  -- all that grow, opened, with those that are left to grow below
+  abbrev pub AllDivide : List Growing → List Opened → List Growing → Type 0
+  AllDivide gs opened next = (below : List Part) → AllGrown next below → AllDivided gs (filled opened below)

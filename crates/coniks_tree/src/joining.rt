@@ -1,0 +1,204 @@
+//! Joins of many pairs of parts, hashed by fours.
+
+ghost use Rattle.std.specs.Prelude.{◌≡◌, ◌++◌, ◌∷◌, ◌<◌, ◌≤◌, ◌+◌, [], List, ℕ, length, map, IfOk, OnOk, Bool, false, true};
+ghost use Rattle.coniks_proof.specs.Bits.{child};
+ghost use Rattle.coniks_proof.specs.Messages.{preimage_of};
+ghost use Rattle.coniks_proof.specs.Entries.{half};
+ghost use Rattle.coniks_tree.specs.Table.{Numbered};
+ghost use Rattle.coniks_tree.specs.Parts.{Stands, Fits, Placed, node_count};
+ghost use Rattle.coniks_tree.specs.Joins.{asked_at, asked_of, inner_of, AllHalved, AllJoined, IsHashAt, IsHalved, IsJoined, PairFits, PairsFit};
+
+use crate::part::{Part, made, weight};
+use crate::table::{Node, Record, node_of};
+use coniks_proof::{Digest, Hash32, Message, Nonce, Prefix, empty_message, hash_all, leaf_message};
+use std::alloc::{AllocError, Global};
+use std::collections::VecDeque;
+
+/// Two parts of neighbouring prefixes, and the prefix above.
+#[derive(Drop)]
+pub(crate) struct Pair {
+    pub(crate) prefix: Prefix,
+    pub(crate) left: Part,
+    pub(crate) right: Part,
+}
+
+/// A pair with the hashes of its two parts.
+#[derive(Drop)]
+pub(crate) struct Halved {
+    pub(crate) pair: Pair,
+    pub(crate) left_hash: Digest,
+    pub(crate) right_hash: Digest,
+}
+
+/// Puts what is hashed for a side at the end of a list, where it has no hash yet.
+fn ask(
+    prefix: &Prefix,
+    right: bool,
+    part: &Part,
+    messages: &mut Vec<Message>,
+) -> Result<(), AllocError>
+    requires { length prefix.now < 256 }
+    ensures { OnOk result ((nonce : List ℕ) → map (preimage_of nonce) messages.new.items ≡ map (preimage_of nonce) messages.old.items ++ asked_at nonce (child prefix.now right) part.now) }
+{
+    match part {
+        Part::Nothing => Ok(messages.push(empty_message(prefix.child(right)))?),
+        Part::Entry(change) => {
+            let message = leaf_message(&change.index, prefix.len() + 1, &change.commitment);
+            Ok(messages.push(message)?)
+        }
+        Part::Kept(_) => Ok(()),
+        Part::Made(_) => Ok(()),
+    }
+}
+
+/// What is hashed for the sides of pairs that have no hash yet, from left to right.
+fn asked(alloc: Global, pairs: &[Pair]) -> Result<Vec<Message>, AllocError>
+    requires { (n : ℕ) × PairsFit n pairs.now }
+    ensures { IfOk result (λ messages. (nonce : List ℕ) → map (preimage_of nonce) messages.items ≡ asked_of nonce pairs.now) }
+{
+    let mut messages = Vec::with_capacity(alloc, pairs.len())?;
+    let mut rest = pairs;
+    while let [pair, others @ ..] = rest {
+        ask(&pair.prefix, false, &pair.left, &mut messages)?;
+        ask(&pair.prefix, true, &pair.right, &mut messages)?;
+        rest = others;
+    }
+    Ok(messages)
+}
+
+/// The first of the hashes.
+fn first_hash(hashes: &mut VecDeque<Digest>) -> Digest
+    requires { 0 < length hashes.old.items }
+    ensures { hashes.old.items ≡ result ∷ hashes.new.items }
+{
+    let Some(hash) = hashes.pop_front() else {
+        unreachable!()
+    };
+    hash
+}
+
+/// The hash of a side: its own, or else the first of the hashes that were asked for.
+fn side_hash(nodes: &[Node], part: &Part, hashes: &mut VecDeque<Digest>) -> Digest
+    requires fits { (level : ℕ) × Fits (length nodes.now) level part.now }
+    requires some { length (asked_at [] [] part.now) ≤ length hashes.old.items }
+    ensures len { length hashes.new.items + length (asked_at [] [] part.now) ≡ length hashes.old.items }
+    ensures hash { (hash : List ℕ → List ℕ) (nonce : List ℕ) (prefix : List Bool) (rest : List (List ℕ))
+        → map (λ d. d.0) hashes.old.items ≡ map hash (asked_at nonce prefix part.now ++ rest)
+        → IsHashAt hash nonce nodes.now prefix part.now result × (map (λ d. d.0) hashes.new.items ≡ map hash rest) }
+{
+    match part {
+        Part::Nothing => first_hash(hashes),
+        Part::Entry(_) => first_hash(hashes),
+        Part::Kept(root) => node_of(nodes, root.0).hash(),
+        Part::Made(made) => made.hash,
+    }
+}
+
+/// A pair with the hashes of its two parts, of which those that were asked for are the first of the hashes.
+fn halve(nodes: &[Node], pair: Pair, hashes: &mut VecDeque<Digest>) -> Halved
+    requires fits { PairFits (length nodes.now) pair }
+    requires some { length (asked_at [] [] pair.left) + length (asked_at [] [] pair.right) ≤ length hashes.old.items }
+    ensures same { result.pair ≡ pair }
+    ensures len { length hashes.new.items + length (asked_at [] [] pair.left) + length (asked_at [] [] pair.right) ≡ length hashes.old.items }
+    ensures halved { (hash : List ℕ → List ℕ) (nonce : List ℕ) (rest : List (List ℕ))
+        → map (λ d. d.0) hashes.old.items ≡ map hash (asked_at nonce (child pair.prefix false) pair.left ++ (asked_at nonce (child pair.prefix true) pair.right ++ rest))
+        → IsHalved hash nonce nodes.now result × (map (λ d. d.0) hashes.new.items ≡ map hash rest) }
+{
+    let left_hash = side_hash(nodes, &pair.left, hashes);
+    let right_hash = side_hash(nodes, &pair.right, hashes);
+    Halved {
+        pair,
+        left_hash,
+        right_hash,
+    }
+}
+
+/// The pairs with the hashes of their parts, and what is hashed for the nodes over them.
+fn halve_all(
+    alloc: Global,
+    nodes: &[Node],
+    pairs: Vec<Pair>,
+    mut hashes: VecDeque<Digest>,
+) -> Result<(VecDeque<Halved>, Vec<Message>), AllocError>
+    requires fits { PairsFit (length nodes.now) pairs.items }
+    requires some { length (asked_of [] pairs.items) ≤ length hashes.items }
+    ensures same { IfOk result (λ all. map (λ h. h.pair) all.0.items ≡ pairs.items) }
+    ensures inner { IfOk result (λ all. (nonce : List ℕ) → map (preimage_of nonce) all.1.items ≡ map inner_of all.0.items) }
+    ensures halved { IfOk result (λ all. (hash : List ℕ → List ℕ) (nonce : List ℕ)
+        → map (λ d. d.0) hashes.items ≡ map hash (asked_of nonce pairs.items) → AllHalved hash nonce nodes.now all.0.items) }
+{
+    let mut halved = VecDeque::with_capacity(alloc, pairs.len())?;
+    let mut messages = Vec::with_capacity(alloc, pairs.len())?;
+    let mut rest = VecDeque::from(pairs);
+    while let Some(pair) = rest.pop_front() {
+        let one = halve(nodes, pair, &mut hashes);
+        messages.push(Message::Inner(one.left_hash, one.right_hash))?;
+        halved.push_back(one)?;
+    }
+    Ok((halved, messages))
+}
+
+/// Two parts, whose hashes and whose node's hash are known, as the part of the prefix above.
+fn joined(alloc: Global, halved: Halved, hash: Digest) -> Result<Part, AllocError>
+    ensures fits { IfOk result (λ part. (n : ℕ) → PairFits n halved.pair → Fits n (length halved.pair.prefix) part) }
+    ensures count { IfOk result (λ part. node_count part ≤ node_count halved.pair.left + node_count halved.pair.right + 1) }
+    ensures placed { IfOk result (λ part. (all : List Record) → Placed all halved.pair.left → Placed all halved.pair.right → Placed all part) }
+    ensures stands { IfOk result (λ part. (of : List ℕ → List ℕ) (nonce : List ℕ) (nodes : List Node) (records : List Record) (entries : List Numbered)
+        → length halved.pair.prefix < 256 → IsHalved of nonce nodes halved → hash.0 ≡ of (inner_of halved)
+        → Stands of nonce nodes records halved.pair.left (child halved.pair.prefix false) (half false (length halved.pair.prefix) entries)
+        → Stands of nonce nodes records halved.pair.right (child halved.pair.prefix true) (half true (length halved.pair.prefix) entries)
+        → Stands of nonce nodes records part halved.pair.prefix entries) }
+{
+    let Halved {
+        pair,
+        left_hash,
+        right_hash,
+    } = halved;
+    let Pair { left, right, .. } = pair;
+    let weight_left = weight(&left);
+    if weight_left + weight(&right) < 2 {
+        if weight_left == 1 {
+            return Ok(left);
+        }
+        return Ok(right);
+    }
+    Ok(made(alloc, left, right, left_hash, right_hash, hash)?)
+}
+
+/// The pairs joined, whose nodes have these hashes.
+fn joined_all(
+    alloc: Global,
+    mut halved: VecDeque<Halved>,
+    mut hashes: VecDeque<Digest>,
+) -> Result<VecDeque<Part>, AllocError>
+    requires { length halved.items ≡ length hashes.items }
+    ensures { IfOk result (λ parts. (of : List ℕ → List ℕ) (nonce : List ℕ) (nodes : List Node) → PairsFit (length nodes) (map (λ h. h.pair) halved.items)
+        → AllHalved of nonce nodes halved.items → map (λ d. d.0) hashes.items ≡ map (λ h. of (inner_of h)) halved.items
+        → AllJoined of nonce nodes (map (λ h. h.pair) halved.items) parts.items) }
+{
+    let mut parts = VecDeque::with_capacity(alloc, halved.len())?;
+    while let Some(one) = halved.pop_front() {
+        let hash = first_hash(&mut hashes);
+        parts.push_back(joined(alloc, one, hash)?)?;
+    }
+    Ok(parts)
+}
+
+/// The parts of pairs, in their order, each as the part of the prefix above. The hashes that the sides lack are made by
+/// fours, and then those of the nodes above them.
+pub(crate) fn join_all<H: Hash32>(
+    alloc: Global,
+    nodes: &[Node],
+    h: &H,
+    nonce: &Nonce,
+    pairs: Vec<Pair>,
+) -> Result<VecDeque<Part>, AllocError>
+    requires { PairsFit (length nodes.now) pairs.items }
+    ensures { IfOk result (λ parts. AllJoined (H.digest_of h.now) nonce.now.0 nodes.now pairs.items parts.items) }
+{
+    let messages = asked(alloc, &pairs)?;
+    let hashes = hash_all(alloc, h, nonce, &messages)?;
+    let (halved, messages) = halve_all(alloc, nodes, pairs, hashes)?;
+    let hashes = hash_all(alloc, h, nonce, &messages)?;
+    Ok(joined_all(alloc, halved, hashes)?)
+}

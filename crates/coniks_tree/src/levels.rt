@@ -1,0 +1,201 @@
+//! A part overwritten by many changes, level by level.
+
+ghost use Rattle.std.specs.Prelude.{◌≡◌, ◌++◌, ◌∷◌, ◌<◌, ◌≤◌, ◌+◌, ◌-◌, [], List, ℕ, length, IfOk, Bool, false, true};
+ghost use Rattle.coniks_proof.specs.Bits.{child};
+ghost use Rattle.coniks_tree.specs.Table.{IsTable};
+ghost use Rattle.coniks_tree.specs.Parts.{Fits};
+ghost use Rattle.coniks_tree.specs.Levels.{AllDivide, AllGrown, AllOpen, Divides, IsGrown, IsOpen, SideGrows, filled, left_by, side_from};
+
+use crate::growth::{only_change, sides};
+use crate::halving::opened;
+use crate::joining::{Pair, join_all};
+use crate::part::{Change, Part, join_parts};
+use crate::table::{Node, Record};
+use coniks_proof::{Hash32, Nonce, Prefix};
+use std::alloc::{AllocError, Global};
+use std::collections::VecDeque;
+
+/// The part of a prefix that is to be overwritten by changes, for which it has to be opened.
+#[derive(Drop)]
+pub(crate) struct Growing<'a> {
+    pub(crate) part: Part,
+    pub(crate) prefix: Prefix,
+    pub(crate) changes: &'a [Change],
+}
+
+/// A prefix whose part was opened, and its two sides, as far as they are done.
+#[derive(Drop)]
+pub(crate) struct Opened {
+    pub(crate) prefix: Prefix,
+    pub(crate) left: Option<Part>,
+    pub(crate) right: Option<Part>,
+}
+
+/// A part overwritten by changes, where that takes no opening. Else it is put at the end of those that grow.
+fn settle<'a>(
+    part: Part,
+    prefix: Prefix,
+    changes: &'a [Change],
+    next: &mut VecDeque<Growing<'a>>,
+) -> Result<Option<Part>, AllocError>
+    ensures { IfOk result (λ side. (of : List ℕ → List ℕ) (nonce : List ℕ) (nodes : List Node) (records : List Record) → Fits (length nodes) (length prefix) part
+        → (more : List Growing) × (next.new.items ≡ next.old.items ++ more) × AllOpen (length nodes) (length prefix) more
+        × SideGrows of nonce nodes records prefix part changes.now side more) }
+{
+    if changes.is_empty() {
+        return Ok(Some(part));
+    }
+    if let Some(change) = only_change(prefix.len(), &part, changes) {
+        return Ok(Some(Part::Entry(change)));
+    }
+    next.push_back(Growing {
+        part,
+        prefix,
+        changes,
+    })?;
+    Ok(None)
+}
+
+/// A part, opened for its changes. What is left to grow below is put at the end of those that grow.
+fn divide<'a>(
+    nodes: &[Node],
+    records: &[Record],
+    part: Part,
+    prefix: &Prefix,
+    changes: &'a [Change],
+    next: &mut VecDeque<Growing<'a>>,
+) -> Result<(Option<Part>, Option<Part>), AllocError>
+    requires table { IsTable nodes.now records.now }
+    requires short { length prefix.now < 256 }
+    requires some { 0 < length changes.now }
+    requires fits { Fits (length nodes.now) (length prefix.now) part }
+    ensures { IfOk result (λ both. (of : List ℕ → List ℕ) (nonce : List ℕ)
+        → (more : List Growing) × (next.new.items ≡ next.old.items ++ more) × AllOpen (length nodes.now) (length prefix.now + 1) more
+        × Divides of nonce nodes.now records.now prefix.now part changes.now both.0 both.1 more) }
+{
+    let level = prefix.len();
+    let (left, right) = opened(nodes, records, level, part);
+    let (on_left, on_right) = sides(changes, level);
+    let left = settle(left, prefix.child(false), on_left, next)?;
+    let right = settle(right, prefix.child(true), on_right, next)?;
+    Ok((left, right))
+}
+
+/// The parts of a level, opened for their changes, and those that are left to grow at the next one.
+fn divide_all<'a>(
+    alloc: Global,
+    nodes: &[Node],
+    records: &[Record],
+    level: usize,
+    mut growing: VecDeque<Growing<'a>>,
+) -> Result<(VecDeque<Opened>, VecDeque<Growing<'a>>), AllocError>
+    requires table { IsTable nodes.now records.now }
+    requires growing { AllOpen (length nodes.now) level growing.items }
+    ensures below { IfOk result (λ both. AllOpen (length nodes.now) (level + 1) both.1.items) }
+    ensures divide { IfOk result (λ both. (of : List ℕ → List ℕ) (nonce : List ℕ) → AllDivide of nonce nodes.now records.now growing.entry.items both.0.items both.1.items) }
+{
+    let _ = level;
+    let mut opened = VecDeque::with_capacity(alloc, growing.len())?;
+    let mut next = VecDeque::with_capacity(alloc, growing.len())?;
+    while let Some(one) = growing.pop_front() {
+        let Growing {
+            part,
+            prefix,
+            changes,
+        } = one;
+        let (left, right) = divide(nodes, records, part, &prefix, changes, &mut next)?;
+        opened.push_back(Opened {
+            prefix,
+            left,
+            right,
+        })?;
+    }
+    Ok((opened, next))
+}
+
+/// A side that is done, and else the first of the parts from below.
+fn side_or_first(side: Option<Part>, below: &mut VecDeque<Part>) -> Part
+    ensures part { result ≡ side_from side below.old.items }
+    ensures below { below.new.items ≡ left_by side below.old.items }
+{
+    match side {
+        Some(part) => part,
+        None => below.pop_front().unwrap_or(Part::Nothing),
+    }
+}
+
+/// The opened parts with all their sides.
+fn fill(
+    alloc: Global,
+    mut opened: VecDeque<Opened>,
+    mut below: VecDeque<Part>,
+) -> Result<Vec<Pair>, AllocError>
+    ensures { IfOk result (λ pairs. pairs.items ≡ filled opened.items below.items) }
+{
+    let mut pairs = Vec::with_capacity(alloc, opened.len())?;
+    while let Some(one) = opened.pop_front() {
+        let Opened {
+            prefix,
+            left,
+            right,
+        } = one;
+        let left = side_or_first(left, &mut below);
+        let right = side_or_first(right, &mut below);
+        pairs.push(Pair {
+            prefix,
+            left,
+            right,
+        })?;
+    }
+    Ok(pairs)
+}
+
+/// The parts of a level, overwritten by their changes: opened, grown at the next level, and joined, by fours.
+fn grow_level<H: Hash32>(
+    alloc: Global,
+    nodes: &[Node],
+    records: &[Record],
+    h: &H,
+    nonce: &Nonce,
+    level: usize,
+    growing: VecDeque<Growing>,
+) -> Result<VecDeque<Part>, AllocError>
+    requires table { IsTable nodes.now records.now }
+    requires growing { AllOpen (length nodes.now) level growing.items }
+    ensures { IfOk result (λ parts. AllGrown (H.digest_of h.now) nonce.now.0 nodes.now records.now growing.entry.items parts.items) }
+{
+    if growing.is_empty() {
+        return Ok(VecDeque::new(alloc));
+    }
+    let (opened, next) = divide_all(alloc, nodes, records, level, growing)?;
+    let below = grow_level(alloc, nodes, records, h, nonce, level + 1, next)?;
+    let pairs = fill(alloc, opened, below)?;
+    Ok(join_all(alloc, nodes, h, nonce, pairs)?)
+}
+
+/// The part overwritten by changes, for which it has to be opened, level by level. It is kept out of its caller's frame,
+/// which a recursion has once for each level.
+#[inline(never)]
+pub(crate) fn grow_by_levels<H: Hash32>(
+    alloc: Global,
+    nodes: &[Node],
+    records: &[Record],
+    h: &H,
+    nonce: &Nonce,
+    part: Part,
+    prefix: &Prefix,
+    changes: &[Change],
+) -> Result<Part, AllocError>
+    requires table { IsTable nodes.now records.now }
+    requires short { length prefix.now < 256 }
+    requires some { 0 < length changes.now }
+    requires fits { Fits (length nodes.now) (length prefix.now) part }
+    ensures { IfOk result (λ grown. IsGrown (H.digest_of h.now) nonce.now.0 nodes.now records.now prefix.now part changes.now grown) }
+{
+    let mut next = VecDeque::with_capacity(alloc, 2)?;
+    let (left, right) = divide(nodes, records, part, prefix, changes, &mut next)?;
+    let mut below = grow_level(alloc, nodes, records, h, nonce, prefix.len() + 1, next)?;
+    let left = side_or_first(left, &mut below);
+    let right = side_or_first(right, &mut below);
+    Ok(join_parts(alloc, nodes, h, nonce, prefix, left, right)?)
+}
