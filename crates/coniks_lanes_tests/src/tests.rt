@@ -29,43 +29,35 @@ fn message(rt: &impl Abort, pieces: &[&[u8]]) -> TwoBlocks {
     TwoBlocks::of(pieces).expect(rt, "56 to 119 bytes")
 }
 
+/// Asserts four digests, in their order.
+fn are(rt: &impl Abort, got: [[u8; 32]; 4], want: [&str; 4]) {
+    let [a, b, c, d] = got;
+    let [first, second, third, fourth] = want;
+    assert_eq!(rt; a, digest(rt, first));
+    assert_eq!(rt; b, digest(rt, second));
+    assert_eq!(rt; c, digest(rt, third));
+    assert_eq!(rt; d, digest(rt, fourth));
+}
+
 /// FIPS 180-4's example of two blocks, and NIST's of 56, 57 and 64 zero bytes.
 #[test]
 fn published(rt: HostRuntime) {
     let letters = b"abcdbcdecdefdefgefghfghighijhijkijkljklmklmnlmnomnopnopq";
-    let [a, b, c, d] = hash_four(
+    let got = hash_four(
         &message(&rt, &[letters]),
         &message(&rt, &[&[0; 56]]),
         &message(&rt, &[&[0; 57]]),
         &message(&rt, &[&[0; 64]]),
     );
-    assert_eq!(rt;
-        a,
-        digest(
-            &rt,
-            "248d6a61d20638b8e5c026930c3e6039a33ce45964ff2167f6ecedd419db06c1"
-        )
-    );
-    assert_eq!(rt;
-        b,
-        digest(
-            &rt,
-            "d4817aa5497628e7c77e6b606107042bbba3130888c5f47a375e6179be789fbb"
-        )
-    );
-    assert_eq!(rt;
-        c,
-        digest(
-            &rt,
-            "65a16cb7861335d5ace3c60718b5052e44660726da4cd13bb745381b235a1785"
-        )
-    );
-    assert_eq!(rt;
-        d,
-        digest(
-            &rt,
-            "f5a5fd42d16a20302798ef6ed309979b43003d2320d9f0e8ea9831a92759fb4b"
-        )
+    are(
+        &rt,
+        got,
+        [
+            "248d6a61d20638b8e5c026930c3e6039a33ce45964ff2167f6ecedd419db06c1",
+            "d4817aa5497628e7c77e6b606107042bbba3130888c5f47a375e6179be789fbb",
+            "65a16cb7861335d5ace3c60718b5052e44660726da4cd13bb745381b235a1785",
+            "f5a5fd42d16a20302798ef6ed309979b43003d2320d9f0e8ea9831a92759fb4b",
+        ],
     );
 }
 
@@ -73,39 +65,21 @@ fn published(rt: HostRuntime) {
 #[test]
 fn lengths(rt: HostRuntime) {
     let counted = counted();
-    let [a, b, c, d] = hash_four(
+    let got = hash_four(
         &message(&rt, &[part(&rt, &counted, 0, 56)]),
         &message(&rt, &[part(&rt, &counted, 0, 65)]),
         &message(&rt, &[part(&rt, &counted, 0, 99)]),
         &message(&rt, &[&counted]),
     );
-    assert_eq!(rt;
-        a,
-        digest(
-            &rt,
-            "4324d65f3c103567f5589c710bc08f8523f929a9272e3af36fc968e52abc6c27"
-        )
-    );
-    assert_eq!(rt;
-        b,
-        digest(
-            &rt,
-            "aacca6ff74fdbb296d165a45cecfa04e5127bc008770fbbdd48006f2d2fae95e"
-        )
-    );
-    assert_eq!(rt;
-        c,
-        digest(
-            &rt,
-            "5e4edd8413b312a4d85297f6e89146bacf0d9714495a1e83dc9f63c0037f0d30"
-        )
-    );
-    assert_eq!(rt;
-        d,
-        digest(
-            &rt,
-            "9ce7368e4daf32341631b492e80359dc9f594b48453cd0dd5bf0b19279cc177e"
-        )
+    are(
+        &rt,
+        got,
+        [
+            "4324d65f3c103567f5589c710bc08f8523f929a9272e3af36fc968e52abc6c27",
+            "aacca6ff74fdbb296d165a45cecfa04e5127bc008770fbbdd48006f2d2fae95e",
+            "5e4edd8413b312a4d85297f6e89146bacf0d9714495a1e83dc9f63c0037f0d30",
+            "9ce7368e4daf32341631b492e80359dc9f594b48453cd0dd5bf0b19279cc177e",
+        ],
     );
 }
 
@@ -113,7 +87,7 @@ fn lengths(rt: HostRuntime) {
 #[test]
 fn pieces(rt: HostRuntime) {
     let counted = counted();
-    let [a, b, c, d] = hash_four(
+    let got = hash_four(
         &message(
             &rt,
             &[
@@ -137,20 +111,9 @@ fn pieces(rt: HostRuntime) {
             &[part(&rt, &counted, 0, 60), part(&rt, &counted, 60, 118)],
         ),
     );
-    let same = digest(
-        &rt,
-        "06e3cd2ed0fa6071c44dc044441f1d16e92b7505ce10787230dc895fcc6622b2",
-    );
-    assert_eq!(rt; a, same);
-    assert_eq!(rt; b, same);
-    assert_eq!(rt; c, same);
-    assert_eq!(rt;
-        d,
-        digest(
-            &rt,
-            "2c49b89c5aaaaaa69ae70251cc0803f14afaf1a2caa461fa6b083750bc07ce88"
-        )
-    );
+    let same = "06e3cd2ed0fa6071c44dc044441f1d16e92b7505ce10787230dc895fcc6622b2";
+    let other = "2c49b89c5aaaaaa69ae70251cc0803f14afaf1a2caa461fa6b083750bc07ce88";
+    are(&rt, got, [same, same, same, other]);
 }
 
 /// A message of one block or of three is none of two.
