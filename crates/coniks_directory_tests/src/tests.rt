@@ -8,6 +8,7 @@ mod clerk;
 mod clients;
 mod epochs;
 mod gates;
+mod groups;
 mod installs;
 mod largest;
 mod outside;

@@ -13,7 +13,7 @@ use std::thread::Threads;
 
 /// Gives each name its SHA-256 as its index.
 #[derive(Clone, Copy, Drop)]
-struct Hashed;
+pub struct Hashed;
 
 impl IndexSource for Hashed {
     ghost use Rattle.coniks_proof.specs.Sha256.{sha256};

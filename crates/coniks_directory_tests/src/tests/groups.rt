@@ -1,0 +1,93 @@
+//! Batches whose commitments are groups of four and one, two or three left over.
+
+use crate::tests::answers::digest;
+use crate::tests::clerk::{NONCE, POLICY, refusing};
+use crate::tests::largest::Hashed;
+use coniks_directory::{Directory, Op, OpKind};
+use coniks_proof::{Bytes, Digest, Opening, Sha256Hash};
+use coniks_shared::Board;
+use coniks_work::Open;
+use std::alloc::Global;
+use std::process::Abort;
+use std::thread::Threads;
+
+/// How many bytes a name and its key have. The commitment's message has 39 more.
+type Sizes = (usize, usize);
+
+/// So many times the letter that stands so far behind another.
+fn letters(rt: &impl Abort, alloc: Global, first: u8, behind: u8, count: usize) -> Bytes {
+    let letter = first.wrapping_add(behind);
+    Bytes::new(vec![in alloc; letter; count].expect(rt, "memory"))
+}
+
+/// Registers a name of letters `a` with a key of letters `A`, then one of `b` with `B`, and so on.
+fn registering(rt: &impl Abort, alloc: Global, sizes: &[Sizes]) -> Vec<Op> {
+    let mut ops = Vec::new(alloc);
+    let mut behind = 0u8;
+    for &(name, key) in sizes {
+        let op = Op {
+            kind: OpKind::Register,
+            name: letters(rt, alloc, b'a', behind, name),
+            key: letters(rt, alloc, b'A', behind, key),
+            opening: Opening([0x22; 32]),
+        };
+        ops.push(op).expect(rt, "memory");
+        behind = behind.wrapping_add(1);
+    }
+    ops
+}
+
+/// The root of a new directory after such a batch.
+fn root_after<R: Threads + Sync + Abort>(rt: &R, alloc: Global, sizes: &[Sizes]) -> Option<Digest> {
+    let ops = registering(rt, alloc, sizes);
+    let (board, mut publisher) = Board::new(alloc, 1).expect(rt, "a board");
+    let mut directory = Directory::open(alloc, Sha256Hash, Hashed, NONCE, POLICY);
+    let mut signer = refusing(u64::MAX);
+    let entry = directory.commit(
+        rt,
+        &ops,
+        1,
+        2,
+        &Open,
+        1,
+        &mut signer,
+        &mut publisher,
+        &board,
+    );
+    assert!(rt; entry.is_ok());
+    directory.root_at(1)
+}
+
+/// Each root is another, and the commitments of all places stand in it. A message of 56 to 119 bytes goes by lanes, where
+/// all four of its group do.
+#[test]
+fn left_over(rt: HostRuntime) {
+    let five: &[Sizes] = &[(1, 16), (2, 32), (12, 32), (3, 77), (1, 15)];
+    let six: &[Sizes] = &[(1, 15), (2, 15), (3, 77), (4, 77), (5, 75), (6, 75)];
+    let seven: &[Sizes] = &[
+        (2, 15),
+        (3, 77),
+        (2, 16),
+        (1, 79),
+        (1, 15),
+        (4, 77),
+        (255, 1),
+    ];
+    for &(sizes, want) in &[
+        (
+            five,
+            "a77ff74798b670df3dc51b7446b28a2716028284d528efc04ddfafca2d97e1fc",
+        ),
+        (
+            six,
+            "1e3c5f864bce8cfcef48d6b307d4ad9a898cf4b1c831676f6757dde24056c0df",
+        ),
+        (
+            seven,
+            "45686213d16ff35e23e870e9cabb8518237122542cdd6a8d4fff37fdb2769d91",
+        ),
+    ] {
+        let root = root_after(&rt, rt.alloc(), sizes);
+        assert!(rt; root == Some(digest(&rt, want)), "of {} names", sizes.len());
+    }
+}
