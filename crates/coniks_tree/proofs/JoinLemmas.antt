@@ -63,10 +63,10 @@ pub AllHalved-push : (of : List ℕ → List ℕ) (nonce : List ℕ) (nodes : Li
 AllHalved-push of nonce nodes [] h all one = (one, tt)
 AllHalved-push of nonce nodes (x ∷ hs) h all one = (all.0, AllHalved-push of nonce nodes hs h all.1 one)
 
--- fewer are asked for once a pair has its hashes
-pub asked-fewer : (before rest : List Pair) (pair : Pair) (m n : ℕ) → before ≡ pair ∷ rest → length (asked_of [] before) ≤ m
-    → n + length (asked_at [] [] pair.left) + length (asked_at [] [] pair.right) ≡ m → length (asked_of [] rest) ≤ n
-asked-fewer before rest pair m n is enough fewer =
+-- what is asked for the sides of pairs: for those of the first, and of the others
+asked-parted : (before rest : List Pair) (pair : Pair) → before ≡ pair ∷ rest
+    → length (asked_of [] before) ≡ length (asked_at [] [] pair.left) + length (asked_at [] [] pair.right) + length (asked_of [] rest)
+asked-parted before rest pair is =
     omega (
       arith,
       ap (λ ps. length (asked_of [] ps)) is,
@@ -76,18 +76,15 @@ asked-fewer before rest pair m n is enough fewer =
       asked_at-length [] (child pair.prefix true) pair.right,
     )
 
+-- fewer are asked for once a pair has its hashes
+pub asked-fewer : (before rest : List Pair) (pair : Pair) (m n : ℕ) → before ≡ pair ∷ rest → length (asked_of [] before) ≤ m
+    → n + length (asked_at [] [] pair.left) + length (asked_at [] [] pair.right) ≡ m → length (asked_of [] rest) ≤ n
+asked-fewer before rest pair m n is enough fewer = omega (arith, asked-parted before rest pair is)
+
 -- the first pair needs no more than there are
 pub asked-first : (before rest : List Pair) (pair : Pair) (m : ℕ) → before ≡ pair ∷ rest → length (asked_of [] before) ≤ m
     → length (asked_at [] [] pair.left) + length (asked_at [] [] pair.right) ≤ m
-asked-first before rest pair m is enough =
-    omega (
-      arith,
-      ap (λ ps. length (asked_of [] ps)) is,
-      length-append (asked_at [] (child pair.prefix false) pair.left) (asked_at [] (child pair.prefix true) pair.right ++ asked_of [] rest),
-      length-append (asked_at [] (child pair.prefix true) pair.right) (asked_of [] rest),
-      asked_at-length [] (child pair.prefix false) pair.left,
-      asked_at-length [] (child pair.prefix true) pair.right,
-    )
+asked-first before rest pair m is enough = omega (arith, asked-parted before rest pair is)
 
 -- the pairs that have their hashes, and the others, are still all of them
 pub same-more : (all before rest : List Pair) (pair : Pair) (hs new : List Halved) (h : Halved) → before ≡ pair ∷ rest → new ≡ hs ++ h ∷ [] → h.pair ≡ pair

@@ -104,11 +104,19 @@ fn two_sides(rt: HostRuntime) {
     }
 }
 
+/// The tree with `a` on the left and `c` beside it, and its root.
+fn a_and_c(rt: &impl Abort, alloc: Global, depth: usize) -> (Epochs<Sha256Hash>, Root) {
+    let names = [
+        (index_of(0, 0), b'a', b'k'),
+        (index_of(0x40, 0), b'c', b'k'),
+    ];
+    grown(rt, alloc, depth, &names, 5, ROOT_OF_A_AND_C)
+}
+
 #[test]
 fn an_empty_side(rt: HostRuntime) {
-    let (a, b, c) = (index_of(0, 0), index_of(0x80, 0), index_of(0x40, 0));
-    let names = [(a, b'a', b'k'), (c, b'c', b'k')];
-    let (epochs, both) = grown(&rt, rt.alloc(), 1, &names, 5, ROOT_OF_A_AND_C);
+    let b = index_of(0x80, 0);
+    let (epochs, both) = a_and_c(&rt, rt.alloc(), 1);
     let sibling = "38019962bd3fb17b0ce139797de7810f62c05c3c6206aa5c75162bf635de3c88";
     let end = end_of_path(&rt, &epochs, both, &b, &[digest(&rt, sibling)]);
     assert_eq!(rt; end, Place::Empty);
@@ -116,9 +124,8 @@ fn an_empty_side(rt: HostRuntime) {
 
 #[test]
 fn another_leaf_at_the_end(rt: HostRuntime) {
-    let (a, c, d) = (index_of(0, 0), index_of(0x40, 0), index_of(0x20, 0));
-    let names = [(a, b'a', b'k'), (c, b'c', b'k')];
-    let (epochs, both) = grown(&rt, rt.alloc(), 0, &names, 5, ROOT_OF_A_AND_C);
+    let (a, d) = (index_of(0, 0), index_of(0x20, 0));
+    let (epochs, both) = a_and_c(&rt, rt.alloc(), 0);
     let empty = "4efd57d68394bbbb37d8c702001e95330c4da455acb24567f83c5dc95c691776";
     let leaf = "d678b1463f0c61c00a5d0b6ffe75bbce685a3b91ac5a96e7e2975fb8d1f32f69";
     let siblings = [digest(&rt, empty), digest(&rt, leaf)];
