@@ -3,6 +3,7 @@ use Rattle.std.proofs.Common.{◌≡◌, ◌≢◌, ℕ, zero, suc, ◌+◌, ◌
 use Rattle.std.proofs.Common.{refl, sym, ap, subst, ◌∙◌, arith, inl, inr, append_assoc, append-nil}
 use Rattle.std.proofs.lemmas.List.Elements.{filter-append}
 use Rattle.std.proofs.lemmas.List.{map-append}
+use Rattle.std.proofs.lemmas.Option.{slice_get_cases}
 use Rattle.coniks_proof.specs.Bits.{bit_at, child, turns}
 use Rattle.coniks_proof.specs.Entries.{IsIn, half}
 use Rattle.coniks_proof.specs.Maps.{IsMap}
@@ -10,7 +11,7 @@ use Rattle.coniks_proof.specs.Changes.{ApartWithin, AreApart, AreInOrder, InOrde
 use Rattle.coniks_proof.proofs.Lemmas.{IsIn-append, IsIn-append_left, IsIn-append_right, IsIn-filter, IsMap-append, IsMap-filter, SameEntries-sym, of_filter, passes}
 use Rattle.coniks_proof.proofs.Lemmas.{all_left, all_right, filters_swap, length-halves, overwritten-empty}
 use Rattle.coniks_proof.specs.declared.values.Digest.{Digest}
-use Rattle.coniks_tree.specs.Entries.{Lists, in_order, in_order_within}
+use Rattle.coniks_tree.specs.Entries.{AreStored, Lists, entries_at, entry_at, in_order, in_order_within}
 use Rattle.coniks_tree.specs.Parts.{Stands, entries_of, entry_of_change}
 use Rattle.coniks_tree.proofs.PushLemmas.{Stands-same}
 use Rattle.coniks_tree.specs.Table.{Numbered, Shows, shows_empty, shows_leaf, shows_inner, entry_of_record}
@@ -94,15 +95,41 @@ Shows-none hash nonce nodes records _ _ _ d here (shows_leaf n p es d' place rec
 Shows-none hash nonce nodes records _ _ _ d here (shows_inner n p es d' l r at short many is left right) = cc
 
 -- a leaf shows the entry of its record
-pub Shows-one : (hash : List ℕ → List ℕ) (nonce : List ℕ) (nodes : List Node) (records : List Record) (n : ℕ) (p : List Bool) (es : List Numbered) (place : RecordNo) (d : Digest) (e : Numbered)
-    → slice_get nodes n ≡ Some (Leaf place d) → ((r : Record) → slice_get records place.0 ≡ Some r → e ≡ entry_of_record place.0 r)
-    → Shows hash nonce nodes records n p es → es ≡ e ∷ []
-Shows-one hash nonce nodes records _ _ _ place d e here is-of (shows_empty n p es d' at none is) = cc
-Shows-one hash nonce nodes records _ _ _ place d e here is-of (shows_inner n p es d' l r at short many is left right) = cc
-Shows-one hash nonce nodes records _ _ _ place d e here is-of (shows_leaf n p es d' place' r at stored one is) =
-    let same : place' ≡ place = cc in
-    let entry : (q : RecordNo) → List Numbered = λ q. entry_of_record q.0 r ∷ [] in
-    one ∙ ap entry same ∙ ap (λ x. x ∷ []) (sym (is-of r (subst (λ (q : RecordNo). slice_get records q.0 ≡ Some r) same stored)))
+pub Shows-one : (hash : List ℕ → List ℕ) (nonce : List ℕ) (nodes : List Node) (records : List Record) (n : ℕ) (p : List Bool) (es : List Numbered) (place : RecordNo) (d : Digest)
+    → slice_get nodes n ≡ Some (Leaf place d) → Shows hash nonce nodes records n p es → (length es ≤ 1) × (es ≡ entry_at place.0 (slice_get records place.0))
+Shows-one hash nonce nodes records _ _ _ place d here (shows_empty n p es d' at none is) = cc
+Shows-one hash nonce nodes records _ _ _ place d here (shows_inner n p es d' l r at short many is left right) = cc
+Shows-one hash nonce nodes records _ _ _ place d here (shows_leaf n p es d' place' r at stored one is) =
+    let same : place' ≡ place = cc in (
+      omega (arith, ap length one),
+      one ∙ ap (entry_at place'.0) (sym stored) ∙ ap (λ (q : RecordNo). entry_at q.0 (slice_get records q.0)) same,
+    )
+
+-- ---- the places
+
+pub entries_at-append : (records : List Record) (ps qs : List RecordNo) → entries_at records (ps ++ qs) ≡ entries_at records ps ++ entries_at records qs
+entries_at-append records [] qs = refl
+entries_at-append records (p ∷ ps) qs =
+    let first = entry_at p.0 (slice_get records p.0) in
+    ap (λ es. first ++ es) (entries_at-append records ps qs) ∙ sym (append_assoc first (entries_at records ps) (entries_at records qs))
+
+pub AreStored-push : (n : ℕ) (ps : List RecordNo) (p : RecordNo) → AreStored n ps → p.0 < n → AreStored n (ps ++ p ∷ [])
+AreStored-push n [] p stored here = (here, tt)
+AreStored-push n (q ∷ ps) p stored here = (stored.0, AreStored-push n ps p stored.1 here)
+
+-- a place whose record's entry is a change's
+stored_entry : (records : List Record) (n : ℕ) (e : Numbered) → n < length records → ((r : Record) → slice_get records n ≡ Some r → e ≡ entry_of_record n r)
+    → entry_at n (slice_get records n) ≡ e ∷ []
+stored_entry records n e within is = elim (slice_get_cases records n).1 [
+  | inl found ↦ ap (entry_at n) found.2 ∙ ap (λ x. x ∷ []) (sym (is found.0 found.2))
+  | inr past ↦ absurd (omega (arith, past.0, within))
+]
+
+-- the changes go on with the entry of a place
+pub listed_change : (records : List Record) (cs new : List Change) (c : Change) (n : ℕ) → new ≡ cs ++ c ∷ [] → n < length records
+    → ((r : Record) → slice_get records n ≡ Some r → entry_of_change c ≡ entry_of_record n r) → entries_of new ≡ entries_of cs ++ entry_at n (slice_get records n)
+listed_change records cs new c n new-is within is =
+    ap entries_of new-is ∙ map-append entry_of_change cs (c ∷ []) ∙ ap (λ es. entries_of cs ++ es) (sym (stored_entry records n (entry_of_change c) within is))
 
 -- ---- the list, one part after another
 
@@ -112,11 +139,12 @@ listed-none old k es none =
     let nothing : in_order k es ≡ [] = in_order-few k es (omega (arith, ap length none)) ∙ none in
     sym (append-nil old) ∙ ap (λ xs. old ++ xs) (sym nothing)
 
--- the list goes on with one entry
-pub listed-one : (cs new : List Change) (c : Change) (k : ℕ) (es : List Numbered) → new ≡ cs ++ c ∷ [] → es ≡ entry_of_change c ∷ [] → entries_of new ≡ entries_of cs ++ in_order k es
-listed-one cs new c k es new-is one =
-    let all : in_order k es ≡ entry_of_change c ∷ [] = in_order-few k es (omega (arith, ap length one)) ∙ one in
-    ap entries_of new-is ∙ map-append entry_of_change cs (c ∷ []) ∙ ap (λ xs. entries_of cs ++ xs) (sym all)
+-- the list goes on with the entry of a place
+pub listed-one : (records : List Record) (ps new : List RecordNo) (place : RecordNo) (k : ℕ) (es : List Numbered) → new ≡ ps ++ place ∷ []
+    → length es ≤ 1 → es ≡ entry_at place.0 (slice_get records place.0) → entries_at records new ≡ entries_at records ps ++ in_order k es
+listed-one records ps new place k es new-is few one =
+    ap (entries_at records) new-is ∙ entries_at-append records ps (place ∷ [])
+    ∙ ap (λ xs. entries_at records ps ++ xs) (append-nil (entry_at place.0 (slice_get records place.0)) ∙ sym one ∙ sym (in_order-few k es few))
 
 -- the list goes on with two sides
 pub listed-both : (old middle new : List Numbered) (k : ℕ) (es : List Numbered) → k < 256

@@ -1,5 +1,6 @@
 -- Parts that are grown level by level.
-use Rattle.std.proofs.Common.{◌≡◌, ℕ, ◌+◌, ◌*◌, ◌-◌, ◌<◌, ◌≤◌, List, [], ◌∷◌, ◌++◌, length, Bool, true, false, Option, Some, refl, sym, ap, subst, ◌∙◌, arith, append_assoc}
+use Rattle.std.proofs.Common.{◌≡◌, ℕ, ◌+◌, ◌*◌, ◌-◌, ◌<◌, ◌≤◌, List, [], ◌∷◌, ◌++◌, length, Bool, true, false, Option, Some}
+use Rattle.std.proofs.Common.{refl, sym, ap, subst, ◌∙◌, arith, append_assoc}
 use Rattle.std.proofs.lemmas.List.{append-nil}
 use Rattle.coniks_proof.specs.Bits.{child}
 use Rattle.coniks_proof.specs.Entries.{half}
@@ -65,7 +66,8 @@ grown-same of nonce nodes records p part cs none fits = record {
 -- a change that leaves one entry
 pub grown-one : (of : List ℕ → List ℕ) (nonce : List ℕ) (nodes : List Node) (records : List Record) (p : List Bool) (part : Part) (cs : List Change) (c : Change) (level : ℕ)
     → level ≡ length p → length p ≤ 256 → ((all : List Record) → AllPlaced all cs → Placed all (Entry c))
-    → ((entries : List Numbered) → AreApart level (overwritten entries (entries_of cs)) → Stands of nonce nodes records part p entries → overwritten entries (entries_of cs) ≡ entry_of_change c ∷ [])
+    → ((entries : List Numbered) → AreApart level (overwritten entries (entries_of cs)) → Stands of nonce nodes records part p entries
+    → overwritten entries (entries_of cs) ≡ entry_of_change c ∷ [])
     → IsGrown of nonce nodes records p part cs (Entry c)
 grown-one of nonce nodes records p part cs c level at short placed one = record {
   fits = short;
@@ -106,7 +108,8 @@ grown-count p l r all a b joined short all-is some ha hb join =
     (count_sum (255 - length p) l r a b joined (grown-height p false l a ha) (grown-height p true r b hb) join (omega arith)))
 
 -- the two sides, grown, are those of the part that grows
-pub divided : (of : List ℕ → List ℕ) (nonce : List ℕ) (nodes : List Node) (records : List Record) (p : List Bool) (part : Part) (cs : List Change) (l r : Part) (csl csr : List Change) (l' r' : Part)
+pub divided : (of : List ℕ → List ℕ) (nonce : List ℕ) (nodes : List Node) (records : List Record)
+    → (p : List Bool) (part : Part) (cs : List Change) (l r : Part) (csl csr : List Change) (l' r' : Part)
     → IsCut of nonce nodes records p part cs l r csl csr
     → IsGrown of nonce nodes records (child p false) l csl l' → IsGrown of nonce nodes records (child p true) r csr r' → IsDivided of nonce nodes records p part cs l' r'
 divided of nonce nodes records p part cs l r csl csr l' r' cut left right = record {
@@ -125,8 +128,10 @@ divided of nonce nodes records p part cs l r csl csr l' r' cut left right = reco
     stands = λ entries ordered apart s.
         let both = cut.stands entries s in
         j.stands records (overwritten entries (entries_of cs))
-        (grown_side of nonce nodes records l l' false p (child p false) entries (entries_of cs) (entries_of csl) refl cut.short (cut.on_left ordered) ordered apart (left.stands (half false (length p) entries)) both.0)
-        (grown_side of nonce nodes records r r' true p (child p true) entries (entries_of cs) (entries_of csr) refl cut.short (cut.on_right ordered) ordered apart (right.stands (half true (length p) entries)) both.1);
+        (grown_side of nonce nodes records l l' false p (child p false) entries (entries_of cs) (entries_of csl) refl cut.short
+        (cut.on_left ordered) ordered apart (left.stands (half false (length p) entries)) both.0)
+        (grown_side of nonce nodes records r r' true p (child p true) entries (entries_of cs) (entries_of csr) refl cut.short
+        (cut.on_right ordered) ordered apart (right.stands (half true (length p) entries)) both.1);
   };
 }
 

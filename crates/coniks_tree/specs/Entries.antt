@@ -1,11 +1,13 @@
 -- The entries of a map as a list in the order of their indices.
-use Rattle.std.specs.Prelude.{ℕ, zero, suc, ◌-◌, List, ◌++◌, true, false}
+use Rattle.std.specs.Prelude.{ℕ, zero, suc, ◌<◌, ◌-◌, List, [], ◌∷◌, ◌++◌, slice_get, true, false, Option, Some, None}
 use Rattle.coniks_proof.specs.Changes.{AreInOrder}
 use Rattle.coniks_proof.specs.Entries.{half}
 use Rattle.coniks_proof.specs.Maps.{IsMap, SameEntries}
-use Rattle.coniks_tree.specs.Table.{Numbered}
+use Rattle.coniks_tree.specs.Table.{Numbered, entry_of_record}
 use Rattle.coniks_tree.specs.Parts.{entries_of}
 use Rattle.coniks_tree.specs.declared.part.Change.{Change}
+use Rattle.coniks_tree.specs.declared.table.Record.{Record}
+use Rattle.coniks_tree.specs.declared.table.RecordNo.{RecordNo}
 
 -- the entries in the order of their next `height` bits: those that go left, and then those that go right
 unfoldable pub in_order_within : ℕ → ℕ → List Numbered → List Numbered
@@ -16,6 +18,21 @@ in_order_within (suc height) level entries =
 -- the entries, all under one prefix of `level` bits, in the order of their bits
 unfoldable pub in_order : ℕ → List Numbered → List Numbered
 in_order level entries = in_order_within (256 - level) level entries
+
+-- the entry of the record of a number, where there is one
+abbrev pub entry_at : ℕ → Option Record → List Numbered
+entry_at n None = []
+entry_at n (Some r) = entry_of_record n r ∷ []
+
+-- the entries of the records at these places
+abbrev pub entries_at : List Record → List RecordNo → List Numbered
+entries_at records [] = []
+entries_at records (place ∷ places) = entry_at place.0 (slice_get records place.0) ++ entries_at records places
+
+-- there are so many records that each of the places is one's
+abbrev pub AreStored : ℕ → List RecordNo → Type 0
+AreStored n [] = Unit {0}
+AreStored n (place ∷ places) = (place.0 < n) × AreStored n places
 
 -- the changes are those that build the map from nothing: its entries, and no others, in increasing order of index, and so each once
 pub record Lists (changes : List Change) (entries : List Numbered) : Type 0 where

@@ -1,13 +1,14 @@
 -- Parts that are grown level by level.
-use Rattle.std.specs.Prelude.{◌≡◌, ◌<◌, ◌≤◌, ◌+◌, ◌*◌, ◌-◌, ℕ, List, [], ◌∷◌, ◌++◌, length, Bool, false, Option, Some, None}
+use Rattle.std.specs.Prelude.{◌≡◌, ◌<◌, ◌≤◌, ◌+◌, ◌*◌, ◌-◌, ℕ, List, [], ◌∷◌, ◌++◌, length, slice_get, Bool, cond, false, true, Option, Some, None}
 use Rattle.coniks_proof.specs.Changes.{overwritten, AreApart, AreInOrder}
 use Rattle.coniks_tree.specs.Table.{Extends, Numbered}
 use Rattle.coniks_tree.specs.Parts.{Stands, Fits, Placed, AllPlaced, node_count, is_made, entries_of}
 use Rattle.coniks_tree.specs.Joins.{IsJoined}
 use Rattle.coniks_tree.specs.declared.table.Node.{Node}
+use Rattle.coniks_tree.specs.declared.table.Node.TheVariants.{Empty, Leaf, Inner}
 use Rattle.coniks_tree.specs.declared.table.Record.{Record}
 use Rattle.coniks_tree.specs.declared.part.Change.{Change}
-use Rattle.coniks_tree.specs.declared.part.Part.{Part, Nothing}
+use Rattle.coniks_tree.specs.declared.part.Part.{Part, Nothing, Entry, Kept, Made'}
 use Rattle.coniks_tree.specs.declared.joining.Pair.{Pair}
 use Rattle.coniks_tree.specs.declared.levels.Growing.{Growing}
 use Rattle.coniks_tree.specs.declared.levels.Opened.{Opened}
@@ -23,6 +24,32 @@ pub record IsOpen (n level : ℕ) (g : Growing) : Type 0 where
 abbrev pub AllOpen : ℕ → ℕ → List Growing → Type 0
 AllOpen n level [] = Unit {0}
 AllOpen n level (g ∷ gs) = IsOpen n level g × AllOpen n level gs
+
+-- whether there is a node, and it is an interior one
+abbrev pub is_interior : Option Node → Bool
+is_interior None = false
+is_interior (Some (Empty hash)) = false
+is_interior (Some (Leaf place hash)) = false
+is_interior (Some (Inner left right hash)) = true
+
+-- how many of the two nodes below a node are interior ones
+abbrev pub interior_of : List Node → Option Node → ℕ
+interior_of nodes None = 0
+interior_of nodes (Some (Empty hash)) = 0
+interior_of nodes (Some (Leaf place hash)) = 0
+interior_of nodes (Some (Inner left right hash)) = cond (is_interior (slice_get nodes left)) 1 0 + cond (is_interior (slice_get nodes right)) 1 0
+
+-- how many of the two nodes below a part are, where a node stands for it
+abbrev pub interior_below : List Node → Part → ℕ
+interior_below nodes Nothing = 0
+interior_below nodes (Entry change) = 0
+interior_below nodes (Kept root) = interior_of nodes (slice_get nodes root.0)
+interior_below nodes (Made' p hash lh rh count left right) = 0
+
+-- how many of those below parts that grow
+abbrev pub all_interior_below : List Node → List Growing → ℕ
+all_interior_below nodes [] = 0
+all_interior_below nodes (g ∷ gs) = interior_below nodes g.part + all_interior_below nodes gs
 
 -- a side that is done, and else the first of the parts from below
 abbrev pub side_from : Option Part → List Part → Part

@@ -1,43 +1,75 @@
 //! The entries under a root, in the order of their indices.
 
-ghost use Rattle.std.specs.Prelude.{◌≡◌, ◌++◌, [], ◌<◌, ◌-◌, List, ℕ, length, IfOk, OnOk, Bool};
-ghost use Rattle.coniks_tree.specs.Entries.{Lists, in_order};
+ghost use Rattle.std.specs.Prelude.{◌≡◌, ◌++◌, [], ◌<◌, ◌-◌, List, ℕ, length, slice_get, IfOk, OnOk, Bool};
+ghost use Rattle.coniks_tree.specs.Entries.{AreStored, Lists, entries_at, entry_at, in_order};
 ghost use Rattle.coniks_tree.specs.Parts.{AllPlaced, entries_of};
 ghost use Rattle.coniks_tree.specs.Table.{Extends, IsTable, Numbered, Shows};
 
 use crate::halving::change_at;
 use crate::part::Change;
-use crate::table::{Node, Record, node_of};
+use crate::table::{Node, Record, RecordNo, node_of};
 use coniks_proof::MAX_LEVEL;
 use std::alloc::{AllocError, Global};
 
-/// Puts the entries of a node at the end of a list, in the order of their indices. The node stands at a prefix of `level`
-/// bits.
-pub(crate) fn list_entries(
+/// Puts the places of the records under a node at the end of a list, in the order of their indices. The node stands at a
+/// prefix of `level` bits.
+pub(crate) fn list_places(
     nodes: &[Node],
-    records: &[Record],
     level: usize,
     number: usize,
-    listed: &mut Vec<Change>,
+    listed: &mut Vec<RecordNo>,
 ) -> Result<(), AllocError>
-    requires table { IsTable nodes.now records.now }
+    requires table { (records : List Record) × IsTable nodes.now records }
     requires known { number < length nodes.now }
-    ensures placed { OnOk result ((all : List Record) → Extends records.now all → AllPlaced all listed.old.items → AllPlaced all listed.new.items) }
-    ensures lists { OnOk result ((hash : List ℕ → List ℕ) (nonce : List ℕ) (prefix : List Bool) (entries : List Numbered) → length prefix ≡ level
-        → Shows hash nonce nodes.now records.now number prefix entries
-        → entries_of listed.new.items ≡ entries_of listed.old.items ++ in_order level entries) }
+    ensures stored { OnOk result ((records : List Record) → IsTable nodes.now records → AreStored (length records) listed.old.items → AreStored (length records) listed.new.items) }
+    ensures lists { OnOk result ((hash : List ℕ → List ℕ) (nonce : List ℕ) (records : List Record) (prefix : List Bool) (entries : List Numbered) → length prefix ≡ level
+        → Shows hash nonce nodes.now records number prefix entries
+        → entries_at records listed.new.items ≡ entries_at records listed.old.items ++ in_order level entries) }
 {
     match node_of(nodes, number) {
         Node::Empty(_) => Ok(()),
-        Node::Leaf(place, _) => Ok(listed.push(change_at(records, place))?),
+        Node::Leaf(place, _) => Ok(listed.push(place)?),
         Node::Inner(left, right, _) => {
             if level < MAX_LEVEL {
-                list_entries(nodes, records, level + 1, left, listed)?;
-                list_entries(nodes, records, level + 1, right, listed)?;
+                list_places(nodes, level + 1, left, listed)?;
+                list_places(nodes, level + 1, right, listed)?;
             }
             Ok(())
         }
     }
+}
+
+/// Puts the record at a place at the end of changes.
+fn push_change(
+    records: &[Record],
+    place: RecordNo,
+    changes: &mut Vec<Change>,
+) -> Result<(), AllocError>
+    requires { place.0 < length records.now }
+    ensures placed { OnOk result ((all : List Record) → Extends records.now all → AllPlaced all changes.old.items → AllPlaced all changes.new.items) }
+    ensures entry { OnOk result (entries_of changes.new.items ≡ entries_of changes.old.items ++ entry_at place.0 (slice_get records.now place.0)) }
+{
+    Ok(changes.push(change_at(records, place))?)
+}
+
+/// The records at these places as changes. They are read one after another and nothing between, so that memory answers for
+/// many of them at once.
+fn changes_at(
+    alloc: Global,
+    records: &[Record],
+    places: &[RecordNo],
+) -> Result<Vec<Change>, AllocError>
+    requires { AreStored (length records.now) places.now }
+    ensures placed { IfOk result (λ changes. (all : List Record) → Extends records.now all → AllPlaced all changes.items) }
+    ensures same { IfOk result (λ changes. entries_of changes.items ≡ entries_at records.now places.now) }
+{
+    let mut changes = Vec::with_capacity(alloc, places.len())?;
+    let mut rest = places;
+    while let [place, others @ ..] = rest {
+        push_change(records, *place, &mut changes)?;
+        rest = others;
+    }
+    Ok(changes)
 }
 
 /// The entries under a root as changes.
@@ -53,7 +85,7 @@ pub(crate) fn entries_from(
     ensures lists { IfOk result (λ changes. (hash : List ℕ → List ℕ) (nonce : List ℕ) (entries : List Numbered)
         → Shows hash nonce nodes.now records.now root [] entries → Lists changes.items entries) }
 {
-    let mut changes = Vec::new(alloc);
-    list_entries(nodes, records, 0, root, &mut changes)?;
-    Ok(changes)
+    let mut places = Vec::new(alloc);
+    list_places(nodes, 0, root, &mut places)?;
+    Ok(changes_at(alloc, records, &places)?)
 }

@@ -17,8 +17,8 @@ use std::alloc::{AllocError, Global};
 /// The fewest changes for which a part is grown level by level: with fewer, four nodes of a level are too seldom there.
 const FEWEST_BY_LEVELS: usize = 8;
 
-/// The most: with more, what is kept for a level would leave the processor's own memory.
-const MOST_BY_LEVELS: usize = 512;
+/// The most: with more, what is kept for a level would show beside the part itself, and leave the processor's own memory.
+const MOST_BY_LEVELS: usize = 256;
 
 /// The changes that go left at a level, and those that go right.
 pub fn sides(changes: &[Change], level: usize) -> (&[Change], &[Change])
@@ -108,7 +108,7 @@ pub(crate) fn grow_part<H: Hash32>(
         return Ok(Part::Entry(change));
     }
     if changes.len() >= FEWEST_BY_LEVELS && changes.len() <= MOST_BY_LEVELS {
-        return Ok(grow_by_levels(alloc, nodes, records, h, nonce, part, prefix, changes)?);
+        return grow_by_levels(alloc, nodes, records, h, nonce, part, prefix, changes);
     }
     let (left, right) = opened(nodes, records, level, part);
     let (changes_left, changes_right) = sides(changes, level);

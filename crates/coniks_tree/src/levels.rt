@@ -1,10 +1,10 @@
 //! A part overwritten by many changes, level by level.
 
-ghost use Rattle.std.specs.Prelude.{◌≡◌, ◌++◌, ◌∷◌, ◌<◌, ◌≤◌, ◌+◌, ◌-◌, [], List, ℕ, length, IfOk, Bool, false, true};
+ghost use Rattle.std.specs.Prelude.{◌≡◌, ◌++◌, ◌∷◌, ◌<◌, ◌≤◌, ◌+◌, ◌-◌, ◌^◌, [], List, ℕ, length, slice_get, min, IfOk, Bool, false, true};
 ghost use Rattle.coniks_proof.specs.Bits.{child};
 ghost use Rattle.coniks_tree.specs.Table.{IsTable};
 ghost use Rattle.coniks_tree.specs.Parts.{Fits};
-ghost use Rattle.coniks_tree.specs.Levels.{AllDivide, AllGrown, AllOpen, Divides, IsGrown, IsOpen, SideGrows, filled, left_by, side_from};
+ghost use Rattle.coniks_tree.specs.Levels.{AllDivide, AllGrown, AllOpen, Divides, IsGrown, IsOpen, SideGrows, all_interior_below, filled, interior_below, is_interior, left_by, side_from};
 
 use crate::growth::{only_change, sides};
 use crate::halving::opened;
@@ -13,6 +13,7 @@ use crate::part::{Change, Part, join_parts};
 use crate::table::{Node, Record};
 use coniks_proof::{Hash32, Nonce, Prefix};
 use std::alloc::{AllocError, Global};
+use std::cmp::max;
 use std::collections::VecDeque;
 
 /// The part of a prefix that is to be overwritten by changes, for which it has to be opened.
@@ -81,6 +82,36 @@ fn divide<'a>(
     Ok((left, right))
 }
 
+/// Whether the node of this number is an interior one.
+fn is_inner(nodes: &[Node], number: usize) -> bool
+    ensures { result ≡ is_interior (slice_get nodes.now number) }
+{
+    matches!(nodes.get(number), Some(Node::Inner(_, _, _)))
+}
+
+/// How many of the two nodes below a part are interior ones.
+fn inner_below(nodes: &[Node], part: &Part) -> usize
+    ensures { result ≡ interior_below nodes.now part.now }
+{
+    let Part::Kept(root) = part else { return 0 };
+    let Some(Node::Inner(left, right, _)) = nodes.get(root.0) else {
+        return 0;
+    };
+    is_inner(nodes, *left) as usize + is_inner(nodes, *right) as usize
+}
+
+/// How many of the nodes below parts are interior ones. It reads one after another and nothing between, so that memory
+/// answers for many of them at once; what then opens the parts finds them near.
+fn all_inner_below(nodes: &[Node], growing: &VecDeque<Growing>) -> usize
+    ensures { result ≡ min (all_interior_below nodes.now growing.now.items) (2 ^ 64 - 1) }
+{
+    let mut count = 0;
+    for one in growing.iter() {
+        count = usize::saturating_add(count, inner_below(nodes, &one.part));
+    }
+    count
+}
+
 /// The parts of a level, opened for their changes, and those that are left to grow at the next one.
 fn divide_all<'a>(
     alloc: Global,
@@ -96,7 +127,8 @@ fn divide_all<'a>(
 {
     let _ = level;
     let mut opened = VecDeque::with_capacity(alloc, growing.len())?;
-    let mut next = VecDeque::with_capacity(alloc, growing.len())?;
+    let room = max(growing.len(), all_inner_below(nodes, &growing));
+    let mut next = VecDeque::with_capacity(alloc, room)?;
     while let Some(one) = growing.pop_front() {
         let Growing {
             part,

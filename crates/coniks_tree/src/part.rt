@@ -138,7 +138,6 @@ pub(crate) fn made(
 }
 
 /// Two parts of neighbouring prefixes as the part of the prefix above.
-#[inline(always)]
 pub(crate) fn join_parts<H: Hash32>(
     alloc: Global,
     nodes: &[Node],
