@@ -22,14 +22,23 @@ use std::thread::Threads;
 pub const MAX_WORKERS: usize = 64;
 
 /// 2 to this power are the jobs of each worker beyond which more of them only cost.
-const ENOUGH_JOBS: u32 = 6;
+const ENOUGH_JOBS: u32 = 5;
 
-/// How deep changes are cut for so many workers: no deeper than was asked for, nor than gives each of them 64 jobs or more.
-pub(crate) fn cut_for(workers: usize, depth: usize) -> usize
+/// So many changes for each worker are jobs large enough that twice as many even out more than they cost.
+const MANY_CHANGES: usize = 4096;
+
+/// How deep changes are cut for so many workers: no deeper than was asked for, nor than gives each of them 32 jobs, or 64
+/// where there are `MANY_CHANGES` for each.
+pub(crate) fn cut_for(workers: usize, changes: usize, depth: usize) -> usize
     requires { 1 ≤ workers }
     ensures { result ≤ depth }
 {
-    min(depth, (workers.ilog2() + ENOUGH_JOBS) as usize)
+    let enough = (workers.ilog2() + ENOUGH_JOBS) as usize;
+    if changes / workers >= MANY_CHANGES {
+        min(depth, enough + 1)
+    } else {
+        min(depth, enough)
+    }
 }
 
 /// The part where nothing changes.
@@ -46,7 +55,7 @@ fn unchanged_part(root: Option<Root>) -> Part
 /// by the changes. It is the same for every number of workers and every depth, and so is the count of its new nodes.
 ///
 /// `workers` is 1 to `MAX_WORKERS`, and `depth`, the length in bits of the prefixes that are grown apart, 0 to `MAX_DEPTH`;
-/// they are shorter where that gives each worker 64 jobs, since more would only cost.
+/// they are shorter where that gives each worker 32 jobs, or 64 of many changes, since more would only cost.
 /// The changes are in increasing order of index, and each index once. The caller's thread is one of the workers; there
 /// are never more workers than jobs, so a lone job starts no thread. Where a thread, a drawer or the claims can't be had
 /// there are fewer workers. It is `OutOfMemory` where a job is refused memory, in whatever worker, or the call itself. The
@@ -82,7 +91,7 @@ pub fn build<H: Hash32 + Sync, G: Gate + Sync, R: Threads + Sync>(
     if changes.is_empty() {
         return Ok(unchanged_part(root));
     }
-    let depth = cut_for(workers, depth);
+    let depth = cut_for(workers, changes.len(), depth);
     let jobs = all_jobs(alloc, changes, depth)?;
     let growing = Growing {
         tree,
