@@ -5,6 +5,7 @@ use crate::registering::{Registry, index_of};
 use anyhow::Result;
 use coniks_proof::Index;
 use coniks_tree::Change;
+use std::fmt;
 use std::rt::Clock;
 use std::thread::Threads;
 use std::time::{Duration, Instant};
@@ -19,6 +20,17 @@ const RENEWALS: usize = 7;
 const LOOKUPS: u64 = 10_000;
 
 const ROUNDS: usize = 11;
+
+/// A time in microseconds and their tenths.
+#[derive(Clone, Copy, Drop)]
+struct Micros(Duration);
+
+impl fmt::Display for Micros {
+    fn fmt<W: fmt::Write>(&self, f: &mut fmt::Formatter<W>) -> fmt::Result {
+        let tenths = self.0.as_nanos() / 100;
+        write!(f, "{}.{} us", tenths / 10, tenths % 10)
+    }
+}
 
 /// How long a crew takes to build the part of these changes.
 fn build_time<R: Threads + Sync + Clock>(
@@ -41,8 +53,8 @@ fn print_times<R: Print>(rt: &R, what: &str, crew: &Crew, mut times: Vec<Duratio
         return Ok(());
     };
     let Crew { workers, depth } = crew;
-    let (least, median) = (least.as_micros(), median.as_micros());
-    println!(rt; "{what}, workers {workers}, depth {depth}: {least} us least, {median} us median")?;
+    let (least, median) = (Micros(*least), Micros(*median));
+    println!(rt; "{what}, workers {workers}, depth {depth}: {least} least, {median} median")?;
     Ok(())
 }
 
@@ -126,8 +138,8 @@ pub fn print_lookups<R: Clock + Print + AllocGlobal>(rt: &R, registry: &Registry
     }
     times.sort_unstable();
     if let (Some(least), Some(median)) = (times.first(), times.get(times.len() / 2)) {
-        let (least, median) = (least.as_micros(), median.as_micros());
-        println!(rt; "{LOOKUPS} paths: {least} us least, {median} us median")?;
+        let (least, median) = (Micros(*least), Micros(*median));
+        println!(rt; "{LOOKUPS} paths: {least} least, {median} median")?;
     }
     Ok(())
 }
