@@ -2,7 +2,8 @@
 
 use crate::tests::{OPENING, digest, repeated};
 use coniks_proof::{
-    CommitmentPreimage, Digest, Flat, Hash32, MAX_KEY, MAX_NAME, Sha256Hash, commit_four,
+    CommitmentPreimage, Digest, Flat, Hash32, MAX_KEY, MAX_NAME, Message, Nonce, Sha256Hash,
+    commit_four, hash_all,
 };
 use std::alloc::Global;
 use std::process::Abort;
@@ -100,4 +101,33 @@ fn commitments(rt: HostRuntime) {
         assert!(rt; got.2 == wanted(&rt, c).1);
         assert!(rt; got.3 == wanted(&rt, d).1);
     }
+}
+
+/// A digest that is a number and zeros after it.
+fn numbered(number: u16) -> Digest {
+    let mut bytes = [0u8; 32];
+    let [high, low] = number.to_be_bytes();
+    bytes[0] = high;
+    bytes[1] = low;
+    Digest(bytes)
+}
+
+/// The hashes of 4,099 interior nodes, over a number and its double each, hashed one after another into one.
+#[test]
+fn many_nodes(rt: HostRuntime) {
+    let mut messages = Vec::new(rt.alloc());
+    for number in 0..4_099u16 {
+        let message = Message::Inner(numbered(number), numbered(number.wrapping_mul(2)));
+        messages.push(message).expect(&rt, "memory");
+    }
+    let hashes = hash_all(rt.alloc(), &Sha256Hash, &Nonce([0; 32]), &messages);
+    let mut all = Digest([0; 32]);
+    for hash in hashes.expect(&rt, "memory").iter() {
+        all = Sha256Hash.hash(&[&all.0, &hash.0]);
+    }
+    let wanted = digest(
+        &rt,
+        "4c8371826fe1dfc11937dd91f5c3f74d9f6675cb7e39eaeed702d103140ae5bd",
+    );
+    assert!(rt; all == wanted);
 }
