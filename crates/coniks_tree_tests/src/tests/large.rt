@@ -3,6 +3,7 @@
 use crate::tests::epochs::Epochs;
 use coniks_proof::{Flat, Index};
 use coniks_samples::{Bound, index_below};
+use coniks_tree::RecordNo;
 use std::alloc::{AllocError, Global};
 
 /// The index that begins with the two bytes of a number, and has zeros after them.
@@ -21,7 +22,8 @@ fn one_for_each(alloc: Global) -> Result<Vec<Bound>, AllocError> {
 }
 
 /// A full tree of 65,536 leaves, under a hash that costs nothing, and one more epoch, in which the last of them has
-/// another key: that takes the 16 nodes above it, its own and that of the leaf beside it.
+/// another key: that takes the 16 nodes above it, its own and that of the leaf beside it. All of them are listed, the last
+/// with its new record.
 #[test]
 fn full_tree(rt: HostRuntime) {
     let names = one_for_each(rt.alloc()).expect(&rt, "memory");
@@ -34,6 +36,13 @@ fn full_tree(rt: HostRuntime) {
         .add(Some(first.root), 0, &changed)
         .expect(&rt, "memory");
     assert_eq!(rt; (second.nodes, epochs.sizes()), (18, (131_089, 65_537)));
+    let listed = epochs.entries(second.root).expect(&rt, "memory");
+    assert_eq!(rt; listed.len(), 65_536);
+    assert!(rt;
+        listed
+            .last()
+            .is_some_and(|change| change.place == RecordNo(65_536))
+    );
     for (root, record) in [(first.root, 65_535), (second.root, 65_536)] {
         assert_eq!(rt; epochs.find(root, &last), Some(record));
         let path = epochs.path(root, &last).expect(&rt, "memory");
