@@ -15,6 +15,7 @@ mod PreimageLemmas
 mod CollisionLemmas
 mod MeetingLemmas
 mod NameLemmas
+mod OverwrittenLemmas
 mod BatchLemmas
 mod WireLemmas
 pub mod Lemmas

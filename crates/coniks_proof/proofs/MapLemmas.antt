@@ -86,7 +86,7 @@ BeginAlike-half b k bits (e ∷ es) alike =
       | false ↦ λ t. BeginAlike-half b k bits es alike.1
     ]) refl
 
-apart_within : {B : Type 0} (h k : ℕ) (bits : ℕ → Bool) (es : List (Entry B)) → k + h ≡ 256 → IsMap es → BeginAlike k bits es → ApartWithin h k es
+pub apart_within : {B : Type 0} (h k : ℕ) (bits : ℕ → Bool) (es : List (Entry B)) → k + h ≡ 256 → IsMap es → BeginAlike k bits es → ApartWithin h k es
 unfolding ApartWithin
 apart_within zero k bits [] full map alike = omega arith
 apart_within zero k bits (e ∷ []) full map alike = omega arith

@@ -3,7 +3,7 @@
 ghost use Rattle.std.specs.Prelude.{◌↔◌, ◌≡◌, ◌<◌, ◌≤◌, ◌∷◌, [], List, ℕ, Bool, None, Option, false, length, map, not, slice_get, slice_index_or};
 ghost use Rattle.coniks_proof.specs.Batches.{MayFollow, Operation, after, first_fault};
 ghost use Rattle.coniks_proof.specs.Bits.{bit_at, child, first_bits};
-ghost use Rattle.coniks_proof.specs.Changes.{AreApart, AreIncreasing, AreInOrder};
+ghost use Rattle.coniks_proof.specs.Changes.{AreApart, AreIncreasing, AreInOrder, overwritten};
 ghost use Rattle.coniks_proof.specs.Entries.{Entry, IsIn, backed_by, under};
 ghost use Rattle.coniks_proof.specs.Maps.{IsIndex, IsMap, SameEntries};
 ghost use Rattle.coniks_proof.specs.Preimages.{packed};
@@ -91,6 +91,15 @@ pub fn orders<T>()
     ensures increasing { (entries : List (Entry T)) → AreIncreasing entries → AreInOrder 0 entries }
     ensures apart { (entries : List (Entry T)) → IsMap entries → AreApart 0 entries }
     ensures one { (entries : List (Entry T)) → AreIncreasing entries → IsMap entries }
+{}
+
+/// A map that is overwritten by a map is a map. Under a prefix it has what was there, overwritten by the changes there, and
+/// the entries there part within the bits that follow the prefix. So a caller of a tree or of workers has what they ask of
+/// a changed map, at every level.
+pub fn overwritten_maps<T>()
+    ensures map { (entries changes : List (Entry T)) → IsMap entries → IsMap changes → IsMap (overwritten entries changes) }
+    ensures under { (prefix : List Bool) (entries changes : List (Entry T)) → under prefix (overwritten entries changes) ≡ overwritten (under prefix entries) (under prefix changes) }
+    ensures apart { (prefix : List Bool) (entries : List (Entry T)) → length prefix ≤ 256 → IsMap entries → AreApart (length prefix) (under prefix entries) }
 {}
 
 /// What the way to an index ends with is the entry at the index, if the map has one.
