@@ -4,7 +4,7 @@ pub use Rattle.coniks_proof.proofs.HalfLemmas.{all_left, all_right, length-halve
 pub use Rattle.coniks_proof.proofs.ChangeLemmas.{IsSplit, apart-halves, apart-last, filters_swap, half-overwritten, in_order-split, overwritten-empty, overwritten-nothing, overwritten-one, overwritten-same}
 pub use Rattle.coniks_proof.proofs.MapLemmas.{IsIn-append, IsIn-append_left, IsIn-append_right, IsIn-filter, IsMap-append, IsMap-apart, IsMap-filter, SameEntries-filter, SameEntries-sym, end_of-same, new_apart, node-same, of_filter, passes, same_as_none, same_as_one, same_entry, siblings-same}
 pub use Rattle.coniks_proof.proofs.UnderLemmas.{under-child}
-pub use Rattle.coniks_proof.proofs.OrderLemmas.{AreIncreasing-in_order, increasing_map}
+pub use Rattle.coniks_proof.proofs.OrderLemmas.{AreIncreasing-in_order, in_order-AreIncreasing, increasing_map}
 pub use Rattle.coniks_proof.proofs.FaultLemmas.{accepts-no_fault, no_fault-accepts}
 pub use Rattle.coniks_proof.proofs.LookupLemmas.{end_of-in, end_of-present, path_accepted}
 pub use Rattle.coniks_proof.proofs.RegistryLemmas.{entry_in, in_entries, named_in, within}

@@ -1,4 +1,4 @@
--- Indices in increasing order are in the order of their bits.
+-- Indices of a map are in increasing order exactly where they are in the order of their bits.
 use Rattle.std.proofs.Common.{◌≡◌, ◌≢◌, ℕ, zero, suc, ◌+◌, ◌-◌, ◌*◌, ◌/◌, ◌%◌, ◌^◌, ◌==◌, ◌<◌, List, [], ◌∷◌, ◌++◌, Bool, true, false, refl, sym, ap, subst, ◌∙◌, arith, not, cond, slice_index, inl, inr}
 use Rattle.std.specs.Int as int
 use Rattle.std.proofs.Math.Nat.{pow-suc}
@@ -129,3 +129,75 @@ after_new index (e ∷ es) after = (before_apart index e.index after.0, after_ne
 pub increasing_map : {B : Type 0} (es : List (Entry B)) → AreIncreasing es → IsMap es
 increasing_map [] rising = tt
 increasing_map (e ∷ es) rising = (rising.0, after_new e.index es rising.1, increasing_map es rising.2)
+
+-- where the first bits agree, an index that goes left comes before one that goes right
+left_before : (x y : List ℕ) (k : ℕ) → IsIndex x → IsIndex y → k < 256 → ((i : ℕ) → i < k → bit_at x i ≡ bit_at y i) → bit_at x k ≡ false → bit_at y k ≡ true → IsBefore x y
+left_before x y k ix iy short agree left right =
+    let q = k / 8 in
+    let i = 7 - k % 8 in
+    let small : i < 8 = omega arith in
+    let at : 8 * q + (7 - i) ≡ k = omega arith in
+    let in_q : q < 32 = omega arith in
+    let y-bit : int.bit_at (slice_index y q) i ≡ 1 = one_from (int.bit_at (slice_index y q) i) (bit_at-lt (slice_index y q) i) (sym (bit_of_byte y q i small) ∙ ap (bit_at y) at ∙ right) in
+    let x-test : (int.bit_at (slice_index x q) i == 1) ≡ false = sym (bit_of_byte x q i small) ∙ ap (bit_at x) at ∙ left in
+    let x-not : int.bit_at (slice_index x q) i ≡ 1 → ⊥ = λ one. let test = ap (λ n. n == 1) one in cc in
+    record {
+      place = q;
+      within = in_q;
+      same = λ r before. let in_r : r < 32 = omega arith in
+          same_from_bits_below 8 (slice_index x r) (slice_index y r) (ix.range r in_r) (iy.range r in_r)
+          (λ j h. byte_bits x y r j h (agree (8 * r + (7 - j)) (omega arith)));
+      smaller = elim (cases_lt (slice_index x q) (slice_index y q)) [
+        | inl less ↦ less
+        | inr most ↦ elim (cases_lt (slice_index y q) (slice_index x q)) [
+          | inl greater ↦ absurd (x-not (bigger_bit i 8 (slice_index y q) (slice_index x q) (iy.range q in_q) (ix.range q in_q) small
+              (λ j above below. byte_bits y x q j below (sym (agree (8 * q + (7 - j)) (omega arith)))) greater y-bit))
+          | inr least ↦ let same : slice_index y q ≡ slice_index x q = omega arith in absurd (x-not (sym (ap (λ n. int.bit_at n i) same) ∙ y-bit))
+        ]
+      ];
+    }
+
+-- entries that begin alike and go left at a level come before those that go right
+left_before_all : {B : Type 0} (k : ℕ) (bits : ℕ → Bool) (x : List ℕ) (es : List (Entry B)) → k < 256 → IsIndex x → ((i : ℕ) → i < k → bit_at x i ≡ bits i) → bit_at x k ≡ false
+    → IsMap es → BeginAlike k bits es → AllAfter x (half true k es)
+left_before_all k bits x [] short ix alike left map each = tt
+left_before_all {B} k bits x (e ∷ es) short ix alike left map each =
+    let rest = left_before_all k bits x es short ix alike left map.2 each.1 in
+    (elim (bit_at e.index k) as (λ v. bit_at e.index k ≡ v → AllAfter x (cond v (e ∷ half true k es) (half true k es))) [
+      | true ↦ λ right. (left_before x e.index k ix map.0 short (λ i h. alike i h ∙ sym (each.0 i h)) left right, rest)
+      | false ↦ λ off. rest
+    ]) refl
+
+AllAfter-append : {B : Type 0} (x : List ℕ) (es fs : List (Entry B)) → AllAfter x es → AllAfter x fs → AllAfter x (es ++ fs)
+AllAfter-append x [] fs one two = two
+AllAfter-append x (e ∷ es) fs one two = (one.0, AllAfter-append x es fs one.1 two)
+
+-- those that go left, and after them those that go right
+sides_increasing : {B : Type 0} (k : ℕ) (bits : ℕ → Bool) (es fs : List (Entry B)) → k < 256 → IsMap es → IsMap fs → BeginAlike k bits es → BeginAlike k bits fs
+    → AreIncreasing (half false k es) → AreIncreasing (half true k fs) → AreIncreasing (half false k es ++ half true k fs)
+sides_increasing k bits [] fs short map map' each each' = λ up up'. up'
+sides_increasing {B} k bits (e ∷ es) fs short map map' each each' =
+    (elim (bit_at e.index k) as (λ v. bit_at e.index k ≡ v → AreIncreasing (cond (not v) (e ∷ half false k es) (half false k es)) → AreIncreasing (half true k fs)
+    → AreIncreasing (cond (not v) (e ∷ half false k es) (half false k es) ++ half true k fs)) [
+      | true ↦ λ right up up'. sides_increasing k bits es fs short map.2 map' each.1 each' up up'
+      | false ↦ λ left up up'. (
+        up.0,
+        AllAfter-append e.index (half false k es) (half true k fs) up.1 (left_before_all k bits e.index fs short map.0 each.0 left map' each'),
+        sides_increasing k bits es fs short map.2 map' each.1 each' up.2 up',
+      )
+    ]) refl
+
+increasing_within : {B : Type 0} (h k : ℕ) (bits : ℕ → Bool) (es : List (Entry B)) → k + h ≡ 256 → IsMap es → BeginAlike k bits es → InOrderWithin h k es → AreIncreasing es
+unfolding InOrderWithin
+increasing_within zero k bits [] full map alike ordered = tt
+increasing_within zero k bits (e ∷ []) full map alike ordered = (map.0, tt, tt)
+increasing_within zero k bits (e ∷ f ∷ es) full map alike ordered = absurd (omega arith)
+increasing_within (suc h) k bits es full map alike ordered =
+    let left = increasing_within h (suc k) (next_bits k bits false) (half false k es) (omega arith) (IsMap-filter _ es map) (BeginAlike-half false k bits es alike) ordered.1 in
+    let right = increasing_within h (suc k) (next_bits k bits true) (half true k es) (omega arith) (IsMap-filter _ es map) (BeginAlike-half true k bits es alike) ordered.2 in
+    subst AreIncreasing (sym ordered.0) (sides_increasing k bits es es (omega arith) map map alike alike left right)
+
+-- entries of a map in the order of their bits are in increasing order of index
+pub in_order-AreIncreasing : {B : Type 0} (es : List (Entry B)) → IsMap es → AreInOrder 0 es → AreIncreasing es
+unfolding AreInOrder
+in_order-AreIncreasing es map ordered = increasing_within 256 0 (λ _. false) es refl map (alike_none es) ordered

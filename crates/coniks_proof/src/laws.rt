@@ -86,11 +86,12 @@ pub fn faultless_batches()
 {}
 
 /// What callers of a tree owe follows from what they have: entries in increasing order of index are in the order of their
-/// bits, and those of a map part within 256 bits.
+/// bits, and those of a map part within 256 bits. Entries of a map in the order of their bits are in increasing order.
 pub fn orders<T>()
     ensures increasing { (entries : List (Entry T)) → AreIncreasing entries → AreInOrder 0 entries }
     ensures apart { (entries : List (Entry T)) → IsMap entries → AreApart 0 entries }
     ensures one { (entries : List (Entry T)) → AreIncreasing entries → IsMap entries }
+    ensures rising { (entries : List (Entry T)) → IsMap entries → AreInOrder 0 entries → AreIncreasing entries }
 {}
 
 /// A map that is overwritten by a map is a map. Under a prefix it has what was there, overwritten by the changes there, and
