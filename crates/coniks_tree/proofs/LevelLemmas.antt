@@ -1,16 +1,17 @@
 -- Parts that are grown level by level.
 use Rattle.std.proofs.Common.{◌≡◌, ℕ, ◌+◌, ◌*◌, ◌-◌, ◌<◌, ◌≤◌, List, [], ◌∷◌, ◌++◌, length, Bool, true, false, Option, Some}
 use Rattle.std.proofs.Common.{refl, sym, ap, subst, ◌∙◌, arith, append_assoc}
-use Rattle.std.proofs.lemmas.List.{append-nil}
+use Rattle.std.proofs.lemmas.List.{append-nil, length-map}
 use Rattle.coniks_proof.specs.Bits.{child}
 use Rattle.coniks_proof.specs.Entries.{half}
 use Rattle.coniks_proof.specs.Changes.{overwritten, AreApart, AreInOrder}
 use Rattle.coniks_proof.proofs.Lemmas.{length-child, overwritten-nothing}
 use Rattle.coniks_tree.specs.Table.{Extends, Numbered}
-use Rattle.coniks_tree.specs.Parts.{Stands, Fits, Placed, AllPlaced, node_count, is_made, entries_of, entry_of_change}
+use Rattle.coniks_tree.specs.Parts.{Stands, Fits, KeepsNone, Placed, AllPlaced, node_count, is_made, entries_of, entry_of_change}
 use Rattle.coniks_tree.specs.Joins.{AllJoined, IsJoined, PairsFit}
 use Rattle.coniks_tree.specs.Levels.{AllDivide, AllDivided, AllGrown, AllOpen, Divides, IsDivided, IsGrown, SideGrows, filled, left_by, side_from}
-use Rattle.coniks_tree.proofs.PartLemmas.{count-unmade, count_sum, grown_side}
+use Rattle.coniks_tree.proofs.CountLemmas.{new-one, new-unchanged, new_joined}
+use Rattle.coniks_tree.proofs.PartLemmas.{count-unmade, count_sum, grown_side, new_side}
 use Rattle.coniks_tree.specs.declared.table.Node.{Node}
 use Rattle.coniks_tree.specs.declared.table.Record.{Record}
 use Rattle.coniks_tree.specs.declared.part.Change.{Change}
@@ -59,6 +60,9 @@ grown-same of nonce nodes records p part cs none fits = record {
   fits = fits;
   placed = λ all more placed each. placed;
   count = λ old. omega (arith, count-unmade part old);
+  new = λ old below entries ordered apart s.
+      new-unchanged of nonce nodes records part p (length p) entries (entries_of cs) (ap entries_of none) old (omega (arith, below, ap length none)) s;
+  keeps = λ none. none;
   stands = λ entries ordered apart s.
       subst (Stands of nonce nodes records part p) (sym (ap (λ xs. overwritten entries (entries_of xs)) none ∙ overwritten-nothing entries)) s;
 }
@@ -73,6 +77,10 @@ grown-one of nonce nodes records p part cs c level at short placed one = record 
   fits = short;
   placed = λ all more old each. placed all each;
   count = λ old. omega arith;
+  new = λ old below entries ordered apart s.
+      let left = one entries (subst (λ k. AreApart k (overwritten entries (entries_of cs))) (sym at) apart) s in
+      sym (new-one (length p) entries (entries_of cs) (omega (arith, ap length left)));
+  keeps = λ none. tt;
   stands = λ entries ordered apart s. one entries (subst (λ k. AreApart k (overwritten entries (entries_of cs))) (sym at) apart) s;
 }
 
@@ -90,6 +98,7 @@ pub record IsCut (of : List ℕ → List ℕ) (nonce : List ℕ) (nodes : List N
   pub some : 0 < length cs
   pub unmade : is_made part ≡ false → (is_made l ≡ false) × (is_made r ≡ false)
   pub placed : (all : List Record) → Extends records all → Placed all part → Placed all l × Placed all r
+  pub keeps : KeepsNone part → KeepsNone l × KeepsNone r
   pub stands : (entries : List Numbered) → Stands of nonce nodes records part p entries
       → Stands of nonce nodes records l (child p false) (half false (length p) entries) × Stands of nonce nodes records r (child p true) (half true (length p) entries)
   pub all_changes : length csl + length csr ≡ length cs
@@ -125,6 +134,22 @@ divided of nonce nodes records p part cs l r csl csr l' r' cut left right = reco
     count = λ old.
         let both = cut.unmade old in
         grown-count p (length csl) (length csr) (length cs) (node_count l') (node_count r') (node_count whole) cut.short cut.all_changes cut.some (left.count both.0) (right.count both.1) j.count;
+    new = λ old below entries ordered apart s.
+        let unmade = cut.unmade old in
+        let both = cut.stands entries s in
+        let left_side = length-child p false in
+        let right_side = length-child p true in
+        new_joined of nonce nodes records l' r' (node_count whole) p entries (entries_of cs) cut.short (omega (arith, cut.some, length-map cs entry_of_change))
+        (new_side of nonce nodes records l (node_count l') false p (child p false) entries (entries_of cs) (entries_of csl) refl cut.short
+        (cut.on_left ordered) ordered apart (left.new unmade.0 (omega (arith, left_side)) (half false (length p) entries)) both.0)
+        (new_side of nonce nodes records r (node_count r') true p (child p true) entries (entries_of cs) (entries_of csr) refl cut.short
+        (cut.on_right ordered) ordered apart (right.new unmade.1 (omega (arith, right_side)) (half true (length p) entries)) both.1)
+        (grown_side of nonce nodes records l l' false p (child p false) entries (entries_of cs) (entries_of csl) refl cut.short
+        (cut.on_left ordered) ordered apart (left.stands (half false (length p) entries)) both.0)
+        (grown_side of nonce nodes records r r' true p (child p true) entries (entries_of cs) (entries_of csr) refl cut.short
+        (cut.on_right ordered) ordered apart (right.stands (half true (length p) entries)) both.1)
+        j.new;
+    keeps = λ none. let both = cut.keeps none in j.keeps (left.keeps both.0) (right.keeps both.1);
     stands = λ entries ordered apart s.
         let both = cut.stands entries s in
         j.stands records (overwritten entries (entries_of cs))

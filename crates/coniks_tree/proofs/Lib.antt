@@ -1,5 +1,6 @@
 mod TableLemmas
 mod PartLemmas
+mod CountLemmas
 mod PushLemmas
 mod PathLemmas
 mod EntriesLemmas

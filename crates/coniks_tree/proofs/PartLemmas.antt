@@ -13,6 +13,7 @@ use Rattle.std.proofs.lemmas.Option.{slice_get_within, get_or_from_slice_get}
 use Rattle.coniks_proof.specs.Changes.{overwritten, AreInOrder, AreApart}
 use Rattle.coniks_tree.specs.Table.{Numbered, hash_of_node}
 use Rattle.coniks_tree.specs.Parts.{Stands, Fits, node_count, entry_of_change, weight_of, entries_of, is_made, Placed, AllPlaced}
+use Rattle.coniks_tree.specs.Counts.{new_nodes}
 use Rattle.coniks_tree.proofs.TableLemmas.{Shows-hash}
 use Rattle.coniks_tree.specs.declared.table.Node.{Node}
 use Rattle.coniks_tree.specs.declared.table.Root.{Root}
@@ -138,6 +139,29 @@ split_side : (b : Bool) (k : ℕ) (es : List Numbered) → IsSplit k es → AreI
 split_side true k es s = s.right
 split_side false k es s = s.left
 
+-- one side of what grows: its changes and what it becomes
+record IsReady (hash : List ℕ → List ℕ) (nonce : List ℕ) (nodes : List Node) (records : List Record) (before : Part) (b : Bool) (p q : List Bool) (es cs some : List Numbered) : Type 0 where
+  deeper : suc (length p) ≡ length q
+  whole : half b (length p) (overwritten es cs) ≡ overwritten (half b (length p) es) some
+  ordered : AreInOrder (length q) some
+  apart : AreApart (length q) (overwritten (half b (length p) es) some)
+  stands : Stands hash nonce nodes records before q (half b (length p) es)
+
+ready : (hash : List ℕ → List ℕ) (nonce : List ℕ) (nodes : List Node) (records : List Record) (before : Part) (b : Bool) (p q : List Bool) (es cs some : List Numbered)
+    → q ≡ child p b → length p < 256 → some ≡ half b (length p) cs → AreInOrder (length p) cs → AreApart (length p) (overwritten es cs)
+    → Stands hash nonce nodes records before (child p b) (half b (length p) es) → IsReady hash nonce nodes records before b p q es cs some
+ready hash nonce nodes records before b p q es cs some q-is short some-is ordered apart s =
+    let deeper : suc (length p) ≡ length q = sym (ap length q-is ∙ length-child p b) in
+    let whole : half b (length p) (overwritten es cs) ≡ overwritten (half b (length p) es) some = half-overwritten b (length p) es cs ∙ ap (overwritten (half b (length p) es)) (sym some-is) in
+    record {
+      deeper = deeper;
+      whole = whole;
+      ordered = subst (λ k. AreInOrder k some) deeper (subst (AreInOrder (suc (length p))) (sym some-is) (split_side b (length p) cs (in_order-split (length p) cs short ordered)));
+      apart = subst (λ k. AreApart k (overwritten (half b (length p) es) some)) deeper
+          (subst (AreApart (suc (length p))) whole (apart-halves b (length p) (overwritten es cs) short apart));
+      stands = subst (λ z. Stands hash nonce nodes records before z (half b (length p) es)) (sym q-is) s;
+    }
+
 -- one side of a part that grew
 pub grown_side : (hash : List ℕ → List ℕ) (nonce : List ℕ) (nodes : List Node) (records : List Record) (before after : Part) (b : Bool) (p q : List Bool) (es cs : List Numbered) (some : List Numbered)
     → q ≡ child p b → length p < 256 → some ≡ half b (length p) cs → AreInOrder (length p) cs → AreApart (length p) (overwritten es cs)
@@ -146,13 +170,21 @@ pub grown_side : (hash : List ℕ → List ℕ) (nonce : List ℕ) (nodes : List
     → Stands hash nonce nodes records before (child p b) (half b (length p) es)
     → Stands hash nonce nodes records after (child p b) (half b (length p) (overwritten es cs))
 grown_side hash nonce nodes records before after b p q es cs some q-is short some-is ordered apart grown s =
-    let deeper : suc (length p) ≡ length q = sym (ap length q-is ∙ length-child p b) in
-    let whole : half b (length p) (overwritten es cs) ≡ overwritten (half b (length p) es) some = half-overwritten b (length p) es cs ∙ ap (overwritten (half b (length p) es)) (sym some-is) in
-    let ordered' : AreInOrder (length q) some = subst (λ k. AreInOrder k some) deeper (subst (AreInOrder (suc (length p))) (sym some-is) (split_side b (length p) cs (in_order-split (length p) cs short ordered))) in
-    let apart' : AreApart (length q) (overwritten (half b (length p) es) some) = subst (λ k. AreApart k (overwritten (half b (length p) es) some)) deeper (subst (AreApart (suc (length p))) whole (apart-halves b (length p) (overwritten es cs) short apart)) in
-    let s' = grown ordered' apart' (subst (λ z. Stands hash nonce nodes records before z (half b (length p) es)) (sym q-is) s) in
+    let side = ready hash nonce nodes records before b p q es cs some q-is short some-is ordered apart s in
     subst (λ z. Stands hash nonce nodes records after z (half b (length p) (overwritten es cs))) q-is
-    (subst (Stands hash nonce nodes records after q) (sym whole) s')
+    (subst (Stands hash nonce nodes records after q) (sym side.whole) (grown side.ordered side.apart side.stands))
+
+-- how many nodes of one side are new
+pub new_side : (hash : List ℕ → List ℕ) (nonce : List ℕ) (nodes : List Node) (records : List Record) (before : Part) (n : ℕ) (b : Bool) (p q : List Bool) (es cs some : List Numbered)
+    → q ≡ child p b → length p < 256 → some ≡ half b (length p) cs → AreInOrder (length p) cs → AreApart (length p) (overwritten es cs)
+    → (AreInOrder (length q) some → AreApart (length q) (overwritten (half b (length p) es) some)
+    → Stands hash nonce nodes records before q (half b (length p) es) → n ≡ new_nodes (length q) (half b (length p) es) some)
+    → Stands hash nonce nodes records before (child p b) (half b (length p) es)
+    → n ≡ new_nodes (suc (length p)) (half b (length p) es) (half b (length p) cs)
+new_side hash nonce nodes records before n b p q es cs some q-is short some-is ordered apart new s =
+    let side = ready hash nonce nodes records before b p q es cs some q-is short some-is ordered apart s in
+    subst (λ xs. n ≡ new_nodes (suc (length p)) (half b (length p) es) xs) some-is
+    (subst (λ k. n ≡ new_nodes k (half b (length p) es) some) (sym side.deeper) (new side.ordered side.apart side.stands))
 
 -- a part that is no new subtree takes one node at most
 pub count-unmade : (part : Part) → is_made part ≡ false → node_count part ≤ 1

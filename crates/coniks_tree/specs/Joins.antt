@@ -6,7 +6,8 @@ use Rattle.coniks_proof.specs.Preimages.{empty_preimage, leaf_preimage, inner_pr
 use Rattle.coniks_proof.specs.Tree.{node}
 use Rattle.coniks_proof.specs.declared.values.Digest.{Digest}
 use Rattle.coniks_tree.specs.Table.{Numbered}
-use Rattle.coniks_tree.specs.Parts.{Stands, Fits, Placed, node_count}
+use Rattle.coniks_tree.specs.Counts.{joined_count}
+use Rattle.coniks_tree.specs.Parts.{Stands, Fits, KeepsNone, Placed, node_count}
 use Rattle.coniks_tree.specs.declared.table.Node.{Node}
 use Rattle.coniks_tree.specs.declared.table.Record.{Record}
 use Rattle.coniks_tree.specs.declared.part.Part.{Part, Nothing, Entry, Kept, Made'}
@@ -58,6 +59,8 @@ inner_of halved = inner_preimage halved.left_hash.0 halved.right_hash.0
 pub record IsJoined (hash : List ℕ → List ℕ) (nonce : List ℕ) (nodes : List Node) (prefix : List Bool) (left right joined : Part) : Type 0 where
   pub fits : Fits (length nodes) (length prefix) joined
   pub count : node_count joined ≤ node_count left + node_count right + 1
+  pub new : node_count joined ≡ joined_count left right
+  pub keeps : KeepsNone left → KeepsNone right → KeepsNone joined
   pub placed : (all : List Record) → Placed all left → Placed all right → Placed all joined
   pub stands : (records : List Record) (entries : List Numbered)
       → Stands hash nonce nodes records left (child prefix false) (half false (length prefix) entries)

@@ -2,7 +2,8 @@
 use Rattle.std.specs.Prelude.{◌≡◌, ◌<◌, ◌≤◌, ◌+◌, ◌*◌, ◌-◌, ℕ, List, [], ◌∷◌, ◌++◌, length, slice_get, Bool, cond, false, true, Option, Some, None}
 use Rattle.coniks_proof.specs.Changes.{overwritten, AreApart, AreInOrder}
 use Rattle.coniks_tree.specs.Table.{Extends, Numbered}
-use Rattle.coniks_tree.specs.Parts.{Stands, Fits, Placed, AllPlaced, node_count, is_made, entries_of}
+use Rattle.coniks_tree.specs.Counts.{new_nodes}
+use Rattle.coniks_tree.specs.Parts.{Stands, Fits, KeepsNone, Placed, AllPlaced, node_count, is_made, entries_of}
 use Rattle.coniks_tree.specs.Joins.{IsJoined}
 use Rattle.coniks_tree.specs.declared.table.Node.{Node}
 use Rattle.coniks_tree.specs.declared.table.Node.TheVariants.{Empty, Leaf, Inner}
@@ -75,6 +76,12 @@ module _ (hash : List ℕ → List ℕ) (nonce : List ℕ) (nodes : List Node) (
     pub fits : Fits (length nodes) (length prefix) grown
     pub placed : (all : List Record) → Extends records all → Placed all part → AllPlaced all changes → Placed all grown
     pub count : is_made part ≡ false → node_count grown ≤ 1 + 2 * ((256 - length prefix) * length changes)
+    pub new : is_made part ≡ false → 0 < length prefix + length changes → (entries : List Numbered)
+        → AreInOrder (length prefix) (entries_of changes)
+        → AreApart (length prefix) (overwritten entries (entries_of changes))
+        → Stands hash nonce nodes records part prefix entries
+        → node_count grown ≡ new_nodes (length prefix) entries (entries_of changes)
+    pub keeps : KeepsNone part → KeepsNone grown
     pub stands : (entries : List Numbered)
         → AreInOrder (length prefix) (entries_of changes)
         → AreApart (length prefix) (overwritten entries (entries_of changes))

@@ -1,5 +1,6 @@
 pub mod Table
 pub mod Parts
+pub mod Counts
 pub mod Paths
 pub mod Entries
 pub mod Joins

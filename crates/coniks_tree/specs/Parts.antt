@@ -67,6 +67,13 @@ is_made (Entry c) = false
 is_made (Kept root) = false
 is_made (Made' p hash lh rh count left right) = true
 
+-- the part keeps no node of the tree
+abbrev pub KeepsNone : Part → Type 0
+KeepsNone Nothing = Unit {0}
+KeepsNone (Entry c) = Unit {0}
+KeepsNone (Kept root) = ⊥
+KeepsNone (Made' p hash lh rh count left right) = KeepsNone left × KeepsNone right
+
 -- the records of the part's entries are there
 abbrev pub Placed : List Record → Part → Type 0
 Placed records Nothing = Unit {0}

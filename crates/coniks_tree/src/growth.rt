@@ -5,7 +5,8 @@ ghost use Rattle.coniks_proof.specs.Entries.{half};
 ghost use Rattle.coniks_proof.specs.Changes.{overwritten, AreApart, AreInOrder};
 ghost use Rattle.coniks_tree.specs.Table.{Extends, IsTable, Numbered};
 ghost use Rattle.coniks_tree.specs.declared.part.Part.{Entry};
-ghost use Rattle.coniks_tree.specs.Parts.{Stands, Fits, Placed, AllPlaced, node_count, is_made, entries_of, entry_of_change};
+ghost use Rattle.coniks_tree.specs.Counts.{new_nodes};
+ghost use Rattle.coniks_tree.specs.Parts.{Stands, Fits, KeepsNone, Placed, AllPlaced, node_count, is_made, entries_of, entry_of_change};
 
 use crate::halving::opened;
 use crate::levels::grow_by_levels;
@@ -94,6 +95,12 @@ pub(crate) fn grow_part<H: Hash32>(
     ensures same { IfOk result (λ grown. length changes.now ≡ 0 → grown ≡ part) }
     ensures placed { IfOk result (λ grown. (all : List Record) → Extends records.now all → Placed all part → AllPlaced all changes.now → Placed all grown) }
     ensures count { IfOk result (λ grown. is_made part ≡ false → 0 < length changes.now → node_count grown ≤ 1 + 2 * ((256 - length prefix.now) * length changes.now)) }
+    ensures new { IfOk result (λ grown. is_made part ≡ false → 0 < length prefix.now + length changes.now → (entries : List Numbered)
+        → AreInOrder (length prefix.now) (entries_of changes.now)
+        → AreApart (length prefix.now) (overwritten entries (entries_of changes.now))
+        → Stands (H.digest_of h.now) nonce.now.0 nodes.now records.now part prefix.now entries
+        → node_count grown ≡ new_nodes (length prefix.now) entries (entries_of changes.now)) }
+    ensures keeps { IfOk result (λ grown. KeepsNone part → KeepsNone grown) }
     ensures stands { IfOk result (λ grown. (entries : List Numbered)
         → AreInOrder (length prefix.now) (entries_of changes.now)
         → AreApart (length prefix.now) (overwritten entries (entries_of changes.now))

@@ -5,7 +5,7 @@ ghost use Rattle.coniks_proof.specs.Bits.{child};
 ghost use Rattle.coniks_proof.specs.Entries.{half};
 ghost use Rattle.coniks_tree.specs.Table.{Extends, IsTable, Numbered, Shows, entry_of_record};
 ghost use Rattle.coniks_tree.specs.declared.part.Part.{Entry};
-ghost use Rattle.coniks_tree.specs.Parts.{Stands, Fits, Placed, is_made, entry_of_change};
+ghost use Rattle.coniks_tree.specs.Parts.{Stands, Fits, KeepsNone, Placed, is_made, entry_of_change};
 
 use crate::part::{Change, Part, Subtree};
 use crate::table::{Node, Record, RecordNo, Root, node_of, record_of};
@@ -52,6 +52,7 @@ pub(crate) fn opened(nodes: &[Node], records: &[Record], level: usize, part: Par
     ensures right { Fits (length nodes.now) (level + 1) result.1 }
     ensures unmade { is_made part ≡ false → (is_made result.0 ≡ false) × (is_made result.1 ≡ false) }
     ensures placed { (all : List Record) → Extends records.now all → Placed all part → Placed all result.0 × Placed all result.1 }
+    ensures keeps { KeepsNone part → KeepsNone result.0 × KeepsNone result.1 }
     ensures stands { (hash : List ℕ → List ℕ) (nonce : List ℕ) (prefix : List Bool) (entries : List Numbered) → length prefix ≡ level
         → Stands hash nonce nodes.now records.now part prefix entries
         → Stands hash nonce nodes.now records.now result.0 (child prefix false) (half false level entries)
@@ -74,6 +75,7 @@ pub(crate) fn aside(level: usize, change: Change) -> (Part, Part)
     ensures fits { (n : ℕ) → Fits n (level + 1) result.0 × Fits n (level + 1) result.1 }
     ensures unmade { (is_made result.0 ≡ false) × (is_made result.1 ≡ false) }
     ensures placed { (all : List Record) → Placed all (Entry change) → Placed all result.0 × Placed all result.1 }
+    ensures keeps { KeepsNone result.0 × KeepsNone result.1 }
     ensures stands { (hash : List ℕ → List ℕ) (nonce : List ℕ) (nodes : List Node) (records : List Record) (prefix : List Bool) (entries : List Numbered)
         → entries ≡ entry_of_change change ∷ []
         → Stands hash nonce nodes records result.0 (child prefix false) (half false level entries)

@@ -5,7 +5,8 @@ ghost use Rattle.coniks_proof.specs.Bits.{child};
 ghost use Rattle.coniks_proof.specs.Messages.{preimage_of};
 ghost use Rattle.coniks_proof.specs.Entries.{half};
 ghost use Rattle.coniks_tree.specs.Table.{Numbered};
-ghost use Rattle.coniks_tree.specs.Parts.{Stands, Fits, Placed, node_count};
+ghost use Rattle.coniks_tree.specs.Counts.{joined_count};
+ghost use Rattle.coniks_tree.specs.Parts.{Stands, Fits, KeepsNone, Placed, node_count};
 ghost use Rattle.coniks_tree.specs.Joins.{asked_at, asked_of, inner_of, AllHalved, AllJoined, IsHashAt, IsHalved, IsJoined, PairFits, PairsFit};
 
 use crate::part::{Part, made, weight};
@@ -142,6 +143,8 @@ fn halve_all(
 fn joined(alloc: Global, halved: Halved, hash: Digest) -> Result<Part, AllocError>
     ensures fits { IfOk result (λ part. (n : ℕ) → PairFits n halved.pair → Fits n (length halved.pair.prefix) part) }
     ensures count { IfOk result (λ part. node_count part ≤ node_count halved.pair.left + node_count halved.pair.right + 1) }
+    ensures new { IfOk result (λ part. node_count part ≡ joined_count halved.pair.left halved.pair.right) }
+    ensures keeps { IfOk result (λ part. KeepsNone halved.pair.left → KeepsNone halved.pair.right → KeepsNone part) }
     ensures placed { IfOk result (λ part. (all : List Record) → Placed all halved.pair.left → Placed all halved.pair.right → Placed all part) }
     ensures stands { IfOk result (λ part. (of : List ℕ → List ℕ) (nonce : List ℕ) (nodes : List Node) (records : List Record) (entries : List Numbered)
         → length halved.pair.prefix < 256 → IsHalved of nonce nodes halved → hash.0 ≡ of (inner_of halved)

@@ -1,7 +1,7 @@
 //! Laws of what nodes show and parts stand for, each the contract of a function that does nothing.
 
 ghost use Rattle.std.specs.Prelude.{[], List, ℕ, Bool};
-ghost use Rattle.coniks_proof.specs.Changes.{AreApart, overwritten};
+ghost use Rattle.coniks_proof.specs.Changes.{AreApart, AreIncreasing, overwritten};
 ghost use Rattle.coniks_proof.specs.Maps.{IsMap, SameEntries};
 ghost use Rattle.coniks_tree.specs.Entries.{Lists};
 ghost use Rattle.coniks_tree.specs.Parts.{Stands, entries_of};
@@ -33,8 +33,9 @@ pub fn order_is_of_no_account()
 {}
 
 /// What `Tree::entries` gives builds the map again, under any nonce: its indices part, as `Tree::grow` asks, and a part that
-/// was grown from nothing by it stands for the map.
+/// was grown from nothing by it stands for the map. It is in increasing order of index.
 pub fn what_is_listed_is_built_again()
+    ensures increasing { (changes : List Change) (entries : List Numbered) → IsMap entries → Lists changes entries → AreIncreasing (entries_of changes) }
     ensures apart { (changes : List Change) (entries : List Numbered) → Lists changes entries → AreApart 0 (overwritten [] (entries_of changes)) }
     ensures stands { (hash : List ℕ → List ℕ) (nonce : List ℕ) (nodes : List Node) (records : List Record) (part : Part) (changes : List Change) (entries : List Numbered)
         → IsMap entries → Lists changes entries

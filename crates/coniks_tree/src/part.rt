@@ -5,7 +5,8 @@ ghost use Rattle.coniks_proof.specs.Bits.{child};
 ghost use Rattle.coniks_proof.specs.Entries.{half};
 ghost use Rattle.coniks_proof.specs.Tree.{node};
 ghost use Rattle.coniks_tree.specs.Table.{Numbered};
-ghost use Rattle.coniks_tree.specs.Parts.{Stands, Fits, Placed, IsSubtree, entries_of, node_count, weight_of};
+ghost use Rattle.coniks_tree.specs.Counts.{joined_count};
+ghost use Rattle.coniks_tree.specs.Parts.{Stands, Fits, KeepsNone, Placed, IsSubtree, entries_of, node_count, weight_of};
 
 use crate::table::{Node, Record, RecordNo, Root, node_of};
 use coniks_proof::{Digest, Hash32, Index, Nonce, Prefix, bit, empty_hash, inner_hash, leaf_hash};
@@ -116,6 +117,7 @@ pub(crate) fn made(
 ) -> Result<Part, AllocError>
     ensures fits { IfOk result (λ part. (n level : ℕ) → level < 256 → Fits n (level + 1) left → Fits n (level + 1) right → Fits n level part) }
     ensures count { IfOk result (λ part. node_count part ≡ node_count left + node_count right + 1) }
+    ensures keeps { IfOk result (λ part. KeepsNone left → KeepsNone right → KeepsNone part) }
     ensures placed { IfOk result (λ part. (all : List Record) → Placed all left → Placed all right → Placed all part) }
     ensures stands { IfOk result (λ part. (of : List ℕ → List ℕ) (nonce : List ℕ) (nodes : List Node) (records : List Record) (prefix : List Bool) (entries : List Numbered)
         → IsSubtree of nonce prefix entries hash left_hash right_hash (Stands of nonce nodes records left) (Stands of nonce nodes records right)
@@ -152,6 +154,8 @@ pub(crate) fn join_parts<H: Hash32>(
     requires right { Fits (length nodes.now) (length prefix.now + 1) right }
     ensures fits { IfOk result (λ part. Fits (length nodes.now) (length prefix.now) part) }
     ensures count { IfOk result (λ part. node_count part ≤ node_count left + node_count right + 1) }
+    ensures new { IfOk result (λ part. node_count part ≡ joined_count left right) }
+    ensures keeps { IfOk result (λ part. KeepsNone left → KeepsNone right → KeepsNone part) }
     ensures placed { IfOk result (λ part. (all : List Record) → Placed all left → Placed all right → Placed all part) }
     ensures stands { IfOk result (λ part. (records : List Record) (entries : List Numbered)
         → Stands (H.digest_of h.now) nonce.now.0 nodes.now records left (child prefix.now false) (half false (length prefix.now) entries)

@@ -8,7 +8,8 @@ ghost use Rattle.coniks_proof.specs.Paths.{IsPath};
 ghost use Rattle.coniks_proof.specs.Tree.{node};
 ghost use Rattle.coniks_tree.specs.Entries.{Lists};
 ghost use Rattle.coniks_tree.specs.Table.{Extends, IsTable, Numbered, Shows, registered_at};
-ghost use Rattle.coniks_tree.specs.Parts.{Stands, Fits, Placed, AllPlaced, node_count, is_made, entries_of};
+ghost use Rattle.coniks_tree.specs.Counts.{joined_count, new_nodes};
+ghost use Rattle.coniks_tree.specs.Parts.{Stands, Fits, KeepsNone, Placed, AllPlaced, node_count, is_made, entries_of};
 ghost use Rattle.coniks_tree.specs.Paths.{Finds};
 
 use crate::attach::append;
@@ -154,6 +155,8 @@ impl Tree {
         requires right { Fits (length self.now.nodes.items) (length prefix.now + 1) right }
         ensures fits { IfOk result (λ part. Fits (length self.now.nodes.items) (length prefix.now) part) }
         ensures count { IfOk result (λ part. node_count part ≤ node_count left + node_count right + 1) }
+        ensures new { IfOk result (λ part. node_count part ≡ joined_count left right) }
+        ensures keeps { IfOk result (λ part. KeepsNone left → KeepsNone right → KeepsNone part) }
         ensures placed { IfOk result (λ part. (all : List Record) → Placed all left → Placed all right → Placed all part) }
         ensures stands { IfOk result (λ part. (entries : List Numbered)
             → Stands (H.digest_of h.now) nonce.now.0 self.now.nodes.items self.now.records.items left (child prefix.now false) (half false (length prefix.now) entries)
@@ -179,6 +182,12 @@ impl Tree {
         ensures same { IfOk result (λ grown. length changes.now ≡ 0 → grown ≡ part) }
         ensures placed { IfOk result (λ grown. (all : List Record) → Extends self.now.records.items all → Placed all part → AllPlaced all changes.now → Placed all grown) }
         ensures count { IfOk result (λ grown. is_made part ≡ false → 0 < length changes.now → node_count grown ≤ 1 + 2 * ((256 - length prefix.now) * length changes.now)) }
+        ensures new { IfOk result (λ grown. is_made part ≡ false → 0 < length prefix.now + length changes.now → (entries : List Numbered)
+            → AreInOrder (length prefix.now) (entries_of changes.now)
+            → AreApart (length prefix.now) (overwritten entries (entries_of changes.now))
+            → Stands (H.digest_of h.now) nonce.now.0 self.now.nodes.items self.now.records.items part prefix.now entries
+            → node_count grown ≡ new_nodes (length prefix.now) entries (entries_of changes.now)) }
+        ensures keeps { IfOk result (λ grown. KeepsNone part → KeepsNone grown) }
         ensures stands { IfOk result (λ grown. (entries : List Numbered)
             → AreInOrder (length prefix.now) (entries_of changes.now)
             → AreApart (length prefix.now) (overwritten entries (entries_of changes.now))

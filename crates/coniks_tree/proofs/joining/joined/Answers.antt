@@ -1,6 +1,7 @@
-use Rattle.std.proofs.Common.{true, false, ◌+◌, ◌≤◌, arith, refl}
+use Rattle.std.proofs.Common.{true, false, ◌+◌, ◌≤◌, ◌∙◌, arith, refl, sym}
 use Rattle.coniks_proof.specs.Bits.{child}
 use Rattle.coniks_tree.specs.Parts.{weight_of}
+use Rattle.coniks_tree.proofs.CountLemmas.{joined-heavy, joined-light, light-count}
 use Rattle.coniks_tree.proofs.PartLemmas.{hash_made, join_many, join_left, join_right}
 use Rattle.coniks_tree.proofs.joining.joined.Goals as goal
 
@@ -29,3 +30,12 @@ returns-clause-stands c = λ of nonce nodes records entries short halved is sl s
       left = record { is_hash = left; stands = sl };
       right = record { is_hash = right; stands = sr };
     })
+
+pub returns-then-weight_left-eq1-clause-new : goal.returns-then-weight_left-eq1-clause-new
+returns-then-weight_left-eq1-clause-new c = let pair = c.args.halved.pair in light-count pair.left (omega arith) ∙ sym (joined-light pair.left pair.right (omega arith))
+
+pub returns-then-weight_left-weight-lt2-clause-new : goal.returns-then-weight_left-weight-lt2-clause-new
+returns-then-weight_left-weight-lt2-clause-new c = let pair = c.args.halved.pair in light-count pair.right (omega arith) ∙ sym (joined-light pair.left pair.right (omega arith))
+
+pub returns-clause-new : goal.returns-clause-new
+returns-clause-new c = let pair = c.args.halved.pair in c.in_ok-made.ensures.count ∙ sym (joined-heavy pair.left pair.right (omega arith))

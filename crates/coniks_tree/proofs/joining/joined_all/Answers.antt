@@ -16,6 +16,8 @@ loop-one-preserved c =
           (λ fits-one halved-one hashed-one. record {
             fits = c.in_ok-joined.ensures.fits (length nodes) fits-one;
             count = c.in_ok-joined.ensures.count;
+            new = c.in_ok-joined.ensures.new;
+            keeps = c.in_ok-joined.ensures.keeps;
             placed = c.in_ok-joined.ensures.placed;
             stands = λ records entries. c.in_ok-joined.ensures.stands of nonce nodes records entries fits-one.short halved-one hashed-one;
           })

@@ -1,3 +1,5 @@
+use Rattle.coniks_proof.proofs.Lemmas.{in_order-AreIncreasing}
+use Rattle.coniks_tree.specs.Parts.{entries_of}
 use Rattle.coniks_tree.proofs.EntriesLemmas.{Lists-apart, Lists-stands}
 use Rattle.coniks_tree.proofs.laws.what_is_listed_is_built_again.Goals as goal
 
@@ -7,3 +9,6 @@ returns-clause-apart c = λ changes entries lists. Lists-apart changes entries l
 pub returns-clause-stands : goal.returns-clause-stands
 returns-clause-stands c = λ hash nonce nodes records part changes entries map lists s.
     Lists-stands hash nonce nodes records part changes entries map lists s
+
+pub returns-clause-increasing : goal.returns-clause-increasing
+returns-clause-increasing c = λ changes entries map lists. in_order-AreIncreasing (entries_of changes) (lists.once map) lists.order

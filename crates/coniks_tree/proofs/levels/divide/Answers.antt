@@ -28,6 +28,7 @@ returns c = λ of nonce.
       some = c.requires.some;
       unmade = c.opened-left.ensures.unmade;
       placed = c.opened-left.ensures.placed;
+      keeps = c.opened-left.ensures.keeps;
       stands = λ entries s. subst (λ k. Stands of nonce nodes records l (child p false) (half false k entries) × Stands of nonce nodes records r (child p true) (half true k entries)) at
           (c.opened-left.ensures.stands of nonce p entries (sym at) s);
       all_changes = c.sides.ensures.all;

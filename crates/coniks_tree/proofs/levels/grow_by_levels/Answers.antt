@@ -30,4 +30,4 @@ returns g c =
     (divided_by _ _ _ _ _ _ _ c.in_ok-left.left c.in_ok-left.right c.in_ok-next.next.items more.0 c.divide.new.next.items c.in_ok-below.below.items c.side_or_first-left.new.below.items
     c.side_or_first-left.result c.side_or_first-right.result c.in_ok-next.ensures.items more.1 more.3 c.in_ok-below.ensures
     c.side_or_first-left.ensures.part c.side_or_first-left.ensures.below c.side_or_first-right.ensures.part).joined c.in_ok-join_parts.field-0
-    (record { fits = joined.fits; count = joined.count; placed = joined.placed; stands = joined.stands })
+    (record { fits = joined.fits; count = joined.count; new = joined.new; keeps = joined.keeps; placed = joined.placed; stands = joined.stands })

@@ -3,6 +3,7 @@ use Rattle.coniks_proof.specs.Bits.{child}
 use Rattle.coniks_proof.specs.Entries.{half}
 use Rattle.coniks_proof.specs.Tree.{node}
 use Rattle.coniks_tree.specs.Parts.{Stands, weight_of}
+use Rattle.coniks_tree.proofs.CountLemmas.{joined-heavy, joined-light, light-count}
 use Rattle.coniks_tree.proofs.PartLemmas.{hash_made, join_many, join_left, join_right}
 use Rattle.coniks_tree.proofs.part.join_parts.Goals as goal
 
@@ -36,3 +37,12 @@ returns-clause-stands g c = λ records entries sl sr.
       left = record { is_hash = left-at; stands = sl };
       right = record { is_hash = right-at; stands = sr };
     })
+
+pub returns-then-weight_left-eq1-clause-new : goal.returns-then-weight_left-eq1-clause-new
+returns-then-weight_left-eq1-clause-new g c = light-count c.args.left (omega arith) ∙ sym (joined-light c.args.left c.args.right (omega arith))
+
+pub returns-then-weight_left-weight-lt2-clause-new : goal.returns-then-weight_left-weight-lt2-clause-new
+returns-then-weight_left-weight-lt2-clause-new g c = light-count c.args.right (omega arith) ∙ sym (joined-light c.args.left c.args.right (omega arith))
+
+pub returns-clause-new : goal.returns-clause-new
+returns-clause-new g c = c.in_ok-made.ensures.count ∙ sym (joined-heavy c.args.left c.args.right (omega arith))
