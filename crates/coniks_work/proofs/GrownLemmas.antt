@@ -7,7 +7,9 @@ use Rattle.coniks_proof.specs.Entries.{half, under}
 use Rattle.coniks_proof.specs.Changes.{overwritten, AreApart, AreInOrder}
 use Rattle.coniks_proof.proofs.Lemmas.{apart-halves, half-overwritten, length-child, overwritten-nothing, under-child}
 use Rattle.coniks_tree.specs.Table.{Numbered, Extends}
-use Rattle.coniks_tree.specs.Parts.{Stands, Fits, Placed, AllPlaced, node_count, is_made, entries_of, entry_of_change}
+use Rattle.coniks_tree.specs.Counts.{joined_count, new_nodes}
+use Rattle.coniks_tree.proofs.Lemmas.{new-unchanged, new_joined}
+use Rattle.coniks_tree.specs.Parts.{Stands, Fits, KeepsNone, Placed, AllPlaced, node_count, is_made, entries_of, entry_of_change}
 use Rattle.coniks_tree.specs.declared.table.Node.{Node}
 use Rattle.coniks_tree.specs.declared.table.Record.{Record}
 use Rattle.coniks_tree.specs.declared.table.Root.{Root}
@@ -53,27 +55,34 @@ count_sum h l r a b joined ha hb hj some = omega arith
 
 module _ (hash : List ℕ → List ℕ) (nonce : List ℕ) (nodes : List Node) (records : List Record) (root : Option Root) where
   -- what was there is what no change makes
-  pub old_grown : (p : List Bool) (part : Part) → Fits (length nodes) (length p) part → node_count part ≤ 1 → ((all : List Record) → Extends records all → Placed all part)
+  pub old_grown : (p : List Bool) (part : Part) → is_made part ≡ false → Fits (length nodes) (length p) part → node_count part ≤ 1 → (root ≡ None → KeepsNone part) → ((all : List Record) → Extends records all → Placed all part)
       → ((old : List Numbered) → IsOldMap hash nonce nodes records root old → Stands hash nonce nodes records part p (under p old)) → IsGrown hash nonce nodes records root p [] part
-  old_grown p part fits few placed stands = record {
+  old_grown p part unmade fits few keeps placed stands = record {
     fits = fits;
     count = omega arith;
     placed = λ all more none. placed all more;
+    keeps = keeps;
+    new = λ old is below ordered apart. new-unchanged hash nonce nodes records part p (length p) (under p old) [] refl unmade (omega (arith, below)) (stands old is);
     stands = λ old is ordered apart. subst (Stands hash nonce nodes records part p) (sym (overwritten-nothing (under p old))) (stands old is);
   }
 
   -- a part that grew
-  pub grown_from : (p : List Bool) (cs : List Change) (before after : Part) → is_made before ≡ false → node_count before ≤ 1 → ((all : List Record) → Extends records all → Placed all before)
+  pub grown_from : (p : List Bool) (cs : List Change) (before after : Part) → is_made before ≡ false → node_count before ≤ 1 → (root ≡ None → KeepsNone before) → ((all : List Record) → Extends records all → Placed all before)
       → ((old : List Numbered) → IsOldMap hash nonce nodes records root old → Stands hash nonce nodes records before p (under p old))
       → Fits (length nodes) (length p) after → (length cs ≡ 0 → after ≡ before)
       → ((all : List Record) → Extends records all → Placed all before → AllPlaced all cs → Placed all after)
       → (is_made before ≡ false → 0 < length cs → node_count after ≤ 1 + 2 * ((256 - length p) * length cs))
       → ((entries : List Numbered) → AreInOrder (length p) (entries_of cs) → AreApart (length p) (overwritten entries (entries_of cs)) → Stands hash nonce nodes records before p entries → Stands hash nonce nodes records after p (overwritten entries (entries_of cs)))
+      → (KeepsNone before → KeepsNone after)
+      → (is_made before ≡ false → 0 < length p + length cs → (entries : List Numbered) → AreInOrder (length p) (entries_of cs) → AreApart (length p) (overwritten entries (entries_of cs))
+      → Stands hash nonce nodes records before p entries → node_count after ≡ new_nodes (length p) entries (entries_of cs))
       → IsGrown hash nonce nodes records root p (entries_of cs) after
-  grown_from p cs before after old few placed stood fits same places counts stands = record {
+  grown_from p cs before after old few none placed stood fits same places counts stands keeps news = record {
     fits = fits;
     count = subst (λ n. node_count after ≤ 1 + 2 * ((256 - length p) * n)) (sym (length-map cs entry_of_change)) (bound cs same counts);
     placed = λ all more there. places all more (placed all more) (stored_back all cs there);
+    keeps = λ root-is. keeps (none root-is);
+    new = λ map is below ordered apart. news old (omega (arith, below, length-map cs entry_of_change)) (under p map) ordered apart (stood map is);
     stands = λ map is ordered apart. stands (under p map) ordered apart (stood map is);
   }
     where
@@ -81,18 +90,26 @@ module _ (hash : List ℕ → List ℕ) (nonce : List ℕ) (nodes : List Node) (
       bound [] s c = omega (arith, ap node_count (s refl))
       bound (d ∷ ds) s c = c old (omega arith)
 
-  -- one side of what stands under a prefix
-  side_stands : (b : Bool) (p : List Bool) (es old : List Numbered) (part : Part) → length p < 256 → IsGrown hash nonce nodes records root (child p b) (side b (length p) es) part
-      → IsOldMap hash nonce nodes records root old → AreInOrder (length p) es → AreApart (length p) (overwritten (under p old) es)
-      → Stands hash nonce nodes records part (child p b) (half b (length p) (overwritten (under p old) es))
-  side_stands b p es old part short g is ordered apart =
+  -- one side of what stands under a prefix: what it becomes, and how many of its nodes are new
+  record IsSide (b : Bool) (p : List Bool) (es old : List Numbered) (part : Part) : Type 0 where
+    stands : Stands hash nonce nodes records part (child p b) (half b (length p) (overwritten (under p old) es))
+    new : node_count part ≡ new_nodes (suc (length p)) (half b (length p) (under p old)) (half b (length p) es)
+
+  side_of : (b : Bool) (p : List Bool) (es old : List Numbered) (part : Part) → length p < 256 → IsGrown hash nonce nodes records root (child p b) (side b (length p) es) part
+      → IsOldMap hash nonce nodes records root old → AreInOrder (length p) es → AreApart (length p) (overwritten (under p old) es) → IsSide b p es old part
+  side_of b p es old part short g is ordered apart =
       let some = side b (length p) es in
       let some-is : some ≡ half b (length p) es = side_is_half b (length p) es short ordered in
       let whole : half b (length p) (overwritten (under p old) es) ≡ overwritten (under (child p b) old) some =
       half-overwritten b (length p) (under p old) es ∙ ap (λ z. overwritten z (half b (length p) es)) (sym (under-child p b old)) ∙ ap (overwritten (under (child p b) old)) (sym some-is) in
+      let ordered' = side_in_order b p es short ordered in
       let apart' : AreApart (length (child p b)) (overwritten (under (child p b) old) some) =
       subst (λ k. AreApart k (overwritten (under (child p b) old) some)) (sym (length-child p b)) (subst (AreApart (suc (length p))) whole (apart-halves b (length p) (overwritten (under p old) es) short apart)) in
-      subst (Stands hash nonce nodes records part (child p b)) (sym whole) (g.stands old is (side_in_order b p es short ordered) apart')
+      record {
+        stands = subst (Stands hash nonce nodes records part (child p b)) (sym whole) (g.stands old is ordered' apart');
+        new = g.new old is (omega (arith, length-child p b)) ordered' apart' ∙ ap (λ k. new_nodes k (under (child p b) old) some) (length-child p b)
+            ∙ ap (λ z. new_nodes (suc (length p)) z some) (under-child p b old) ∙ ap (new_nodes (suc (length p)) (half b (length p) (under p old))) some-is;
+      }
 
   side_count : (b : Bool) (p : List Bool) (es : List Numbered) (part : Part) → IsGrown hash nonce nodes records root (child p b) (side b (length p) es) part
       → node_count part ≤ 1 + 2 * ((255 - length p) * length (side b (length p) es))
@@ -104,10 +121,11 @@ module _ (hash : List ℕ → List ℕ) (nonce : List ℕ) (nodes : List Node) (
   pub joined_grown : (p : List Bool) (es : List Numbered) (left right part : Part) → length p < 256 → 0 < length es
       → IsGrown hash nonce nodes records root (child p false) (side false (length p) es) left → IsGrown hash nonce nodes records root (child p true) (side true (length p) es) right
       → Fits (length nodes) (length p) part → node_count part ≤ node_count left + node_count right + 1
+      → node_count part ≡ joined_count left right → (KeepsNone left → KeepsNone right → KeepsNone part)
       → ((all : List Record) → Placed all left → Placed all right → Placed all part)
       → ((entries : List Numbered) → Stands hash nonce nodes records left (child p false) (half false (length p) entries) → Stands hash nonce nodes records right (child p true) (half true (length p) entries) → Stands hash nonce nodes records part p entries)
       → IsGrown hash nonce nodes records root p es part
-  joined_grown p es left right part short some gl gr fits few placed stands =
+  joined_grown p es left right part short some gl gr fits few new keeps placed stands =
       let l = length (side false (length p) es) in
       let r = length (side true (length p) es) in
       let all-is : l + r ≡ length es = omega (arith, length-left (length p) es, length-right (length p) es, lefts_few (length p) es) in
@@ -119,7 +137,12 @@ module _ (hash : List ℕ → List ℕ) (nonce : List ℕ) (nodes : List Node) (
         placed = λ all more there.
             let both = stored_append all (side false (length p) es) (side true (length p) es) (subst (AllStored all) (sym (Rattle.coniks_work.proofs.SideLemmas.sides_whole (length p) es)) there) in
             placed all (gl.placed all more both.0) (gr.placed all more both.1);
-        stands = λ old is ordered apart. stands (overwritten (under p old) es) (side_stands false p es old left short gl is ordered apart) (side_stands true p es old right short gr is ordered apart);
+        keeps = λ none. keeps (gl.keeps none) (gr.keeps none);
+        new = λ old is below ordered apart.
+            let on-left = side_of false p es old left short gl is ordered apart in
+            let on-right = side_of true p es old right short gr is ordered apart in
+            new_joined hash nonce nodes records left right (node_count part) p (under p old) es short some on-left.new on-right.new on-left.stands on-right.stands new;
+        stands = λ old is ordered apart. stands (overwritten (under p old) es) (side_of false p es old left short gl is ordered apart).stands (side_of true p es old right short gr is ordered apart).stands;
       }
 
   -- the parts of the jobs of one side, and of the other

@@ -1,10 +1,11 @@
 -- What stands under a prefix once the changes are made.
-use Rattle.std.specs.Prelude.{◌≡◌, ◌≤◌, ◌+◌, ◌*◌, ◌-◌, ℕ, zero, suc, List, [], ◌∷◌, ◌++◌, length, Bool, true, false, Option, Some, None, slice_get}
+use Rattle.std.specs.Prelude.{◌≡◌, ◌<◌, ◌≤◌, ◌+◌, ◌*◌, ◌-◌, ℕ, zero, suc, List, [], ◌∷◌, ◌++◌, length, Bool, true, false, Option, Some, None, slice_get}
 use Rattle.coniks_proof.specs.Bits.{child}
 use Rattle.coniks_proof.specs.Entries.{under}
 use Rattle.coniks_proof.specs.Changes.{overwritten, AreApart, AreInOrder}
 use Rattle.coniks_tree.specs.Table.{Numbered, Shows, Extends, entry_of_record}
-use Rattle.coniks_tree.specs.Parts.{Stands, Fits, Placed, node_count}
+use Rattle.coniks_tree.specs.Counts.{new_nodes}
+use Rattle.coniks_tree.specs.Parts.{Stands, Fits, KeepsNone, Placed, node_count}
 use Rattle.coniks_tree.specs.declared.table.Node.{Node}
 use Rattle.coniks_tree.specs.declared.table.Record.{Record}
 use Rattle.coniks_tree.specs.declared.table.Root.{Root}
@@ -34,6 +35,10 @@ module _ (hash : List ℕ → List ℕ) (nonce : List ℕ) (nodes : List Node) (
     pub fits : Fits (length nodes) (length prefix) part
     pub count : node_count part ≤ 1 + 2 * ((256 - length prefix) * length entries)
     pub placed : (all : List Record) → Extends records all → AllStored all entries → Placed all part
+    pub keeps : root ≡ None → KeepsNone part
+    pub new : (old : List Numbered) → IsOldMap hash nonce nodes records root old → 0 < length prefix + length entries
+        → AreInOrder (length prefix) entries → AreApart (length prefix) (overwritten (under prefix old) entries)
+        → node_count part ≡ new_nodes (length prefix) (under prefix old) entries
     pub stands : (old : List Numbered) → IsOldMap hash nonce nodes records root old
         → AreInOrder (length prefix) entries → AreApart (length prefix) (overwritten (under prefix old) entries)
         → Stands hash nonce nodes records part prefix (overwritten (under prefix old) entries)

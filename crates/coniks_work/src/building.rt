@@ -1,9 +1,10 @@
 //! The part of a whole batch.
 
-ghost use Rattle.std.specs.Prelude.{◌≡◌, ◌<◌, ◌≤◌, ◌+◌, ◌*◌, List, [], length, IfOk, IfSome};
+ghost use Rattle.std.specs.Prelude.{◌≡◌, ◌<◌, ◌≤◌, ◌+◌, ◌*◌, List, [], length, IfOk, IfSome, None};
 ghost use Rattle.coniks_proof.specs.Changes.{overwritten, AreApart, AreInOrder};
 ghost use Rattle.coniks_tree.specs.Table.{Extends, Numbered};
-ghost use Rattle.coniks_tree.specs.Parts.{Stands, Fits, Placed, AllPlaced, node_count, entries_of};
+ghost use Rattle.coniks_tree.specs.Counts.{new_nodes};
+ghost use Rattle.coniks_tree.specs.Parts.{Stands, Fits, KeepsNone, Placed, AllPlaced, node_count, entries_of};
 ghost use Rattle.coniks_tree.specs.declared.table.Record.{Record};
 ghost use Rattle.coniks_work.specs.Grown.{IsOldMap, unchanged};
 
@@ -52,7 +53,8 @@ fn unchanged_part(root: Option<Root>) -> Part
 }
 
 /// The part of the empty prefix for an epoch: what the old root shows, or the empty map where there is none, overwritten
-/// by the changes. It is the same for every number of workers and every depth, and so is the count of its new nodes.
+/// by the changes. It is the same for every number of workers and every depth, and so is the count of its new nodes: that
+/// of the old map and the changes (`new`). From no root it keeps no node of the tree.
 ///
 /// `workers` is 1 to `MAX_WORKERS`, and `depth`, the length in bits of the prefixes that are grown apart, 0 to `MAX_DEPTH`;
 /// they are shorter where that gives each worker 32 jobs, or 64 of many changes, since more would only cost.
@@ -82,6 +84,12 @@ pub fn build<H: Hash32 + Sync, G: Gate + Sync, R: Threads + Sync>(
     ensures same { IfOk result (λ part. length changes.now ≡ 0 → part ≡ unchanged root) }
     ensures count { IfOk result (λ part. 0 < length changes.now → node_count part ≤ 512 * length changes.now + 1) }
     ensures placed { IfOk result (λ part. (all : List Record) → Extends tree.now.records.items all → AllPlaced all changes.now → Placed all part) }
+    ensures keeps { IfOk result (λ part. root ≡ None → KeepsNone part) }
+    ensures new { IfOk result (λ part. 0 < length changes.now → (entries : List Numbered)
+        → IsOldMap (H.digest_of h.now) nonce.now.0 tree.now.nodes.items tree.now.records.items root entries
+        → AreInOrder 0 (entries_of changes.now)
+        → AreApart 0 (overwritten entries (entries_of changes.now))
+        → node_count part ≡ new_nodes 0 entries (entries_of changes.now)) }
     ensures stands { IfOk result (λ part. (entries : List Numbered)
         → IsOldMap (H.digest_of h.now) nonce.now.0 tree.now.nodes.items tree.now.records.items root entries
         → AreInOrder 0 (entries_of changes.now)

@@ -1,10 +1,10 @@
 //! The work of the jobs: each grows the part of its prefix.
 
-ghost use Rattle.std.specs.Prelude.{◌≡◌, ◌<◌, ◌≤◌, ℕ, List, [], length, slice_get, IfOk, IfSome, Some, false, All};
+ghost use Rattle.std.specs.Prelude.{◌≡◌, ◌<◌, ◌≤◌, ℕ, List, [], length, slice_get, IfOk, IfSome, None, Some, false, All};
 ghost use Rattle.std.proofs.Props.{props};
 ghost use Rattle.coniks_proof.specs.Entries.{under};
 ghost use Rattle.coniks_tree.specs.Table.{Extends, Numbered};
-ghost use Rattle.coniks_tree.specs.Parts.{entries_of, is_made, node_count, Fits, Placed, Stands};
+ghost use Rattle.coniks_tree.specs.Parts.{entries_of, is_made, node_count, Fits, KeepsNone, Placed, Stands};
 ghost use Rattle.coniks_tree.specs.declared.table.Record.{Record};
 ghost use Rattle.coniks_work.specs.Grown.{IsGrown, IsOldMap};
 ghost use Rattle.coniks_work.specs.Jobs.{in_range, LieWithin};
@@ -21,6 +21,7 @@ pub(crate) fn old_part(tree: &Tree, root: Option<Root>, prefix: &Prefix) -> Part
     ensures fits { Fits (length tree.now.nodes.items) (length prefix.now) result }
     ensures count { node_count result ≤ 1 }
     ensures placed { (all : List Record) → Extends tree.now.records.items all → Placed all result }
+    ensures keeps { root ≡ None → KeepsNone result }
     ensures stands { (hash : List ℕ → List ℕ) (nonce : List ℕ) (old : List Numbered)
         → IsOldMap hash nonce tree.now.nodes.items tree.now.records.items root old
         → Stands hash nonce tree.now.nodes.items tree.now.records.items result prefix.now (under prefix.now old) }

@@ -58,7 +58,7 @@ pub(crate) fn all_jobs(
 ) -> Result<Vec<Job>, AllocError>
     requires { depth ≤ MAX_DEPTH }
     ensures jobs { IfOk result (λ jobs. jobs.items ≡ jobs_below depth [] 0 (entries_of changes.now)) }
-    ensures few { IfOk result (λ jobs. length jobs.items ≤ most_numbers) }
+    ensures few { IfOk result (λ jobs. (length jobs.items ≤ 2 ^ depth) × (length jobs.items ≤ most_numbers)) }
     ensures some { IfOk result (λ jobs. 0 < length changes.now → 0 < length jobs.items) }
     ensures within { IfOk result (λ jobs. LieWithin (length changes.now) jobs.items) }
 {
@@ -69,13 +69,14 @@ pub(crate) fn all_jobs(
 
 /// The jobs of changes, which are in increasing order of index: one for each prefix of this depth, 0 to `MAX_DEPTH`
 /// bits, that begins a change's index, in increasing order, with its range of the changes. The ranges follow one another
-/// and leave no change out. No changes give no jobs, and depth 0 gives one job where there is a change. No change is
-/// copied.
+/// and leave no change out. There are at most `2^depth` of them: none for no changes, and one at depth 0 where there is a
+/// change. No change is copied.
 pub fn split(alloc: Global, changes: &[Change], depth: usize) -> Result<Vec<Job>, OutOfMemory>
     requires { depth ≤ MAX_DEPTH }
     ensures cover { IfOk result (λ jobs. Cover 0 (length changes.now) jobs.items) }
     ensures long { IfOk result (λ jobs. All (λ job. length job.prefix ≡ depth) jobs.items) }
     ensures rising { IfOk result (λ jobs. AreRising jobs.items) }
+    ensures few { IfOk result (λ jobs. length jobs.items ≤ 2 ^ depth) }
     ensures theirs { IfOk result (λ jobs. AreInOrder 0 (entries_of changes.now) → TakeTheirs (entries_of changes.now) jobs.items) }
 {
     Ok(all_jobs(alloc, changes, depth)?)

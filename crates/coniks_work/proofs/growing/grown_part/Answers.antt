@@ -8,4 +8,4 @@ returns g c =
     let old = c.old_part-old.ensures in
     let grown = c.in_ok-grow.ensures in
     grown_from hash nonce c.args.tree.now.nodes.items c.args.tree.now.records.items c.args.root c.args.prefix.now c.args.changes.now c.old_part-old.result c.in_ok-grow.field-0
-    old.unmade old.count old.placed (old.stands hash nonce) grown.fits grown.same grown.placed grown.count grown.stands
+    old.unmade old.count old.keeps old.placed (old.stands hash nonce) grown.fits grown.same grown.placed grown.count grown.stands grown.keeps grown.new

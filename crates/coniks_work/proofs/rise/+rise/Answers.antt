@@ -16,7 +16,7 @@ pub returns-then-is_empty-clause-grown : goal.returns-then-is_empty-clause-grown
 returns-then-is_empty-clause-grown g t c =
     let none : c.args.changes.now ≡ [] = nil_from_length c.args.changes.now (grind (arith, nat_tests, c.is_empty.ensures, c.if-is_empty.true)) in
     let old = c.old_part.ensures in
-    rw none (old_grown _ _ _ _ _ c.args.prefix.now c.old_part.result old.fits old.count old.placed (old.stands (g.H.Hash32.digest_of c.args.h.now) c.args.nonce.now.0))
+    rw none (old_grown _ _ _ _ _ c.args.prefix.now c.old_part.result old.unmade old.fits old.count old.keeps old.placed (old.stands (g.H.Hash32.digest_of c.args.h.now) c.args.nonce.now.0))
 
 pub returns-then-level-depth-clause-grown : goal.returns-then-level-depth-clause-grown
 returns-then-level-depth-clause-grown g t c =
@@ -86,4 +86,4 @@ returns-clause-grown g t c =
     let left = rw (c.child-below_left.ensures, c.sides.ensures.left, c.len-level.ensures.len) at c.in_ok-left.ensures.grown in
     let right = rw (c.child-below_right.ensures, c.sides.ensures.right, c.len-level.ensures.len) at c.in_ok-right.ensures.grown in
     let joined = c.in_ok-join.ensures in
-    joined_grown _ _ _ _ _ p es c.in_ok-left.left c.in_ok-right.right c.in_ok-join.field-0 short some left right joined.fits joined.count joined.placed joined.stands
+    joined_grown _ _ _ _ _ p es c.in_ok-left.left c.in_ok-right.right c.in_ok-join.field-0 short some left right joined.fits joined.count joined.new joined.keeps joined.placed joined.stands
