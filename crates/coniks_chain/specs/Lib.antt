@@ -5,3 +5,4 @@ pub mod Watch
 pub mod Fork
 pub mod Pair
 pub mod Clients
+pub mod Signing

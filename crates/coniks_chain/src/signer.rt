@@ -2,6 +2,8 @@
 
 ghost use Rattle.std.specs.Prelude.{◌≡◌, ◌<◌, ◌+◌, ◌-◌, ◌^◌, List, ℕ, Bool, true, Option, Some, None, IfSome, IfNone};
 ghost use Rattle.coniks_chain.specs.Entries.{IsBody, body_bytes, signed};
+ghost use Rattle.coniks_chain.specs.Signing.{verified};
+ghost use Rattle.coniks_chain.specs.declared.entry.Signature.{Signature};
 
 use crate::entry::{Body, Entry, Signature};
 
@@ -22,6 +24,10 @@ pub trait Verify {
 pub trait Sign: Verify {
     ghost use Rattle.coniks_chain.specs.declared.entry.Body.{Body};
     ghost use Rattle.coniks_chain.specs.declared.entry.Entry.{Entry};
+    ghost use Rattle.coniks_chain.specs.declared.entry.Signature.{Signature};
+
+    /// One call of `sign`: asked to sign these bytes, the signer gives this signature or none, and is this afterwards.
+    ghost signs: { Self → List ℕ → Option Signature → Self → Type 0 };
 
     /// How many signatures it gave.
     ghost made_of: { Self → ℕ };
@@ -37,6 +43,7 @@ pub trait Sign: Verify {
     fn sign(&mut self, body: &[u8; 145]) -> Option<Signature>
         requires made_below { made_of self.old < 2 ^ 64 - 1 }
         requires refused_below { refused_of self.old < 2 ^ 64 - 1 }
+        ensures signs { signs self.old body.now result self.new }
         ensures made { IfSome result (λ _. (made_of self.new ≡ made_of self.old + 1) × (refused_of self.new ≡ refused_of self.old)) }
         ensures refused { IfNone result ((refused_of self.new ≡ refused_of self.old + 1) × (made_of self.new ≡ made_of self.old)) }
         ensures verdict { IfSome result (λ signature. Self.verdict_of self.new body.now signature.0 ≡ true) }
@@ -109,6 +116,8 @@ impl Signings {
 ///
 /// ```rust
 /// impl SignatureSource for Desk {
+///     ghost gives = { λ desk body given after. given ≡ desk.arrived };
+///
 ///     fn signature(&mut self, body: &[u8; 145]) -> Option<Signature> {
 ///         self.wanted = Some(*body);
 ///         self.arrived.take()
@@ -125,13 +134,21 @@ impl Signings {
 /// let installed = directory.install(update, 1, &mut signer, &mut publisher, &board);
 /// ```
 pub trait SignatureSource: Verify {
+    ghost use Rattle.coniks_chain.specs.declared.entry.Signature.{Signature};
+
+    /// One call of `signature`: asked for a signature of these bytes, the source gives this one or none, and is this
+    /// afterwards. A source writes what its users may know of a call, or `λ _ _ _ _. Unit {0}` if they need nothing.
+    /// `Signer` and the directory say that such a call was made, once and for the body that is signed.
+    ghost gives: { Self → List ℕ → Option Signature → Self → Type 0 };
+
     /// A signature for the bytes of a body, or None where there is none now. It may be a wrong one. No verdict changes.
     fn signature(&mut self, body: &[u8; 145]) -> Option<Signature>
+        ensures gives { gives self.old body.now result self.new }
         ensures verdicts_kept { (bytes signature : List ℕ) → Self.verdict_of self.new bytes signature ≡ Self.verdict_of self.old bytes signature };
 }
 
-/// A signer over a source of signatures: it judges each before it hands it on, refuses in place of a wrong one, and
-/// counts.
+/// A signer over a source of signatures: it verifies each signature before it hands it on, refuses in place of a wrong
+/// one, and counts. Each call of `sign` asks the source exactly once, for the same body (`signs`).
 #[derive(Drop)]
 pub struct Signer<S> {
     /// The source.
@@ -141,6 +158,7 @@ pub struct Signer<S> {
 
 /// What the source gives for a body, where the verdict on it is yes.
 fn judged<S: SignatureSource>(source: &mut S, body: &[u8; 145]) -> Option<Signature>
+    ensures given { (given : Option Signature) × S.gives source.old body.now given source.new × (result ≡ verified (S.verdict_of source.new body.now) given) }
     ensures verdict { IfSome result (λ signature. S.verdict_of source.new body.now signature.0 ≡ true) }
     ensures verdicts_kept { (bytes signature : List ℕ) → S.verdict_of source.new bytes signature ≡ S.verdict_of source.old bytes signature }
 {
@@ -174,6 +192,12 @@ impl<S: SignatureSource> Verify for Signer<S> {
 }
 
 impl<S: SignatureSource> Sign for Signer<S> {
+    ghost use Rattle.std.specs.Prelude.{◌≡◌, Option};
+    ghost use Rattle.coniks_chain.specs.Signing.{verified};
+    ghost use Rattle.coniks_chain.specs.declared.entry.Signature.{Signature};
+
+    ghost signs = { λ signer body result after. (given : Option Signature) × S.gives signer.source body given after.source × (result ≡ verified (S.verdict_of after.source body) given) };
+
     ghost made_of = { λ signer. signer.signings.made };
 
     ghost refused_of = { λ signer. signer.signings.refused };

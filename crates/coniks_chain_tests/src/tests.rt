@@ -72,11 +72,13 @@ impl Verify for Only {
     }
 }
 
-/// Gives what it is told to for everything, and takes one signature.
+/// Gives what it is told to for everything, takes one signature, and keeps the count of what it was asked and the last body.
 #[derive(Drop)]
 struct Stamp {
     given: Option<Signature>,
     taken: Only,
+    asked: u64,
+    last: [u8; 145],
 }
 
 impl Verify for Stamp {
@@ -90,7 +92,13 @@ impl Verify for Stamp {
 }
 
 impl SignatureSource for Stamp {
-    fn signature(&mut self, _body: &[u8; 145]) -> Option<Signature> {
+    ghost use Rattle.std.specs.Prelude.{◌≡◌};
+
+    ghost gives = { λ stamp _ given _. given ≡ stamp.given };
+
+    fn signature(&mut self, body: &[u8; 145]) -> Option<Signature> {
+        self.asked = self.asked.wrapping_add(1);
+        self.last = *body;
         self.given
     }
 }
@@ -533,13 +541,34 @@ fn texts_of_faults(rt: HostRuntime) {
     }
 }
 
+/// A source that takes this signature, gives what it is told to, and hasn't been asked.
+fn stamp(given: Option<Signature>, taken: Signature) -> Stamp {
+    Stamp {
+        given,
+        taken: Only(taken),
+        asked: 0,
+        last: [0; 145],
+    }
+}
+
+/// A signer asks its source once for each body, and for that body, whatever the source gives.
+#[test]
+fn asked_once_for_each_body(rt: HostRuntime) {
+    let signature = Signature([7; 64]);
+    let mut signer = Signer::new(stamp(None, signature));
+    for (calls, given) in [(1, None), (2, Some(signature)), (3, Some(Signature([8; 64])))] {
+        signer.source.given = given;
+        let body = flat_entry(calls, calls - 1, 0).body.bytes();
+        let _ = signer.sign(&body);
+        assert_eq!(rt; signer.source.asked, calls);
+        assert!(rt; signer.source.last == body);
+    }
+}
+
 #[test]
 fn signed_or_refused(rt: HostRuntime) {
     let signature = Signature([7; 64]);
-    let mut signer = Signer::new(Stamp {
-        given: None,
-        taken: Only(signature),
-    });
+    let mut signer = Signer::new(stamp(None, signature));
     let body = flat_entry(1, 0, 0).body;
     assert!(rt; signer.sign(&body.bytes()).is_none());
     assert_eq!(rt; (signer.made(), signer.refused()), (0, 1));
@@ -557,10 +586,7 @@ fn wrong_signatures_are_kept_back(rt: HostRuntime) {
     let signature = Signature([7; 64]);
     let mut wrong = signature;
     wrong.0[63] = 8;
-    let mut signer = Signer::new(Stamp {
-        given: Some(signature),
-        taken: Only(signature),
-    });
+    let mut signer = Signer::new(stamp(Some(signature), signature));
     let first = flat_entry(1, 0, 0).body;
     assert!(rt; signer.sign(&first.bytes()) == Some(signature));
     signer.source.given = Some(wrong);

@@ -1,7 +1,7 @@
 -- What a part and the records of a batch leave.
 use Rattle.std.proofs.Common.{◌≡◌, ◌<◌, ◌≤◌, ◌+◌, ◌*◌, ℕ, suc, List, [], ◌∷◌, ◌++◌, length, map, arith, Bool, true, false, refl, sym, ap, subst, ◌∙◌, inl, inr, Option, Some, None, slice_get}
 use Rattle.coniks_directory.proofs.Words.{AllPlaced, AreApart, AreChangesOf, AreDrafts, AreSealed, AreInOrder, BTreeMap, Change, Entry, Extends, Fits}
-use Rattle.coniks_directory.proofs.Words.{Growth, IsBuilt, IsIn, IsIndex, IsMap, IsGrowth, IsOldMap, IsSmall, IsStored, MayFollow, Mirrors, Node, Numbered, Operation, Part}
+use Rattle.coniks_directory.proofs.Words.{Growth, IsBuilt, IsIn, IsIndex, IsMap, IsGrowth, IsOldMap, IsSmall, IsStored, KeepsNone, MayFollow, Mirrors, Node, Numbered, Operation, Part}
 use Rattle.coniks_directory.proofs.Words.{Placed, Record, Registered, Registry, Root, SameEntries, ShowsLatest, Stands, after, backed_by}
 use Rattle.coniks_directory.proofs.Words.{bound_by, entries_of, entry_of, entry_of_change, entry_of_record, false_from_ne_true, first_fault}
 use Rattle.coniks_directory.proofs.Words.{has_name, length-map, most_anew, node_count, overwritten, registered_at, registered_of, unchanged}
@@ -13,8 +13,8 @@ use Rattle.coniks_tree.proofs.Lemmas.{Extends-append, Lists-apart, Lists-stands}
 use Rattle.coniks_directory.proofs.GrowthLemmas.{no_more}
 use Rattle.coniks_directory.proofs.MirrorLemmas.{IsMap-backed, registered_at-extended}
 use Rattle.coniks_directory.proofs.HolderLemmas.{backed_in, in_backed}
-use Rattle.coniks_directory.proofs.OverlaidLemmas.{IsMap-overlaid, IsMap-overwritten, in_overwritten}
-use Rattle.coniks_directory.proofs.OverlaidLemmas.{index_there, overlaid_new, overlaid_old, overwritten_index, overwritten_new, within-overlaid}
+use Rattle.coniks_directory.proofs.OverlaidLemmas.{IsMap-overlaid, overlaid_new, overlaid_old, within-overlaid}
+use Rattle.coniks_proof.proofs.Lemmas.{IsMap-overwritten, in_overwritten, index_there, overwritten_index, overwritten_new}
 use Rattle.coniks_directory.proofs.DraftLemmas.{in_records, record_in}
 
 -- what stands in a list stands that much further on where it follows another
@@ -177,6 +177,7 @@ module _ (hash of : List ℕ → List ℕ) (nonce latest : List ℕ) (nodes : Li
     pub few : 0 < length growth.changes.items → node_count p ≤ 512 * length growth.changes.items + 1
     pub empty : length growth.changes.items ≡ 0 → p ≡ unchanged growth.root
     pub placed : (all : List Record) → Extends records all → AllPlaced all growth.changes.items → Placed all p
+    pub keeps : growth.root ≡ None → KeepsNone p
     pub stands : (entries : List Numbered) → IsOldMap hash nonce nodes records growth.root entries → AreInOrder 0 (entries_of_changes growth.changes.items)
         → AreApart 0 (overwritten entries (entries_of_changes growth.changes.items)) → Stands hash nonce nodes records p [] (overwritten entries (entries_of_changes growth.changes.items))
 
@@ -209,12 +210,12 @@ module _ (hash of : List ℕ → List ℕ) (nonce latest : List ℕ) (nodes : Li
         let changed_few = no_more (map (backed_by f) changed) (entries_of hash of (after registry ops)) (IsMap-backed f changed changed_map) mirrored.same.there in
         omega (arith, listed_few, changed_few, length-map growth.changes.items entry_of_change, length-map changed (backed_by f), length-map (after registry ops) (entry_of hash of))
 
-    few_anew : anew ≡ true → node_count p ≤ most_anew (after registry ops)
+    few_anew : anew ≡ true → (node_count p ≤ most_anew (after registry ops)) × KeepsNone p
     few_anew on =
         let many = many_anew on in
         let one : length growth.changes.items ≡ 0 → node_count p ≤ 1 = λ none. rw (made.empty none) (few_kept growth.root) in
         let few = made.few in
-        grind arith
+        (grind arith, made.keeps (grows.none on))
 
     few_from_root : anew ≡ false → (node_count p ≤ 512 * length ops + 1) × (length ops ≡ 0 → p ≡ unchanged root)
     few_from_root off =

@@ -8,7 +8,7 @@ use Rattle.coniks_proof.proofs.Lemmas.{AreIncreasing-in_order, IsIn-filter, IsMa
 use Rattle.coniks_proof.proofs.Lemmas.{half-overwritten, in_order-split, new_apart, overwritten-empty, overwritten-nothing, overwritten-one}
 use Rattle.coniks_tree.specs.Entries.{Lists, in_order}
 use Rattle.coniks_tree.specs.Parts.{entries_of}
-use Rattle.coniks_directory.proofs.OverlaidLemmas.{IsMap-overwritten, in_overwritten, overwritten_new, overwritten_old}
+use Rattle.coniks_proof.proofs.Lemmas.{IsMap-overwritten, in_overwritten, overwritten_new, overwritten_old}
 use Rattle.coniks_tree.proofs.Lemmas.{in_order-Lists, in_order-same, listed-both}
 
 -- ---- how many entries a map has

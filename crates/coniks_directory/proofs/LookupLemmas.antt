@@ -5,6 +5,8 @@ use Rattle.coniks_directory.proofs.Words.{IsLength, IsPath, MAX_NAME, Numbered, 
 use Rattle.coniks_directory.proofs.Words.{entries_of, find, has_name, history_of, key_of, length-map, map-map, node, registered_at, root_at}
 use Rattle.coniks_directory.proofs.Words.{same_Some, shown_at, shown_of, slice_get-map, slice_get_cases, slice_get_within}
 use Rattle.coniks_chain.specs.declared.entry.Entry.{Entry}
+use Rattle.coniks_directory.specs.Lookups.{IsAcceptedUnder}
+use Rattle.coniks_directory.specs.declared.lookup.SignedProof.{SignedProof}
 use Rattle.coniks_proof.proofs.Lemmas.{own_of_map, path_accepted}
 use Rattle.coniks_directory.proofs.HeadLemmas.{chain-rises}
 use Rattle.coniks_directory.proofs.LastLemmas.{get-mapped}
@@ -30,10 +32,13 @@ module _ (hash of : List ℕ → List ℕ) (s : State) (whole : Whole hash of s)
     pub installed_at : (t : ℕ) (entry : Entry) → e.t ≡ t → slice_get s.chain k ≡ Some entry → IsAt hash of s t e entry
     installed_at t entry same there =
         let shown = slice_get-map (shown_of s.records) s.epochs k ∙ ap (option_map (shown_of s.records)) at in
-        let number = ap (λ (b : Body). b.t) (whole.chain.bodies k (shown_of s.records e) entry shown there) ∙ same in
+        let body = whole.chain.bodies k (shown_of s.records e) entry shown there in
+        let number = ap (λ (b : Body). b.t) body ∙ same in
         record {
           holds = whole.held k e at;
           shown = shown-found s.records s.epochs t ∙ ap (option_map (shown_of s.records)) (find_at (λ (f : Epoch). f.t) 0 t k s.epochs e rising_epochs at same);
+          root = ap (λ (b : Body). b.root.0) body;
+          nonce = ap (λ (b : Body). b.nonce.0) body;
           signed = find_at (λ (f : Entry). f.body.t) 0 t k s.chain entry (chain-rises hash of s.policy (history_of s) s.chain whole.chain whole.rising) there number;
         }
 
@@ -68,6 +73,17 @@ module _ (hash of : List ℕ → List ℕ) (s : State) (t : ℕ) (e : Epoch) (en
       let m = i.holds.registry.mirrors in
       subst (λ (x : Shown). (has_name x.registry name ≡ false → IsFree of x.registry (of name)) → Accepts hash x.nonce (root_at hash of x) (of name) name proof (key_of x.registry name)) same
       (λ own. path_accepted hash of e.nonce.0 (root_at hash of (shown_of s.records e)) (shown_of s.records e).registry name proof m.names m.limits refl path own sized) alone
+
+  -- and so it is under the entry's root and nonce, at the name's index
+  pub accepted_under : (name : List ℕ) (it : SignedProof) → it.entry ≡ entry → it.index.0 ≡ of name → IsAcceptedAt hash of (history_of s) t name it.proof → IsAcceptedUnder hash of (history_of s) t name it
+  accepted_under name it entry-is index-is accepted shown there alone =
+      let same : shown_of s.records e ≡ shown = same_Some (shown_of s.records e) shown (sym i.shown ∙ there) in
+      let root : it.entry.body.root.0 ≡ root_at hash of shown = ap (λ (f : Entry). f.body.root.0) entry-is ∙ i.root ∙ ap (root_at hash of) same in
+      let nonce : it.entry.body.nonce.0 ≡ shown.nonce = ap (λ (f : Entry). f.body.nonce.0) entry-is ∙ i.nonce ∙ ap (λ (x : Shown). x.nonce) same in
+      let key = key_of shown.registry name in
+      subst (λ n. Accepts hash n it.entry.body.root.0 it.index.0 name it.proof key) (sym nonce)
+      (subst (λ r. Accepts hash shown.nonce r it.index.0 name it.proof key) (sym root)
+      (subst (λ j. Accepts hash shown.nonce (root_at hash of shown) j name it.proof key) (sym index-is) (accepted shown there alone)))
 
 -- in no epoch's registry two names have one index
 pub all_own : (hash of : List ℕ → List ℕ) (s : State) → Whole hash of s → AllHaveOwnIndices of (history_of s)

@@ -44,7 +44,7 @@ module _ (hash of : List ℕ → List ℕ) (s : State) where
           let many = length-map ops operation_of in
           let none = λ (empty : length ops ≡ 0). p.counted ∙ ap node_count (small.1 (many ∙ empty)) ∙ latest.counted in
           (few_added (history_of s) (length ops) p.new_nodes (let few = small.0 in let count = p.counted in omega (arith, many)) none, none)
-      adds (Some nonce) true same small = let count = p.counted in omega (arith, small)
+      adds (Some nonce) true same small = (let few = small.0 in let count = p.counted in omega arith, small.1)
       adds None true same small = absurd (let never = same in cc)
       adds (Some nonce) false same small = absurd (let never = same in cc)
 

@@ -35,7 +35,7 @@ pub use Rattle.coniks_proof.specs.declared.values.Digest.{Digest}
 pub use Rattle.coniks_proof.specs.declared.values.Head.{Head}
 pub use Rattle.coniks_proof.specs.declared.values.Nonce.{Nonce}
 pub use Rattle.coniks_proof.specs.declared.values.TheConstants.{MAX_KEY, MAX_NAME}
-pub use Rattle.coniks_tree.specs.Parts.{AllPlaced, Fits, Placed, Stands, entry_of_change, node_count}
+pub use Rattle.coniks_tree.specs.Parts.{AllPlaced, Fits, KeepsNone, Placed, Stands, entry_of_change, node_count}
 pub use Rattle.coniks_tree.specs.Paths.{Finds}
 pub use Rattle.coniks_tree.specs.Table.{Extends, Numbered, Shows, entry_of_record, registered_at, registered_by}
 pub use Rattle.coniks_tree.specs.declared.part.Change.{Change}

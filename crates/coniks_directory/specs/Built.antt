@@ -5,7 +5,7 @@ use Rattle.coniks_proof.specs.Changes.{AreApart, AreInOrder, overwritten}
 use Rattle.coniks_proof.specs.Maps.{IsMap}
 use Rattle.coniks_proof.specs.Registry.{Registry}
 use Rattle.coniks_tree.specs.Entries.{Lists}
-use Rattle.coniks_tree.specs.Parts.{AllPlaced, Fits, Placed, Stands, entries_of, node_count}
+use Rattle.coniks_tree.specs.Parts.{AllPlaced, Fits, KeepsNone, Placed, Stands, entries_of, node_count}
 use Rattle.coniks_tree.specs.Table.{Extends, Numbered}
 use Rattle.coniks_tree.specs.declared.part.Change.{Change}
 use Rattle.coniks_tree.specs.declared.part.Part.{Part}
@@ -35,10 +35,11 @@ pub record IsGrowth (nodes : List Node) (records : List Record) (root : Option R
       → IsMap entries → IsMap (entries_of changes) → AreInOrder 0 (entries_of changes) → Lists growth.changes.items (overwritten entries (entries_of changes))
   pub placed : (further : List Record) → Extends records further → AllPlaced further changes → AllPlaced further growth.changes.items
 
--- how many nodes the part takes at most, after a root and with so many operations, and without operations; or anew, for this registry
+-- how many nodes the part takes at most, after a root and with so many operations, and without operations; or anew, for this registry,
+-- where it keeps none of the tree's
 abbrev pub IsSmall : Bool → Option Root → List Operation → Registry → Part → Type 0
 IsSmall false root ops registry part = (node_count part ≤ 512 * length ops + 1) × (length ops ≡ 0 → part ≡ unchanged root)
-IsSmall true root ops registry part = node_count part ≤ most_anew registry
+IsSmall true root ops registry part = (node_count part ≤ most_anew registry) × KeepsNone part
 
 -- the part and the new records are those of a batch on a registry, which the root shows, over the nodes and the records that there were
 pub record IsBuilt (hash of : List ℕ → List ℕ) (nonce : List ℕ) (nodes : List Node) (records : List Record) (root : Option Root) (registry : Registry) (ops : List Operation) (anew : Bool) (part : Part) (new : List Record) : Type 0 where
@@ -50,10 +51,10 @@ pub record IsBuilt (hash of : List ℕ → List ℕ) (nonce : List ℕ) (nodes :
   pub stands : Stands hash nonce nodes records part [] entries
   pub mirrors : Mirrors hash of (records ++ new) entries (after registry ops)
 
--- how many nodes the update of a batch adds at most, one that brings a nonce or one that brings none
+-- how many nodes the update of a batch adds at most; one that brings a nonce keeps none of the tree's
 abbrev pub AddsFew : State → Option (List ℕ) → List Op → Prepared → Type 0
 AddsFew s None ops p = (p.new_nodes ≤ most_nodes (history_of s) (length ops)) × (length ops ≡ 0 → p.new_nodes ≡ most_nodes (history_of s) 0)
-AddsFew s (Some nonce) ops p = p.new_nodes ≤ most_anew (after (latest_registry (history_of s)) (operations ops))
+AddsFew s (Some nonce) ops p = (p.new_nodes ≤ most_anew (after (latest_registry (history_of s)) (operations ops))) × KeepsNone p.part
 
 -- the update is that of a batch, which may bring a nonce, on the directory in this state
 pub record IsUpdateBy (hash of : List ℕ → List ℕ) (s : State) (brought : Option (List ℕ)) (ops : List Op) (p : Prepared) : Type 0 where

@@ -1,20 +1,22 @@
 -- A directory as contracts see it, and what is said of the whole of it.
-use Rattle.std.specs.Prelude.{◌≡◌, ◌==◌, ℕ, List, Bool, Option, option_map}
+use Rattle.std.specs.Prelude.{◌≡◌, ◌==◌, ℕ, List, length, Bool, Option, None, option_map}
 use Rattle.std.specs.List.{find}
-use Rattle.coniks_chain.specs.Chain.{GoodChain}
+use Rattle.coniks_chain.specs.Chain.{GoodChain, before_at}
+use Rattle.coniks_chain.specs.declared.entry.Body.{Body}
 use Rattle.coniks_chain.specs.declared.entry.Entry.{Entry}
 use Rattle.coniks_proof.specs.Batches.{Operation}
 use Rattle.coniks_proof.specs.Registry.{Registry}
 use Rattle.coniks_proof.specs.declared.paths.Proof.{Proof}
 use Rattle.coniks_proof.specs.declared.values.Head.{Head}
 use Rattle.coniks_directory.specs.Batches.{IsAccepted, IsBatchFault}
-use Rattle.coniks_directory.specs.Chain.{IsChainOf, heads_of}
+use Rattle.coniks_directory.specs.Chain.{IsChainOf, body_of, heads_of}
 use Rattle.coniks_directory.specs.History.{Shown, latest_registry, root_at, shown_at}
-use Rattle.coniks_directory.specs.Lookups.{IsAcceptedAt, IsFound, IsMissed}
+use Rattle.coniks_directory.specs.Lookups.{IsAcceptedAt, IsAcceptedUnder, IsFound, IsMissed}
 use Rattle.coniks_directory.specs.State.{View, history_of}
 use Rattle.coniks_directory.specs.Updates.{Brings, IsUpdate, IsUpdateOf}
 use Rattle.coniks_directory.specs.declared.batch.BatchFault.{BatchFault}
 use Rattle.coniks_directory.specs.declared.lookup.LookupFault.{LookupFault}
+use Rattle.coniks_directory.specs.declared.lookup.SignedProof.{SignedProof}
 use Rattle.coniks_directory.specs.declared.update.Prepared.{Prepared}
 
 -- the epochs of a directory, each with its registry
@@ -46,6 +48,14 @@ module _ {H X : Type 0} (digest : H → List ℕ → List ℕ) (index : X → Li
   -- the proof is accepted for the name at the epoch
   abbrev pub Shows : ℕ → List ℕ → Proof → Type 0
   Shows t name proof = IsAcceptedAt (digest d.hash) (index d.index) (history d) t name proof
+
+  -- the proof of a lookup is accepted under the entry that it comes with
+  abbrev pub Checks : ℕ → List ℕ → SignedProof → Type 0
+  Checks t name it = IsAcceptedUnder (digest d.hash) (index d.index) (history d) t name it
+
+  -- the body of the next entry, where its epoch shows this
+  abbrev pub NextBody : Shown → Body
+  NextBody shown = body_of (digest d.hash) (index d.index) d.state.policy (before_at (digest d.hash) None d.state.chain (length d.state.chain)) shown
 
   -- an update is one of the directory as it is, or as it was
   abbrev pub Prepares : Prepared → Type 0

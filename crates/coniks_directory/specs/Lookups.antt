@@ -8,6 +8,7 @@ use Rattle.coniks_proof.specs.declared.values.TheConstants.{MAX_NAME}
 use Rattle.coniks_proof.specs.declared.paths.Proof.{Proof}
 use Rattle.coniks_directory.specs.History.{Shown, shown_at, root_at}
 use Rattle.coniks_directory.specs.declared.lookup.LookupFault.{LookupFault}
+use Rattle.coniks_directory.specs.declared.lookup.SignedProof.{SignedProof}
 use Rattle.coniks_directory.specs.declared.lookup.LookupFault.TheVariants.{UnknownEpoch, NameLength, OutOfMemory}
 
 -- there is an epoch of this number, the name has a name's length, and the proof is the path to its index in the tree of that epoch's registry
@@ -23,6 +24,12 @@ abbrev pub IsAcceptedAt : (List ℕ → List ℕ) → (List ℕ → List ℕ) �
 IsAcceptedAt hash of history t name proof =
     (shown : Shown) → shown_at history t ≡ Some shown → (has_name shown.registry name ≡ false → IsFree of shown.registry (of name))
     → Accepts hash shown.nonce (root_at hash of shown) (of name) name proof (key_of shown.registry name)
+
+-- so it is under the root and the nonce of this entry, at this index
+abbrev pub IsAcceptedUnder : (List ℕ → List ℕ) → (List ℕ → List ℕ) → List Shown → ℕ → List ℕ → SignedProof → Type 0
+IsAcceptedUnder hash of history t name it =
+    (shown : Shown) → shown_at history t ≡ Some shown → (has_name shown.registry name ≡ false → IsFree of shown.registry (of name))
+    → Accepts hash it.entry.body.nonce.0 it.entry.body.root.0 it.index.0 name it.proof (key_of shown.registry name)
 
 -- why a lookup isn't answered: of what applies, the first in the order of the faults
 abbrev pub IsMissed : List Shown → ℕ → List ℕ → LookupFault → Type 0

@@ -8,7 +8,7 @@ use Rattle.coniks_tree.specs.Table.{Numbered, Shows, entry_of_record, registered
 use Rattle.coniks_tree.specs.declared.table.Node.{Node}
 use Rattle.coniks_tree.specs.declared.table.Record.{Record}
 use Rattle.coniks_chain.specs.declared.entry.Entry.{Entry}
-use Rattle.coniks_directory.specs.History.{Shown, AreRising, AreUnder, numbers_of, shown_at}
+use Rattle.coniks_directory.specs.History.{Shown, AreRising, AreUnder, numbers_of, root_at, shown_at}
 use Rattle.coniks_directory.specs.Chain.{IsChainOf}
 use Rattle.coniks_directory.specs.declared.epochs.Epoch.{Epoch}
 use Rattle.coniks_directory.specs.declared.held.Held.{Held}
@@ -95,6 +95,8 @@ pub record IsAt (hash of : List ℕ → List ℕ) (s : State) (t : ℕ) (e : Epo
   pub holds : HoldsEpoch hash of s.nodes s.records e
   pub shown : shown_at (history_of s) t ≡ Some (shown_of s.records e)
   pub signed : find (λ (f : Entry). f.body.t == t) s.chain ≡ Some entry
+  pub root : entry.body.root.0 ≡ root_at hash of (shown_of s.records e)
+  pub nonce : entry.body.nonce.0 ≡ e.nonce.0
 
 -- the epoch of exactly this number and its entry, or none where there is no such epoch
 abbrev pub IsInstalled : (List ℕ → List ℕ) → (List ℕ → List ℕ) → State → ℕ → Option (Epoch × Entry) → Type 0

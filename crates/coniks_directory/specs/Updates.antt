@@ -1,7 +1,10 @@
 -- Updates that were prepared, and what an install of one leaves.
-use Rattle.std.specs.Prelude.{◌≡◌, ◌≢◌, ◌<◌, ◌≤◌, ℕ, List, [], ◌++◌, length, Option}
+use Rattle.std.specs.Prelude.{◌≡◌, ◌≢◌, ◌<◌, ◌≤◌, ℕ, List, [], ◌++◌, length, Option, None}
 use Rattle.coniks_proof.specs.Batches.{Operation, after}
 use Rattle.coniks_proof.specs.Registry.{Registry}
+use Rattle.coniks_chain.specs.Entries.{body_bytes}
+use Rattle.coniks_chain.specs.declared.entry.Body.{Body}
+use Rattle.coniks_chain.specs.declared.entry.Signature.{Signature}
 use Rattle.coniks_tree.specs.Table.{Numbered, Extends}
 use Rattle.coniks_tree.specs.Parts.{Stands, Fits, Placed}
 use Rattle.coniks_tree.specs.declared.table.Record.{Record}
@@ -101,11 +104,24 @@ refusals BoardFull = 0
 refusals OutOfMemory = 0
 refusals SignerRefused = 1
 
+-- what a refused install leaves of its signer: asked for this body it gave no signature, or it is as it was
+abbrev pub LeavesSigner : {S : Type 0} → (S → List ℕ → Option Signature → S → Type 0) → Body → S → S → InstallFault → Type 0
+LeavesSigner signs body old new (Stale latest) = new ≡ old
+LeavesSigner signs body old new (EpochNotLater latest) = new ≡ old
+LeavesSigner signs body old new BoardFull = new ≡ old
+LeavesSigner signs body old new OutOfMemory = new ≡ old
+LeavesSigner signs body old new SignerRefused = signs old (body_bytes body) None new
+
 -- why a batch isn't committed: it isn't accepted, or its update is refused, which is never stale
 abbrev pub IsCommitFault : (List ℕ → List ℕ) → State → List Operation → ℕ → ℕ → ℕ → ℕ → ℕ → CommitFault → Type 0
 IsCommitFault of s ops depth workers t published capacity (Batch fault) = IsBatchFault of (latest_registry (history_of s)) ops depth workers fault
 IsCommitFault of s ops depth workers t published capacity (Install fault) =
     IsAccepted of (latest_registry (history_of s)) ops depth workers × IsRefused s (length s.epochs) t published capacity fault
+
+-- what a refused commit leaves of its signer: a batch that isn't accepted leaves it as it was
+abbrev pub CommitLeavesSigner : {S : Type 0} → (S → List ℕ → Option Signature → S → Type 0) → Body → S → S → CommitFault → Type 0
+CommitLeavesSigner signs body old new (Batch fault) = new ≡ old
+CommitLeavesSigner signs body old new (Install fault) = LeavesSigner signs body old new fault
 
 -- how often the signer refused in a commit that answered this fault
 abbrev pub commit_refusals : CommitFault → ℕ

@@ -3,8 +3,9 @@
 ghost use Rattle.std.specs.Prelude.{◌≡◌, ◌<◌, ◌≤◌, ◌+◌, ◌-◌, ◌^◌, ◌++◌, ◌∷◌, [], List, ℕ, None, Some, IfErr, IfOk, OnErr, OnOk, length, option_map, true};
 ghost use Rattle.coniks_chain.specs.Entries.{body_bytes};
 ghost use Rattle.coniks_proof.specs.Batches.{after};
+ghost use Rattle.coniks_tree.specs.Parts.{KeepsNone};
 ghost use Rattle.coniks_directory.specs.Batches.{most_anew, most_nodes, operations};
-ghost use Rattle.coniks_directory.specs.Directories.{Accepts, Finds, HasGoodChain, HasItsChain, HasPrepared, IsAlike, Misses, Prepares, Refuses, Renews, Shows, entry, heads, history, registry, root};
+ghost use Rattle.coniks_directory.specs.Directories.{Accepts, Checks, Finds, HasGoodChain, HasItsChain, HasPrepared, IsAlike, Misses, NextBody, Prepares, Refuses, Renews, Shows, entry, heads, history, registry, root};
 ghost use Rattle.coniks_directory.specs.History.{AllHaveOwnIndices, AreRising, AreUnder, numbers_of};
 
 use crate::batch::{BatchFault, Op, within_limits};
@@ -99,12 +100,14 @@ impl<H: Hash32, X: IndexSource> Directory<H, X> {
     }
 
     /// What `lookup` answers, with the epoch's entry, which holds the root and the nonce that the proof is checked against,
-    /// and the name's index. It waits for nobody.
+    /// and the name's index: under that root and nonce and at that index, `coniks_proof::check` accepts the proof. It waits
+    /// for nobody.
     pub fn signed_lookup(&self, t: u64, name: &[u8]) -> Result<SignedProof, LookupFault>
         ensures entry { IfOk result (λ it. entry self.now t ≡ Some it.entry) }
         ensures index { IfOk result (λ it. it.index.0 ≡ X.index_of self.now.index name.now) }
         ensures ok { IfOk result (λ it. Finds H.digest_of X.index_of self.now t name.now it.proof) }
         ensures accepted { IfOk result (λ it. Shows H.digest_of X.index_of self.now t name.now it.proof) }
+        ensures checks { IfOk result (Checks H.digest_of X.index_of self.now t name.now) }
         ensures missed { IfErr result (Misses self.now t name.now) }
     {
         let Some((epoch, entry)) = self.held.installed(t) else {
@@ -126,7 +129,7 @@ impl<H: Hash32, X: IndexSource> Directory<H, X> {
 }
 
 impl<H: Hash32, X: IndexSource> Directory<H, X> {
-    ghost use Rattle.coniks_directory.specs.Updates.{Grows, IsRefused, MayInstall, base_of, nodes_added, refusals, shown_after};
+    ghost use Rattle.coniks_directory.specs.Updates.{Grows, IsRefused, LeavesSigner, MayInstall, base_of, nodes_added, refusals, shown_after};
 
     /// Installs an update under a later epoch: its tree is attached, its entry is signed and stands in the chain, and the
     /// head is published. All growth comes before the signature, and after it nothing can fail. It waits for nobody.
@@ -156,6 +159,7 @@ impl<H: Hash32, X: IndexSource> Directory<H, X> {
         // The one signature that the signer made is the one that stands in the chain.
         ensures made { OnOk result ((S.made_of signer.new ≡ S.made_of signer.old + 1) × (S.refused_of signer.new ≡ S.refused_of signer.old)) }
         ensures signed { IfOk result (λ entry. S.last_of signer.new ≡ Some entry) }
+        ensures asked { IfOk result (λ entry. S.signs signer.old (body_bytes entry.body) (Some entry.signature) signer.new) }
         ensures verdict { IfOk result (λ entry. S.verdict_of signer.new (body_bytes entry.body) entry.signature.0 ≡ true) }
         ensures good { HasGoodChain H.digest_of (S.verdict_of signer.old) self.old → HasGoodChain H.digest_of (S.verdict_of signer.new) self.new }
         ensures verdicts_kept { (bytes signature : List ℕ) → S.verdict_of signer.new bytes signature ≡ S.verdict_of signer.old bytes signature }
@@ -170,6 +174,7 @@ impl<H: Hash32, X: IndexSource> Directory<H, X> {
         ensures handed_back { IfErr result (λ r. r.1 ≡ update) }
         ensures unsigned { IfErr result (λ r. (S.made_of signer.new ≡ S.made_of signer.old) × (S.refused_of signer.new ≡ S.refused_of signer.old + refusals r.0)
             × (S.last_of signer.new ≡ S.last_of signer.old)) }
+        ensures unasked { IfErr result (λ r. LeavesSigner S.signs (NextBody H.digest_of X.index_of self.old (shown_after self.old.state update t)) signer.old signer.new r.0) }
     {
         let (published, capacity) = (publisher.published(), board.capacity());
         if let Err(fault) = may_install(&self.held, update.base, t, published, capacity) {
@@ -188,7 +193,7 @@ impl<H: Hash32, X: IndexSource> Directory<H, X> {
 }
 
 impl<H: Hash32 + Sync, X: IndexSource> Directory<H, X> {
-    ghost use Rattle.coniks_directory.specs.Updates.{Grows, IsCommitFault, MayInstall, commit_refusals, nodes_added, registry_after, shown_next};
+    ghost use Rattle.coniks_directory.specs.Updates.{CommitLeavesSigner, Grows, IsCommitFault, MayInstall, commit_refusals, nodes_added, registry_after, shown_next};
 
     /// Judges a batch and makes its update, which `install` puts in: the epoch's tree with the changed paths made anew and
     /// all else shared with the epochs before. The directory is only read, so others may look up meanwhile. It may wait,
@@ -247,6 +252,7 @@ impl<H: Hash32 + Sync, X: IndexSource> Directory<H, X> {
         ensures renews { IfOk result (Renews self.now (Some nonce.0)) }
         ensures registry { IfOk result (λ p. registry_after self.now.state p ≡ after (registry self.now) (operations ops.now)) }
         ensures few { IfOk result (λ p. nodes_added p ≤ most_anew (after (registry self.now) (operations ops.now))) }
+        ensures anew { IfOk result (λ p. KeepsNone p.part) }
         ensures accepted { OnOk result (Accepts X.index_of self.now (operations ops.now) depth workers) }
         ensures refused { IfErr result (Refuses X.index_of self.now (operations ops.now) depth workers) }
     {
@@ -294,6 +300,7 @@ impl<H: Hash32 + Sync, X: IndexSource> Directory<H, X> {
         // The one signature that the signer made is the one that stands in the chain.
         ensures made { OnOk result ((S.made_of signer.new ≡ S.made_of signer.old + 1) × (S.refused_of signer.new ≡ S.refused_of signer.old)) }
         ensures signed { IfOk result (λ entry. S.last_of signer.new ≡ Some entry) }
+        ensures asked { IfOk result (λ entry. S.signs signer.old (body_bytes entry.body) (Some entry.signature) signer.new) }
         ensures verdict { IfOk result (λ entry. S.verdict_of signer.new (body_bytes entry.body) entry.signature.0 ≡ true) }
         ensures good { HasGoodChain H.digest_of (S.verdict_of signer.old) self.old → HasGoodChain H.digest_of (S.verdict_of signer.new) self.new }
         ensures verdicts_kept { (bytes signature : List ℕ) → S.verdict_of signer.new bytes signature ≡ S.verdict_of signer.old bytes signature }
@@ -307,6 +314,7 @@ impl<H: Hash32 + Sync, X: IndexSource> Directory<H, X> {
         ensures unchanged { OnErr result ((self.new ≡ self.old) × (publisher.new ≡ publisher.old)) }
         ensures unsigned { IfErr result (λ fault. (S.made_of signer.new ≡ S.made_of signer.old) × (S.refused_of signer.new ≡ S.refused_of signer.old + commit_refusals fault)
             × (S.last_of signer.new ≡ S.last_of signer.old)) }
+        ensures unasked { IfErr result (CommitLeavesSigner S.signs (NextBody H.digest_of X.index_of self.old (shown_next self.old.state (operations ops.now) t)) signer.old signer.new) }
     {
         let update = match self.prepare(rt, ops, depth, workers, gate) {
             Ok(update) => update,

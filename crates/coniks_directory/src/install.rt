@@ -3,12 +3,13 @@
 ghost use Rattle.std.specs.Prelude.{◌≡◌, ◌≢◌, ◌<◌, ◌≤◌, ◌+◌, ◌-◌, ◌^◌, ◌++◌, ◌∷◌, [], List, ℕ, None, Some, IfErr, IfOk, OnOk, length, vec_len, vec_capacity, true};
 ghost use Rattle.coniks_chain.specs.Chain.{before_at, link_before};
 ghost use Rattle.coniks_chain.specs.Entries.{body_bytes};
+ghost use Rattle.coniks_chain.specs.declared.entry.Body.{Body};
 ghost use Rattle.coniks_shared.specs.Boards.{board_end};
 ghost use Rattle.coniks_tree.specs.Parts.{Fits, Placed, node_count};
 ghost use Rattle.coniks_directory.specs.Chain.{head_at, heads_of};
 ghost use Rattle.coniks_directory.specs.Installed.{IsEntered, IsSigned};
 ghost use Rattle.coniks_directory.specs.State.{State, state_of};
-ghost use Rattle.coniks_directory.specs.Updates.{IsRefused, MayInstall, nodes_added, refusals};
+ghost use Rattle.coniks_directory.specs.Updates.{IsRefused, LeavesSigner, MayInstall, nodes_added, refusals};
 
 use crate::epochs::Epoch;
 use crate::held::Held;
@@ -107,6 +108,9 @@ pub(crate) fn signed<H: Hash32, S: Sign>(
     ensures body { IfOk result (λ entry. IsSigned (H.digest_of h.now) (state_of held.old) update.now t previous.0 entry.body) }
     ensures made { OnOk result ((S.made_of signer.new ≡ S.made_of signer.old + 1) × (S.refused_of signer.new ≡ S.refused_of signer.old)) }
     ensures last { IfOk result (λ entry. S.last_of signer.new ≡ Some entry) }
+    ensures asked { IfOk result (λ entry. S.signs signer.old (body_bytes entry.body) (Some entry.signature) signer.new) }
+    ensures unasked { IfErr result (λ fault. (wanted : Body) → ((body : Body) → IsSigned (H.digest_of h.now) (state_of held.old) update.now t previous.0 body → body ≡ wanted)
+        → LeavesSigner S.signs wanted signer.old signer.new fault) }
     ensures verdict { IfOk result (λ entry. S.verdict_of signer.new (body_bytes entry.body) entry.signature.0 ≡ true) }
     ensures verdicts_kept { (bytes signature : List ℕ) → S.verdict_of signer.new bytes signature ≡ S.verdict_of signer.old bytes signature }
     ensures refused { IfErr result (λ fault. (s : State) (base published capacity : ℕ) → MayInstall s base t published capacity → IsRefused s base t published capacity fault) }

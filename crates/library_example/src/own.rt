@@ -65,6 +65,10 @@ impl Verify for DemoKey {
 }
 
 impl SignatureSource for DemoKey {
+    ghost use Rattle.std.specs.Prelude.{IfSome};
+
+    ghost gives = { λ demo body given _. IfSome given (λ signature. signature.0 ≡ sha256 (3 ∷ demo.key ++ body) ++ sha256 (3 ∷ demo.key ++ body)) };
+
     fn signature(&mut self, body: &[u8; 145]) -> Option<Signature> {
         Some(self.seal(body))
     }

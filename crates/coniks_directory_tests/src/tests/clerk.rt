@@ -87,6 +87,8 @@ impl Verify for Stamp {
 }
 
 impl SignatureSource for Stamp {
+    ghost gives = { λ _ _ _ _. Unit {0} };
+
     fn signature(&mut self, _body: &[u8; 145]) -> Option<Signature> {
         let call = self.calls;
         self.calls = call.wrapping_add(1);

@@ -42,6 +42,8 @@ impl Verify for Desk {
 }
 
 impl SignatureSource for Desk {
+    ghost gives = { λ desk _ given _. given ≡ desk.arrived };
+
     fn signature(&mut self, body: &[u8; 145]) -> Option<Signature> {
         self.wanted = Some(*body);
         self.arrived.take()

@@ -74,6 +74,11 @@ impl Verify for DemoSeal {
 }
 
 impl Sign for DemoSeal {
+    ghost use Rattle.std.specs.Prelude.{IfSome};
+    ghost use Rattle.coniks_tool.specs.Seal.{seal_of};
+
+    ghost signs = { λ seal body result _. IfSome result (λ signature. signature.0 ≡ seal_of seal.key body) };
+
     ghost made_of = { λ seal. seal.made };
 
     ghost refused_of = { λ _. 0 };

@@ -20,5 +20,6 @@ returns g c = λ of latest registry ops under shown drafts sealed none.
       few = rw c.deref.ensures.value at e.count;
       empty = rw c.deref.ensures.value at e.same;
       placed = rw c.deref.ensures.value at e.placed;
+      keeps = e.keeps;
       stands = rw c.deref.ensures.value at e.stands;
     })

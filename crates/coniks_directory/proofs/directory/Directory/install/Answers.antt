@@ -1,5 +1,6 @@
-use Rattle.std.proofs.Common.{length, subst, sym}
-use Rattle.coniks_directory.proofs.Words.{Fits, GoodChain, IsUpdate, Leaves, State, state_of}
+use Rattle.std.proofs.Common.{None, length, subst, sym}
+use Rattle.coniks_directory.proofs.Words.{Fits, GoodChain, IsUpdate, Leaves, State, before_at, body_of, state_of}
+use Rattle.coniks_directory.specs.Updates.{shown_after}
 use Rattle.coniks_chain.proofs.Lemmas.{good_same_verdict}
 use Rattle.coniks_directory.proofs.FreshLemmas.{fresh}
 use Rattle.coniks_directory.proofs.directory.Directory.install.Goals.{In_default}
@@ -19,6 +20,18 @@ pub returns-in-Err-signed-clause-refused : goal.returns-in-Err-signed-clause-ref
 returns-in-Err-signed-clause-refused g c =
     rw (← c.self.view_is, ← c.published-published.ensures, ← c.capacity-capacity.ensures)
     (c.in-Err-signed.ensures.refused (state_of c.self.inside.held) c.args.update.base c.published-published.result c.capacity-capacity.result c.in_default.ensures.ok)
+
+-- the signer was asked for the body of the next entry, or it wasn't asked
+pub returns-in-Err-signed-clause-unasked : goal.returns-in-Err-signed-clause-unasked
+returns-in-Err-signed-clause-unasked g c =
+    let d = c.self.inside in
+    let hash = g.H.Hash32.digest_of d.h in
+    let of = g.X.IndexSource.index_of d.source in
+    let s = state_of d.held in
+    let u = fresh_in g (goal.at.returns-in-Err-signed-clause-unasked g c).In_default in
+    let linked = c.last_link-previous.ensures hash d.held.chain.items (rw (← c.self.view_is) at c.requires.published) in
+    rw (← c.self.view_is) (c.in-Err-signed.ensures.unasked (body_of hash of s.policy (before_at hash None s.chain (length s.chain)) (shown_after s c.args.update c.args.t))
+    (λ body signed. signed of c.self.invariant u linked))
 
 -- a chain that was good is good under the signer as it is now
 pub returns-in-Err-signed-clause-good : goal.returns-in-Err-signed-clause-good

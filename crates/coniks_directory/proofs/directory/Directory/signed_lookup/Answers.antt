@@ -1,6 +1,6 @@
 use Rattle.std.proofs.Common.{ap, is_some, refl, sym}
 use Rattle.coniks_directory.proofs.Words.{IsPath, entries_of, shown_of, state_of}
-use Rattle.coniks_directory.proofs.LookupLemmas.{accepted_there, pathed}
+use Rattle.coniks_directory.proofs.LookupLemmas.{accepted_there, accepted_under, pathed}
 use Rattle.coniks_directory.proofs.directory.Directory.signed_lookup.Given as given
 use Rattle.coniks_directory.proofs.directory.Directory.signed_lookup.Goals as goal
 
@@ -52,6 +52,16 @@ returns-in-Ok-clause-accepted g c =
     let found = c.in-Some.ensures (g.H.Hash32.digest_of d.h) of c.self.invariant in
     rw (← c.self.view_is) (accepted_there (g.H.Hash32.digest_of d.h) of (state_of d.held) c.args.t c.in-Some.epoch _ found c.args.name.now c.in-Ok.proof (c.if-not-is_length.ensures.holds refl)
     (path_in g c))
+
+pub returns-in-Ok-clause-checks : goal.returns-in-Ok-clause-checks
+returns-in-Ok-clause-checks g c =
+    let d = c.self.inside in
+    let hash = g.H.Hash32.digest_of d.h in
+    let of = g.X.IndexSource.index_of d.source in
+    let s = state_of d.held in
+    let found = c.in-Some.ensures hash of c.self.invariant in
+    rw (← c.self.view_is) (accepted_under hash of s c.args.t c.in-Some.epoch _ found c.args.name.now _ refl c.index-index.ensures
+    (accepted_there hash of s c.args.t c.in-Some.epoch _ found c.args.name.now c.in-Ok.proof (c.if-not-is_length.ensures.holds refl) (path_in g c)))
 
 pub returns-in-Err-clause-missed : goal.returns-in-Err-clause-missed
 returns-in-Err-clause-missed g c =
