@@ -1,2 +1,3 @@
 mod KeyLemmas
 mod VerdictLemmas
+mod StatusLemmas

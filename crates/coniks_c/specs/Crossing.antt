@@ -1,5 +1,5 @@
 -- What stands in the structs that cross between C and the libraries.
-use Rattle.std.specs.Prelude.{◌==◌, ◌≡◌, ℕ, List, Bool, Option, Some, None, if◌then◌else◌}
+use Rattle.std.specs.Prelude.{◌==◌, ◌≡◌, ℕ, List, Bool, Option, Some, None, if◌then◌else◌, replicate}
 use Rattle.coniks_chain.specs.Entries.{body_bytes}
 use Rattle.coniks_chain.specs.declared.auditor.Before.{Before}
 use Rattle.coniks_chain.specs.declared.entry.Body.{Body}
@@ -12,6 +12,14 @@ abbrev pub before_in : AuditorState → Option Before
 before_in state =
     if state.epoch == 0 then None
     else Some (record { t = state.epoch; link = record { 0 = state.link.bytes }; version = state.version; nonce = record { 0 = state.nonce.bytes } })
+
+-- all bytes of the state are 0
+pub record IsZero (state : AuditorState) : Type 0 where
+  pub epoch : state.epoch ≡ 0
+  pub link : state.link.bytes ≡ replicate 32 0
+  pub nonce : state.nonce.bytes ≡ replicate 32 0
+  pub version : state.version ≡ 0
+  pub unused : state.unused ≡ replicate 7 0
 
 -- the body that was filled in
 abbrev pub body_in : EntryBody → Body

@@ -1,4 +1,5 @@
 pub mod Checked
 pub mod Crossing
 pub mod Statuses
+pub mod Texts
 pub mod Watched

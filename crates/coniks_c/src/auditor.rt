@@ -1,11 +1,11 @@
 //! An auditor whose state the caller keeps.
 
-ghost use Rattle.std.specs.Prelude.{◌==◌, ◌≡◌, ◌≢◌, ◌⊎◌, ◌+◌, List, ℕ, Bool, None, Some, IfNone, IfSome, length};
+ghost use Rattle.std.specs.Prelude.{◌==◌, ◌≡◌, ◌≢◌, ◌⊎◌, ◌+◌, List, ℕ, Bool, None, Some, IfNone, IfSome, length, replicate};
 ghost use Rattle.coniks_proof.specs.Sha256.{sha256};
 ghost use Rattle.coniks_chain.specs.Chain.{Follows, IsFirstFault, before_of, place_of};
 ghost use Rattle.coniks_chain.specs.Entries.{entry_from};
 ghost use Rattle.coniks_chain.specs.declared.auditor.AuditFault.{AuditFault as Fault};
-ghost use Rattle.coniks_c.specs.Crossing.{IsToldBy, before_in};
+ghost use Rattle.coniks_c.specs.Crossing.{IsToldBy, IsZero, before_in};
 ghost use Rattle.coniks_c.specs.Statuses.{IsAuditStatus};
 
 use crate::entries::entry_of;
@@ -29,10 +29,11 @@ impl Verify for Told {
     }
 }
 
-/// Makes the state of an auditor that has seen no entry.
+/// Makes the state of an auditor that has seen no entry, all of whose bytes are 0.
 #[unsafe(no_mangle)]
 pub extern "C" fn coniks_auditor_begin(state: &mut AuditorState)
-    ensures { before_in state.new ≡ None }
+    ensures none { before_in state.new ≡ None }
+    ensures zero { IsZero state.new }
 {
     *state = AuditorState::empty();
 }
@@ -46,9 +47,10 @@ pub extern "C" fn coniks_auditor_feed(
     entry: &[u8],
     signature_verdict: u32,
 ) -> u32
-    ensures whole { result ≡ 0 → length entry.now ≡ 209 }
+    ensures whole { result ≢ 48 → length entry.now ≡ 209 }
     ensures follows { result ≡ 0 → (verdict : List ℕ → List ℕ → Bool) → IsToldBy verdict (entry_from entry.now) signature_verdict → Follows verdict (before_in state.old) (entry_from entry.now) }
     ensures kept { result ≡ 0 → before_in state.new ≡ Some (before_of sha256 (entry_from entry.now)) }
+    ensures unused { result ≡ 0 → state.new.unused ≡ replicate 7 0 }
     ensures refused { (fault : Fault) → result ≡ place_of fault + 33 → (verdict : List ℕ → List ℕ → Bool) → IsToldBy verdict (entry_from entry.now) signature_verdict → IsFirstFault verdict (before_in state.old) (entry_from entry.now) fault }
     ensures other { result ≡ 48 → length entry.now ≢ 209 }
     ensures known { (result ≡ 0) ⊎ IsAuditStatus result ⊎ (result ≡ 48) }

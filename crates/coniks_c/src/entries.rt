@@ -1,6 +1,6 @@
 //! Entries, their bytes and their links.
 
-ghost use Rattle.std.specs.Prelude.{◌≡◌, ◌≢◌, ◌∷◌, IfNone, IfSome, length};
+ghost use Rattle.std.specs.Prelude.{◌≡◌, ◌≢◌, ◌∷◌, IfNone, IfSome, length, replicate};
 ghost use Rattle.coniks_proof.specs.Sha256.{sha256};
 ghost use Rattle.coniks_chain.specs.Entries.{body_bytes, entry_bytes, entry_from};
 ghost use Rattle.coniks_c.specs.Crossing.{body_in};
@@ -35,6 +35,7 @@ pub extern "C" fn coniks_body_bytes(body: &EntryBody, bytes: &mut Bytes145)
 #[unsafe(no_mangle)]
 pub extern "C" fn coniks_entry_body(entry: &[u8], body: &mut EntryBody) -> u32
     ensures read { length entry.now ≡ 209 → (result ≡ 0) × (body_in body.new ≡ (entry_from entry.now).body) }
+    ensures unused { length entry.now ≡ 209 → body.new.unused ≡ replicate 7 0 }
     ensures refused { length entry.now ≢ 209 → (result ≡ 48) × (body.new ≡ body.old) }
 {
     let Some(entry) = entry_of(entry) else {

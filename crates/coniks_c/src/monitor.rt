@@ -1,6 +1,6 @@
 //! A client's monitor of one name, whose state the caller keeps.
 
-ghost use Rattle.std.specs.Prelude.{◌≡◌, ◌≢◌, ◌⊎◌, ◌+◌, List, ℕ, Bool, Some, length};
+ghost use Rattle.std.specs.Prelude.{◌≡◌, ◌≢◌, ◌⊎◌, ◌+◌, List, ℕ, Bool, Some, length, replicate};
 ghost use Rattle.coniks_proof.specs.Faults.{number};
 ghost use Rattle.coniks_proof.specs.Sha256.{sha256};
 ghost use Rattle.coniks_proof.specs.Wire.{IsFirstFault as IsFirstUnread, WireHas, order};
@@ -52,6 +52,7 @@ pub extern "C" fn coniks_monitor_step(
     ensures other { result ≡ 48 → length entry.now ≢ 209 }
     ensures seen { (seen : Sight) → result ≡ status_of_seen seen → (verdict : List ℕ → List ℕ → Bool) → IsToldBy verdict (entry_from entry.now) signature_verdict → Sees verdict (before_in state.old) name.now index.now.bytes (expectation expected.now) (entry_from entry.now) proof.now seen }
     ensures kept { IsSeenStatus result → before_in state.new ≡ Some (before_of sha256 (entry_from entry.now)) }
+    ensures unused { IsSeenStatus result → state.new.unused ≡ replicate 7 0 }
     ensures unread { (fault : Unread) → result ≡ order fault + 16 → IsFirstUnread (WireHas proof.now) fault }
     ensures audited { (fault : Fault) → result ≡ place_of fault + 33 → (verdict : List ℕ → List ℕ → Bool) → IsToldBy verdict (entry_from entry.now) signature_verdict → IsRefusedStep verdict (before_in state.old) name.now index.now.bytes (entry_from entry.now) proof.now (Audit fault) }
     ensures checked { (fault : Wrong) → result ≡ number fault + 1 → (verdict : List ℕ → List ℕ → Bool) → IsToldBy verdict (entry_from entry.now) signature_verdict → IsRefusedStep verdict (before_in state.old) name.now index.now.bytes (entry_from entry.now) proof.now (Check fault) }

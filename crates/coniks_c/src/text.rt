@@ -2,26 +2,20 @@
 
 ghost use Rattle.std.specs.Prelude.{◌≡◌, ◌≢◌, IfNone, IfSome, length};
 ghost use Rattle.coniks_c.specs.Statuses.{status_of};
+ghost use Rattle.coniks_c.specs.Texts.{audit_text, check_text, text_of, wire_text, written};
 ghost use Rattle.coniks_c.specs.declared.text.Refusal.{Refusal as Fault};
 
 use coniks_chain::AuditFault;
 use coniks_proof::{CheckFault, WireFault};
-use std::fmt;
-use std::fmt::Write;
-use thiserror::Error;
+use std::cmp::min;
 
 /// Why a call refuses what it was given.
-#[derive(Clone, Copy, Debug, Drop, PartialEq, Eq, Error)]
+#[derive(Clone, Copy, Drop)]
 pub(crate) enum Refusal {
-    #[error("{0}")]
     Check(CheckFault),
-    #[error("{0}")]
     Wire(WireFault),
-    #[error("{0}")]
     Audit(AuditFault),
-    #[error("the entry hasn't 209 bytes")]
     EntryLength,
-    #[error("no entry was accepted yet")]
     NoEntry,
 }
 
@@ -61,40 +55,86 @@ fn refusal_of(status: u32) -> Option<Refusal>
     })
 }
 
-/// A place for a text. What has no room there is counted, and not written.
-#[derive(Drop)]
-struct Room<'a> {
-    bytes: &'a mut [u8],
-    needed: usize,
+/// What is said of a fault of a proof.
+fn check_text(fault: CheckFault) -> &'static str
+    ensures { result.now ≡ check_text fault }
+{
+    match fault {
+        CheckFault::TooDeep => "the proof has more than 256 siblings",
+        CheckFault::NameLength => "the asked name is empty or longer than 255 bytes",
+        CheckFault::KeyLength => "the proof's key is empty or longer than 16384 bytes",
+        CheckFault::WrongName => "the proof's leaf holds another name",
+        CheckFault::OtherIsSame => "the proof shows the asked index as another one",
+        CheckFault::OtherOffPath => "the proof's other index isn't on the path to the asked one",
+        CheckFault::RootMismatch => "the proof's path doesn't lead to the root",
+    }
 }
 
-impl fmt::Write for Room<'_> {
-    fn write_str(&mut self, text: &str) -> fmt::Result {
-        for byte in text.as_bytes() {
-            if let Some(place) = self.bytes.get_mut(self.needed) {
-                *place = *byte;
-            }
-            self.needed = self.needed.saturating_add(1);
-        }
-        Ok(())
+/// What is said of bytes that are no proof's.
+fn wire_text(fault: WireFault) -> &'static str
+    ensures { result.now ≡ wire_text fault }
+{
+    match fault {
+        WireFault::NoBytes => "there are no bytes",
+        WireFault::UnknownKind => "the first byte is no kind of proof",
+        WireFault::CutInCount => "the bytes end within the number of siblings",
+        WireFault::CutInSiblings => "the bytes end within the siblings",
+        WireFault::CutInOther => "the bytes end within the other index or its commitment",
+        WireFault::CutInOpening => "the bytes end within the opening",
+        WireFault::CutInName => "the bytes end within the name or its length",
+        WireFault::CutInKey => "the bytes end within the key or its length",
+        WireFault::BytesFollow => "bytes follow the proof",
     }
+}
+
+/// What is said of a fault of an entry.
+fn audit_text(fault: AuditFault) -> &'static str
+    ensures { result.now ≡ audit_text fault }
+{
+    match fault {
+        AuditFault::Version => "the version is neither 1 nor 2",
+        AuditFault::VersionBack => "the version goes back to 1",
+        AuditFault::FirstEpoch => "the first epoch is 0",
+        AuditFault::NotLater => "the epoch isn't later than the one before",
+        AuditFault::PreviousEpoch => "the epoch before is named wrongly",
+        AuditFault::PreviousLink => "the link before is named wrongly",
+        AuditFault::NonceChanged => "the nonce of a version 1 entry isn't the one before",
+        AuditFault::Verdict => "the signature isn't one for this body",
+    }
+}
+
+/// What is said of a refusal.
+fn text_of(refusal: Refusal) -> &'static str
+    ensures { result.now ≡ text_of refusal }
+{
+    match refusal {
+        Refusal::Check(fault) => check_text(fault),
+        Refusal::Wire(fault) => wire_text(fault),
+        Refusal::Audit(fault) => audit_text(fault),
+        Refusal::EntryLength => "the entry hasn't 209 bytes",
+        Refusal::NoEntry => "no entry was accepted yet",
+    }
+}
+
+/// Writes as many bytes of a text as there is room for.
+fn write(text: &[u8], place: &mut [u8])
+    ensures { place.new ≡ written place.old text.now }
+{
+    let count = min(text.len(), place.len());
+    place[..count].copy_from_slice(&text[..count]);
 }
 
 /// Writes what a status says, in English and ASCII: as many bytes of it as there is room for. The result is how many bytes
 /// the whole text has, and 0 for what is no fault's status. No byte of 0 is put after the text.
 #[unsafe(no_mangle)]
 pub extern "C" fn coniks_text(status: u32, text: &mut [u8]) -> usize
+    ensures said { (fault : Fault) → status_of fault ≡ status → (result ≡ length (text_of fault)) × (text.new ≡ written text.old (text_of fault)) }
     ensures nothing { ((fault : Fault) → status_of fault ≢ status) → (result ≡ 0) × (text.new ≡ text.old) }
 {
     let Some(refusal) = refusal_of(status) else {
         return 0;
     };
-    let mut room = Room {
-        bytes: text,
-        needed: 0,
-    };
-    match write!(room, "{refusal}") {
-        Ok(()) => room.needed,
-        Err(_) => 0,
-    }
+    let whole = text_of(refusal).as_bytes();
+    write(whole, text);
+    whole.len()
 }

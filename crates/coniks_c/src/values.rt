@@ -1,7 +1,7 @@
 //! What crosses between C and the libraries.
 
-ghost use Rattle.std.specs.Prelude.{◌≡◌, ◌<◌, Some, None};
-ghost use Rattle.coniks_c.specs.Crossing.{before_in, body_in};
+ghost use Rattle.std.specs.Prelude.{◌≡◌, ◌<◌, Some, None, replicate};
+ghost use Rattle.coniks_c.specs.Crossing.{before_in, body_in, IsZero};
 
 use coniks_chain::{Before, Body};
 use coniks_proof::{Digest, Nonce};
@@ -62,7 +62,8 @@ pub struct EntryBody {
 impl AuditorState {
     /// The state before the first entry.
     pub(crate) fn empty() -> AuditorState
-        ensures { before_in result ≡ None }
+        ensures none { before_in result ≡ None }
+        ensures zero { IsZero result }
     {
         let zeros = Bytes32 { bytes: [0; 32] };
         AuditorState {
@@ -77,7 +78,8 @@ impl AuditorState {
     /// The state after an entry.
     pub(crate) fn after(before: &Before) -> AuditorState
         requires { 0 < before.now.t }
-        ensures { before_in result ≡ Some before.now }
+        ensures kept { before_in result ≡ Some before.now }
+        ensures unused { result.unused ≡ replicate 7 0 }
     {
         AuditorState {
             epoch: before.t,
@@ -111,7 +113,8 @@ impl AuditorState {
 impl EntryBody {
     /// The body in the form that C reads.
     pub(crate) fn of(body: &Body) -> EntryBody
-        ensures { body_in result ≡ body.now }
+        ensures body { body_in result ≡ body.now }
+        ensures unused { result.unused ≡ replicate 7 0 }
     {
         EntryBody {
             epoch: body.t,

@@ -556,7 +556,11 @@ fn stamp(given: Option<Signature>, taken: Signature) -> Stamp {
 fn asked_once_for_each_body(rt: HostRuntime) {
     let signature = Signature([7; 64]);
     let mut signer = Signer::new(stamp(None, signature));
-    for (calls, given) in [(1, None), (2, Some(signature)), (3, Some(Signature([8; 64])))] {
+    for (calls, given) in [
+        (1, None),
+        (2, Some(signature)),
+        (3, Some(Signature([8; 64]))),
+    ] {
         signer.source.given = given;
         let body = flat_entry(calls, calls - 1, 0).body.bytes();
         let _ = signer.sign(&body);

@@ -1,0 +1,55 @@
+-- What is said of each refusal, in English and ASCII.
+use Rattle.std.specs.Prelude.{ℕ, List, ◌++◌, codes, take, drop, length}
+use Rattle.coniks_proof.specs.declared.checker.CheckFault.{CheckFault}
+use Rattle.coniks_proof.specs.declared.checker.CheckFault.TheVariants.{TooDeep, NameLength, KeyLength, WrongName, OtherIsSame, OtherOffPath, RootMismatch}
+use Rattle.coniks_proof.specs.declared.wire.WireFault.{WireFault}
+use Rattle.coniks_proof.specs.declared.wire.WireFault.TheVariants.{NoBytes, UnknownKind, CutInCount, CutInSiblings, CutInOther, CutInOpening, CutInName, CutInKey, BytesFollow}
+use Rattle.coniks_chain.specs.declared.auditor.AuditFault.{AuditFault}
+use Rattle.coniks_chain.specs.declared.auditor.AuditFault.TheVariants.{Version, VersionBack, FirstEpoch, NotLater, PreviousEpoch, PreviousLink, NonceChanged, Verdict}
+use Rattle.coniks_c.specs.declared.text.Refusal.{Refusal}
+use Rattle.coniks_c.specs.declared.text.Refusal.TheVariants.{Check, Wire, Audit, EntryLength, NoEntry}
+
+-- of a fault of a proof
+abbrev pub check_text : CheckFault → List ℕ
+check_text TooDeep = codes "the proof has more than 256 siblings"
+check_text NameLength = codes "the asked name is empty or longer than 255 bytes"
+check_text KeyLength = codes "the proof's key is empty or longer than 16384 bytes"
+check_text WrongName = codes "the proof's leaf holds another name"
+check_text OtherIsSame = codes "the proof shows the asked index as another one"
+check_text OtherOffPath = codes "the proof's other index isn't on the path to the asked one"
+check_text RootMismatch = codes "the proof's path doesn't lead to the root"
+
+-- of bytes that are no proof's
+abbrev pub wire_text : WireFault → List ℕ
+wire_text NoBytes = codes "there are no bytes"
+wire_text UnknownKind = codes "the first byte is no kind of proof"
+wire_text CutInCount = codes "the bytes end within the number of siblings"
+wire_text CutInSiblings = codes "the bytes end within the siblings"
+wire_text CutInOther = codes "the bytes end within the other index or its commitment"
+wire_text CutInOpening = codes "the bytes end within the opening"
+wire_text CutInName = codes "the bytes end within the name or its length"
+wire_text CutInKey = codes "the bytes end within the key or its length"
+wire_text BytesFollow = codes "bytes follow the proof"
+
+-- of a fault of an entry
+abbrev pub audit_text : AuditFault → List ℕ
+audit_text Version = codes "the version is neither 1 nor 2"
+audit_text VersionBack = codes "the version goes back to 1"
+audit_text FirstEpoch = codes "the first epoch is 0"
+audit_text NotLater = codes "the epoch isn't later than the one before"
+audit_text PreviousEpoch = codes "the epoch before is named wrongly"
+audit_text PreviousLink = codes "the link before is named wrongly"
+audit_text NonceChanged = codes "the nonce of a version 1 entry isn't the one before"
+audit_text Verdict = codes "the signature isn't one for this body"
+
+-- of whatever is refused
+abbrev pub text_of : Refusal → List ℕ
+text_of (Check fault) = check_text fault
+text_of (Wire fault) = wire_text fault
+text_of (Audit fault) = audit_text fault
+text_of EntryLength = codes "the entry hasn't 209 bytes"
+text_of NoEntry = codes "no entry was accepted yet"
+
+-- a place with a text at its front: as much of the text as there is room for, and the rest of the place as it was
+abbrev pub written : List ℕ → List ℕ → List ℕ
+written place text = take (length place) text ++ drop (length text) place
