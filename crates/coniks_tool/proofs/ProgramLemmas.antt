@@ -12,7 +12,7 @@ use Rattle.coniks_lines.specs.Known.{Source, Sink}
 use Rattle.coniks_tool.specs.Choice.{Choice, run, check, audit, monitor, chosen, key_in, lacks_key, lacks_expectation}
 use Rattle.coniks_tool.specs.Expectations.{expectation_in}
 use Rattle.coniks_tool.specs.Keydir.{keydir}
-use Rattle.coniks_tool.specs.Program.{AsksForHelp, ChooseNoRun, EndsBy, EndsFor, HasBadExpectation, HasBadKey, HasBadText, HasMistake, IfRefused, IsExplained, Runs, RunsFor, Tells, TellsIf, bad_expectation_line, bad_key_line, fault_line, status_of, told_of, Fails}
+use Rattle.coniks_tool.specs.Program.{AsksForHelp, BreaksOff, ChooseNoRun, EndsBy, EndsFor, HasBadExpectation, HasBadKey, HasBadText, HasMistake, IfDone, IfRefused, IsCutOff, IsExplained, IsShown, NeverBegins, Runs, RunsFor, StopsAt, Tells, TellsIf, bad_expectation_line, bad_key_line, fault_line, is_asked_for, status_of, told_of, Fails}
 use Rattle.coniks_tool.specs.declared.words.choice.WordsFault.{WordsFault}
 use Rattle.coniks_tool.specs.declared.words.choice.WordsFault.TheVariants.{Clap, OutOfMemory}
 use Rattle.coniks_tool.specs.declared.words.ending.Ending.{Ending}
@@ -100,6 +100,11 @@ told-at_3 (Ok BadKey) old new told fails is = absurd (omega (arith, is))
 told-at_3 (Ok BadExpectation) old new told fails is = absurd (omega (arith, is))
 told-at_3 (Err fault) old new told fails is = (fault, (told, fails))
 
+-- two things that are said of a fault
+pub both-at_3 : (F G : RunFault → Type 0) (outcome : Result Ending RunFault) → IfErr outcome F → IfErr outcome G → IfErr outcome (λ fault. F fault × G fault)
+both-at_3 F G (Ok ending) fails stops = tt
+both-at_3 F G (Err fault) fails stops = (fails, stops)
+
 -- what is never for want of a board
 fails_so : (wanted : Type 0) (from from' : Source) (to to' : Sink) (fault : RunFault) → Fails ⊥ from from' to to' fault → Fails wanted from from' to to' fault
 fails_so wanted from from' to to' Read fails = fails
@@ -132,15 +137,32 @@ module _ (words : List (List ℕ)) (from from' : Source) (to to' : Sink) where
   run-isnt_refused P choice (Err fault) ends = tt
 
   -- an error of `clap` that is explained is an ending for the words
-  pub explained-ends_for : (kind : ErrorKind) (outcome : Result Ending RunFault) → IsAmong kind (fault_of keydir words) → IfOk outcome (IsExplained kind) → IfOk outcome (EndsFor words from from' to to')
-  explained-ends_for kind (Ok (Done true)) among is = inr (kind, (among, is))
-  explained-ends_for kind (Ok (Done false)) among is = absurd is
-  explained-ends_for kind (Ok (Refused text)) among is = (kind, (among, is))
-  explained-ends_for kind (Ok BadKey) among is = absurd is
-  explained-ends_for kind (Ok BadExpectation) among is = absurd is
-  explained-ends_for kind (Err fault) among is = tt
+  pub explained-ends_for : (kind : ErrorKind) (outcome : Result Ending RunFault) → IsAmong kind (fault_of keydir words) → IfOk outcome (IsExplained kind)
+      → IfOk outcome (λ ending. IfDone ending (IsShown from from' to to')) → IfOk outcome (EndsFor words from from' to to')
+  explained-ends_for kind (Ok (Done true)) among is shown = inr ((kind, (among, is)), shown)
+  explained-ends_for kind (Ok (Done false)) among is shown = absurd is
+  explained-ends_for kind (Ok (Refused text)) among is shown = (kind, (among, is))
+  explained-ends_for kind (Ok BadKey) among is shown = absurd is
+  explained-ends_for kind (Ok BadExpectation) among is shown = absurd is
+  explained-ends_for kind (Err fault) among is shown = tt
 
-  pub done-at_0 : (outcome : Result Ending RunFault) → IfOk outcome (EndsFor words from from' to to') → status_of outcome ≡ 0 → RunsFor words from from' to to' true ⊎ AsksForHelp (fault_of keydir words)
+  -- a fault of the run that the words choose, or of help
+  pub run-stops_at : (choice : Choice) (outcome : Result Ending RunFault) → fault_of keydir words ≡ [] → chosen (subcommand_of keydir words) ≡ Some choice
+      → IfErr outcome (λ fault. BreaksOff (Some choice) from from' to to' fault ⊎ NeverBegins from from' to to' fault) → IfErr outcome (StopsAt words from from' to to')
+  run-stops_at choice outcome none is stops = IfErr-weaker outcome _ (StopsAt words from from' to to') (λ fault here. elim here [
+    | inl breaks ↦ inl (record { faultless = none; breaks = subst (λ c. BreaksOff c from from' to to' fault) (sym is) breaks })
+    | inr never ↦ inr (inr never)
+  ]) stops
+
+  pub explained-stops_at : (kind : ErrorKind) (outcome : Result Ending RunFault) → IsAmong kind (fault_of keydir words)
+      → IfErr outcome (λ fault. ((is_asked_for kind ≡ true) × IsCutOff from from' to to' fault) ⊎ NeverBegins from from' to to' fault) → IfErr outcome (StopsAt words from from' to to')
+  explained-stops_at kind outcome among stops = IfErr-weaker outcome _ (StopsAt words from from' to to') (λ fault here. elim here [
+    | inl cut ↦ inr (inl ((kind, (among, cut.0)), cut.1))
+    | inr never ↦ inr (inr never)
+  ]) stops
+
+  pub done-at_0 : (outcome : Result Ending RunFault) → IfOk outcome (EndsFor words from from' to to') → status_of outcome ≡ 0
+      → RunsFor words from from' to to' true ⊎ (AsksForHelp (fault_of keydir words) × IsShown from from' to to')
   done-at_0 (Ok (Done true)) ends is = ends
   done-at_0 (Ok (Done false)) ends is = absurd (omega (arith, is))
   done-at_0 (Ok (Refused text)) ends is = absurd (omega (arith, is))
@@ -192,7 +214,7 @@ module _ (words : List (List ℕ)) (from from' : Source) (to to' : Sink) where
   idle-from_2 : (outcome : Result Ending RunFault) → IfOk outcome (EndsFor words from from' to to') → fault_of keydir words ≡ []
       → ((all : Bool) → Runs (chosen (subcommand_of keydir words)) from from' to to' all → ⊥) → 2 ≤ status_of outcome
   idle-from_2 (Ok (Done true)) (inl ran) faultless idle = absurd (idle true ran.runs)
-  idle-from_2 (Ok (Done true)) (inr asks) faultless idle = absurd (no_kind (fault_of keydir words) asks.0 faultless asks.1.0)
+  idle-from_2 (Ok (Done true)) (inr asks) faultless idle = absurd (no_kind (fault_of keydir words) asks.0.0 faultless asks.0.1.0)
   idle-from_2 (Ok (Done false)) ran faultless idle = absurd (idle false ran.runs)
   idle-from_2 (Ok (Refused text)) ends faultless idle = omega arith
   idle-from_2 (Ok BadKey) ends faultless idle = omega arith

@@ -31,21 +31,21 @@ use Rattle.coniks_tool.specs.Turns.{refused}
 use Rattle.coniks_tool.specs.Seal.{is_seal}
 use Rattle.coniks_tool.specs.Stores.{opened_by, opened_of, shown_on, state_of}
 use Rattle.coniks_tool.specs.declared.run.store.Service.{Service}
-use Rattle.coniks_tool.specs.declared.run.store.TheConstants.{BOARD_HEADS}
+use Rattle.coniks_tool.specs.Limits.{most_epochs}
 use Rattle.coniks_tool.proofs.SealedLemmas.{entry_is}
 
 -- what is accepted isn't refused
 accepted_is : (of : List ℕ → List ℕ) (history : List Shown) (epoch : ℕ) (ops : List Operation) (depth workers published : ℕ) → IsAccepted of (latest_registry history) ops depth workers
-    → latest_epoch history < epoch → published ≢ BOARD_HEADS → published ≤ BOARD_HEADS → published ≡ length history → refusal of history epoch ops ≡ None
+    → latest_epoch history < epoch → published ≢ most_epochs → published ≤ most_epochs → published ≡ length history → refusal of history epoch ops ≡ None
 accepted_is of history epoch ops depth workers published a later room most same =
     let few : nat_le (length ops) MAX_OPERATIONS ≡ true = (let f = a.few in grind (arith, nat_tests)) in
     let rises : nat_lt (latest_epoch history) epoch ≡ true = grind (arith, nat_tests) in
-    let fits : nat_lt (length history) BOARD_HEADS ≡ true = grind (arith, nat_tests) in
+    let fits : nat_lt (length history) most_epochs ≡ true = grind (arith, nat_tests) in
     rw (few, a.faultless, rises, fits) refl
 
 -- a commit's fault is why the batch is refused
 pub refused_is : (of : List ℕ → List ℕ) (s : State) (ops : List Operation) (depth workers epoch published capacity : ℕ) (fault : CommitFault) → AreWorkers workers → depth ≤ MAX_DEPTH
-    → published ≡ length (history_of s) → capacity ≡ BOARD_HEADS → 0 ≡ 0 + commit_refusals fault → IsCommitFault of s ops depth workers epoch published capacity fault
+    → published ≡ length (history_of s) → capacity ≡ most_epochs → 0 ≡ 0 + commit_refusals fault → IsCommitFault of s ops depth workers epoch published capacity fault
     → IsRefusedBy (refusal of (history_of s) epoch ops) fault
 refused_is of s ops depth workers epoch published capacity (OfBatch batch.Workers) crew shallow long full signed f = none crew f
   where
@@ -76,7 +76,7 @@ refused_is of s ops depth workers epoch published capacity (Install install.Boar
     let later = f.1.1 in
     let rises : nat_lt (latest_epoch (history_of s)) epoch ≡ true = grind (arith, nat_tests) in
     let all = f.1.2 in
-    let off : nat_lt (length (history_of s)) BOARD_HEADS ≡ false = grind (arith, nat_tests) in
+    let off : nat_lt (length (history_of s)) most_epochs ≡ false = grind (arith, nat_tests) in
     rw (on, f.0.faultless, rises, off) refl
 refused_is of s ops depth workers epoch published capacity (Install install.OutOfMemory) crew shallow long full signed f = tt
 refused_is of s ops depth workers epoch published capacity (Install install.SignerRefused) crew shallow long full signed f = omega arith
@@ -86,7 +86,7 @@ pub installs : (key key' : List ℕ) (s t : State) (b : Batch) (depth workers pu
     → ((bytes signature : List ℕ) → verdict bytes signature ≡ is_seal key bytes signature) → key' ≡ key → Grows s t → history_of t ≡ history_of s ++ shown_on s b ∷ [] → t.chain ≡ s.chain ++ entry ∷ []
     → IsChainOf sha256 (demo_index key') t.policy (history_of t) t.chain → GoodChain sha256 verdict t.chain
     → IsAccepted (demo_index key) (latest_registry (history_of s)) b.ops depth workers → MayInstall s (length s.epochs) b.t published capacity
-    → published ≡ length (history_of s) → capacity ≡ BOARD_HEADS → published ≤ BOARD_HEADS
+    → published ≡ length (history_of s) → capacity ≡ most_epochs → published ≤ most_epochs
     → Installs (opened_by key s) b entry (opened_by key' t)
 installs key key' s t b depth workers published capacity entry verdict own same_key grows history chain is good accepted may long full most =
     let shown = shown_on s b in
@@ -96,7 +96,7 @@ installs key key' s t b depth workers published capacity entry verdict own same_
     (subst (λ (p : List ℕ). IsChainOf sha256 (demo_index key) p (history_of t) t.chain) grows.policy
     (subst (λ (k : List ℕ). IsChainOf sha256 (demo_index k) t.policy (history_of t) t.chain) same_key is))) in
     let good' : GoodChain sha256 verdict (s.chain ++ entry ∷ []) = subst (λ (es : List Entry). GoodChain sha256 verdict es) chain good in
-    let room : published ≢ BOARD_HEADS = subst (λ n. published ≢ n) full may.room in
+    let room : published ≢ most_epochs = subst (λ n. published ≢ n) full may.room in
     record {
       faultless = accepted_is (demo_index key) (history_of s) b.t b.ops depth workers published accepted may.later room most long;
       entry_is = entry_is key s.policy verdict own (history_of s) shown s.chain entry is' good';
@@ -119,11 +119,11 @@ as_many heads chain same = ap length same ∙ length-map (head_at sha256) chain
 pub made_and_room : {H X P : Type 0} (result : Result Entry CommitFault) (v v' : View H X) (p p' : P) (made made' refused refused' epoch published capacity : ℕ) (last last' : Option Entry)
     → OnOk result ((made' ≡ made + 1) × (refused' ≡ refused)) → IfOk result (λ e. v'.state.chain ≡ v.state.chain ++ e ∷ [])
     → OnOk result (MayInstall v.state (length v.state.epochs) epoch published capacity) → IfErr result (λ fault. (made' ≡ made) × (refused' ≡ refused + commit_refusals fault) × (last' ≡ last)) → OnErr result ((v' ≡ v) × (p' ≡ p))
-    → made ≡ length v.state.chain → length v.state.chain ≤ BOARD_HEADS → published ≡ length v.state.chain → capacity ≡ BOARD_HEADS → (made' ≡ length v'.state.chain) × (length v'.state.chain ≤ BOARD_HEADS)
+    → made ≡ length v.state.chain → length v.state.chain ≤ most_epochs → published ≡ length v.state.chain → capacity ≡ most_epochs → (made' ≡ length v'.state.chain) × (length v'.state.chain ≤ most_epochs)
 made_and_room {H} {X} {P} (Ok e) v v' p p' made made' refused refused' epoch published capacity last last' one more may kept same own most long full =
     let up = one.0 in
     let longer : length v'.state.chain ≡ length v.state.chain + 1 = ap length more ∙ length-append v.state.chain (e ∷ []) in
-    let room : published ≢ BOARD_HEADS = subst (λ n. published ≢ n) full may.room in
+    let room : published ≢ most_epochs = subst (λ n. published ≢ n) full may.room in
     (omega arith, below (length v.state.chain) (length v'.state.chain) longer most (λ at. room (long ∙ at)))
   where
     below : (n m : ℕ) → m ≡ n + 1 → n ≤ 1024 → (n ≡ 1024 → ⊥) → m ≤ 1024
@@ -134,7 +134,7 @@ made_and_room {H} {X} {P} (Err e) v v' p p' made made' refused refused' epoch pu
 
 -- a commit's fault, whatever it is
 pub refused_by : {H X P : Type 0} (of of' : List ℕ → List ℕ) (v v' : View H X) (p p' : P) (ops : List Operation) (depth workers epoch published capacity made made' : ℕ) (last last' : Option Entry) (result : Result Entry CommitFault) → AreWorkers workers → depth ≤ MAX_DEPTH
-    → published ≡ length v.state.chain → capacity ≡ BOARD_HEADS → IfErr result (λ fault. (made' ≡ made) × (0 ≡ 0 + commit_refusals fault) × (last' ≡ last)) → IfErr result (IsCommitFault of v.state ops depth workers epoch published capacity)
+    → published ≡ length v.state.chain → capacity ≡ most_epochs → IfErr result (λ fault. (made' ≡ made) × (0 ≡ 0 + commit_refusals fault) × (last' ≡ last)) → IfErr result (IsCommitFault of v.state ops depth workers epoch published capacity)
     → OnErr result ((v' ≡ v) × (p' ≡ p)) → IsChainOf sha256 of' v'.state.policy (history_of v'.state) v'.state.chain → IfErr result (IsRefusedBy (refusal of (history_of v.state) epoch ops))
 refused_by {H} {X} {P} of of' v v' p p' ops depth workers epoch published capacity made made' last last' (Ok e) crew shallow long full unsigned f same is = tt
 refused_by {H} {X} {P} of of' v v' p p' ops depth workers epoch published capacity made made' last last' (Err fault) crew shallow long full unsigned f same is =
@@ -146,14 +146,14 @@ pub installed_by : (key key' : List ℕ) (s t : State) (b : Batch) (depth worker
     → ((bytes signature : List ℕ) → verdict bytes signature ≡ is_seal key bytes signature) → key' ≡ key → Grows s t → OnOk result (history_of t ≡ history_of s ++ shown_on s b ∷ []) → IfOk result (λ entry. t.chain ≡ s.chain ++ entry ∷ [])
     → IsChainOf sha256 (demo_index key') t.policy (history_of t) t.chain → GoodChain sha256 verdict t.chain
     → OnOk result (IsAccepted (demo_index key) (latest_registry (history_of s)) b.ops depth workers) → OnOk result (MayInstall s (length s.epochs) b.t published capacity)
-    → published ≡ length s.chain → capacity ≡ BOARD_HEADS → length s.chain ≤ BOARD_HEADS
+    → published ≡ length s.chain → capacity ≡ most_epochs → length s.chain ≤ most_epochs
     → IfOk result (λ entry. Installs (opened_by key s) b entry (opened_by key' t))
 installed_by key key' s t b depth workers published capacity verdict (Err fault) own same_key grows history chain is good accepted may long full most = tt
 installed_by key key' s t b depth workers published capacity verdict (Ok entry) own same_key grows history chain is good accepted may long full most =
     let entries : length t.chain ≡ length s.chain + 1 = ap length chain ∙ length-append s.chain (entry ∷ []) in
     let epochs : length (history_of t) ≡ length (history_of s) + 1 = ap length history ∙ length-append (history_of s) (shown_on s b ∷ []) in
     let long' : published ≡ length (history_of s) = (let both = is.long in omega arith) in
-    let most' : published ≤ BOARD_HEADS = omega arith in
+    let most' : published ≤ most_epochs = omega arith in
     installs key key' s t b depth workers published capacity entry verdict own same_key grows history chain is good accepted may long' full most'
 
 -- a refused batch

@@ -26,3 +26,4 @@ pub mod Script
 pub mod Seal
 pub mod Stores
 pub mod Turns
+pub mod Limits

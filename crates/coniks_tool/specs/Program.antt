@@ -5,7 +5,7 @@ use Rattle.clap.specs.Words.{Kinds, IsAmong, fault_of, subcommand_of}
 use Rattle.clap.specs.declared.error.kind.ErrorKind.{ErrorKind}
 use Rattle.clap.specs.declared.error.kind.ErrorKind.TheVariants.{DisplayHelp, DisplayVersion}
 use Rattle.coniks_lines.specs.Known.{Source, Sink, Appends, next_count}
-use Rattle.coniks_lines.specs.Runs.{IsBeginning, WritesOn, CannotRead, CannotWrite, EndsWell}
+use Rattle.coniks_lines.specs.Runs.{IsBeginning, WritesOn, CannotRead, CannotWrite, EndsBadly, EndsWell}
 use Rattle.coniks_lines.specs.declared.fault.RunFault.{RunFault}
 use Rattle.coniks_lines.specs.declared.fault.RunFault.TheVariants.{Read, Write, OutOfMemory, NoBoard}
 use Rattle.coniks_tool.specs.Audit.{AuditState, audit_answer, none_audited}
@@ -14,7 +14,7 @@ use Rattle.coniks_tool.specs.Choice.{Choice, run, check, audit, monitor, chosen,
 use Rattle.coniks_tool.specs.Expectations.{expectation_in}
 use Rattle.coniks_tool.specs.Keydir.{keydir}
 use Rattle.coniks_tool.specs.Monitor.{MonitorState, monitor_answer, none_watched}
-use Rattle.coniks_tool.specs.Script.{State, script_answer}
+use Rattle.coniks_tool.specs.Script.{ScriptFails, State, script_answer}
 use Rattle.coniks_tool.specs.declared.words.choice.Unread.{Unread}
 use Rattle.coniks_tool.specs.declared.words.choice.Unread.TheVariants as unread
 use Rattle.coniks_tool.specs.declared.words.ending.Ending.{Ending}
@@ -39,11 +39,11 @@ unread_status unread.OutOfMemory = 3
 
 -- the line that tells of a key's text that isn't a key
 abbrev pub bad_key_line : List ℕ
-bad_key_line = codes "keydir: bad key: 64 hexadecimal digits are wanted\n"
+bad_key_line = codes "keydir: bad key\n"
 
 -- the line that tells of an expectation's text that isn't base64
 abbrev pub bad_expectation_line : List ℕ
-bad_expectation_line = codes "keydir: bad expectation: base64 with its padding is wanted\n"
+bad_expectation_line = codes "keydir: bad expectation\n"
 
 -- a text was written, and one flush followed
 pub record TellsWhole (old : Sink) (text : List ℕ) (new : Sink) : Type 0 where
@@ -122,10 +122,43 @@ Runs (Some check) from from' to to' all = (state : Stateless) × EndsWell check_
 Runs (Some (audit text)) from from' to to' all = Audits text from from' to to' all
 Runs (Some (monitor text name expect)) from from' to to' all = Monitors text name expect from from' to to' all
 
+-- a fault ended the run that was chosen, after these answers
+abbrev pub BreaksOff : Option Choice → Source → Source → Sink → Sink → RunFault → Type 0
+BreaksOff None from from' to to' fault = ⊥
+BreaksOff (Some (run workers depth)) from from' to to' fault = ScriptFails from from' to to' fault
+BreaksOff (Some check) from from' to to' fault = EndsBadly check_answer stateless from from' to to' fault
+BreaksOff (Some (audit text)) from from' to to' fault =
+    (key : List ℕ) × (key_in text ≡ Some key) × EndsBadly audit_answer (none_audited key) from from' to to' fault
+BreaksOff (Some (monitor text name expect)) from from' to to' fault =
+    (key : List ℕ) × (expected : Option (List ℕ)) × (key_in text ≡ Some key) × (expectation_in expect ≡ Some expected)
+    × EndsBadly monitor_answer (none_watched key name expected) from from' to to' fault
+
+-- memory ran out before anything was read or written
+abbrev pub NeverBegins : Source → Source → Sink → Sink → RunFault → Type 0
+NeverBegins from from' to to' fault = (fault ≡ OutOfMemory) × (from' ≡ from) × (to' ≡ to)
+
+-- help or the version was shown: a text was written whole, and flushed once
+abbrev pub IsShown : Source → Source → Sink → Sink → Type 0
+IsShown from from' to to' = (from' ≡ from) × ((text : List ℕ) × TellsWhole to text to')
+
+-- help or the version was not shown to its end
+abbrev pub IsCutOff : Source → Source → Sink → Sink → RunFault → Type 0
+IsCutOff from from' to to' fault = (fault ≡ Write) × (from' ≡ from) × ((text : List ℕ) × TellsPart to text to')
+
 -- `clap` finds no fault in the words, and what they choose was run
 pub record RunsFor (words : List (List ℕ)) (from from' : Source) (to to' : Sink) (all : Bool) : Type 0 where
   pub faultless : fault_of keydir words ≡ []
   pub runs : Runs (chosen (subcommand_of keydir words)) from from' to to' all
+
+-- `clap` finds no fault in the words, and a fault ended the run that they choose
+pub record BreaksOffFor (words : List (List ℕ)) (from from' : Source) (to to' : Sink) (fault : RunFault) : Type 0 where
+  pub faultless : fault_of keydir words ≡ []
+  pub breaks : BreaksOff (chosen (subcommand_of keydir words)) from from' to to' fault
+
+-- what a fault leaves of the input and the output: that of the run, or of help or the version, or all of it
+abbrev pub StopsAt : List (List ℕ) → Source → Source → Sink → Sink → RunFault → Type 0
+StopsAt words from from' to to' fault =
+    BreaksOffFor words from from' to to' fault ⊎ ((AsksForHelp (fault_of keydir words) × IsCutOff from from' to to' fault) ⊎ NeverBegins from from' to to' fault)
 
 -- `clap` finds no fault in the words, but the key that they give is none
 pub record HasBadKey (words : List (List ℕ)) : Type 0 where
@@ -147,7 +180,7 @@ ChooseNoRun words = (fault_of keydir words ≢ []) ⊎ HasBadText words
 
 -- the program may end in this way for the words
 abbrev pub EndsFor : List (List ℕ) → Source → Source → Sink → Sink → Ending → Type 0
-EndsFor words from from' to to' (Done true) = RunsFor words from from' to to' true ⊎ AsksForHelp (fault_of keydir words)
+EndsFor words from from' to to' (Done true) = RunsFor words from from' to to' true ⊎ (AsksForHelp (fault_of keydir words) × IsShown from from' to to')
 EndsFor words from from' to to' (Done false) = RunsFor words from from' to to' false
 EndsFor words from from' to to' (Refused text) = HasMistake (fault_of keydir words)
 EndsFor words from from' to to' BadKey = HasBadKey words
@@ -190,3 +223,8 @@ Fails wanted from from' to to' NoBoard = wanted × ((from' ≡ from) × (to' ≡
 abbrev pub IfRefused : Ending → Type 0 → Type 0
 IfRefused (Refused text) fact = fact
 IfRefused _ fact = Unit {0}
+
+-- the fact holds where it is done
+abbrev pub IfDone : Ending → Type 0 → Type 0
+IfDone (Done all) fact = fact
+IfDone _ fact = Unit {0}

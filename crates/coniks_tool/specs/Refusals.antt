@@ -8,7 +8,7 @@ use Rattle.coniks_directory.specs.declared.batch.BatchFault.TheVariants as batch
 use Rattle.coniks_directory.specs.declared.update.CommitFault.{CommitFault}
 use Rattle.coniks_directory.specs.declared.update.CommitFault.TheVariants.{Batch, Install}
 use Rattle.coniks_directory.specs.declared.update.InstallFault.TheVariants as install
-use Rattle.coniks_tool.specs.declared.run.store.TheConstants.{BOARD_HEADS}
+use Rattle.coniks_tool.specs.Limits.{most_epochs}
 
 -- why a batch is refused
 pub data Refusal : Type 0 where
@@ -25,7 +25,7 @@ pub data Refusal : Type 0 where
 abbrev pub number_refusal : List Shown → ℕ → Option Refusal
 number_refusal history epoch =
     if nat_lt (latest_epoch history) epoch
-    then (if nat_lt (length history) BOARD_HEADS then None else Some full)
+    then (if nat_lt (length history) most_epochs then None else Some full)
     else Some (not_later (latest_epoch history))
 
 -- the first operation at fault refuses the batch, else its number may

@@ -11,7 +11,7 @@ use Rattle.coniks_shared.specs.Boards.{Boarded, BoardEnd}
 use Rattle.coniks_tool.specs.Script.{Opened, State}
 use Rattle.coniks_tool.specs.Seal.{is_seal}
 use Rattle.coniks_tool.specs.declared.run.batch.Batch.{Batch as BatchRead}
-use Rattle.coniks_tool.specs.declared.run.store.TheConstants.{BOARD_HEADS}
+use Rattle.coniks_tool.specs.Limits.{most_epochs}
 use Rattle.coniks_tool.specs.declared.run.store.Service.{Service}
 
 -- a directory of a key, in this state
@@ -41,7 +41,7 @@ pub record IsServed (published : BoardEnd) (s : Service) : Type 0 where
   pub good : GoodChain sha256 (is_seal s.signer.key) s.directory.state.chain
   pub made : s.signer.made ≡ length s.directory.state.chain
   pub heads : published.heads ≡ heads_of sha256 s.directory.state.chain
-  pub room : length s.directory.state.chain ≤ BOARD_HEADS
+  pub room : length s.directory.state.chain ≤ most_epochs
 
 -- before a directory is opened no head is published
 abbrev pub IsServedIf : BoardEnd → Option Service → Type 0
@@ -51,5 +51,5 @@ IsServedIf published (Some s) = IsServed published s
 -- the board is the publisher's, and what is opened is served
 pub record IsKept (board : Boarded) (published : BoardEnd) (opened : Option Service) : Type 0 where
   pub table : published.table ≡ board.table
-  pub capacity : board.capacity ≡ BOARD_HEADS
+  pub capacity : board.capacity ≡ most_epochs
   pub served : IsServedIf published opened

@@ -5,10 +5,18 @@ ghost use Rattle.std.specs.Str.{is_utf8};
 ghost use Rattle.serde_json.specs.Data.{string};
 ghost use Rattle.serde_json.specs.Find.{get};
 ghost use Rattle.coniks_chain.specs.declared.entry.Entry.{Entry};
+ghost use Rattle.coniks_tool.specs.Limits.{most_epochs};
 ghost use Rattle.coniks_tool.specs.Paths.{its_entry, Path};
 ghost use Rattle.coniks_tool.specs.ProofTexts.{end_data};
 ghost use Rattle.coniks_tool.specs.Replies.{looked_up_data};
 ghost use Rattle.coniks_tool.specs.Script.{State, script_answer};
+
+use crate::run::store::BOARD_HEADS;
+
+/// The limit that callers read is that of the specification.
+pub fn limits()
+    ensures epochs { BOARD_HEADS ≡ most_epochs }
+{}
 
 /// A refused line leaves the directory as it was.
 pub fn refused_line_changes_no_directory()

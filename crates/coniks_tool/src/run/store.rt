@@ -9,6 +9,7 @@ ghost use Rattle.coniks_shared.specs.Boards.{BoardEnd};
 ghost use Rattle.coniks_shared.specs.Lists.{last_of};
 ghost use Rattle.coniks_lines.specs.declared.fault.RunFault.TheVariants.{NoBoard};
 ghost use Rattle.coniks_tool.specs.Demo.{demo_index};
+ghost use Rattle.coniks_tool.specs.Limits.{most_epochs};
 ghost use Rattle.coniks_tool.specs.Refusals.{Refusal, IsRefusedBy, refusal};
 ghost use Rattle.coniks_tool.specs.Replies.{already_open, installed, not_open, outcome_of};
 ghost use Rattle.coniks_tool.specs.Script.{batch_with, lookup_with, open_with, refusal_outcome, Installs};
@@ -61,7 +62,7 @@ impl Service {
         board: &Board,
     ) -> Result<Entry, CommitFault>
         requires table { publisher.old.table ≡ board.now.table }
-        requires capacity { board.now.capacity ≡ BOARD_HEADS }
+        requires capacity { board.now.capacity ≡ most_epochs }
         requires served { IsServed publisher.old self.old }
         ensures table { publisher.new.table ≡ publisher.old.table }
         ensures served { IsServed publisher.new self.new }

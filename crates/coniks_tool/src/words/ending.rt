@@ -19,10 +19,10 @@ pub(crate) enum Ending {
 }
 
 /// The line that tells of a bad key.
-const BAD_KEY: &str = "keydir: bad key: 64 hexadecimal digits are wanted\n";
+const BAD_KEY: &str = "keydir: bad key\n";
 
 /// The line that tells of a bad expectation.
-const BAD_EXPECTATION: &str = "keydir: bad expectation: base64 with its padding is wanted\n";
+const BAD_EXPECTATION: &str = "keydir: bad expectation\n";
 
 pub(crate) fn status(outcome: &Result<Ending, RunFault>) -> u8
     ensures { result ≡ status_of outcome.now }

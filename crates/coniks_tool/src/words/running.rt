@@ -1,9 +1,9 @@
 //! Runs what the words chose.
 
-ghost use Rattle.std.specs.Prelude.{◌≡◌, ◌<◌, ◌≤◌, ◌+◌, ◌^◌, IfOk, List, None, Some, option_map, ℕ, IfErr};
+ghost use Rattle.std.specs.Prelude.{◌≡◌, ◌⊎◌, ◌<◌, ◌≤◌, ◌+◌, ◌^◌, IfOk, List, None, Some, option_map, ℕ, IfErr};
 ghost use Rattle.coniks_tool.specs.Choice.{audit, choice_of, key_in, monitor, IsWithin, Lacks};
 ghost use Rattle.coniks_tool.specs.Expectations.{expectation_in};
-ghost use Rattle.coniks_tool.specs.Program.{EndsBy, Fails, HasBoard};
+ghost use Rattle.coniks_tool.specs.Program.{BreaksOff, EndsBy, Fails, HasBoard, NeverBegins};
 ghost use Rattle.coniks_directory.specs.Batches.{AreWorkers};
 ghost use Rattle.coniks_lines.specs.declared.fault.RunFault.TheVariants.{OutOfMemory};
 ghost use Rattle.coniks_work.specs.declared.jobs.TheConstants.{MAX_DEPTH};
@@ -36,6 +36,8 @@ pub(crate) fn run_settings<T: Threads + Sync, R: ByteIn, W: ByteOut>(
     ensures idle_reader { Lacks (Some (choice_of settings.entry)) → R.source reader.new ≡ R.source reader.old }
     ensures idle_writer { Lacks (Some (choice_of settings.entry)) → W.sink writer.new ≡ W.sink writer.old }
     ensures fails { IfErr result (Fails (HasBoard (Some (choice_of settings.entry))) (R.source reader.old) (R.source reader.new) (W.sink writer.old) (W.sink writer.new)) }
+    ensures stops { IfErr result (λ fault. BreaksOff (Some (choice_of settings.entry)) (R.source reader.old) (R.source reader.new) (W.sink writer.old) (W.sink writer.new) fault
+        ⊎ NeverBegins (R.source reader.old) (R.source reader.new) (W.sink writer.old) (W.sink writer.new) fault) }
 {
     match settings {
         Settings::Run { workers, depth } => {
@@ -63,6 +65,8 @@ fn audit_under<R: ByteIn, W: ByteOut>(
     ensures idle_reader { Lacks (Some (audit key.now)) → R.source reader.new ≡ R.source reader.old }
     ensures idle_writer { Lacks (Some (audit key.now)) → W.sink writer.new ≡ W.sink writer.old }
     ensures fails { IfErr result (Fails ⊥ (R.source reader.old) (R.source reader.new) (W.sink writer.old) (W.sink writer.new)) }
+    ensures stops { IfErr result (λ fault. BreaksOff (Some (audit key.now)) (R.source reader.old) (R.source reader.new) (W.sink writer.old) (W.sink writer.new) fault
+        ⊎ NeverBegins (R.source reader.old) (R.source reader.new) (W.sink writer.old) (W.sink writer.new) fault) }
 {
     match bytes_of_digits(key) {
         Some(key) => Ok(Ending::Done(run_audit(alloc, key, reader, writer)?)),
@@ -85,6 +89,8 @@ fn watch_under<R: ByteIn, W: ByteOut>(
     ensures idle_reader { Lacks (Some (monitor key.now name.now (option_map (λ text. text.now) expect.entry))) → R.source reader.new ≡ R.source reader.old }
     ensures idle_writer { Lacks (Some (monitor key.now name.now (option_map (λ text. text.now) expect.entry))) → W.sink writer.new ≡ W.sink writer.old }
     ensures fails { IfErr result (Fails ⊥ (R.source reader.old) (R.source reader.new) (W.sink writer.old) (W.sink writer.new)) }
+    ensures stops { IfErr result (λ fault. BreaksOff (Some (monitor key.now name.now (option_map (λ text. text.now) expect.entry))) (R.source reader.old) (R.source reader.new) (W.sink writer.old) (W.sink writer.new) fault
+        ⊎ NeverBegins (R.source reader.old) (R.source reader.new) (W.sink writer.old) (W.sink writer.new) fault) }
 {
     let Some(key) = bytes_of_digits(key) else {
         return Ok(Ending::BadKey);

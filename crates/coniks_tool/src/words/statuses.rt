@@ -5,7 +5,7 @@ ghost use Rattle.clap.specs.Words.{fault_of, kind_of, takes};
 ghost use Rattle.coniks_lines.specs.Known.{Source};
 ghost use Rattle.coniks_lines.specs.declared.fault.RunFault.{RunFault as Fault};
 ghost use Rattle.coniks_tool.specs.Keydir.{keydir};
-ghost use Rattle.coniks_tool.specs.Program.{bad_expectation_line, bad_key_line, fault_line, status_of, told_of, unread_line, unread_status, AsksForHelp, ChooseNoRun, EndsFor, HasBadExpectation, HasBadKey, HasBadText, HasMistake, IfRefused, IsExplained, RunsFor, Tells, TellsIf, AsksForBoard, Fails};
+ghost use Rattle.coniks_tool.specs.Program.{bad_expectation_line, bad_key_line, fault_line, status_of, told_of, is_asked_for, unread_line, unread_status, AsksForHelp, ChooseNoRun, EndsFor, HasBadExpectation, HasBadKey, HasBadText, HasMistake, IfDone, IfRefused, IsCutOff, IsExplained, IsShown, NeverBegins, RunsFor, StopsAt, Tells, TellsIf, AsksForBoard, Fails};
 
 use crate::words::choice::{Unread, WordsFault};
 use crate::words::ending::{Ending, fault_text, status, told};
@@ -20,11 +20,13 @@ use std::thread::Threads;
 
 /// Does what the words ask for, of which the first is the program's name, and answers the status.
 ///
-/// 0: the run accepted every line, or help or the version was asked for, which goes to `writer`. 1: the run
-/// refused a line, or a proof showed something else than what is expected. 2: `clap` refused the words, and its text goes to `errors`; or the key that they
-/// give isn't 64 hexadecimal digits, or the key is one and the expectation that they give isn't
-/// base64, and `errors` gets a line that says so. 3: a read or a write failed, memory ran out, or `run` could have no
-/// board; `errors` gets a line that says which. A failure of `errors` changes no status.
+/// - 0: the run accepted every line, or help or the version was asked for and written to `writer`.
+/// - 1: the run refused a line, or a proof showed something else than what is expected.
+/// - 2: `clap` refused the words, and its text goes to `errors`; or the key that they give isn't 64 hexadecimal digits, or
+///   the key is one and the expectation that they give isn't base64, and `errors` gets a line that says which.
+/// - 3: a read or a write failed, memory ran out, or `run` could have no board; `errors` gets a line that says which.
+///
+/// A failure of `errors` changes no status.
 pub fn program<T: Threads + Sync, S: AsStr, R: ByteIn, W: ByteOut, E: ByteOut>(
     rt: &T,
     alloc: Global,
@@ -40,7 +42,8 @@ pub fn program<T: Threads + Sync, S: AsStr, R: ByteIn, W: ByteOut, E: ByteOut>(
 
     // What `clap` finds in the words decides between a run, help or the version, and a refusal. A run is that of what they choose, under
     // the key and the expectation that they give, and the status is 0 or 1 as it accepted every line or not.
-    ensures done { result ≡ 0 → RunsFor (map S.text words.entry.now) (R.source reader.old) (R.source reader.new) (W.sink writer.old) (W.sink writer.new) true ⊎ AsksForHelp (fault_of keydir (map S.text words.entry.now)) }
+    ensures done { result ≡ 0 → RunsFor (map S.text words.entry.now) (R.source reader.old) (R.source reader.new) (W.sink writer.old) (W.sink writer.new) true
+        ⊎ (AsksForHelp (fault_of keydir (map S.text words.entry.now)) × IsShown (R.source reader.old) (R.source reader.new) (W.sink writer.old) (W.sink writer.new)) }
     ensures ran { result ≡ 1 → RunsFor (map S.text words.entry.now) (R.source reader.old) (R.source reader.new) (W.sink writer.old) (W.sink writer.new) false }
     ensures refused { result ≡ 2 → HasMistake (fault_of keydir (map S.text words.entry.now)) ⊎ HasBadText (map S.text words.entry.now) }
     ensures taken { takes keydir (map S.text words.entry.now) ≡ true → result ≡ 2 → HasBadText (map S.text words.entry.now) }
@@ -56,9 +59,11 @@ pub fn program<T: Threads + Sync, S: AsStr, R: ByteIn, W: ByteOut, E: ByteOut>(
     ensures idle_writer { HasBadText (map S.text words.entry.now) → W.sink writer.new ≡ W.sink writer.old }
     ensures bad_key_told { HasBadKey (map S.text words.entry.now) → result ≡ 2 → Tells (E.sink errors.old) bad_key_line (E.sink errors.new) }
     ensures bad_expectation_told { HasBadExpectation (map S.text words.entry.now) → result ≡ 2 → Tells (E.sink errors.old) bad_expectation_line (E.sink errors.new) }
-    // At 3 the line that is told is that of the fault that ended the run, and of no other.
+    // At 3 the line that is told is that of the fault that ended the run, and of no other; what was answered until then is written,
+    // and of help or the version a beginning.
     ensures told { result ≡ 3 → (fault : Fault) × (Tells (E.sink errors.old) (fault_line fault) (E.sink errors.new)
-        × Fails (AsksForBoard (map S.text words.entry.now)) (R.source reader.old) (R.source reader.new) (W.sink writer.old) (W.sink writer.new) fault) }
+        × (Fails (AsksForBoard (map S.text words.entry.now)) (R.source reader.old) (R.source reader.new) (W.sink writer.old) (W.sink writer.new) fault
+        × StopsAt (map S.text words.entry.now) (R.source reader.old) (R.source reader.new) (W.sink writer.old) (W.sink writer.new) fault)) }
 {
     let outcome = obey(rt, alloc, words, reader, writer);
     conclude(&outcome, errors)
@@ -114,6 +119,7 @@ fn obey<T: Threads + Sync, S: AsStr, R: ByteIn, W: ByteOut>(
     ensures idle_reader { ChooseNoRun (map S.text words.entry.now) → R.source reader.new ≡ R.source reader.old }
     ensures idle_writer { HasBadText (map S.text words.entry.now) → W.sink writer.new ≡ W.sink writer.old }
     ensures fails { IfErr result (Fails (AsksForBoard (map S.text words.entry.now)) (R.source reader.old) (R.source reader.new) (W.sink writer.old) (W.sink writer.new)) }
+    ensures stops { IfErr result (StopsAt (map S.text words.entry.now) (R.source reader.old) (R.source reader.new) (W.sink writer.old) (W.sink writer.new)) }
 {
     match settings(alloc, words) {
         Ok(settings) => run_settings(rt, alloc, settings, reader, writer),
@@ -127,7 +133,10 @@ fn explain<W: ByteOut>(alloc: Global, error: Error, writer: &mut W) -> Result<En
     requires { (W.sink writer.old).failed + 1 < 2 ^ 64 }
     ensures kind { IfOk result (IsExplained (kind_of error)) }
     ensures unwritten { IfOk result (λ ending. IfRefused ending (W.sink writer.new ≡ W.sink writer.old)) }
+    ensures shown { (still : Source) → IfOk result (λ ending. IfDone ending (IsShown still still (W.sink writer.old) (W.sink writer.new))) }
     ensures fails { (still : Source) → IfErr result (Fails ⊥ still still (W.sink writer.old) (W.sink writer.new)) }
+    ensures stops { (still : Source) → IfErr result (λ fault. ((is_asked_for (kind_of error) ≡ true) × IsCutOff still still (W.sink writer.old) (W.sink writer.new) fault)
+        ⊎ NeverBegins still still (W.sink writer.old) (W.sink writer.new) fault) }
 {
     let Ok(text) = error.to_string(alloc) else {
         return Err(RunFault::OutOfMemory);
