@@ -1,0 +1,82 @@
+#!/usr/bin/env python3
+"""The tools that only some of the gate's tests need: which lack here, what is skipped without them, and what installs them.
+
+    scripts/tools.py             prints those that lack, and the command that installs them on Debian
+    scripts/tools.py --install   runs this command, as root, where `apt-get` is there; the status is 0 whatever comes of it
+"""
+
+import os
+import shutil
+import subprocess
+import sys
+
+CC = os.environ.get("CC", "cc")
+CHROMIUM = os.environ.get("CHROMIUM", "chromium")
+
+
+def has_program(name):
+    return shutil.which(name) is not None
+
+
+def compiles(text, *words):
+    """Whether the C compiler takes a text."""
+    if not has_program(CC):
+        return False
+    ran = subprocess.run([CC, *words, "-"], input=text.encode(), capture_output=True)
+    return ran.returncode == 0
+
+
+# A tool, whether it is there, its packages in Debian, and what is skipped without it.
+TOOLS = {
+    "a C compiler": (lambda: has_program(CC), "gcc libc6-dev", "faults/run and embed/test"),
+    "a C++ compiler": (lambda: compiles("", "-fsyntax-only", "-x", "c++"), "g++", "the header as C++"),
+    "the headers of OpenSSL": (lambda: compiles("#include <openssl/evp.h>\n", "-E", "-x", "c"), "libssl-dev", "c/audit_signed.c"),
+    "valgrind": (lambda: has_program("valgrind"), "valgrind", "answers under valgrind"),
+    "rustc": (lambda: has_program("rustc"), "rustc", "the example in Rust"),
+    "go": (lambda: has_program("go"), "golang-go", "the example in Go"),
+    "node": (lambda: has_program("node"), "nodejs", "the page's own tests"),
+    "chromium": (lambda: has_program(CHROMIUM), "chromium", "the page in a browser"),
+}
+
+
+def has(tool):
+    return TOOLS[tool][0]()
+
+
+def lacking():
+    return [it for it in TOOLS if not has(it)]
+
+
+def packages(tools):
+    return [package for it in tools for package in TOOLS[it][1].split()]
+
+
+def told(tools):
+    """The lines that say what lacks, what is skipped for it, and how it is installed; none where nothing lacks."""
+    if not tools:
+        return []
+    lines = [f"not here: {it}, so {TOOLS[it][2]} will be skipped" for it in tools]
+    return [*lines, f"on Debian: apt-get install --no-install-recommends {' '.join(packages(tools))}"]
+
+
+def install(tools):
+    """Installs what lacks, and prints the last line of what failed."""
+    for words in [["update"], ["install", "-y", "--no-install-recommends", *packages(tools)]]:
+        ran = subprocess.run(["apt-get", *words], capture_output=True, text=True, env=os.environ | {"DEBIAN_FRONTEND": "noninteractive"})
+        if ran.returncode:
+            last = (ran.stderr or ran.stdout).strip().splitlines()[-1:]
+            print(f"apt-get {words[0]} failed: {' '.join(last)}", flush=True)
+
+
+def main(words):
+    tools = lacking()
+    if words == ["--install"]:
+        if tools and os.geteuid() == 0 and has_program("apt-get"):
+            install(tools)
+        return 0
+    print(*told(tools), sep="\n", end="\n" if tools else "")
+    return 0
+
+
+if __name__ == "__main__":
+    sys.exit(main(sys.argv[1:]))
