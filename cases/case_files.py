@@ -1,10 +1,11 @@
 """The files of the cases: which there are, and what a case says of a run."""
 
+import json
 from pathlib import Path
 
 HERE = Path(__file__).resolve().parent
 FOLDERS = ["run", "check", "audit", "monitor", "words"]
-KINDS = [".in", ".out", ".holds", ".words", ".status", ".err", ".turns"]
+KINDS = [".in", ".make", ".out", ".holds", ".words", ".status", ".err", ".turns"]
 
 
 class Unknown(Exception):
@@ -24,6 +25,10 @@ class Case:
     def read(self, kind):
         return Path(f"{self.stem}{kind}").read_bytes()
 
+    def given(self):
+        """The bytes of standard input: those of `.in`, or those that `.make` says."""
+        return self.read(".in") if self.has(".in") else made(json.loads(self.read(".make")))
+
     def words(self):
         usual = self.stem.parent / "words"
         text = self.read(".words") if self.has(".words") else usual.read_bytes()
@@ -33,6 +38,15 @@ class Case:
         if self.has(".status"):
             return int(self.read(".status"))
         return usual_status(self.read(".out")) if self.has(".out") else 0
+
+
+def made(part):
+    """The bytes of a part of a `.make`: a text's, those of parts in their order, or those of a part so many times."""
+    if isinstance(part, str):
+        return part.encode("utf-8")
+    if isinstance(part, list):
+        return b"".join(map(made, part))
+    return made(part["repeat"]) * part["times"]
 
 
 def usual_status(output):
@@ -50,11 +64,12 @@ def cases_of(folder):
         case = Case(path.with_suffix(""))
         if path.suffix not in KINDS and path.name != "words":
             wrong.append(f"{folder.name}/{path.name}: no file of a case")
-        elif path.suffix == ".in":
+        elif path.suffix in (".in", ".make"):
             cases[case.name] = case
-        elif path.suffix and not case.has(".in"):
+        elif path.suffix and not case.has(".in") and not case.has(".make"):
             wrong.append(f"{folder.name}/{path.name}: no case {case.name}.in")
-    wrong += [f"{name}: not one of .out and .holds" for name, case in cases.items() if case.has(".out") == case.has(".holds")]
+    for one, other in [(".in", ".make"), (".out", ".holds")]:
+        wrong += [f"{name}: not one of {one} and {other}" for name, case in cases.items() if case.has(one) == case.has(other)]
     return cases, wrong if cases else wrong + [f"{folder.name}: no case"]
 
 
