@@ -48,11 +48,12 @@ def fault_of(operation, earlier, registry):
 
 
 class Epoch:
-    """An entry, and the registry at it: the key and the opening of each name."""
+    """An entry, the registry at it, which has the key and the opening of each name, and its tree."""
 
-    def __init__(self, entry, registry):
+    def __init__(self, entry, registry, tree):
         self.entry = entry
         self.registry = registry
+        self.tree = tree
 
 
 class Directory:
@@ -86,16 +87,19 @@ class Directory:
         ops = operations(member(members, "ops", array))
         self.must_be_open()
         before = self.epochs.get(self.latest)
-        registry = self.registry_after(before.registry if before else {}, ops)
+        registry = before.registry if before else {}
+        changed = self.changed_by(ops, registry)
+        registry = {**registry, **changed}
         if number <= self.latest:
             raise Fault("EpochNotLater", latest=self.latest)
         if len(self.epochs) == MOST_EPOCHS:
             raise Fault("BoardFull")
         if nonce is not None:
             self.version, self.nonce = 2, nonce
-        root = node(self.nonce, (), self.entries(registry))
+        tree = self.tree_after(before, registry, changed, nonce is not None)
+        root = self.root(tree)
         entry = self.entry_of(before, number, root)
-        self.epochs[number] = Epoch(entry, registry)
+        self.epochs[number] = Epoch(entry, registry, tree)
         self.latest = number
         answer = {"epoch": number, "link": link(entry.whole).hex(), "ok": "batch"}
         return {**answer, "entry": entry.whole.hex(), "root": root.hex()}
@@ -108,7 +112,8 @@ class Directory:
         if not self.is_open:
             raise Fault("NotOpen")
 
-    def registry_after(self, registry, ops):
+    def changed_by(self, ops, registry):
+        """What a batch's operations bind; else the batch's fault."""
         if len(ops) > MOST_OPERATIONS:
             raise Fault("BatchTooLong")
         earlier = {}
@@ -117,7 +122,17 @@ class Directory:
             if fault:
                 raise Fault(fault, position=position)
             earlier[operation.name] = (operation.key, operation.opening)
-        return {**registry, **earlier}
+        return earlier
+
+    def tree_after(self, before, registry, changed, is_renewed):
+        """An epoch's tree: here all entries of its registry."""
+        return self.entries(registry)
+
+    def root(self, tree):
+        return node(self.nonce, (), tree)
+
+    def path(self, epoch, index):
+        return path(epoch.entry.nonce, (), epoch.tree, index)
 
     def entries(self, registry):
         """The entries of a registry's tree, sorted by their indices."""
@@ -140,16 +155,16 @@ class Directory:
         answer["entry"] = epoch.entry.whole.hex()
         answer["nonce"] = epoch.entry.nonce.hex()
         answer["root"] = epoch.entry.root.hex()
-        answer["proof"] = self.proof(epoch.entry.nonce, epoch.registry, index, name)
+        answer["proof"] = self.proof(epoch, index, name)
         return answer
 
-    def proof(self, nonce, registry, index, name):
-        siblings, found = path(nonce, (), self.entries(registry), index)
+    def proof(self, epoch, index, name):
+        siblings, found = self.path(epoch, index)
         if not found:
             end = {"kind": "empty"}
         elif found[0][0] != index:
             end = {"commitment": found[0][1].hex(), "index": found[0][0].hex(), "kind": "other"}
         else:
-            key, opening = registry[name.encode("utf-8")]
+            key, opening = epoch.registry[name.encode("utf-8")]
             end = {"key": base64.b64encode(key).decode(), "kind": "here", "name": name, "opening": opening.hex()}
         return {"end": end, "siblings": [sibling.hex() for sibling in siblings]}

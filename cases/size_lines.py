@@ -1,0 +1,63 @@
+"""The lines of `cases/size`: a directory of many names, and how many there are of each."""
+
+import base64
+import hashlib
+import json
+from typing import NamedTuple
+
+KEY = "5a" * 32
+NONCE, LATER_NONCE, POLICY = "11" * 32, "44" * 32, "33" * 32
+
+
+class Size(NamedTuple):
+    """How many names are registered, by how many in a batch, and how many lookups there are of each kind."""
+
+    names: int
+    batch: int
+    lookups: int
+
+
+def text_of(value):
+    return json.dumps(value, separators=(",", ":"))
+
+
+def operation(kind, number, turn):
+    """An operation on a name; the turn makes another key and opening of it."""
+    found = hashlib.sha256(b"%d %d" % (number, turn)).digest()
+    key = base64.b64encode(found[: 1 + number % 32]).decode()
+    return {"key": key, "name": f"name-{number}", "op": kind, "opening": hashlib.sha256(found).hexdigest()}
+
+
+def changes(size, count, step, turn):
+    """Changes of names that lie apart: the step has no divisor in common with the number of names."""
+    return [operation("change", it * step % size.names, turn) for it in range(count)]
+
+
+def batches(size):
+    """The members of each batch but its epoch: all names, then changes, one change, a renewed nonce and one change more."""
+    for first in range(0, size.names, size.batch):
+        yield {"ops": [operation("register", it, 0) for it in range(first, min(first + size.batch, size.names))]}
+    yield {"ops": changes(size, size.batch, 23, 1)}
+    yield {"ops": changes(size, 1, 1, 2)}
+    half = size.batch // 2
+    more = [operation("register", size.names + it, 0) for it in range(half)]
+    yield {"nonce": LATER_NONCE, "ops": changes(size, half, 29, 3) + more}
+    yield {"ops": changes(size, 1, 1, 4)}
+
+
+def lookups(size, epoch, present):
+    """Lookups at an epoch: of names among the first ones, as many as are present there, and of names that are nowhere."""
+    step = max(1, present // size.lookups)
+    names = [it * step for it in range(size.lookups)] + [10 * size.names + it for it in range(size.lookups)]
+    for it in names:
+        yield {"cmd": "lookup", "epoch": epoch, "name": f"name-{it}"}
+
+
+def lines(size):
+    """All lines, each without its newline."""
+    yield text_of({"cmd": "open", "key": KEY, "nonce": NONCE, "policy": POLICY})
+    epoch = 0
+    for epoch, members in enumerate(batches(size), 1):
+        yield text_of({"cmd": "batch", "epoch": epoch, **members})
+    for it in [*lookups(size, 1, size.batch), *lookups(size, epoch, size.names)]:
+        yield text_of(it)
