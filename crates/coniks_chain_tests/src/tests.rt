@@ -542,7 +542,7 @@ fn texts_of_faults(rt: HostRuntime) {
 }
 
 /// A source that takes this signature, gives what it is told to, and hasn't been asked.
-fn stamp(given: Option<Signature>, taken: Signature) -> Stamp {
+fn source_of(given: Option<Signature>, taken: Signature) -> Stamp {
     Stamp {
         given,
         taken: Only(taken),
@@ -555,7 +555,7 @@ fn stamp(given: Option<Signature>, taken: Signature) -> Stamp {
 #[test]
 fn asked_once_for_each_body(rt: HostRuntime) {
     let signature = Signature([7; 64]);
-    let mut signer = Signer::new(stamp(None, signature));
+    let mut signer = Signer::new(source_of(None, signature));
     for (calls, given) in [
         (1, None),
         (2, Some(signature)),
@@ -572,7 +572,7 @@ fn asked_once_for_each_body(rt: HostRuntime) {
 #[test]
 fn signed_or_refused(rt: HostRuntime) {
     let signature = Signature([7; 64]);
-    let mut signer = Signer::new(stamp(None, signature));
+    let mut signer = Signer::new(source_of(None, signature));
     let body = flat_entry(1, 0, 0).body;
     assert!(rt; signer.sign(&body.bytes()).is_none());
     assert_eq!(rt; (signer.made(), signer.refused()), (0, 1));
@@ -590,7 +590,7 @@ fn wrong_signatures_are_kept_back(rt: HostRuntime) {
     let signature = Signature([7; 64]);
     let mut wrong = signature;
     wrong.0[63] = 8;
-    let mut signer = Signer::new(stamp(Some(signature), signature));
+    let mut signer = Signer::new(source_of(Some(signature), signature));
     let first = flat_entry(1, 0, 0).body;
     assert!(rt; signer.sign(&first.bytes()) == Some(signature));
     signer.source.given = Some(wrong);
