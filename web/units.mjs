@@ -1,8 +1,11 @@
 // Tests of the script's modules that need no browser: `node web/units.mjs`. The last line is `N passed, M failed`.
 
+import { createHash } from "node:crypto";
+
 import { bigEndian, bitAt, fromBase64, fromHex, joined, toBase64, toHex } from "./src/bytes.js";
-import { entryOf, lookupOf, objectOf, proofBytes } from "./src/lines.js";
-import { keyText, short } from "./src/words.js";
+import { entryOf, lookupOf, numberOf, objectOf, proofBytes } from "./src/lines.js";
+import { sha256 } from "./src/sha256.js";
+import { keyText, nameText, short } from "./src/words.js";
 
 let [passed, failed] = [0, 0];
 
@@ -14,6 +17,17 @@ function same(what, found, wanted) {
     failed++;
     console.log(`FAILED: ${what}: ${JSON.stringify(found)}`);
   }
+}
+
+// FIPS 180-4, the examples of NIST for SHA-256.
+for (const [message, digest] of [
+  ["abc", "ba7816bf8f01cfea414140de5dae2223b00361a396177a9cb410ff61f20015ad"],
+  ["abcdbcdecdefdefgefghfghighijhijkijkljklmklmnlmnomnopnopq", "248d6a61d20638b8e5c026930c3e6039a33ce45964ff2167f6ecedd419db06c1"],
+]) same(`the hash of ${message}`, toHex(sha256(new TextEncoder().encode(message))), digest);
+// Each length over three blocks, beside Node's own.
+for (let length = 0; length < 200; length++) {
+  const message = Uint8Array.from({ length }, (_, i) => (i * 37 + length) % 256);
+  same(`the hash of ${length} bytes`, toHex(sha256(message)), createHash("sha256").update(message).digest("hex"));
 }
 
 const listed = (/** @type {Uint8Array | null} */ bytes) => bytes && [...bytes];
@@ -38,6 +52,8 @@ same("bits", [0, 1, 7, 8, 254, 255].map((it) => bitAt(index, it)), [1, 0, 1, 0, 
 
 for (const wrong of ["", "[]", "3", "null", '"a"', "{", '{"a":1e999}', '{"a":"\\ud800"}', '{"\\udc00":1}', "\ufeff{}", "[".repeat(200)]) same(`no object: ${wrong.slice(0, 20)}`, objectOf(wrong), null);
 same("the last of two members", objectOf('{"a":1,"a":2}'), { a: 2 });
+same("a member's number", String(numberOf('{"a":{"epoch":1},"epoch":7,"b":[{"epoch":2}]}', "epoch")), "7");
+for (const none of ['{"a":{"epoch":1}}', '{"epoch":"7"}', '{"epoch":-1}', '{"epoch":1.5}', "{}"]) same(`no number: ${none}`, numberOf(none, "epoch"), null);
 same("a pair of surrogates", objectOf('{"a":"\\ud83d\\ude00"}'), { a: "😀" });
 
 const [zeros, ones] = ["00".repeat(32), "11".repeat(32)];
@@ -60,8 +76,14 @@ for (let from = 0; from < order.length; from++) {
 same("no object is no lookup", lookupOf("{"), { fault: "Json" });
 same("an entry", entryOf({ entry: "ab".repeat(209) })?.length, 209);
 for (const entry of ["ab".repeat(208), "ab".repeat(210), "zz".repeat(209), 7, undefined]) same("no entry", entryOf({ entry }), null);
-same("a printable key", keyText(new TextEncoder().encode("alice-1")), "alice-1");
-same("another key", keyText(Uint8Array.of(0, 200)), "00c8");
+same("a printable key", keyText(new TextEncoder().encode("alice-1"), 80), '"alice-1"');
+same("another key", keyText(Uint8Array.of(0, 200), 80), "0x00c8");
+same("the digits of another key, as text", keyText(new TextEncoder().encode("0x00c8"), 80), '"0x00c8"');
+same("a key of no bytes", keyText(new Uint8Array(0), 80), '""');
+same("a long key", keyText(new TextEncoder().encode("a".repeat(100)), 3), '"aaa"… (100 bytes)');
+same("a long key that ends otherwise", keyText(joined(new TextEncoder().encode("a".repeat(100)), Uint8Array.of(0)), 3), "0x616161… (101 bytes)");
+same("a name", nameText('a"b ö 😀'), '"a\\"b ö 😀"');
+same("a name that turns what follows", nameText("gro.live\u202e\u2066\u200b\u2028\u0007"), '"gro.live\\u{202e}\\u{2066}\\u{200b}\\u{2028}\\u0007"');
 same("a short hash", short(ones), "11111111…1111");
 
 console.log(`${passed} passed, ${failed} failed`);

@@ -2,7 +2,7 @@
 // stands at the end. Everything that came from a line goes in as text.
 
 import { bitAt, toHex } from "./bytes.js";
-import { MARKED, keyText, short } from "./words.js";
+import { MARKED, keyText, nameText, short } from "./words.js";
 
 /**
  * @typedef {import("./reading.js").LookupRow} LookupRow
@@ -75,9 +75,9 @@ function endOf(row, lookup) {
     const index = fact("its index", hashButton(toHex(end.index), "the other index"), wrong === "other");
     return element("div", "end other", element("h4", "", "The leaf of another index"), index, fact("its commitment", hashButton(toHex(end.commitment), "the commitment")));
   }
-  const key = element("code", "", keyText(end.key).slice(0, 400));
+  const key = element("code", "", keyText(end.key, 400));
   return element("div", "end here", element("h4", "", "The leaf of this index"),
-    fact("name", element("code", "", end.name), wrong === "name"),
+    fact("name", element("bdi", "code", nameText(end.name)), wrong === "name"),
     fact("key", key, wrong === "key"),
     fact("opening", hashButton(toHex(end.opening), "the opening")));
 }
@@ -98,7 +98,7 @@ export function pathOf(row) {
   made.append(mark(wrong === "root", top), levels);
   if (lookup.siblings.length > 256) made.append(mark(true, element("div", "deep", `${lookup.siblings.length} siblings, and a path has at most 256`)));
   made.append(endOf(row, lookup));
-  const asked = element("figcaption", "", `asked for ${JSON.stringify(lookup.name)} at the index `, hashButton(toHex(lookup.index), "the index"), ` under the nonce `, hashButton(toHex(lookup.nonce), "the nonce"));
+  const asked = element("figcaption", "", "asked for ", element("bdi", "", nameText(lookup.name)), " at the index ", hashButton(toHex(lookup.index), "the index"), ` under the nonce `, hashButton(toHex(lookup.nonce), "the nonce"));
   made.append(mark(wrong === "asked", asked));
   return made;
 }

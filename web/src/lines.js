@@ -48,6 +48,23 @@ export function objectOf(line) {
   }
 }
 
+/**
+ * The number of a line's member as it is written, since a double has no room for all of them; null if there is none.
+ * @param {string} line @param {string} name
+ * @returns {bigint | null}
+ */
+export function numberOf(line, name) {
+  /** The texts of the members of this name, by the objects that they are in. @type {Map<any, string>} */
+  const texts = new Map();
+  /** @type {(this: any, key: string, value: any, context?: {source?: string}) => any} */
+  const keep = function (key, value, context) {
+    if (key === name && typeof value === "number") texts.set(this, context?.source ?? String(value));
+    return value;
+  };
+  const text = texts.get(JSON.parse(line, keep)) ?? "";
+  return /^\d+$/.test(text) ? BigInt(text) : null;
+}
+
 /** @param {any} value @returns {Uint8Array | null} */
 function digest(value) {
   const bytes = typeof value === "string" ? fromHex(value) : null;

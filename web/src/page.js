@@ -4,7 +4,7 @@ import { fromHex } from "./bytes.js";
 import { Coniks } from "./coniks.js";
 import { element, pathOf } from "./draw.js";
 import { Reading } from "./reading.js";
-import { SEEN, keyText } from "./words.js";
+import { SEEN, keyText, nameText } from "./words.js";
 
 /**
  * @typedef {import("./reading.js").Row} Row
@@ -29,42 +29,60 @@ let given = "";
 /** Counts readings, so that one that was started after another ends that one. */
 let turn = 0;
 
+/** The epoch of a line's entry, or what a line without one says. @param {LookupRow} row @returns {string} */
+function epochWords(row) {
+  if (row.epoch !== null) return ` at epoch ${row.epoch}`;
+  return row.said === null ? "" : ` at an epoch that the line calls ${row.said}`;
+}
+
+/** @param {LookupRow | EntryRow} row @returns {string} what a line says of its epoch that its entry doesn't say */
+function otherEpoch(row) {
+  return row.epoch !== null && row.said !== null && row.said !== row.epoch ? `; the line calls it epoch ${row.said}, which its entry does not` : "";
+}
+
 /** @param {LookupRow} row @returns {string} */
 export function verdictWords(row, text = (/** @type {number} */ it) => coniks.text(it)) {
   const verdict = row.verdict;
-  const epoch = row.epoch ? ` at epoch ${row.epoch}` : "";
   if ("answer" in verdict) {
-    const name = JSON.stringify(row.lookup?.name);
-    return verdict.answer === "key" ? `${name} is bound to this key${epoch}` : `${name} is not registered${epoch}`;
+    const name = nameText(row.lookup?.name ?? "");
+    return `${name} is ${verdict.answer === "key" ? "bound to this key" : "not registered"}${epochWords(row)}`;
   }
   if (verdict.fault === "Json") return "refused: the line isn't a JSON object";
   if (verdict.fault === "Member") return `refused: the member ${JSON.stringify(verdict.member)} is missing or isn't what it should be`;
   return `refused: ${text(verdict.status ?? 0)}`;
 }
 
-/** @param {import("./reading.js").Standing} standing @returns {string} */
-function standingWords(standing) {
-  return {
-    stands: "its entry stands in the audited chain",
+/** @param {Reading} reading @param {LookupRow} row @returns {string} */
+function standingWords(reading, row) {
+  const words = {
+    authentic: "authentic: its entry is in the audited chain, whose signatures are verified",
+    consistent: "consistent, not authenticated: its entry is in the pasted chain, whose signatures are not verified",
     other: "the root or the nonce isn't that of its entry",
-    missing: "its entry doesn't stand in the pasted chain",
+    missing: "its entry isn't in the pasted chain",
     none: "no entry is pasted with it",
-  }[standing];
+  }[reading.standing(row)];
+  return words + (reading.key === null ? "; at the index in this line" : "") + otherEpoch(row);
+}
+
+/** Whether a lookup is authentic, consistent or refused. @param {Reading} reading @param {LookupRow} row @returns {string} */
+function stateOf(reading, row) {
+  if (!("answer" in row.verdict)) return "bad";
+  return reading.standing(row) === "authentic" && !otherEpoch(row) ? "good" : "consistent";
 }
 
 /** @param {EntryRow} row @returns {string} */
 function entryWords(row) {
-  const signature = row.signature === null ? "its signature wasn't judged" : row.signature ? "its seal is the key's" : "its seal isn't the key's";
-  return row.status === 0 ? `epoch ${row.epoch} follows in the chain; ${signature}` : `the entry of epoch ${row.epoch} is refused: ${coniks.text(row.status)}`;
+  const signature = row.signature === null ? "its signature is not verified" : "its seal is the key's";
+  const words = row.status === 0 ? `epoch ${row.epoch} follows in the chain; ${signature}` : `the entry of epoch ${row.epoch} is refused: ${coniks.text(row.status)}`;
+  return words + otherEpoch(row);
 }
 
 /** @param {Reading} reading @param {LookupRow} row */
 function lookupItem(reading, row) {
-  const isGood = "answer" in row.verdict;
-  const made = element("details", `lookup ${isGood ? "good" : "bad"}`);
-  const summary = element("summary", "", element("span", "verdict", verdictWords(row)));
-  if (isGood && "key" in row.verdict) summary.append(element("code", "key", keyText(row.verdict.key).slice(0, 80)));
-  if (row.lookup) summary.append(element("span", "standing", standingWords(reading.standing(row))));
+  const made = element("details", `lookup ${stateOf(reading, row)}`);
+  const summary = element("summary", "", element("bdi", "verdict", verdictWords(row)));
+  if ("key" in row.verdict) summary.append(element("code", "key", keyText(row.verdict.key, 80)));
+  if (row.lookup) summary.append(element("span", "standing", standingWords(reading, row)));
   made.append(summary);
   made.addEventListener("toggle", () => {
     if (/** @type {HTMLDetailsElement} */ (made).open && made.childElementCount === 1) made.append(pathOf(row));
@@ -92,16 +110,22 @@ function showWatched(reading) {
   const [box, choice] = [part("watch"), part("watched")];
   const names = reading.names();
   box.hidden = names.length === 0;
-  choice.replaceChildren(...names.slice(0, 500).map((it) => new Option(it, it)));
+  choice.replaceChildren(...names.slice(0, 500).map((it) => new Option(nameText(it), it)));
   const drawn = () => {
     const epochs = reading.watched(choice.value).map(({ epoch, status }) => {
       const word = SEEN[status] ?? "refused";
       return element("li", word, element("span", "epoch", `epoch ${epoch}`), element("strong", "", word));
     });
-    part("timeline").replaceChildren(...(epochs.length ? epochs : [element("li", "", "none of its entries stands in the pasted chain")]));
+    part("timeline").className = reading.key === null ? "" : "good";
+    part("timeline").replaceChildren(...(epochs.length ? epochs : [element("li", "", "none of its entries is in the pasted chain")]));
   };
   choice.onchange = drawn;
   drawn();
+}
+
+/** @param {number} count @param {string} one @param {string} many */
+function counting(count, one, many) {
+  return `${count} ${count === 1 ? one : many}`;
 }
 
 /** @param {Reading} reading */
@@ -111,8 +135,10 @@ function counted(reading) {
   const keys = lookups.filter((it) => "answer" in it.verdict && it.verdict.answer === "key").length;
   const absent = lookups.filter((it) => "answer" in it.verdict && it.verdict.answer === "absent").length;
   const followed = entries.filter((it) => it.status === 0).length;
-  const signed = reading.key === null ? ", signatures not judged" : "";
-  return `${lookups.length} lookups: ${keys} keys, ${absent} absent, ${lookups.length - keys - absent} refused. ${entries.length} entries: ${followed} follow${signed}.`;
+  const signed = reading.key === null ? "their signatures are not verified" : "their signatures are verified";
+  const [of_lookups, of_entries] = [counting(lookups.length, "lookup", "lookups"), counting(entries.length, "entry", "entries")];
+  const chain = entries.length ? `: ${followed} ${followed === 1 ? "follows" : "follow"}, ${signed}` : "";
+  return `${of_lookups}: ${counting(keys, "key", "keys")}, ${absent} absent, ${lookups.length - keys - absent} refused. ${of_entries}${chain}.`;
 }
 
 /** @returns {Uint8Array | null | undefined} the seal's key, null where none is given, undefined where it isn't one */
@@ -137,7 +163,7 @@ async function readAll(text) {
   progress.max = lines.length;
   progress.hidden = lines.length <= AT_ONCE;
   for (let at = 0; at < lines.length; at++) {
-    await reading.read(lines[at], at + 1);
+    reading.read(lines[at], at + 1);
     if (at % AT_ONCE === AT_ONCE - 1) {
       progress.value = at;
       part("summary").textContent = `${at + 1} of ${lines.length} lines`;

@@ -1,4 +1,6 @@
-// What is said of a status, in words.
+// What is said of a status, a key and a name, in words.
+
+import { toHex } from "./bytes.js";
 
 /** The names of faults, as the program tells them. @type {Record<number, string>} */
 export const FAULTS = {
@@ -28,10 +30,27 @@ export const SEEN = { 0: "same", 1: "absent", 9: "changed" };
  */
 export const MARKED = { 2: "depth", 3: "asked", 4: "key", 5: "name", 6: "other", 7: "other", 8: "root" };
 
-/** A key as text where it is printable, else in hexadecimal digits. @param {Uint8Array} key @returns {string} */
-export function keyText(key) {
+/**
+ * A key as text in quotation marks if it is printable, else as 0x and hexadecimal digits, so that no two keys look the same.
+ * Of a long key so many bytes, and then its length.
+ * @param {Uint8Array} key @param {number} most
+ * @returns {string}
+ */
+export function keyText(key, most) {
+  const part = key.slice(0, most);
   const isPlain = key.every((it) => it >= 0x20 && it < 0x7f);
-  return isPlain ? new TextDecoder().decode(key) : Array.from(key, (it) => it.toString(16).padStart(2, "0")).join("");
+  const text = isPlain ? JSON.stringify(new TextDecoder().decode(part)) : `0x${toHex(part)}`;
+  return key.length > most ? `${text}… (${key.length} bytes)` : text;
+}
+
+/**
+ * A name in quotation marks, in which what isn't seen, or turns what follows it, is written out: control and format
+ * characters, line and paragraph separators, and what Unicode doesn't assign.
+ * @param {string} name
+ * @returns {string}
+ */
+export function nameText(name) {
+  return JSON.stringify(name).replace(/[\p{Cc}\p{Cf}\p{Co}\p{Cn}\p{Zl}\p{Zp}]/gu, (it) => `\\u{${/** @type {number} */ (it.codePointAt(0)).toString(16)}}`);
 }
 
 /** The first and last digits of a hash. @param {string} digits @returns {string} */
