@@ -9,7 +9,8 @@ its libraries.
     auditor.feed(entry_bytes, signature_is_good=True)                      # raises coniks.Refused, and then is as it was
 
 Nonces, roots, indices, links and digests are 32 bytes, entries 209. A name is text or bytes, a proof its bytes (see
-`proof_bytes`). Wrong types raise TypeError, wrong sizes ValueError, and what the library refuses `Refused`.
+`proof_bytes`). Wrong types raise TypeError, wrong sizes and numbers that don't fit ValueError, and what the library refuses
+`Refused`. Auditors and monitors can be copied and pickled, and so can `Refused`; a copy goes on by itself.
 """
 
 from __future__ import annotations
@@ -19,6 +20,7 @@ import ctypes
 import ctypes.util
 import enum
 import os
+import re
 from dataclasses import dataclass
 from pathlib import Path
 from typing import Any, Mapping, Optional, Union
@@ -74,6 +76,9 @@ class Refused(Exception):
     def __init__(self, status: int):
         self.status = Status(status)
         super().__init__(text(status))
+
+    def __reduce__(self) -> tuple[type[Refused], tuple[int]]:
+        return type(self), (self.status.value,)
 
 
 class _Bytes32(ctypes.Structure):
@@ -153,10 +158,24 @@ def _name(name: Name) -> bytes:
     return name.encode() if isinstance(name, str) else _bytes(name, "the name")
 
 
+def _number(value: Any, bits: int, what: str) -> int:
+    if not isinstance(value, int) or isinstance(value, bool):
+        raise TypeError(f"{what} is a whole number, not {type(value).__name__}")
+    if not 0 <= value < 1 << bits:
+        raise ValueError(f"{what} is from 0 to 2^{bits} - 1, not {value}")
+    return value
+
+
+def _verdict(value: Any) -> bool:
+    if not isinstance(value, bool):
+        raise TypeError(f"whether the signature is good is True or False, not {type(value).__name__}")
+    return value
+
+
 def text(status: int) -> str:
     """What a status says; the empty text for one that is no fault's."""
     room = ctypes.create_string_buffer(128)
-    size = _library.coniks_text(status, room, len(room))
+    size = _library.coniks_text(_number(status, 32, "a status"), room, len(room))
     return room.raw[:size].decode()
 
 
@@ -197,6 +216,12 @@ class Auditor:
         else:
             self._state = _State.from_buffer_copy(state)
 
+    def _arguments(self) -> tuple[Any, ...]:
+        return (self.state,)
+
+    def __reduce__(self) -> tuple[type[Auditor], tuple[Any, ...]]:
+        return type(self), self._arguments()
+
     @property
     def state(self) -> bytes:
         """All that the auditor keeps, to be stored and handed to another one."""
@@ -213,26 +238,42 @@ class Auditor:
     def feed(self, entry: bytes, signature_is_good: bool) -> None:
         """Takes an entry that follows the last one; else raises `Refused`, and the auditor is as it was."""
         entry = _bytes(entry, "the entry")
-        status = _library.coniks_auditor_feed(ctypes.byref(self._state), entry, len(entry), signature_is_good is True)
+        status = _library.coniks_auditor_feed(ctypes.byref(self._state), entry, len(entry), _verdict(signature_is_good))
         if status:
             raise Refused(status)
 
 
 class Monitor(Auditor):
-    """Watches one name over a chain, for a client that expects a key of it, or none."""
+    """Watches one name over a chain, for a client that expects a key of it, or none: `expected` is None then. An expected
+    key has at least one byte, since no accepted proof shows an empty one."""
 
     def __init__(self, name: Name, index: bytes, expected: Optional[bytes], state: Optional[bytes] = None):
         super().__init__(state)
-        self._name, self._index, self.expected = _name(name), _bytes32(index, "the index"), expected
+        self._name, self._index = _name(name), _bytes32(index, "the index")
+        self.expected = expected
+
+    def _arguments(self) -> tuple[Any, ...]:
+        return self._name, bytes(self._index.bytes), self.expected, self.state
+
+    @property
+    def expected(self) -> Optional[bytes]:
+        """The key that is expected, None where none is."""
+        return self._expected
+
+    @expected.setter
+    def expected(self, key: Optional[bytes]) -> None:
+        if key is not None and not _bytes(key, "the expected key"):
+            raise ValueError("an expected key has at least one byte; None expects none")
+        self._expected = None if key is None else bytes(key)
 
     def step(self, entry: bytes, signature_is_good: bool, proof: bytes) -> Seen:
         """What the proof shows at the entry's epoch, where both are accepted; else raises `Refused`, and the monitor is
         as it was."""
         entry, proof = _bytes(entry, "the entry"), _bytes(proof, "the proof")
-        expected = b"" if self.expected is None else _bytes(self.expected, "the expected key")
+        expected = self.expected or b""
         status = _library.coniks_monitor_step(
             ctypes.byref(self._state), self._index, self._name, len(self._name), expected, len(expected),
-            entry, len(entry), signature_is_good is True, proof, len(proof),
+            entry, len(entry), _verdict(signature_is_good), proof, len(proof),
         )  # fmt: skip
         try:
             return Seen(status)
@@ -264,7 +305,8 @@ class Body:
 
     def __bytes__(self) -> bytes:
         """The 145 bytes that are signed."""
-        body, out = _Body(self.epoch, self.previous_epoch, version=self.version), _Bytes145()
+        body, out = _Body(_number(self.epoch, 64, "the epoch"), _number(self.previous_epoch, 64, "the epoch before")), _Bytes145()
+        body.version = _number(self.version, 8, "the version")
         body.root, body.previous_link = _bytes32(self.root, "the root"), _bytes32(self.previous_link, "the link")
         body.nonce, body.policy = _bytes32(self.nonce, "the nonce"), _bytes32(self.policy, "the policy")
         _library.coniks_body_bytes(ctypes.byref(body), ctypes.byref(out))
@@ -280,14 +322,49 @@ def link(entry: bytes) -> bytes:
     return bytes(out.bytes)
 
 
+def _member(members: Any, name: str, kind: type) -> Any:
+    if not isinstance(members, Mapping):
+        raise TypeError(f"what has the member {name} is an object, not {type(members).__name__}")
+    value = members.get(name)
+    if not isinstance(value, kind):
+        raise ValueError(f"the member {name} is missing or isn't what it should be")
+    return value
+
+
+def _digest(value: Any, what: str) -> bytes:
+    if not isinstance(value, str) or not re.fullmatch("[0-9a-fA-F]{64}", value):
+        raise ValueError(f"{what} isn't 64 hexadecimal digits")
+    return bytes.fromhex(value)
+
+
+def _base64(value: str, what: str) -> bytes:
+    try:
+        decoded = base64.b64decode(value, validate=True)
+    except ValueError:
+        decoded = None
+    if decoded is None or base64.b64encode(decoded) != value.encode():
+        raise ValueError(f"{what} isn't base64 with its padding")
+    return decoded
+
+
+def _sized(value: bytes, size: int, what: str) -> bytes:
+    return _number(len(value), 8 * size, f"the length of {what}").to_bytes(size, "big") + value
+
+
 def proof_bytes(proof: Mapping[str, Any]) -> bytes:
-    """The bytes of a proof that `keydir run` printed as an object."""
-    end, siblings = proof["end"], [bytes.fromhex(it) for it in proof["siblings"]]
-    kind = ["empty", "other", "here"].index(end["kind"])
-    front = bytes([kind]) + len(siblings).to_bytes(2, "big") + b"".join(siblings)
-    if kind == 0:
+    """The bytes of a proof that `keydir run` printed as an object. Raises ValueError for what `keydir check` refuses as the
+    member `proof`, and for one that has no room in bytes."""
+    end, listed = _member(proof, "end", Mapping), _member(proof, "siblings", list)
+    siblings = [_digest(it, "a sibling") for it in listed]
+    kinds = ["empty", "other", "here"]
+    kind = _member(end, "kind", str)
+    if kind not in kinds:
+        raise ValueError(f"an end is one of {', '.join(kinds)}, not {kind}")
+    count = _number(len(siblings), 16, "the number of siblings").to_bytes(2, "big")
+    front = bytes([kinds.index(kind)]) + count + b"".join(siblings)
+    if kind == "empty":
         return front
-    if kind == 1:
-        return front + bytes.fromhex(end["index"]) + bytes.fromhex(end["commitment"])
-    name, key = end["name"].encode(), base64.b64decode(end["key"], validate=True)
-    return front + bytes.fromhex(end["opening"]) + len(name).to_bytes(2, "big") + name + len(key).to_bytes(4, "big") + key
+    if kind == "other":
+        return front + _digest(end.get("index"), "the index") + _digest(end.get("commitment"), "the commitment")
+    name, key = _member(end, "name", str).encode(), _base64(_member(end, "key", str), "the key")
+    return front + _digest(end.get("opening"), "the opening") + _sized(name, 2, "the name") + _sized(key, 4, "the key")
