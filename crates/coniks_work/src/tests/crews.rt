@@ -4,7 +4,7 @@ use crate::building::cut_for;
 use crate::gate::Open;
 use crate::jobs::split;
 use crate::tests::batches::{changes_of, digest, first_epoch, four};
-use crate::tests::gates::{Counts, Meeting};
+use crate::tests::gates::{Counts, Crowd, Meeting};
 use coniks_proof::Index;
 use coniks_samples::{Bound, index_below, index_of};
 use std::alloc::{AllocError, Global};
@@ -124,4 +124,15 @@ fn most_jobs(rt: HostRuntime) {
         let built = first_epoch(&rt, rt.alloc(), &names, depth, 64, &Open);
         assert_eq!(rt; built.expect(&rt, "memory"), (8191, want));
     }
+}
+
+/// Of 256 jobs each of 64 workers is held at its first until all 64 have come, so they are on 64 threads.
+#[test]
+fn as_many_workers_as_asked_for(rt: HostRuntime) {
+    let names = most(rt.alloc()).expect(&rt, "memory");
+    let gate = Crowd::of(64);
+    let built = first_epoch(&rt, rt.alloc(), &names, 8, 64, &gate);
+    assert!(rt; gate.met());
+    let want = "b4a78889400c2799436e930a02ccd8c935afe40650dc0310e44c38c9f2b67f96";
+    assert_eq!(rt; built.expect(&rt, "memory"), (8191, digest(&rt, want)));
 }

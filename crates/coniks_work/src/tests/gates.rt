@@ -40,6 +40,46 @@ impl Gate for Meeting {
     }
 }
 
+/// Holds each of the first so many workers until all of them have come, or until one of them gives up, and notes which.
+#[derive(Drop)]
+pub struct Crowd {
+    wanted: u64,
+    came: AtomicU64,
+    late: AtomicU64,
+}
+
+impl Crowd {
+    pub fn of(wanted: u64) -> Crowd {
+        Crowd {
+            wanted,
+            came: AtomicU64::new(0),
+            late: AtomicU64::new(0),
+        }
+    }
+
+    /// Whether so many stood in the gate at once.
+    pub fn met(&self) -> bool {
+        self.came.load(Ordering::SeqCst) >= self.wanted && self.late.load(Ordering::SeqCst) == 0
+    }
+
+    /// Whether nobody is to be held any more.
+    fn is_open(&self) -> bool {
+        self.came.load(Ordering::SeqCst) >= self.wanted || self.late.load(Ordering::SeqCst) == 1
+    }
+}
+
+impl Gate for Crowd {
+    fn enter(&self, _job: usize) {
+        self.came.fetch_add(1, Ordering::SeqCst);
+        for _ in 0..1u64 << 32 {
+            if self.is_open() {
+                return;
+            }
+        }
+        self.late.store(1, Ordering::SeqCst);
+    }
+}
+
 /// Counts how often each of four jobs comes, and all others together.
 #[derive(Drop)]
 pub struct Counts {
