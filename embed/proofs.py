@@ -17,9 +17,9 @@ def run(*words, **more):
 
 
 def statuses():
-    """The numbers of `enum coniks_status`, by their names."""
+    """The numbers of `enum coniks_status`, by their names, those of errors without their `E_`."""
     body = re.search(r"enum coniks_status \{(.*?)\};", HEADER, re.S)[1]
-    return {name: int(number) for name, number in re.findall(r"CONIKS_([A-Z_]+) = (\d+)", body)}
+    return {name: int(number) for name, number in re.findall(r"CONIKS_(?:E_)?([A-Z_]+) = (\d+)", body)}
 
 
 def lines_of(program, script):

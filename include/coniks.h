@@ -11,14 +11,18 @@
  * Threads. There is no global state. Calls may run at once, also in signal handlers, where no two of them write to the same
  * place.
  *
- * Pointers. No pointer may be NULL, also where the length beside it is 0. Every length is judged by the library: no
- * combination of lengths and bytes is undefined.
+ * Pointers. A pointer may be NULL only if the length beside it is 0. The library checks every length: no combination of
+ * lengths and bytes is undefined.
  *
  * Statuses. A call that can refuse returns a status. 0 says that what was asked for is so; the other numbers are those of
- * `enum coniks_status`, and of the faults that apply it is the first in the order that the call names. At a fault nothing
- * is written.
+ * `enum coniks_status`, and of the errors that apply it is the first in the order that the call names. After an error
+ * nothing is written. From version 1.0.0 on a status keeps its name and its number.
  *
- * Built with: cc program.c $(pkg-config --cflags --libs coniks), or with libconiks.a and no other library.
+ * Bytes. A proof is the kind of its end, the number of its siblings, the siblings, and what is at its end; an entry is a body
+ * of 145 bytes and a signature of 64. docs/FORMATS.md has both layouts, in "A proof in bytes" and "Entries".
+ *
+ * Built with: cc program.c $(pkg-config --cflags --libs coniks), or with libconiks.a and no other library. The archive that
+ * embed/build makes needs an x86-64 processor of level v2 (SSE4.2).
  */
 #ifndef CONIKS_H
 #define CONIKS_H
@@ -32,6 +36,16 @@ extern "C" {
 
 /* Of the header and the library; the shared object's name holds the first number. */
 #define CONIKS_VERSION "1.0.0"
+#define CONIKS_VERSION_MAJOR 1
+#define CONIKS_VERSION_MINOR 0
+#define CONIKS_VERSION_PATCH 0
+
+/* A result that must be used: a status says whether anything was written. */
+#if defined(__GNUC__)
+#define CONIKS_NODISCARD __attribute__((warn_unused_result))
+#else
+#define CONIKS_NODISCARD
+#endif
 
 enum {
     CONIKS_BODY_BYTES = 145,      /* of an entry, what is signed */
@@ -47,41 +61,41 @@ enum coniks_status {
     CONIKS_ABSENT = 1,  /* the proof is accepted: the name is bound to no key */
 
     /* of coniks_check and coniks_monitor_step: the proof isn't accepted */
-    CONIKS_TOO_DEEP = 2,        /* more than 256 siblings */
-    CONIKS_NAME_LENGTH = 3,     /* the asked name is empty or longer than 255 bytes */
-    CONIKS_KEY_LENGTH = 4,      /* the proof's key is empty or longer than 16,384 bytes */
-    CONIKS_WRONG_NAME = 5,      /* the proof's leaf holds another name */
-    CONIKS_OTHER_IS_SAME = 6,   /* the proof shows the asked index as another one */
-    CONIKS_OTHER_OFF_PATH = 7,  /* the proof's other index isn't on the path to the asked one */
-    CONIKS_ROOT_MISMATCH = 8,   /* the proof's path doesn't lead to the root */
+    CONIKS_E_TOO_DEEP = 2,        /* more than 256 siblings */
+    CONIKS_E_NAME_LENGTH = 3,     /* the asked name is empty or longer than 255 bytes */
+    CONIKS_E_KEY_LENGTH = 4,      /* the proof's key is empty or longer than 16,384 bytes */
+    CONIKS_E_WRONG_NAME = 5,      /* the proof's leaf holds another name */
+    CONIKS_E_OTHER_IS_SAME = 6,   /* the proof shows the asked index as another one */
+    CONIKS_E_OTHER_OFF_PATH = 7,  /* the proof's other index isn't on the path to the asked one */
+    CONIKS_E_ROOT_MISMATCH = 8,   /* the proof's path doesn't lead to the root */
 
     /* of coniks_monitor_step: the proof is accepted */
     CONIKS_CHANGED = 9,  /* it shows another key than the expected one, or one where none is expected */
 
     /* of coniks_check and coniks_monitor_step: the bytes are no proof's */
-    CONIKS_NO_BYTES = 17,
-    CONIKS_UNKNOWN_KIND = 18,     /* the first byte is none of 0, 1 and 2 */
-    CONIKS_CUT_IN_COUNT = 19,     /* the bytes end within the number of siblings */
-    CONIKS_CUT_IN_SIBLINGS = 20,  /* within the siblings */
-    CONIKS_CUT_IN_OTHER = 21,     /* within the other index or its commitment */
-    CONIKS_CUT_IN_OPENING = 22,   /* within the opening */
-    CONIKS_CUT_IN_NAME = 23,      /* within the name or its length */
-    CONIKS_CUT_IN_KEY = 24,       /* within the key or its length */
-    CONIKS_BYTES_FOLLOW = 25,     /* bytes follow the proof */
+    CONIKS_E_NO_BYTES = 17,
+    CONIKS_E_UNKNOWN_KIND = 18,     /* the first byte is none of 0, 1 and 2 */
+    CONIKS_E_CUT_IN_COUNT = 19,     /* the bytes end within the number of siblings */
+    CONIKS_E_CUT_IN_SIBLINGS = 20,  /* within the siblings */
+    CONIKS_E_CUT_IN_OTHER = 21,     /* within the other index or its commitment */
+    CONIKS_E_CUT_IN_OPENING = 22,   /* within the opening */
+    CONIKS_E_CUT_IN_NAME = 23,      /* within the name or its length */
+    CONIKS_E_CUT_IN_KEY = 24,       /* within the key or its length */
+    CONIKS_E_BYTES_FOLLOW = 25,     /* bytes follow the proof */
 
     /* of coniks_auditor_feed and coniks_monitor_step: the entry doesn't follow the last one accepted */
-    CONIKS_VERSION_UNKNOWN = 33,  /* the version is neither 1 nor 2 */
-    CONIKS_VERSION_BACK = 34,     /* it goes back to 1 */
-    CONIKS_FIRST_EPOCH = 35,      /* the first epoch is 0 */
-    CONIKS_NOT_LATER = 36,        /* the epoch isn't later than the one before */
-    CONIKS_PREVIOUS_EPOCH = 37,   /* the epoch before is named wrongly */
-    CONIKS_PREVIOUS_LINK = 38,    /* the link before is named wrongly */
-    CONIKS_NONCE_CHANGED = 39,    /* the nonce of a version 1 entry isn't the one before */
-    CONIKS_SIGNATURE = 40,        /* the caller's verdict on the signature isn't 1 */
+    CONIKS_E_VERSION_UNKNOWN = 33,  /* the version is neither 1 nor 2 */
+    CONIKS_E_VERSION_BACK = 34,     /* it goes back to 1 */
+    CONIKS_E_FIRST_EPOCH = 35,      /* the first epoch is 0 */
+    CONIKS_E_NOT_LATER = 36,        /* the epoch isn't later than the one before */
+    CONIKS_E_PREVIOUS_EPOCH = 37,   /* the epoch before is named wrongly */
+    CONIKS_E_PREVIOUS_LINK = 38,    /* the link before is named wrongly */
+    CONIKS_E_NONCE_CHANGED = 39,    /* the nonce of a version 1 entry isn't the one before */
+    CONIKS_E_SIGNATURE = 40,        /* the caller's verdict on the signature isn't 1 */
 
     /* of calls that take an entry, and of coniks_auditor_head */
-    CONIKS_ENTRY_LENGTH = 48,  /* the entry hasn't 209 bytes */
-    CONIKS_NO_ENTRY = 49       /* no entry was accepted yet */
+    CONIKS_E_ENTRY_LENGTH = 48,  /* the entry hasn't 209 bytes */
+    CONIKS_E_NO_ENTRY = 49       /* no entry was accepted yet */
 };
 
 /* A nonce, a root, an index or a link. */
@@ -129,6 +143,7 @@ typedef struct coniks_body {
  * Root and nonce are those of an entry that was audited. The index is the caller's to compute, or to verify, from the name
  * (a verifiable unpredictable function in CONIKS, section 3.4): for another index a proof tells of another name.
  */
+CONIKS_NODISCARD
 uint32_t coniks_check(const coniks_bytes32 *nonce, const coniks_bytes32 *root, const coniks_bytes32 *index,
                       const uint8_t *name, size_t name_length, const uint8_t *proof, size_t proof_length,
                       size_t *key_start, size_t *key_length);
@@ -146,13 +161,15 @@ void coniks_auditor_begin(coniks_auditor *state);
  * Returns CONIKS_GOOD where the entry follows the last one accepted, which it then takes the place of; else 48, or the
  * first of 33 to 40, and the state is as it was.
  */
+CONIKS_NODISCARD
 uint32_t coniks_auditor_feed(coniks_auditor *state, const uint8_t *entry, size_t entry_length,
                              uint32_t signature_verdict);
 
 /*
  * The head: epoch and link of the last entry accepted. Two auditors with the same head have seen the same chain, or two
- * different byte strings of equal SHA-256. Returns CONIKS_NO_ENTRY where there was none.
+ * different byte strings of equal SHA-256. Returns CONIKS_E_NO_ENTRY where there was none.
  */
+CONIKS_NODISCARD
 uint32_t coniks_auditor_head(const coniks_auditor *state, uint64_t *epoch, coniks_bytes32 *link);
 
 /*
@@ -163,17 +180,20 @@ uint32_t coniks_auditor_head(const coniks_auditor *state, uint64_t *epoch, conik
  * and CONIKS_CHANGED where it shows another key, or one where none is expected: then the entry is accepted. Else the first
  * of 48, 17 to 25, 33 to 40 and 2 to 8, and the state is as it was.
  */
+CONIKS_NODISCARD
 uint32_t coniks_monitor_step(coniks_auditor *state, const coniks_bytes32 *index, const uint8_t *name, size_t name_length,
                              const uint8_t *expected, size_t expected_length, const uint8_t *entry, size_t entry_length,
                              uint32_t signature_verdict, const uint8_t *proof, size_t proof_length);
 
-/* Reads the body of an entry. Returns CONIKS_GOOD or CONIKS_ENTRY_LENGTH. Nothing is judged. */
+/* Reads the body of an entry. Returns CONIKS_GOOD or CONIKS_E_ENTRY_LENGTH. Nothing is judged. */
+CONIKS_NODISCARD
 uint32_t coniks_entry_body(const uint8_t *entry, size_t entry_length, coniks_body *body);
 
 /* Writes the bytes of a body, to be signed; an entry is these and the signature's 64. */
 void coniks_body_bytes(const coniks_body *body, coniks_bytes145 *bytes);
 
-/* Writes the link of an entry, by which the next one names it. Returns CONIKS_GOOD or CONIKS_ENTRY_LENGTH. */
+/* Writes the link of an entry, by which the next one names it. Returns CONIKS_GOOD or CONIKS_E_ENTRY_LENGTH. */
+CONIKS_NODISCARD
 uint32_t coniks_link(const uint8_t *entry, size_t entry_length, coniks_bytes32 *link);
 
 /*

@@ -31,6 +31,7 @@ TOOLS = {
     "a C compiler": (lambda: has_program(CC), "gcc libc6-dev", "faults/run and embed/test"),
     "a C++ compiler": (lambda: compiles("", "-fsyntax-only", "-x", "c++"), "g++", "the header as C++"),
     "the headers of OpenSSL": (lambda: compiles("#include <openssl/evp.h>\n", "-E", "-x", "c"), "libssl-dev", "c/audit_signed.c"),
+    "pkg-config": (lambda: has_program("pkg-config"), "pkgconf", "embed/install"),
     "valgrind": (lambda: has_program("valgrind"), "valgrind", "answers under valgrind"),
     "rustc": (lambda: has_program("rustc"), "rustc", "the example in Rust"),
     "go": (lambda: has_program("go"), "golang-go", "the example in Go"),

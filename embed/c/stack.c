@@ -16,10 +16,10 @@ static void *call(void *is_checked)
 {
     coniks_bytes32 zero = {{0}};
     size_t start, count;
-    uint32_t status = CONIKS_ROOT_MISMATCH;
+    uint32_t status = CONIKS_E_ROOT_MISMATCH;
     if (is_checked)
         status = coniks_check(&zero, &zero, &zero, (const uint8_t *)"a", 1, proof, proof_length, &start, &count);
-    return status == CONIKS_ROOT_MISMATCH ? NULL : is_checked;
+    return status == CONIKS_E_ROOT_MISMATCH ? NULL : is_checked;
 }
 
 static size_t taken(void *is_checked)
