@@ -3,7 +3,7 @@
 import { createHash } from "node:crypto";
 
 import { bigEndian, bitAt, fromBase64, fromHex, joined, toBase64, toHex } from "./src/bytes.js";
-import { entryOf, lookupOf, numberOf, objectOf, proofBytes } from "./src/lines.js";
+import { entryOf, linesOf, linesOfBytes, lookupOf, numberOf, objectOf, proofBytes } from "./src/lines.js";
 import { sha256 } from "./src/sha256.js";
 import { keyText, nameText, short } from "./src/words.js";
 
@@ -52,6 +52,17 @@ same("bits", [0, 1, 7, 8, 254, 255].map((it) => bitAt(index, it)), [1, 0, 1, 0, 
 
 for (const wrong of ["", "[]", "3", "null", '"a"', "{", '{"a":1e999}', '{"a":"\\ud800"}', '{"\\udc00":1}', "\ufeff{}", "[".repeat(200)]) same(`no object: ${wrong.slice(0, 20)}`, objectOf(wrong), null);
 same("the last of two members", objectOf('{"a":1,"a":2}'), { a: 2 });
+for (const [open, close] of [["[", "]"], ['{"a":', "}"]]) {
+  const nested = (/** @type {number} */ deep) => `{"x":${open.repeat(deep - 1)}0${close.repeat(deep - 1)}}`;
+  same("127 deep", objectOf(nested(127)) !== null, true);
+  same("128 deep", objectOf(nested(128)), null);
+}
+for (const hidden of ["1e999", '"\\ud800"', "-1e999", "9".repeat(400), `${"[".repeat(200)}${"]".repeat(200)}`]) same(`hidden by a second one: ${hidden.slice(0, 9)}`, objectOf(`{"x":${hidden},"x":1}`), null);
+same("brackets and digits in a text", objectOf(`{"x":"${"[".repeat(200)} 1e999 \\" {"}`) !== null, true);
+same("lines", linesOf("a\n\nb\n"), ["a", "", "b"]);
+same("a last line without its newline", linesOf("a\n\nb"), ["a", "", "b"]);
+same("no lines", [linesOf(""), linesOfBytes(new Uint8Array(0))], [[], []]);
+same("lines of bytes", linesOfBytes(Uint8Array.of(0xef, 0xbb, 0xbf, 97, 10, 0xff, 10, 10, 98)), ["\ufeffa", null, "", "b"]);
 same("a member's number", String(numberOf('{"a":{"epoch":1},"epoch":7,"b":[{"epoch":2}]}', "epoch")), "7");
 for (const none of ['{"a":{"epoch":1}}', '{"epoch":"7"}', '{"epoch":-1}', '{"epoch":1.5}', "{}"]) same(`no number: ${none}`, numberOf(none, "epoch"), null);
 same("a pair of surrogates", objectOf('{"a":"\\ud83d\\ude00"}'), { a: "😀" });

@@ -9,7 +9,7 @@ import { bigEndian, fromBase64, fromHex, joined } from "./bytes.js";
  * @typedef {{fault: "Json"} | {fault: "Member", member: string}} Refused
  */
 
-/** serde_json reads no deeper. */
+/** How deep a line may be nested. */
 const DEEPEST = 127;
 
 /** More siblings, or a longer name, change nothing of the fault that they are. */
@@ -18,19 +18,62 @@ const NAME = 256;
 
 const utf8 = new TextEncoder();
 
+/** The lines of a text. Bytes after the last newline are a line if there is one at least. @param {string} text @returns {string[]} */
+export function linesOf(text) {
+  const lines = text.split("\n");
+  if (lines.at(-1) === "") lines.pop();
+  return lines;
+}
+
 /**
- * Whether a value is one that JSON can hold between programs: no number beyond a double's range, no half of a surrogate
- * pair (RFC 8259, sections 6 and 8.2).
- * @param {any} value @param {number} depth
+ * The lines of a file's bytes; null for one that isn't UTF-8.
+ * @param {Uint8Array} bytes
+ * @returns {(string | null)[]}
+ */
+export function linesOfBytes(bytes) {
+  const decoder = new TextDecoder("utf-8", { fatal: true, ignoreBOM: true });
+  const lines = [];
+  for (let at = 0; at < bytes.length; ) {
+    const found = bytes.indexOf(10, at);
+    const end = found < 0 ? bytes.length : found;
+    lines.push(textOf(decoder, bytes.subarray(at, end)));
+    at = end + 1;
+  }
+  return lines;
+}
+
+/** @param {TextDecoder} decoder @param {Uint8Array} bytes @returns {string | null} */
+function textOf(decoder, bytes) {
+  try {
+    return decoder.decode(bytes);
+  } catch {
+    return null;
+  }
+}
+
+/** The strings, numbers and brackets of a text that is JSON. */
+const TOKENS = /"[^"\\]*(?:\\.[^"\\]*)*"|-?\d+(?:\.\d+)?(?:[eE][-+]?\d+)?|[[\]{}]/g;
+
+/**
+ * Whether a text that is JSON is also a line's: it isn't nested too deep, and has no number beyond a double's range and no
+ * half of a surrogate pair (RFC 8259, sections 6 and 8.2), also in a member that a later one of its name takes the place of.
+ * @param {string} text
  * @returns {boolean}
  */
-function isSound(value, depth) {
-  if (typeof value === "number") return Number.isFinite(value);
-  if (typeof value === "string") return !/[\ud800-\udfff]/u.test(value);
-  if (value === null || typeof value !== "object") return true;
-  if (depth > DEEPEST) return false;
-  const members = Array.isArray(value) ? value : Object.entries(value).flat();
-  return members.every((/** @type {any} */ it) => isSound(it, depth + 1));
+function isSound(text) {
+  let depth = 0;
+  for (const [token] of text.matchAll(TOKENS)) {
+    if (token === "{" || token === "[") depth++;
+    else if (token === "}" || token === "]") depth--;
+    else if (token[0] === '"' ? isHalf(token) : !Number.isFinite(Number(token))) return false;
+    if (depth > DEEPEST) return false;
+  }
+  return true;
+}
+
+/** Whether a string has half of a surrogate pair. @param {string} token @returns {boolean} */
+function isHalf(token) {
+  return token.includes("\\u") && /[\ud800-\udfff]/u.test(JSON.parse(token));
 }
 
 /**
@@ -40,9 +83,9 @@ function isSound(value, depth) {
  */
 export function objectOf(line) {
   try {
-    const value = JSON.parse(line, (key, it) => it);
+    const value = JSON.parse(line);
     const isObject = value !== null && typeof value === "object" && !Array.isArray(value);
-    return isObject && isSound(value, 0) ? value : null;
+    return isObject && isSound(line) ? value : null;
   } catch {
     return null;
   }

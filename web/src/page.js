@@ -3,6 +3,7 @@
 import { fromHex } from "./bytes.js";
 import { Coniks } from "./coniks.js";
 import { element, pathOf } from "./draw.js";
+import { linesOf, linesOfBytes } from "./lines.js";
 import { Reading } from "./reading.js";
 import { SEEN, keyText, nameText } from "./words.js";
 
@@ -12,9 +13,15 @@ import { SEEN, keyText, nameText } from "./words.js";
  * @typedef {import("./reading.js").EntryRow} EntryRow
  */
 
-/** Lines that are judged before the page is drawn again, and rows that are shown at first. */
-const AT_ONCE = 100;
+/** Milliseconds after which the page is drawn again while lines are read, and rows that are shown at first. */
+const TURN = 30;
 const SHOWN = 200;
+
+/** Names that the menu lists. */
+const NAMES = 500;
+
+/** With more lines the first lookup isn't unfolded, and progress is shown. */
+const MANY = 100;
 
 /** A longer text isn't put into the field, which would take longer than judging it. */
 const LONG = 200_000;
@@ -24,8 +31,8 @@ const part = (id) => document.getElementById(id);
 
 /** @type {Coniks} */
 let coniks;
-/** The lines that were given last. */
-let given = "";
+/** The lines that were given last; null for one that isn't UTF-8. @type {(string | null)[]} */
+let given = [];
 /** Counts readings, so that one that was started after another ends that one. */
 let turn = 0;
 
@@ -110,12 +117,15 @@ function showWatched(reading) {
   const [box, choice] = [part("watch"), part("watched")];
   const names = reading.names();
   box.hidden = names.length === 0;
-  choice.replaceChildren(...names.slice(0, 500).map((it) => new Option(nameText(it), it)));
+  choice.replaceChildren(...names.slice(0, NAMES).map((it) => new Option(nameText(it), it)));
+  part("unlisted").textContent = names.length > NAMES ? `The first ${NAMES} of ${names.length} names are listed.` : "";
   const drawn = () => {
-    const epochs = reading.watched(choice.value).map(({ epoch, status }) => {
+    const watched = reading.watched(choice.value, SHOWN);
+    const epochs = watched.epochs.map(({ epoch, status }) => {
       const word = SEEN[status] ?? "refused";
       return element("li", word, element("span", "epoch", `epoch ${epoch}`), element("strong", "", word));
     });
+    if (watched.more) epochs.push(element("li", "", `${watched.more} more are not shown`));
     part("timeline").className = reading.key === null ? "" : "good";
     part("timeline").replaceChildren(...(epochs.length ? epochs : [element("li", "", "none of its entries is in the pasted chain")]));
   };
@@ -149,26 +159,27 @@ function sealKey() {
   return bytes !== null && bytes.length === 32 ? bytes : undefined;
 }
 
-/** @param {string} text */
-async function readAll(text) {
+/** @param {(string | null)[]} lines */
+async function readAll(lines) {
   const mine = ++turn;
   const key = sealKey();
   part("key").setAttribute("aria-invalid", String(key === undefined));
-  const lines = text.split("\n").filter((it) => it.trim() !== "");
   const reading = new Reading(coniks, key ?? null);
   part("results").replaceChildren();
   part("more").hidden = true;
   part("watch").hidden = true;
   const progress = part("progress");
   progress.max = lines.length;
-  progress.hidden = lines.length <= AT_ONCE;
+  progress.hidden = lines.length <= MANY;
+  let drawn = performance.now();
   for (let at = 0; at < lines.length; at++) {
     reading.read(lines[at], at + 1);
-    if (at % AT_ONCE === AT_ONCE - 1) {
+    if (performance.now() - drawn > TURN) {
       progress.value = at;
       part("summary").textContent = `${at + 1} of ${lines.length} lines`;
       await new Promise((go) => setTimeout(go));
       if (mine !== turn) return;
+      drawn = performance.now();
     }
   }
   progress.hidden = true;
@@ -177,13 +188,20 @@ async function readAll(text) {
   show(reading, 0);
   showWatched(reading);
   const first = /** @type {HTMLDetailsElement | null} */ (document.querySelector("details.lookup"));
-  if (first && lines.length <= AT_ONCE) first.open = true;
+  if (first && lines.length <= MANY) first.open = true;
+}
+
+/** The lines of files, one after another. @param {Iterable<File>} files @returns {Promise<(string | null)[]>} */
+async function linesOfFiles(files) {
+  const all = [];
+  for (const file of files) all.push(linesOfBytes(new Uint8Array(await file.arrayBuffer())));
+  return all.flat();
 }
 
 /** @param {DataTransfer | null} dropped */
-async function dropText(dropped) {
-  const file = dropped?.files[0];
-  return file ? await file.text() : (dropped?.getData("text/plain") ?? "");
+async function takeDropped(dropped) {
+  const files = [...(dropped?.files ?? [])];
+  return files.length ? takeLines(await linesOfFiles(files)) : takeText(dropped?.getData("text/plain") ?? "");
 }
 
 function listen() {
@@ -194,7 +212,7 @@ function listen() {
     waiting = window.setTimeout(() => readAll(given), 150);
   };
   input.addEventListener("input", () => {
-    given = input.value;
+    given = linesOf(input.value);
     soon();
   });
   part("key").addEventListener("input", soon);
@@ -205,13 +223,15 @@ function listen() {
     takeText(text);
   });
   part("file").addEventListener("change", async () => {
-    const file = part("file").files[0];
-    if (file) takeText(await file.text());
+    const files = [...part("file").files];
+    // The same file can be opened again.
+    part("file").value = "";
+    if (files.length) await takeLines(await linesOfFiles(files));
   });
   document.addEventListener("dragover", (event) => event.preventDefault());
   document.addEventListener("drop", async (event) => {
     event.preventDefault();
-    takeText(await dropText(event.dataTransfer));
+    await takeDropped(event.dataTransfer);
   });
   part("example").addEventListener("click", () => takeText(part("tour").textContent ?? ""));
 }
@@ -219,8 +239,15 @@ function listen() {
 /** @param {string} text */
 function takeText(text) {
   part("lines").value = text.length > LONG ? "" : text;
-  given = text;
-  return readAll(text);
+  given = linesOf(text);
+  return readAll(given);
+}
+
+/** Lines of files aren't put into the field, in which bytes that aren't UTF-8 would be lost. @param {(string | null)[]} lines */
+function takeLines(lines) {
+  part("lines").value = "";
+  given = lines;
+  return readAll(lines);
 }
 
 export async function begin() {

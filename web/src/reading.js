@@ -35,8 +35,9 @@ export class Reading {
     this.rows = [];
   }
 
-  /** @param {string} line @param {number} number */
-  read(line, number) {
+  /** @param {string | null} given  a line, null for one that isn't UTF-8 @param {number} number */
+  read(given, number) {
+    const line = given ?? "";
     const object = objectOf(line);
     const isEntry = object !== null && !("proof" in object) && entryOf(object) !== null;
     if (isEntry) this.rows.push(this.audited(line, /** @type {any} */ (object), number));
@@ -88,24 +89,26 @@ export class Reading {
   }
 
   /**
-   * What a monitor of a name sees at each epoch whose entry is in the chain. It expects the first key that it is shown, or
-   * that there is none, at the name's index: with the demonstration's key the computed one, else the first line's.
-   * @param {string} name
-   * @returns {{epoch: string, status: number}[]}
+   * What a monitor of a name sees at the first so many epochs whose entries are in the chain, and how many more there are.
+   * It expects the first key that it is shown, or that there is none, at the name's index: with the demonstration's key the
+   * computed one, else the first line's.
+   * @param {string} name @param {number} most
+   * @returns {{epochs: {epoch: string, status: number}[], more: number}}
    */
-  watched(name) {
+  watched(name, most) {
     const rows = this.rows.filter((it) => it.what === "lookup" && it.lookup?.name === name && ["authentic", "consistent"].includes(this.standing(it)));
     const inOrder = /** @type {LookupRow[]} */ (rows).sort((a, b) => Number(/** @type {bigint} */ (a.epoch) - /** @type {bigint} */ (b.epoch)));
     const first = inOrder.find((it) => "answer" in it.verdict);
     const expected = first && "answer" in first.verdict && first.verdict.answer === "key" ? first.verdict.key : new Uint8Array(0);
     const index = this.key === null ? (first ?? inOrder[0])?.lookup?.index : indexOf(this.key, nameBytes(name));
-    return inOrder.map((row) => {
+    const epochs = inOrder.slice(0, most).map((row) => {
       const entry = /** @type {Uint8Array} */ (row.entry);
       const { state, isGood } = /** @type {Before} */ (this.before.get(this.coniks.link(entry)));
       const wanted = { index: /** @type {Uint8Array} */ (index), name: nameBytes(name), expected };
       const status = this.coniks.step(state.slice(), wanted, entry, isGood, /** @type {Uint8Array} */ (row.proof));
       return { epoch: String(row.epoch), status };
     });
+    return { epochs, more: inOrder.length - epochs.length };
   }
 
   /** @param {Uint8Array} entry @returns {bigint | null} */
