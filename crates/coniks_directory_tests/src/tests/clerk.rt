@@ -67,11 +67,13 @@ impl IndexSource for Letters {
     }
 }
 
-/// Signs with 64 bytes 55, or of another letter, and refuses the call of one number, counted from 0.
+/// Signs with 64 bytes 55, or of another letter, and refuses the call of one number, counted from 0. It counts the calls,
+/// and keeps the bytes of the last one.
 #[derive(Drop)]
 pub struct Stamp {
     pub letter: u8,
-    calls: u64,
+    pub calls: u64,
+    pub asked: Option<[u8; 145]>,
     refused_call: u64,
 }
 
@@ -89,9 +91,10 @@ impl Verify for Stamp {
 impl SignatureSource for Stamp {
     ghost gives = { λ _ _ _ _. Unit {0} };
 
-    fn signature(&mut self, _body: &[u8; 145]) -> Option<Signature> {
+    fn signature(&mut self, body: &[u8; 145]) -> Option<Signature> {
         let call = self.calls;
         self.calls = call.wrapping_add(1);
+        self.asked = Some(*body);
         if call == self.refused_call {
             None
         } else {
@@ -108,6 +111,7 @@ pub fn refusing(refused_call: u64) -> Signer<Stamp>
     Signer::new(Stamp {
         letter: 0x55,
         calls: 0,
+        asked: None,
         refused_call,
     })
 }
@@ -259,12 +263,27 @@ impl<'a, H: Hash32 + Sync> Clerk<'a, H> {
         let Ok(ops) = ops_of(self.alloc, written) else {
             return Err(CommitFault::Batch(BatchFault::BatchTooLong));
         };
+        self.commit_ops(rt, t, &ops, depth, workers, gate)
+    }
+
+    /// Commits these operations, as `commit_by` does.
+    pub fn commit_ops<G: Gate + Sync, R: Threads + Sync>(
+        &mut self,
+        rt: &R,
+        t: u64,
+        ops: &[Op],
+        depth: usize,
+        workers: usize,
+        gate: &G,
+    ) -> Result<Entry, CommitFault>
+        ensures { self.new.board.now.table ≡ self.old.board.now.table }
+    {
         if !self.may_sign() {
             return Err(CommitFault::Batch(BatchFault::BatchTooLong));
         }
         self.directory.commit(
             rt,
-            &ops,
+            ops,
             depth,
             workers,
             gate,

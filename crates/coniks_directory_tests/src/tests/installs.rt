@@ -88,3 +88,38 @@ fn signer_refuses(rt: HostRuntime) {
     let entry = with_clerk(&rt, alloc, 4, 1, |clerk| entry_after_refusal(&rt, clerk));
     assert!(rt; entry == unrefused);
 }
+
+/// How often the source of signatures was asked, and the bytes of the last call.
+fn asking(clerk: &Clerk<Sha256Hash>) -> (u64, Option<[u8; 145]>) {
+    (clerk.signer.source.calls, clerk.signer.source.asked)
+}
+
+/// Two epochs, and refusals before, between and after them, of which that of the signer alone asks the source.
+fn commit_asking<R: Threads + Sync + Abort>(rt: &R, clerk: &mut Clerk<Sha256Hash>) {
+    assert!(rt; refusal(rt, clerk, 0, &[]) == not_later_than(0));
+    assert!(rt; asking(clerk) == (0, None));
+    let first = clerk.register_a(rt, 1).expect(rt, "an entry");
+    assert!(rt; asking(clerk) == (1, Some(first.body.bytes())));
+    assert!(rt; clerk.register_a(rt, 2).is_err());
+    assert!(rt; asking(clerk) == (1, Some(first.body.bytes())));
+
+    let refused = Some(CommitFault::Install(InstallFault::SignerRefused));
+    assert!(rt; refusal(rt, clerk, 2, &SECOND) == refused);
+    let wanted = clerk.signer.source.asked;
+    let update = clerk.prepare(rt, &SECOND).expect(rt, "an update");
+    let second = clerk.install(update, 2).ok().expect(rt, "an entry");
+    assert!(rt; wanted == Some(second.body.bytes()));
+    assert!(rt; asking(clerk) == (3, wanted));
+
+    let full = Some(CommitFault::Install(InstallFault::BoardFull));
+    assert!(rt; refusal(rt, clerk, 3, &[]) == full);
+    assert!(rt; asking(clerk) == (3, wanted));
+}
+
+/// The source is asked once for the body of each entry and of a refused one, and at no other refusal.
+#[test]
+fn source_asked_once(rt: HostRuntime) {
+    with_clerk(&rt, rt.alloc(), 2, 1, |clerk| {
+        commit_asking(&rt, clerk);
+    });
+}

@@ -10,8 +10,9 @@ use crate::tests::answers::{Told, asked, digest};
 use crate::tests::clerk::{Clerk, RENEWED, Written, ops_of, with_clerk};
 use coniks_chain::{Entry, Sign};
 use coniks_directory::OpKind::{Change, Register};
-use coniks_directory::{BatchFault, InstallFault, LookupFault, Op, Prepared};
+use coniks_directory::{BatchFault, CommitFault, InstallFault, LookupFault, Op, Prepared};
 use coniks_proof::{Digest, Hash32, Head, Nonce, Sha256Hash};
+use coniks_work::Open;
 use std::process::Abort;
 use std::thread::Threads;
 
@@ -186,6 +187,40 @@ fn renew_by_three(rt: HostRuntime) {
 #[test]
 fn install(rt: HostRuntime) {
     tell(&rt, |clerk| first_epoch(&rt, clerk));
+}
+
+/// Memory that is refused while a commit prepares, and while it installs.
+const IN_PREPARE: CommitFault = CommitFault::Batch(BatchFault::OutOfMemory);
+
+const IN_INSTALL: CommitFault = CommitFault::Install(InstallFault::OutOfMemory);
+
+/// Commits the first batch by a lone worker, once more where memory is refused, and gives the fault that told so.
+fn commit_at_last<R: Threads + Sync + Abort>(
+    rt: &R,
+    clerk: &mut Clerk<Sha256Hash>,
+) -> Option<CommitFault> {
+    let ops = batch(rt, clerk, &FIRST);
+    let before = seen(clerk);
+    let refused = clerk.commit_ops(rt, 1, &ops, 1, 1, &Open).err();
+    if let Some(fault) = refused {
+        assert!(rt; fault == IN_PREPARE || fault == IN_INSTALL, "{fault}");
+        assert!(rt; seen(clerk) == before);
+        assert!(rt; clerk.commit_ops(rt, 1, &ops, 1, 1, &Open).is_ok());
+    }
+    assert!(rt; ends_with(rt, clerk, 1, LINKS[0]));
+    refused
+}
+
+/// Room for the update is the first that a commit asks for.
+#[test]
+fn commit_in_prepare(rt: HostRuntime) {
+    tell(&rt, |clerk| commit_at_last(&rt, clerk) == Some(IN_PREPARE));
+}
+
+/// Room in the directory is the last.
+#[test]
+fn commit_in_install(rt: HostRuntime) {
+    tell(&rt, |clerk| commit_at_last(&rt, clerk) == Some(IN_INSTALL));
 }
 
 /// Looks a name up at an epoch, once more where memory is refused, and says whether it was.
