@@ -176,10 +176,7 @@ pub fn run_script<T: Threads + Sync, R: ByteIn, W: ByteOut>(
         → OnErr result (WritesPart (output script_answer None input)
         (W.sink writer.old) (W.sink writer.new)) }
 {
-    let store = match Store::new(alloc) {
-        Ok(store) => store,
-        Err(_) => return Err(RunFault::NoBoard),
-    };
+    let store = Store::new(alloc)?;
     let crew = Crew { rt, workers, depth };
     let mut script = Script { alloc, crew, store };
     run_lines(alloc, &mut script, reader, writer)
