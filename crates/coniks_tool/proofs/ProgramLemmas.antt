@@ -1,5 +1,6 @@
 -- What comes of the program's words.
 use Rattle.std.proofs.Common.{◌≡◌, ◌≢◌, ◌≤◌, ◌⊎◌, inl, inr, ℕ, List, [], Bool, true, false, Option, Some, None, ap, arith, sym, subst, ◌∙◌}
+use Rattle.std.specs.String.{string_bytes}
 use Rattle.std.specs.Prelude.{◌&&◌, Result, Ok, Err, IfErr, IfOk, is_none, is_some}
 use Rattle.std.proofs.lemmas.Bool.{false≢true}
 use Rattle.std.proofs.lemmas.Result.{IfErr-weaker}
@@ -90,6 +91,15 @@ quiet-below_2 (Ok (Refused text)) old new told low = absurd (omega (arith, low))
 quiet-below_2 (Ok BadKey) old new told low = absurd (omega (arith, low))
 quiet-below_2 (Ok BadExpectation) old new told low = absurd (omega (arith, low))
 quiet-below_2 (Err fault) old new told low = absurd (omega (arith, low))
+
+-- at 2 a text is told
+pub told-at_2 : (outcome : Result Ending RunFault) (old new : Sink) → TellsIf (told_of outcome) old new → status_of outcome ≡ 2 → (text : List ℕ) × Tells old text new
+told-at_2 (Ok (Done true)) old new told is = absurd (omega (arith, is))
+told-at_2 (Ok (Done false)) old new told is = absurd (omega (arith, is))
+told-at_2 (Ok (Refused text)) old new told is = (string_bytes text, told)
+told-at_2 (Ok BadKey) old new told is = (bad_key_line, told)
+told-at_2 (Ok BadExpectation) old new told is = (bad_expectation_line, told)
+told-at_2 (Err fault) old new told is = absurd (omega (arith, is))
 
 -- at 3 the fault that ended it is told
 pub told-at_3 : {F : RunFault → Type 0} (outcome : Result Ending RunFault) (old new : Sink) → TellsIf (told_of outcome) old new → IfErr outcome F → status_of outcome ≡ 3 → (fault : RunFault) × (Tells old (fault_line fault) new × F fault)

@@ -11,6 +11,7 @@ pub mod Demo
 pub mod EntryLines
 pub mod Expectations
 pub mod Keydir
+pub mod Limits
 pub mod Members
 pub mod Monitor
 pub mod MonitorReplies
@@ -26,4 +27,3 @@ pub mod Script
 pub mod Seal
 pub mod Stores
 pub mod Turns
-pub mod Limits

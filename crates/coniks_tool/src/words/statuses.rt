@@ -1,6 +1,6 @@
 //! The whole program over its streams.
 
-ghost use Rattle.std.specs.Prelude.{◌≡◌, ◌≢◌, ◌⊎◌, ◌<◌, ◌≤◌, ◌+◌, ◌^◌, IfErr, IfOk, false, map, true};
+ghost use Rattle.std.specs.Prelude.{◌≡◌, ◌≢◌, ◌⊎◌, ◌<◌, ◌≤◌, ◌+◌, ◌^◌, IfErr, IfOk, false, map, true, List, ℕ};
 ghost use Rattle.clap.specs.Words.{fault_of, kind_of, takes};
 ghost use Rattle.coniks_lines.specs.Known.{Source};
 ghost use Rattle.coniks_lines.specs.declared.fault.RunFault.{RunFault as Fault};
@@ -57,6 +57,7 @@ pub fn program<T: Threads + Sync, S: AsStr, R: ByteIn, W: ByteOut, E: ByteOut>(
     ensures unwritten { result ≡ 2 → W.sink writer.new ≡ W.sink writer.old }
     ensures idle_reader { ChooseNoRun (map S.text words.entry.now) → R.source reader.new ≡ R.source reader.old }
     ensures idle_writer { HasBadText (map S.text words.entry.now) → W.sink writer.new ≡ W.sink writer.old }
+    ensures refused_told { result ≡ 2 → (text : List ℕ) × Tells (E.sink errors.old) text (E.sink errors.new) }
     ensures bad_key_told { HasBadKey (map S.text words.entry.now) → result ≡ 2 → Tells (E.sink errors.old) bad_key_line (E.sink errors.new) }
     ensures bad_expectation_told { HasBadExpectation (map S.text words.entry.now) → result ≡ 2 → Tells (E.sink errors.old) bad_expectation_line (E.sink errors.new) }
     // At 3 the line that is told is that of the fault that ended the run, and of no other; what was answered until then is written,

@@ -1,5 +1,5 @@
 use Rattle.std.proofs.Common.{◌≤◌, ◌∙◌, map, subst, sym}
-use Rattle.coniks_tool.proofs.ProgramLemmas.{status_within, quiet-below_2, told-at_3, both-at_3, done-at_0, ran-at_1, refused-at_2, taken-at_2, none-at_2, unwritten-at_2, bad_key-from_2, bad_expectation-from_2, bad_key-at_2, bad_expectation-at_2}
+use Rattle.coniks_tool.proofs.ProgramLemmas.{status_within, quiet-below_2, told-at_2, told-at_3, both-at_3, done-at_0, ran-at_1, refused-at_2, taken-at_2, none-at_2, unwritten-at_2, bad_key-from_2, bad_expectation-from_2, bad_key-at_2, bad_expectation-at_2}
 use Rattle.coniks_tool.proofs.words.statuses.program.Goals as goal
 
 pub returns-clause-status : goal.returns-clause-status
@@ -48,6 +48,9 @@ returns-clause-bad_key_told g c = λ bad is.
 pub returns-clause-bad_expectation_told : goal.returns-clause-bad_expectation_told
 returns-clause-bad_expectation_told g c = λ bad is.
     bad_expectation-at_2 (map g.S.AsStr.text c.args.words.now) _ _ _ _ c.obey-outcome.result _ _ c.obey-outcome.ensures.found c.conclude.ensures.told bad (sym c.conclude.ensures.status ∙ is)
+
+pub returns-clause-refused_told : goal.returns-clause-refused_told
+returns-clause-refused_told g c = λ is. told-at_2 c.obey-outcome.result _ _ c.conclude.ensures.told (sym c.conclude.ensures.status ∙ is)
 
 pub returns-clause-told : goal.returns-clause-told
 returns-clause-told g c = λ is.
