@@ -551,20 +551,15 @@ fn source_of(given: Option<Signature>, taken: Signature) -> Stamp {
     }
 }
 
-/// A signer asks its source once for each body, and for that body, whatever the source gives.
+/// A signer asks its source once for a body, and for that body, whatever the source gives.
 #[test]
-fn asked_once_for_each_body(rt: HostRuntime) {
+fn asked_once_for_a_body(rt: HostRuntime) {
     let signature = Signature([7; 64]);
-    let mut signer = Signer::new(source_of(None, signature));
-    for (calls, given) in [
-        (1, None),
-        (2, Some(signature)),
-        (3, Some(Signature([8; 64]))),
-    ] {
-        signer.source.given = given;
-        let body = flat_entry(calls, calls - 1, 0).body.bytes();
+    let body = flat_entry(2, 1, 0).body.bytes();
+    for given in [None, Some(signature), Some(Signature([8; 64]))] {
+        let mut signer = Signer::new(source_of(given, signature));
         let _ = signer.sign(&body);
-        assert_eq!(rt; signer.source.asked, calls);
+        assert_eq!(rt; signer.source.asked, 1);
         assert!(rt; signer.source.last == body);
     }
 }
