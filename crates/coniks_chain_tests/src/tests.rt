@@ -1,8 +1,10 @@
 //! Worked examples, whose digests and signatures were computed by other programs.
 
+mod signers;
+
 use coniks_chain::{
-    AuditFault, Auditor, Before, Body, Entry, Monitor, MonitorFault, Seen, Sign, Signature,
-    SignatureSource, Signer, Tally, Verify, Wanted, audit, extract_history, link,
+    AuditFault, Auditor, Before, Body, Entry, Monitor, MonitorFault, Seen, Signature, Tally,
+    Verify, Wanted, audit, extract_history, link,
 };
 use coniks_proof::{
     Bytes, CheckFault, Digest, Digests, End, Flat, Hash32, Head, Index, Nonce, Opening, Proof,
@@ -60,7 +62,7 @@ impl Verify for Yes {
 
 /// Takes one signature.
 #[derive(Drop)]
-struct Only(Signature);
+pub struct Only(pub Signature);
 
 impl Verify for Only {
     ghost use Rattle.std.specs.Str.{bytes_eq};
@@ -69,37 +71,6 @@ impl Verify for Only {
 
     fn verdict(&self, _body: &[u8; 145], signature: &Signature) -> bool {
         signature.0 == self.0.0
-    }
-}
-
-/// Gives what it is told to for everything, takes one signature, and keeps the count of what it was asked and the last body.
-#[derive(Drop)]
-struct Stamp {
-    given: Option<Signature>,
-    taken: Only,
-    asked: u64,
-    last: [u8; 145],
-}
-
-impl Verify for Stamp {
-    ghost use Rattle.std.specs.Str.{bytes_eq};
-
-    ghost verdict_of = { λ stamp _ signature. bytes_eq signature stamp.taken.0.0 };
-
-    fn verdict(&self, body: &[u8; 145], signature: &Signature) -> bool {
-        self.taken.verdict(body, signature)
-    }
-}
-
-impl SignatureSource for Stamp {
-    ghost use Rattle.std.specs.Prelude.{◌≡◌};
-
-    ghost gives = { λ stamp _ given _. given ≡ stamp.given };
-
-    fn signature(&mut self, body: &[u8; 145]) -> Option<Signature> {
-        self.asked = self.asked.wrapping_add(1);
-        self.last = *body;
-        self.given
     }
 }
 
@@ -143,7 +114,7 @@ fn head_at(rt: &impl Abort, epoch: u64, place: usize) -> Head {
 }
 
 /// An entry for the flat hash, by its epochs and the first byte of its root.
-fn flat_entry(t: u64, t_prev: u64, root: u8) -> Entry {
+pub fn flat_entry(t: u64, t_prev: u64, root: u8) -> Entry {
     let mut bytes = [0; 32];
     bytes[0] = root;
     Entry {
@@ -539,66 +510,6 @@ fn texts_of_faults(rt: HostRuntime) {
         let text = format!(in rt.alloc(); "{fault}").expect(&rt, "memory");
         assert_eq!(rt; text.as_str(), want);
     }
-}
-
-/// A source that takes this signature, gives what it is told to, and hasn't been asked.
-fn source_of(given: Option<Signature>, taken: Signature) -> Stamp {
-    Stamp {
-        given,
-        taken: Only(taken),
-        asked: 0,
-        last: [0; 145],
-    }
-}
-
-/// A signer asks its source once for a body, and for that body, whatever the source gives.
-#[test]
-fn asked_once_for_a_body(rt: HostRuntime) {
-    let signature = Signature([7; 64]);
-    let body = flat_entry(2, 1, 0).body.bytes();
-    for given in [None, Some(signature), Some(Signature([8; 64]))] {
-        let mut signer = Signer::new(source_of(given, signature));
-        let _ = signer.sign(&body);
-        assert_eq!(rt; signer.source.asked, 1);
-        assert!(rt; signer.source.last == body);
-    }
-}
-
-#[test]
-fn signed_or_refused(rt: HostRuntime) {
-    let signature = Signature([7; 64]);
-    let mut signer = Signer::new(source_of(None, signature));
-    let body = flat_entry(1, 0, 0).body;
-    assert!(rt; signer.sign(&body.bytes()).is_none());
-    assert_eq!(rt; (signer.made(), signer.refused()), (0, 1));
-    assert!(rt; signer.last().is_none());
-    signer.source.given = Some(signature);
-    assert!(rt; signer.sign(&body.bytes()) == Some(signature));
-    assert_eq!(rt; (signer.made(), signer.refused()), (1, 1));
-    assert!(rt; signer.last() == Some(Entry { body, signature }));
-    assert!(rt; signer.verdict(&body.bytes(), &signature));
-}
-
-/// A signature that is wrong in its last byte counts as a refusal, and the last entry stays.
-#[test]
-fn wrong_signatures_are_kept_back(rt: HostRuntime) {
-    let signature = Signature([7; 64]);
-    let mut wrong = signature;
-    wrong.0[63] = 8;
-    let mut signer = Signer::new(source_of(Some(signature), signature));
-    let first = flat_entry(1, 0, 0).body;
-    assert!(rt; signer.sign(&first.bytes()) == Some(signature));
-    signer.source.given = Some(wrong);
-    let second = flat_entry(2, 1, 0).body;
-    assert!(rt; signer.sign(&second.bytes()).is_none());
-    assert_eq!(rt; (signer.made(), signer.refused()), (1, 1));
-    assert!(rt;
-        signer.last()
-            == Some(Entry {
-                body: first,
-                signature
-            })
-    );
 }
 
 /// Steps to the entry of one of the two epochs, with the proof of this key.
