@@ -17,4 +17,7 @@ mod ChainLemmas
 mod InstallLemmas
 mod HeadLemmas
 mod PrepareLemmas
+mod StepLemmas
+mod AgreementLemmas
 mod RunLemmas
+mod SuppliedLemmas

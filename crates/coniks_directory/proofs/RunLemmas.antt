@@ -1,11 +1,14 @@
 -- What a run of public calls leaves is the directory that its batches define.
 use Rattle.std.proofs.Common.{◌≡◌, ℕ, List, [], ◌∷◌, ◌++◌, ◌<◌, refl, sym, ap, subst, ◌∙◌, append_assoc}
 use Rattle.coniks_directory.proofs.Words.{AreAccepted, AreAcceptedFrom, Batch, HaveOwnIndices, IsAccepted, Run, Shown, State, after}
-use Rattle.coniks_directory.proofs.Words.{append-nil, committed, defined, epochs_from, history_of, installed, latest_epoch, latest_nonce}
-use Rattle.coniks_directory.proofs.Words.{latest_registry, latest_version, opened, shown_by, stayed}
+use Rattle.coniks_directory.proofs.Words.{append-nil, defined, epochs_from, history_of, latest_epoch, latest_nonce}
+use Rattle.coniks_directory.proofs.Words.{latest_registry, latest_version, shown_by}
+use Rattle.coniks_directory.specs.Runs as runs
 use Rattle.coniks_proof.proofs.Lemmas.{may_follow, own_after}
 use Rattle.coniks_directory.proofs.FreshLemmas.{fresh_brings, fresh_history, fresh_registry}
 use Rattle.coniks_directory.proofs.LastLemmas.{at_end}
+use Rattle.coniks_directory.proofs.StepLemmas.{Steps, committed, installed, opened, stayed}
+use Rattle.coniks_directory.proofs.AgreementLemmas.{prepared_agree, steps_agree}
 
 -- a state is that of the directory that the batches define, and further batches go on from it
 pub record IsDefined (of : List ℕ → List ℕ) (nonce policy : List ℕ) (batches : List Batch) (s : State) : Type 0 where
@@ -35,19 +38,33 @@ module _ (of : List ℕ → List ℕ) (nonce policy : List ℕ) (batches : List 
         accepts = λ more all. rw (append_assoc batches (b ∷ []) more) (d.accepts (b ∷ more) (rises, a.few, may, rw (epoch, registry) at all));
       }
 
-pub defined_by : (hash of : List ℕ → List ℕ) (nonce policy : List ℕ) (batches : List Batch) (s : State) → Run hash of nonce policy batches s → IsDefined of nonce policy batches s
-defined_by hash of nonce policy _ _ opened =
+defined_by_steps : (hash of : List ℕ → List ℕ) (nonce policy : List ℕ) (batches : List Batch) (s : State) → Steps hash of nonce policy batches s → IsDefined of nonce policy batches s
+defined_by_steps hash of nonce policy _ _ opened =
     record { nonce_is = refl; policy_is = refl; own = λ x y has. absurd (let never = has in cc); epochs = λ more. refl; accepts = λ more all. all }
-defined_by hash of nonce policy _ _ (stayed batches s later run same) = subst (IsDefined of nonce policy batches) (sym same) (defined_by hash of nonce policy batches s run)
-defined_by hash of nonce policy _ _ (committed batches b s later depth workers published capacity run keeps accepted may history grows) =
-    next of nonce policy batches s (defined_by hash of nonce policy batches s run) b later _ depth workers grows.nonce grows.policy accepted may.later history (rw keeps refl)
-defined_by hash of nonce policy _ _ (installed batches b earlier s later update depth workers published capacity run prepared since may history grows) =
+defined_by_steps hash of nonce policy _ _ (stayed batches s later run same) = subst (IsDefined of nonce policy batches) (sym same) (defined_by_steps hash of nonce policy batches s run)
+defined_by_steps hash of nonce policy _ _ (committed batches b s later depth workers published capacity run keeps accepted may history grows) =
+    next of nonce policy batches s (defined_by_steps hash of nonce policy batches s run) b later _ depth workers grows.nonce grows.policy accepted may.later history (rw keeps refl)
+defined_by_steps hash of nonce policy _ _ (installed batches b earlier s later update depth workers published capacity run prepared since may history grows) =
     let brings = fresh_brings hash of earlier s update since prepared.is_update may.fresh b.brought prepared.brings in
     let same = fresh_history hash of earlier s update since prepared.is_update may.fresh in
     let registry = fresh_registry hash of earlier s update since prepared.is_update may.fresh ∙ prepared.registry ∙ ap (λ ss. after (latest_registry ss) b.ops) (sym same) in
     let accepted = subst (λ ss. IsAccepted of (latest_registry ss) b.ops depth workers) (sym same) prepared.accepted in
-    next of nonce policy batches s (defined_by hash of nonce policy batches s run) b later _ depth workers grows.nonce grows.policy accepted may.later history
+    next of nonce policy batches s (defined_by_steps hash of nonce policy batches s run) b later _ depth workers grows.nonce grows.policy accepted may.later history
     (rw (brings.version, brings.nonce, registry) refl)
+
+-- a run is one by the function that the directory holds at its end, as though no index had been supplied
+steps_of : (hash of : List ℕ → List ℕ) (nonce policy : List ℕ) (batches : List Batch) (s : State) → Run hash of nonce policy batches s → Steps hash of nonce policy batches s
+steps_of hash _ _ _ _ _ (runs.opened of nonce policy) = opened
+steps_of hash _ _ _ _ _ (runs.stayed of nonce policy batches s later run same) = stayed batches s later (steps_of hash of nonce policy batches s run) same
+steps_of hash _ _ _ _ _ (runs.supplied of also nonce policy batches s run agree) = steps_agree hash of also nonce policy batches s agree (steps_of hash of nonce policy batches s run)
+steps_of hash _ _ _ _ _ (runs.committed of nonce policy batches b s later depth workers published capacity run keeps accepted may history grows) =
+    committed batches b s later depth workers published capacity (steps_of hash of nonce policy batches s run) keeps accepted may history grows
+steps_of hash _ _ _ _ _ (runs.installed of then nonce policy batches b earlier s later update depth workers published capacity run prepared agree since may history grows) =
+    installed batches b earlier s later update depth workers published capacity (steps_of hash of nonce policy batches s run)
+    (prepared_agree hash then of earlier b.brought b.ops depth workers update agree prepared) since may history grows
+
+pub defined_by : (hash of : List ℕ → List ℕ) (nonce policy : List ℕ) (batches : List Batch) (s : State) → Run hash of nonce policy batches s → IsDefined of nonce policy batches s
+defined_by hash of nonce policy batches s run = defined_by_steps hash of nonce policy batches s (steps_of hash of nonce policy batches s run)
 
 module _ (hash of : List ℕ → List ℕ) (nonce policy : List ℕ) (batches : List Batch) (s : State) (run : Run hash of nonce policy batches s) where
   pub history_by : history_of s ≡ defined nonce batches

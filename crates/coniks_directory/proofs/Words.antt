@@ -60,7 +60,7 @@ pub use Rattle.coniks_directory.specs.Holders.{HolderIs, IsHeld, IsLatestRoot, S
 pub use Rattle.coniks_directory.specs.Installed.{IsEntered, IsNext, IsSigned, Leaves}
 pub use Rattle.coniks_directory.specs.Judged.{AreChangesOf, AreDrafts, AreSealed, AreSealedTo, IsDraft, IsJudged, IsJudgedFault, number_at, sealed_by}
 pub use Rattle.coniks_directory.specs.Lookups.{IsAcceptedAt, IsFound}
-pub use Rattle.coniks_directory.specs.Runs.{AreAccepted, AreAcceptedFrom, Batch, Run, committed, defined, epochs_from, installed, opened, shown_by, stayed}
+pub use Rattle.coniks_directory.specs.Runs.{AreAccepted, AreAcceptedFrom, Batch, Run, defined, epochs_from, shown_by}
 pub use Rattle.coniks_directory.specs.State.{HoldsEpoch, IsAt, IsInstalled, IsStored, Mirrors, ShowsRegistry, State, View, Whole, history_of, last_count, registered_of, shown_of, state_of}
 unfoldable pub use Rattle.coniks_directory.specs.State.{registry_at}
 pub use Rattle.coniks_directory.specs.Updates.{Brings, Grows, IsUpdate, IsUpdateOf, MayInstall, records_after, registry_after, shown_after, shown_next}

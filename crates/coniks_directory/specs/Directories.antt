@@ -13,8 +13,10 @@ use Rattle.coniks_directory.specs.Chain.{IsChainOf, body_of, heads_of}
 use Rattle.coniks_directory.specs.History.{Shown, latest_registry, root_at, shown_at}
 use Rattle.coniks_directory.specs.Lookups.{IsAcceptedAt, IsAcceptedUnder, IsFound, IsMissed}
 use Rattle.coniks_directory.specs.State.{View, history_of}
+use Rattle.coniks_directory.specs.Supplied.{AgreeOn, IsMissedAt, MaySupply}
 use Rattle.coniks_directory.specs.Updates.{Brings, IsUpdate, IsUpdateOf}
 use Rattle.coniks_directory.specs.declared.batch.BatchFault.{BatchFault}
+use Rattle.coniks_directory.specs.declared.lookup.LookupAtFault.{LookupAtFault}
 use Rattle.coniks_directory.specs.declared.lookup.LookupFault.{LookupFault}
 use Rattle.coniks_directory.specs.declared.lookup.SignedProof.{SignedProof}
 use Rattle.coniks_directory.specs.declared.update.Prepared.{Prepared}
@@ -53,6 +55,18 @@ module _ {H X : Type 0} (digest : H → List ℕ → List ℕ) (index : X → Li
   abbrev pub Checks : ℕ → List ℕ → SignedProof → Type 0
   Checks t name it = IsAcceptedUnder (digest d.hash) (index d.index) (history d) t name it
 
+  -- a function of indices gives each registered name the index that the source gives it, and this name this index
+  abbrev pub Extends : List ℕ → List ℕ → (List ℕ → List ℕ) → Type 0
+  Extends name supplied of = AgreeOn (index d.index) of (registry d) × (of name ≡ supplied)
+
+  -- by each such function a lookup of the name at an epoch gives this proof
+  abbrev pub FindsAt : ℕ → List ℕ → List ℕ → Proof → Type 0
+  FindsAt t name supplied proof = (of : List ℕ → List ℕ) → Extends name supplied of → IsFound (digest d.hash) of (history d) t name proof
+
+  -- and it is accepted for the name at the epoch
+  abbrev pub ShowsAt : ℕ → List ℕ → List ℕ → Proof → Type 0
+  ShowsAt t name supplied proof = (of : List ℕ → List ℕ) → Extends name supplied of → IsAcceptedAt (digest d.hash) of (history d) t name proof
+
   -- the body of the next entry, where its epoch shows this
   abbrev pub NextBody : Shown → Body
   NextBody shown = body_of (digest d.hash) (index d.index) d.state.policy (before_at (digest d.hash) None d.state.chain (length d.state.chain)) shown
@@ -79,6 +93,13 @@ module _ {H X : Type 0} (index : X → List ℕ → List ℕ) (d : View H X) whe
 
   abbrev pub Refuses : List Operation → ℕ → ℕ → BatchFault → Type 0
   Refuses ops depth workers fault = IsBatchFault (index d.index) (registry d) ops depth workers fault
+
+  -- an index of a name may be supplied, and why a lookup of the name at this index isn't answered
+  abbrev pub Takes : List ℕ → List ℕ → Type 0
+  Takes name supplied = MaySupply (index d.index) (registry d) name supplied
+
+  abbrev pub MissesAt : ℕ → List ℕ → List ℕ → LookupAtFault → Type 0
+  MissesAt t name supplied fault = IsMissedAt (index d.index) (history d) (registry d) t name supplied fault
 
 -- an update of it brings this nonce, or none
 abbrev pub Renews : {H X : Type 0} → View H X → Option (List ℕ) → Prepared → Type 0

@@ -8,5 +8,6 @@ pub mod Holders
 pub mod Judged
 pub mod Built
 pub mod Installed
+pub mod Supplied
 pub mod Directories
 pub mod Runs

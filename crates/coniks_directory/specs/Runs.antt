@@ -6,6 +6,7 @@ use Rattle.coniks_proof.specs.declared.values.TheConstants.{MAX_OPERATIONS}
 use Rattle.coniks_directory.specs.Batches.{IsAccepted}
 use Rattle.coniks_directory.specs.History.{Shown, latest_registry, nonce_after, version_after}
 use Rattle.coniks_directory.specs.State.{State, history_of, opened as nothing}
+use Rattle.coniks_directory.specs.Supplied.{AgreeOn}
 use Rattle.coniks_directory.specs.Updates.{Brings, Grows, IsUpdate, MayInstall, base_of, registry_after, shown_after, shown_next}
 use Rattle.coniks_directory.specs.declared.update.Prepared.{Prepared}
 
@@ -46,19 +47,24 @@ pub record IsPreparedOf (hash of : List ℕ → List ℕ) (s : State) (brought :
   pub registry : registry_after s update ≡ after (latest_registry (history_of s)) ops
   pub accepted : IsAccepted of (latest_registry (history_of s)) ops depth workers
 
--- public calls on a directory, from `open` on, in which these batches were installed: each call as its contract tells it
-pub data Run (hash of : List ℕ → List ℕ) (nonce policy : List ℕ) : List Batch → State → Type 0 where
-  opened : Run hash of nonce policy [] (nothing nonce policy)
+-- public calls on a directory, from `open` on, in which these batches were installed: each call as its contract tells it; the
+-- function of indices is the one that the directory holds at the end
+pub data Run (hash : List ℕ → List ℕ) : (List ℕ → List ℕ) → List ℕ → List ℕ → List Batch → State → Type 0 where
+  opened : (of : List ℕ → List ℕ) (nonce policy : List ℕ) → Run hash of nonce policy [] (nothing nonce policy)
   -- a call that was refused, or that only reads
-  stayed : (batches : List Batch) (s later : State) → Run hash of nonce policy batches s → later ≡ s → Run hash of nonce policy batches later
-  committed : (batches : List Batch) (b : Batch) (s later : State) (depth workers published capacity : ℕ) → Run hash of nonce policy batches s
+  stayed : (of : List ℕ → List ℕ) (nonce policy : List ℕ) (batches : List Batch) (s later : State) → Run hash of nonce policy batches s → later ≡ s → Run hash of nonce policy batches later
+  -- an index was supplied, and the registered names have those that they had
+  supplied : (of also : List ℕ → List ℕ) (nonce policy : List ℕ) (batches : List Batch) (s : State) → Run hash of nonce policy batches s → AgreeOn of also (latest_registry (history_of s))
+      → Run hash also nonce policy batches s
+  committed : (of : List ℕ → List ℕ) (nonce policy : List ℕ) (batches : List Batch) (b : Batch) (s later : State) (depth workers published capacity : ℕ) → Run hash of nonce policy batches s
       → b.brought ≡ None → IsAccepted of (latest_registry (history_of s)) b.ops depth workers
       → MayInstall s (length s.epochs) b.t published capacity
       → history_of later ≡ history_of s ++ shown_next s b.ops b.t ∷ [] → Grows s later
       → Run hash of nonce policy (batches ++ b ∷ []) later
-  -- the update was prepared earlier, with any calls in between
-  installed : (batches : List Batch) (b : Batch) (earlier s later : State) (update : Prepared) (depth workers published capacity : ℕ) → Run hash of nonce policy batches s
-      → IsPreparedOf hash of earlier b.brought b.ops depth workers update → Grows earlier s
+  -- the update was prepared earlier, with any calls in between, and the names that it leaves have the indices that they had then
+  installed : (of then : List ℕ → List ℕ) (nonce policy : List ℕ) (batches : List Batch) (b : Batch) (earlier s later : State) (update : Prepared) (depth workers published capacity : ℕ)
+      → Run hash of nonce policy batches s
+      → IsPreparedOf hash then earlier b.brought b.ops depth workers update → AgreeOn then of (registry_after earlier update) → Grows earlier s
       → MayInstall s (base_of update) b.t published capacity
       → history_of later ≡ history_of s ++ shown_after s update b.t ∷ [] → Grows s later
       → Run hash of nonce policy (batches ++ b ∷ []) later

@@ -1,23 +1,26 @@
 //! The directory.
 
-ghost use Rattle.std.specs.Prelude.{◌≡◌, ◌<◌, ◌≤◌, ◌+◌, ◌-◌, ◌^◌, ◌++◌, ◌∷◌, [], List, ℕ, None, Some, IfErr, IfOk, OnErr, OnOk, length, option_map, true};
+ghost use Rattle.std.specs.Prelude.{◌≡◌, ◌≢◌, ◌<◌, ◌≤◌, ◌+◌, ◌-◌, ◌^◌, ◌++◌, ◌∷◌, [], List, ℕ, None, Some, IfErr, IfOk, OnErr, OnOk, length, option_map, true, false};
 ghost use Rattle.coniks_chain.specs.Entries.{body_bytes};
 ghost use Rattle.coniks_proof.specs.Batches.{after};
+ghost use Rattle.coniks_proof.specs.Registry.{has_name};
 ghost use Rattle.coniks_tree.specs.Parts.{KeepsNone};
 ghost use Rattle.coniks_directory.specs.Batches.{most_anew, most_nodes, operations};
-ghost use Rattle.coniks_directory.specs.Directories.{Accepts, Checks, Finds, HasGoodChain, HasItsChain, HasPrepared, IsAlike, Misses, NextBody, Prepares, Refuses, Renews, Shows, entry, heads, history, registry, root};
+ghost use Rattle.coniks_directory.specs.Directories.{Accepts, Checks, Finds, FindsAt, HasGoodChain, HasItsChain, HasPrepared, IsAlike, Misses, MissesAt, NextBody, Prepares, Refuses, Renews, Shows, ShowsAt, Takes, entry, heads, history, registry, root};
 ghost use Rattle.coniks_directory.specs.History.{AllHaveOwnIndices, AreRising, AreUnder, numbers_of};
 
 use crate::batch::{BatchFault, Op, within_limits};
 use crate::held::Held;
 use crate::install::{enter, head_of, last_link, may_install, put_head, signed};
-use crate::lengths::is_length;
-use crate::lookup::{LookupFault, SignedProof};
+use crate::lengths::{is_length, is_name};
+use crate::lookup::{LookupAtFault, LookupFault, SignedProof};
 use crate::preparing::update_on;
 use crate::source::IndexSource;
+use crate::stand::{holder_at, is_of};
+use crate::supplied::{SupplyFault, SupplyIndex};
 use crate::update::{CommitFault, InstallFault, Prepared};
 use coniks_chain::{Entry, Sign};
-use coniks_proof::{Digest, Hash32, MAX_NAME, Nonce, Proof};
+use coniks_proof::{Digest, Hash32, Index, MAX_NAME, Nonce, Proof};
 use coniks_shared::{Board, Publisher};
 use coniks_work::Gate;
 use std::alloc::Global;
@@ -125,6 +128,121 @@ impl<H: Hash32, X: IndexSource> Directory<H, X> {
             }),
             Err(_) => Err(LookupFault::OutOfMemory),
         }
+    }
+}
+
+impl<H: Hash32, X: IndexSource> Directory<H, X> {
+    ghost use Rattle.coniks_directory.specs.Supplied.{HasOtherIndex};
+    ghost use Rattle.coniks_directory.specs.Updates.{registry_after};
+
+    /// Returns the source of indices.
+    pub fn source(&self) -> &X
+        ensures { result.now ≡ self.now.index }
+    {
+        &self.source
+    }
+
+    /// Returns whether the name is registered at the latest epoch.
+    pub fn is_registered(&self, name: &[u8]) -> bool
+        ensures { result ≡ has_name (registry self.now) name.now }
+    {
+        let index = self.source.index(name);
+        is_of(
+            holder_at(&self.held.tree, self.held.latest_root(), &index),
+            name,
+        )
+    }
+
+    /// Returns whether the name is registered once the update is installed.
+    pub fn is_registered_after(&self, update: &Prepared, name: &[u8]) -> bool
+        ensures { result ≡ has_name (registry_after self.now.state update.now) name.now }
+    {
+        let _ = &self.held;
+        self.is_registered(name) || update.binds(name)
+    }
+
+    /// Returns whether the name is registered with an index other than this one.
+    pub fn has_other_index(&self, name: &[u8], index: &Index) -> bool
+        ensures yes { result ≡ true → HasOtherIndex (X.index_of self.now.index) (registry self.now) name.now index.now.0 }
+        ensures no { result ≡ false → has_name (registry self.now) name.now ≡ true → X.index_of self.now.index name.now ≡ index.now.0 }
+    {
+        self.source.index(name).0 != index.0 && self.is_registered(name)
+    }
+
+    /// Looks up a name at an index that comes with the call, and stores nothing. The proof is the one that `lookup` returns
+    /// if the source gives the name this index. It waits for nobody.
+    pub fn lookup_at(&self, t: u64, name: &[u8], index: Index) -> Result<Proof, LookupAtFault>
+        ensures may { OnOk result (Takes X.index_of self.now name.now index.0) }
+        ensures ok { IfOk result (FindsAt H.digest_of X.index_of self.now t name.now index.0) }
+        ensures accepted { IfOk result (ShowsAt H.digest_of X.index_of self.now t name.now index.0) }
+        ensures missed { IfErr result (MissesAt X.index_of self.now t name.now index.0) }
+    {
+        Ok(self.signed_lookup_at(t, name, index)?.proof)
+    }
+
+    /// Looks up a name as `lookup_at` does, and returns the epoch's entry and the index with the proof.
+    pub fn signed_lookup_at(
+        &self,
+        t: u64,
+        name: &[u8],
+        supplied: Index,
+    ) -> Result<SignedProof, LookupAtFault>
+        ensures entry { IfOk result (λ it. entry self.now t ≡ Some it.entry) }
+        ensures index { IfOk result (λ it. it.index ≡ supplied) }
+        ensures may { OnOk result (Takes X.index_of self.now name.now supplied.0) }
+        ensures ok { IfOk result (λ it. FindsAt H.digest_of X.index_of self.now t name.now supplied.0 it.proof) }
+        ensures accepted { IfOk result (λ it. ShowsAt H.digest_of X.index_of self.now t name.now supplied.0 it.proof) }
+        ensures missed { IfErr result (MissesAt X.index_of self.now t name.now supplied.0) }
+    {
+        let Some((epoch, signed)) = self.held.installed(t) else {
+            return Err(LookupAtFault::UnknownEpoch);
+        };
+        if !is_name(name) {
+            return Err(LookupAtFault::NameLength);
+        }
+        if self.has_other_index(name, &supplied) {
+            return Err(LookupAtFault::OtherIndex);
+        }
+        match self.held.tree.path(epoch.root, &supplied) {
+            Ok(proof) => Ok(SignedProof {
+                entry: signed,
+                index: supplied,
+                proof,
+            }),
+            Err(_) => Err(LookupAtFault::OutOfMemory),
+        }
+    }
+}
+
+impl<H: Hash32, X: SupplyIndex> Directory<H, X> {
+    ghost use Rattle.coniks_directory.specs.Supplied.{AgreeOn, IsSupplied, IsSupplyFault};
+    ghost use Rattle.coniks_directory.specs.Updates.{registry_after};
+
+    /// Supplies the index of a name, which the name has from then on. A registered name keeps its index and can be supplied
+    /// it again; all that is installed stays as it is. After an error nothing has changed.
+    ///
+    /// A prepared update can still be installed, unless it binds the name and was prepared under another index of it.
+    pub fn supply(&mut self, name: &[u8], index: Index) -> Result<(), SupplyFault>
+        ensures supplied { OnOk result (IsSupplied (X.index_of self.old.index) name.now index.0 (X.index_of self.new.index)) }
+        ensures may { OnOk result (Takes X.index_of self.old name.now index.0) }
+        ensures agree { AgreeOn (X.index_of self.old.index) (X.index_of self.new.index) (registry self.old) }
+        ensures updates { OnOk result ((update : Prepared) → (has_name (registry_after self.old.state update) name.now ≡ true → X.index_of self.old.index name.now ≡ index.0)
+            → HasPrepared H.digest_of X.index_of self.old update → HasPrepared H.digest_of X.index_of self.new update) }
+        ensures state { self.new.state ≡ self.old.state }
+        ensures hash { self.new.hash ≡ self.old.hash }
+        ensures refused { IfErr result (IsSupplyFault (X.index_of self.old.index) (registry self.old) name.now index.0) }
+        ensures unchanged { OnErr result (self.new ≡ self.old) }
+    {
+        if !is_name(name) {
+            return Err(SupplyFault::NameLength);
+        }
+        if self.has_other_index(name, &index) {
+            return Err(SupplyFault::OtherIndex);
+        }
+        let Ok(()) = self.source.supply(name, index) else {
+            return Err(SupplyFault::OutOfMemory);
+        };
+        Ok(())
     }
 }
 

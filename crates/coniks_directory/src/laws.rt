@@ -3,12 +3,14 @@
 ghost use Rattle.std.specs.Prelude.{◌≡◌, ◌≢◌, ◌≤◌, List, ℕ, Option, Some, length, option_map};
 ghost use Rattle.coniks_chain.specs.declared.entry.Entry.{Entry};
 ghost use Rattle.coniks_directory.specs.Chain.{IsChainOf, heads_of};
-ghost use Rattle.coniks_directory.specs.History.{AreRising, Shown, numbers_of, root_at, shown_at};
+ghost use Rattle.coniks_directory.specs.History.{AreRising, Shown, latest_registry, numbers_of, root_at, shown_at};
 ghost use Rattle.coniks_directory.specs.Lookups.{IsAcceptedAt, IsFound};
-ghost use Rattle.coniks_directory.specs.Runs.{AreAccepted, Batch, Run, defined};
-ghost use Rattle.coniks_directory.specs.State.{State, history_of};
+ghost use Rattle.coniks_directory.specs.Runs.{AreAccepted, Batch, IsPreparedOf, Run, defined};
+ghost use Rattle.coniks_directory.specs.State.{State, Whole, history_of};
+ghost use Rattle.coniks_directory.specs.Supplied.{AgreeOn};
 ghost use Rattle.coniks_directory.specs.Updates.{Grows, IsUpdate, IsUpdateOf, base_of, registry_after};
 ghost use Rattle.coniks_directory.specs.declared.update.Prepared.{Prepared};
+ghost use Rattle.coniks_proof.specs.Batches.{Operation};
 ghost use Rattle.coniks_proof.specs.Collisions.{Disagree};
 ghost use Rattle.coniks_proof.specs.Proofs.{Accepts};
 ghost use Rattle.coniks_proof.specs.declared.paths.Proof.{Proof};
@@ -48,8 +50,9 @@ pub fn answers_are_no_older()
         → Begins had has → Begins has (heads_of hash chain) → last_of had ≡ Some latest → last_of has ≡ Some answer → latest.epoch ≤ answer.epoch }
 {}
 
-/// The directory theorem: a run of public calls from `open` on, refused ones among them, leaves the directory that its
-/// batches define, whatever workers and depths were chosen, and these are a history of accepted batches. So the entries
+/// The directory theorem: a run of public calls from `open` on, refused ones and supplyings among them, leaves the directory
+/// that its batches define, whatever workers and depths were chosen, and these are a history of accepted batches by the
+/// indices that the directory holds at the end. So the entries
 /// are those of that directory, where `chain` says that they are the history's, and so are the answers of `root_at` and of
 /// `lookup`. Two proofs that are accepted for one root, nonce and index with different answers disagree, and there
 /// `coniks_proof::extract` gives two different byte strings of one hash.
@@ -68,4 +71,14 @@ pub fn directory_theorem()
         → (t : ℕ) (name : List ℕ) (proof : Proof) → IsAcceptedAt hash of (history_of s) t name proof → IsAcceptedAt hash of (defined nonce batches) t name proof }
     ensures answers { (hash : List ℕ → List ℕ) (nonce root index name_a name_b : List ℕ) (a b : Proof) (x y : Option (List ℕ)) → Accepts hash nonce root index name_a a x
         → Accepts hash nonce root index name_b b y → x ≢ y → Disagree hash nonce root index name_a a name_b b }
+{}
+
+/// What one function of indices says of a directory, each function says that gives the registered names the same indices:
+/// so an index may be supplied of a name that isn't registered, and what was installed stays as it was. An update stays one of
+/// the directory where the two agree on the registry that it leaves.
+pub fn indices_may_be_supplied()
+    ensures directories { (hash of also : List ℕ → List ℕ) (s : State) → AgreeOn of also (latest_registry (history_of s)) → Whole hash of s → Whole hash also s }
+    ensures updates { (hash of also : List ℕ → List ℕ) (s : State) (update : Prepared) → AgreeOn of also (registry_after s update) → IsUpdateOf hash of s update → IsUpdateOf hash also s update }
+    ensures prepared { (hash of also : List ℕ → List ℕ) (s : State) (brought : Option (List ℕ)) (ops : List Operation) (depth workers : ℕ) (update : Prepared) → AgreeOn of also (registry_after s update)
+        → IsPreparedOf hash of s brought ops depth workers update → IsPreparedOf hash also s brought ops depth workers update }
 {}

@@ -16,6 +16,14 @@ pub(crate) fn is_length(bytes: &[u8], most: usize) -> bool
     !bytes.is_empty() && bytes.len() <= most
 }
 
+/// Whether there are from 1 to `MAX_NAME` bytes, as a name has.
+pub(crate) fn is_name(bytes: &[u8]) -> bool
+    ensures value { result ≡ fits MAX_NAME bytes.now }
+    ensures holds { result ≡ true → IsLength MAX_NAME bytes.now }
+{
+    is_length(bytes, MAX_NAME)
+}
+
 /// The fault of an operation's lengths: the name's before the key's.
 pub(crate) fn length_fault(op: &Op) -> Option<OpFault>
     ensures fault { IfSome result (λ fault. (of : List ℕ → List ℕ) (registry : Registry) (before : List Registered)

@@ -51,10 +51,12 @@ mod preparing;
 mod sealing;
 pub mod source;
 mod stand;
+pub mod supplied;
 pub mod update;
 
 pub use batch::{BatchFault, Op, OpFault, OpKind};
 pub use directory::Directory;
-pub use lookup::{LookupFault, SignedProof};
+pub use lookup::{LookupAtFault, LookupFault, SignedProof};
 pub use source::IndexSource;
+pub use supplied::{SupplyFault, SupplyIndex, SuppliedIndices};
 pub use update::{CommitFault, InstallFault, Prepared};

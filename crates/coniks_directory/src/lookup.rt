@@ -26,3 +26,20 @@ pub enum LookupFault {
     #[error("out of memory")]
     OutOfMemory,
 }
+
+/// Why a lookup of a name at an index is refused: the first error that applies, in this order.
+#[derive(Clone, Copy, Debug, Drop, PartialEq, Eq, Error)]
+pub enum LookupAtFault {
+    /// No epoch was installed under exactly this number.
+    #[error("there is no such epoch")]
+    UnknownEpoch,
+    /// The name is empty or longer than `MAX_NAME` bytes.
+    #[error("the name is empty or longer than {} bytes", MAX_NAME)]
+    NameLength,
+    /// The name is registered with another index.
+    #[error("the name is registered with another index")]
+    OtherIndex,
+    /// An allocation failed.
+    #[error("out of memory")]
+    OutOfMemory,
+}

@@ -21,13 +21,20 @@ pub(crate) fn holder_at<'a>(tree: &'a Tree, root: Option<Root>, index: &Index) -
 }
 
 /// Whether the record at a name's index is of the name.
-fn is_named(holder: Option<&Record>, name: &Bytes) -> bool
+pub(crate) fn is_of(holder: Option<&Record>, name: &[u8]) -> bool
     ensures { (of : List ℕ → List ℕ) (registry : Registry) → HolderIs of registry (of name.now) holder.entry → result ≡ has_name registry name.now }
 {
     match holder {
         None => false,
-        Some(record) => record.binding.name.as_slice() == name.as_slice(),
+        Some(record) => record.binding.name.as_slice() == name,
     }
+}
+
+/// Whether the record at the index of an operation's name is of the name.
+fn is_named(holder: Option<&Record>, name: &Bytes) -> bool
+    ensures { (of : List ℕ → List ℕ) (registry : Registry) → HolderIs of registry (of name.now) holder.entry → result ≡ has_name registry name.now }
+{
+    is_of(holder, name.as_slice())
 }
 
 /// Whether the record at a name's index is of another name.

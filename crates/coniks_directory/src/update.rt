@@ -25,7 +25,10 @@ pub struct Prepared {
 }
 
 impl Prepared {
+    ghost use Rattle.std.specs.Prelude.{◌≡◌, map};
+    ghost use Rattle.coniks_directory.specs.State.{registered_of};
     ghost use Rattle.coniks_directory.specs.Updates.{nodes_added};
+    ghost use Rattle.coniks_proof.specs.Registry.{has_name};
 
     /// How many nodes an install of the update adds, empty nodes and the root included: for b operations, b at least 1, at
     /// most `512 * b + 1`; without operations one as the first epoch, and none later.
@@ -33,6 +36,18 @@ impl Prepared {
         ensures { result ≡ nodes_added self.now }
     {
         self.new_nodes
+    }
+
+    /// Whether one of the batch's operations is on the name.
+    pub fn binds(&self, name: &[u8]) -> bool
+        ensures { result ≡ has_name (map registered_of self.now.records.items) name.now }
+    {
+        for record in &self.records {
+            if record.binding.name.as_slice() == name {
+                return true;
+            }
+        }
+        false
     }
 }
 

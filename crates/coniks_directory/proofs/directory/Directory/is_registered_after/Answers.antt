@@ -1,0 +1,24 @@
+use Rattle.std.proofs.Common.{◌≡◌, ap, map, sym, true, ◌∙◌, ◌||◌}
+use Rattle.coniks_directory.proofs.Words.{has_name, history_of, latest_registry, registered_of, state_of}
+use Rattle.coniks_directory.proofs.AgreementLemmas.{leaves_name}
+use Rattle.coniks_directory.proofs.directory.Directory.is_registered_after.Goals as goal
+
+pub returns-then-is_registered : goal.returns-then-is_registered
+returns-then-is_registered g c =
+    let d = c.self.inside in
+    let p = c.args.update.now in
+    let name = c.args.name.now in
+    let there : has_name (latest_registry (history_of (state_of d.held))) name ≡ true = rw (← c.self.view_is) at (sym c.is_registered.ensures ∙ c.if-is_registered.true) in
+    rw (← c.self.view_is)
+    (c.if-is_registered.true
+    ∙ sym (leaves_name (g.H.Hash32.digest_of d.h) (g.X.IndexSource.index_of d.source) (state_of d.held) p name c.self.invariant ∙ ap (λ v. v || has_name (map registered_of p.records.items) name) there))
+
+pub returns-else-is_registered : goal.returns-else-is_registered
+returns-else-is_registered g c =
+    let d = c.self.inside in
+    let p = c.args.update.now in
+    let name = c.args.name.now in
+    let gone = rw (← c.self.view_is) at (sym c.is_registered.ensures ∙ c.if-is_registered.false) in
+    rw (← c.self.view_is)
+    (c.binds.ensures
+    ∙ sym (leaves_name (g.H.Hash32.digest_of d.h) (g.X.IndexSource.index_of d.source) (state_of d.held) p name c.self.invariant ∙ ap (λ v. v || has_name (map registered_of p.records.items) name) gone))

@@ -1,0 +1,57 @@
+-- Indices that are supplied after `open`: two functions of indices that agree on the registered names say the same of a directory.
+use Rattle.std.specs.Prelude.{◌≡◌, ◌≢◌, ℕ, List, [], ◌∷◌, Bool, true, false, None, if◌then◌else◌, is_some}
+use Rattle.std.specs.List.{list_any}
+use Rattle.std.specs.Str.{bytes_eq}
+use Rattle.coniks_proof.specs.Batches.{fits}
+use Rattle.coniks_proof.specs.Preimages.{zeros}
+use Rattle.coniks_proof.specs.Registry.{Registry, has_name}
+use Rattle.coniks_proof.specs.declared.values.TheConstants.{MAX_NAME}
+use Rattle.coniks_directory.specs.History.{Shown, shown_at}
+use Rattle.coniks_directory.specs.declared.lookup.LookupAtFault.{LookupAtFault}
+use Rattle.coniks_directory.specs.declared.lookup.LookupAtFault.TheVariants as at
+use Rattle.coniks_directory.specs.declared.supplied.SupplyFault.{SupplyFault}
+use Rattle.coniks_directory.specs.declared.supplied.SupplyFault.TheVariants.{NameLength, OtherIndex, OutOfMemory}
+
+-- both give each name of the registry the same index
+abbrev pub AgreeOn : (List ℕ → List ℕ) → (List ℕ → List ℕ) → Registry → Type 0
+AgreeOn of also registry = (name : List ℕ) → has_name registry name ≡ true → of name ≡ also name
+
+-- the second gives the name this index, and each other name the index that the first gives it
+pub record IsSupplied (of : List ℕ → List ℕ) (name index : List ℕ) (also : List ℕ → List ℕ) : Type 0 where
+  pub here : also name ≡ index
+  pub others : (other : List ℕ) → other ≢ name → also other ≡ of other
+
+-- the name has a name's length, and isn't registered with another index
+pub record MaySupply (of : List ℕ → List ℕ) (registry : Registry) (name index : List ℕ) : Type 0 where
+  pub sized : fits MAX_NAME name ≡ true
+  pub kept : has_name registry name ≡ true → of name ≡ index
+
+-- the name is registered with another index
+abbrev pub HasOtherIndex : (List ℕ → List ℕ) → Registry → List ℕ → List ℕ → Type 0
+HasOtherIndex of registry name index = (has_name registry name ≡ true) × (of name ≢ index)
+
+-- why an index isn't taken: the first error that applies, in the order of the type
+abbrev pub IsSupplyFault : (List ℕ → List ℕ) → Registry → List ℕ → List ℕ → SupplyFault → Type 0
+IsSupplyFault of registry name index NameLength = fits MAX_NAME name ≡ false
+IsSupplyFault of registry name index OtherIndex = (fits MAX_NAME name ≡ true) × HasOtherIndex of registry name index
+IsSupplyFault of registry name index OutOfMemory = MaySupply of registry name index
+
+-- why a lookup of a name at this index isn't answered: the first error that applies, in the order of the type
+abbrev pub IsMissedAt : (List ℕ → List ℕ) → List Shown → Registry → ℕ → List ℕ → List ℕ → LookupAtFault → Type 0
+IsMissedAt of history registry t name index at.UnknownEpoch = shown_at history t ≡ None
+IsMissedAt of history registry t name index at.NameLength = (is_some (shown_at history t) ≡ true) × (fits MAX_NAME name ≡ false)
+IsMissedAt of history registry t name index at.OtherIndex = (is_some (shown_at history t) ≡ true) × (fits MAX_NAME name ≡ true) × HasOtherIndex of registry name index
+IsMissedAt of history registry t name index at.OutOfMemory = (is_some (shown_at history t) ≡ true) × MaySupply of registry name index
+
+-- a name, and the index that was supplied for it
+abbrev pub Supplied : Type 0
+Supplied = List ℕ × List ℕ
+
+-- the index that was supplied for a name, or 32 zero bytes where none was
+abbrev pub supplied_index : List Supplied → List ℕ → List ℕ
+supplied_index [] name = zeros
+supplied_index (e ∷ es) name = if bytes_eq name e.0 then e.1 else supplied_index es name
+
+-- an index was supplied for the name
+abbrev pub is_supplied : List Supplied → List ℕ → Bool
+is_supplied supplied name = list_any (λ (e : Supplied). bytes_eq name e.0) supplied

@@ -1,0 +1,94 @@
+//! Indices that another process computes, and the caller supplies after `open`.
+
+ghost use Rattle.std.specs.Prelude.{◌≡◌, OnErr, OnOk, []};
+ghost use Rattle.coniks_directory.specs.Supplied.{IsSupplied};
+
+use crate::source::IndexSource;
+use coniks_proof::{Index, MAX_NAME};
+use std::alloc::{AllocError, Global};
+use std::collections::BTreeMap;
+use std::marker::Model;
+use thiserror::Error;
+
+/// A source to which the caller supplies indices.
+pub trait SupplyIndex: IndexSource {
+    /// Stores the index of a name, in place of an earlier one. After an error nothing has changed.
+    fn supply(&mut self, name: &[u8], index: Index) -> Result<(), AllocError>
+        ensures supplied { OnOk result (IsSupplied (Self.index_of self.old) name.now index.0 (Self.index_of self.new)) }
+        ensures unchanged { OnErr result (self.new ≡ self.old) };
+}
+
+/// An index source that holds the indices that were supplied to it. Contracts see it as a list of names with their indices,
+/// in the order of the names.
+#[derive(Drop)]
+pub struct SuppliedIndices {
+    alloc: Global,
+    indices: BTreeMap<Vec<u8>, Index>,
+}
+
+impl Model for SuppliedIndices {
+    ghost use Rattle.std.specs.Prelude.{List, map};
+    ghost use Rattle.coniks_directory.specs.Supplied.{Supplied};
+
+    ghost Value = { List Supplied };
+
+    ghost view = { λ t. map (λ e. (e.0.items, e.1.0)) t.indices.entries };
+}
+
+impl SuppliedIndices {
+    ghost use Rattle.coniks_directory.specs.Supplied.{is_supplied};
+    ghost use Rattle.std.specs.Prelude.{◌≡◌, []};
+
+    /// Returns a source without indices. Allocates nothing.
+    pub fn new(alloc: Global) -> SuppliedIndices
+        ensures { result ≡ [] }
+    {
+        SuppliedIndices {
+            alloc,
+            indices: BTreeMap::new(alloc),
+        }
+    }
+
+    /// Returns whether an index was supplied for the name.
+    pub fn has(&self, name: &[u8]) -> bool
+        ensures { result ≡ is_supplied self.now name.now }
+    {
+        self.indices.contains_key(name)
+    }
+}
+
+impl IndexSource for SuppliedIndices {
+    ghost use Rattle.coniks_directory.specs.Supplied.{supplied_index};
+
+    ghost index_of = { λ supplied name. supplied_index supplied name };
+
+    /// Returns the index that was supplied for the name, or 32 zero bytes if none was.
+    fn index(&self, name: &[u8]) -> Index {
+        match self.indices.get(name) {
+            Some(index) => *index,
+            None => Index([0; 32]),
+        }
+    }
+}
+
+impl SupplyIndex for SuppliedIndices {
+    fn supply(&mut self, name: &[u8], index: Index) -> Result<(), AllocError> {
+        let name = Vec::from_slice(self.alloc, name)?;
+        self.indices.insert(name, index)?;
+        Ok(())
+    }
+}
+
+/// Why an index is refused: the first error that applies, in this order.
+#[derive(Clone, Copy, Debug, Drop, PartialEq, Eq, Error)]
+pub enum SupplyFault {
+    /// The name is empty or longer than `MAX_NAME` bytes.
+    #[error("the name is empty or longer than {} bytes", MAX_NAME)]
+    NameLength,
+    /// The name is registered with another index.
+    #[error("the name is registered with another index")]
+    OtherIndex,
+    /// An allocation failed.
+    #[error("out of memory")]
+    OutOfMemory,
+}
