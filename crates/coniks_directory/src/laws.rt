@@ -50,12 +50,12 @@ pub fn answers_are_no_older()
         → Begins had has → Begins has (heads_of hash chain) → last_of had ≡ Some latest → last_of has ≡ Some answer → latest.epoch ≤ answer.epoch }
 {}
 
-/// The directory theorem: a run of public calls from `open` on, refused ones and supplyings among them, leaves the directory
-/// that its batches define, whatever workers and depths were chosen, and these are a history of accepted batches by the
-/// indices that the directory holds at the end. So the entries
-/// are those of that directory, where `chain` says that they are the history's, and so are the answers of `root_at` and of
-/// `lookup`. Two proofs that are accepted for one root, nonce and index with different answers disagree, and there
-/// `coniks_proof::extract` gives two different byte strings of one hash.
+/// The directory theorem: a run of public calls from `open` on, refused calls and calls of `supply` among them, leaves the
+/// directory that its batches define, whatever workers and depths were chosen. These batches are a history of accepted ones,
+/// by the indices that the directory holds at the end. So the entries are those of that directory, where `chain` says that
+/// they are the history's, and so are the results of `root_at` and of `lookup`. Two proofs that are accepted for one root,
+/// nonce and index with different answers disagree, and there `coniks_proof::extract` gives two different byte strings of one
+/// hash.
 pub fn directory_theorem()
     ensures epochs { (hash of : List ℕ → List ℕ) (nonce policy : List ℕ) (batches : List Batch) (s : State) → Run hash of nonce policy batches s
         → history_of s ≡ defined nonce batches }
@@ -73,9 +73,9 @@ pub fn directory_theorem()
         → Accepts hash nonce root index name_b b y → x ≢ y → Disagree hash nonce root index name_a a name_b b }
 {}
 
-/// What one function of indices says of a directory, each function says that gives the registered names the same indices:
-/// so an index may be supplied of a name that isn't registered, and what was installed stays as it was. An update stays one of
-/// the directory where the two agree on the registry that it leaves.
+/// What is true of a directory by one function of indices is true by each function that gives the registered names the same
+/// indices. So the index of a name that isn't registered can be supplied, and all that is installed stays as it is. An update
+/// stays one of the directory if the two functions agree on the registry that it leaves.
 pub fn indices_may_be_supplied()
     ensures directories { (hash of also : List ℕ → List ℕ) (s : State) → AgreeOn of also (latest_registry (history_of s)) → Whole hash of s → Whole hash also s }
     ensures updates { (hash of also : List ℕ → List ℕ) (s : State) (update : Prepared) → AgreeOn of also (registry_after s update) → IsUpdateOf hash of s update → IsUpdateOf hash also s update }

@@ -33,6 +33,24 @@
 //!     bail!("there is no epoch {epoch}");
 //! };
 //! ```
+//!
+//! A provider's indices can come from another process (a VRF, RFC 9381). They are supplied before a batch registers their
+//! names, and a lookup takes the index of its name along:
+//!
+//! ```rust
+//! // An index comes from the process that holds the key, before the batch that registers its name.
+//! let indices = SuppliedIndices::new(alloc);
+//! let mut directory = Directory::open(alloc, TaggedHash, indices, NONCE, POLICY);
+//! directory.supply(b"alice", alice)?;
+//! directory.supply(b"bob", bob)?;
+//! let ops = first_batch(alloc)?;
+//! ```
+//!
+//! ```rust
+//! // A lookup takes the index along and stores nothing.
+//! let index = INDEX.index(b"mallory");
+//! let proof = directory.lookup_at(1, b"mallory", index)?;
+//! ```
 #![tactic(auto)]
 
 pub mod batch;
@@ -58,5 +76,5 @@ pub use batch::{BatchFault, Op, OpFault, OpKind};
 pub use directory::Directory;
 pub use lookup::{LookupAtFault, LookupFault, SignedProof};
 pub use source::IndexSource;
-pub use supplied::{SupplyFault, SupplyIndex, SuppliedIndices};
+pub use supplied::{SuppliedIndices, SupplyFault, SupplyIndex};
 pub use update::{CommitFault, InstallFault, Prepared};

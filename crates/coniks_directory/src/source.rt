@@ -8,9 +8,8 @@ use coniks_proof::Index;
 ///
 /// A provider has a verifiable unpredictable function here (CONIKS, section 3; RFC 9381 has such functions), so that an
 /// index tells nobody which name it is of. Its type holds the key; `index_of` is the definition of the function's first 32
-/// bytes under that key, and `index` computes them. Where another process computes them, the type holds the names with
-/// their indices as they were fetched, `index_of` is what it holds, and any index of a name that it lacks: so a batch's
-/// names are fetched before `prepare`.
+/// bytes under that key, and `index` computes them. If another process computes them, `SuppliedIndices` holds those that
+/// were supplied to it.
 ///
 /// The function's own proof, that an index is the name's, isn't asked for here and stands in no path. The provider gives it
 /// beside the directory's proof, by a method of its own, and the client hands the index that it has verified to `check` or

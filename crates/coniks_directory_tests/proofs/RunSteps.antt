@@ -4,9 +4,10 @@ use Rattle.coniks_proof.specs.Batches.{Operation}
 use Rattle.coniks_directory.specs.Batches.{IsAccepted}
 use Rattle.coniks_directory.specs.Directories.{IsAlike}
 use Rattle.coniks_directory.specs.History.{latest_registry}
-use Rattle.coniks_directory.specs.Runs.{Batch, IsPreparedOf, Run, committed, installed}
+use Rattle.coniks_directory.specs.Runs.{Batch, IsPreparedOf, Run, committed, installed, supplied}
 use Rattle.coniks_directory.specs.State.{State, View, history_of}
-use Rattle.coniks_directory.specs.Updates.{Grows, MayInstall, base_of, shown_after, shown_next}
+use Rattle.coniks_directory.specs.Supplied.{AgreeOn}
+use Rattle.coniks_directory.specs.Updates.{Grows, MayInstall, base_of, registry_after, shown_after, shown_next}
 use Rattle.coniks_directory.specs.declared.update.Prepared.{Prepared}
 
 -- a directory with the same hash and index source
@@ -20,14 +21,14 @@ moved {H} {X} digest index h h' x x' nonce policy batches s same_hash same_index
 pub install_step : {H X A E : Type 0} (digest : H → List ℕ → List ℕ) (index : X → List ℕ → List ℕ) (result : Result A E) (v v' : View H X) (update : Prepared) (t published capacity : ℕ)
     → OnOk result (history_of v'.state ≡ history_of v.state ++ shown_after v.state update t ∷ []) → OnOk result (MayInstall v.state (base_of update) t published capacity)
     → IsAlike v' v → Grows v.state v'.state
-    → OnOk result ((nonce policy : List ℕ) (batches : List Batch) (earlier : State) (brought : Option (List ℕ)) (ops : List Operation) (depth workers : ℕ)
+    → OnOk result ((then : List ℕ → List ℕ) (nonce policy : List ℕ) (batches : List Batch) (earlier : State) (brought : Option (List ℕ)) (ops : List Operation) (depth workers : ℕ)
     → Run (digest v.hash) (index v.index) nonce policy batches v.state
-    → IsPreparedOf (digest v.hash) (index v.index) earlier brought ops depth workers update → Grows earlier v.state
+    → IsPreparedOf (digest v.hash) then earlier brought ops depth workers update → AgreeOn then (index v.index) (registry_after earlier update) → Grows earlier v.state
     → Run (digest v'.hash) (index v'.index) nonce policy (batches ++ record { t = t; brought = brought; ops = ops } ∷ []) v'.state)
 install_step digest index (Err e) v v' update t published capacity history may same grows = history
-install_step digest index (Ok a) v v' update t published capacity history may same grows = λ nonce policy batches earlier brought ops depth workers run prepared since.
+install_step digest index (Ok a) v v' update t published capacity history may same grows = λ then nonce policy batches earlier brought ops depth workers run prepared agree since.
     moved digest index v.hash v'.hash v.index v'.index nonce policy (batches ++ record { t = t; brought = brought; ops = ops } ∷ []) v'.state same.hash same.index
-    (installed batches (record { t = t; brought = brought; ops = ops }) earlier v.state v'.state update depth workers published capacity run prepared since may history grows)
+    (installed (index v.index) then nonce policy batches (record { t = t; brought = brought; ops = ops }) earlier v.state v'.state update depth workers published capacity run prepared agree since may history grows)
 
 -- a `commit`
 pub commit_step : {H X A E : Type 0} (digest : H → List ℕ → List ℕ) (index : X → List ℕ → List ℕ) (result : Result A E) (v v' : View H X) (ops : List Operation) (depth workers t published capacity : ℕ)
@@ -38,4 +39,13 @@ pub commit_step : {H X A E : Type 0} (digest : H → List ℕ → List ℕ) (ind
 commit_step digest index (Err e) v v' ops depth workers t published capacity history accepted may same grows = history
 commit_step digest index (Ok a) v v' ops depth workers t published capacity history accepted may same grows = λ nonce policy batches run.
     moved digest index v.hash v'.hash v.index v'.index nonce policy (batches ++ record { t = t; brought = None; ops = ops } ∷ []) v'.state same.hash same.index
-    (committed batches (record { t = t; brought = None; ops = ops }) v.state v'.state depth workers published capacity run refl accepted may history grows)
+    (committed (index v.index) nonce policy batches (record { t = t; brought = None; ops = ops }) v.state v'.state depth workers published capacity run refl accepted may history grows)
+
+-- a `supply`, refused or not
+pub supply_step : {H X : Type 0} (digest : H → List ℕ → List ℕ) (index : X → List ℕ → List ℕ) (v v' : View H X) → v'.state ≡ v.state → v'.hash ≡ v.hash
+    → AgreeOn (index v.index) (index v'.index) (latest_registry (history_of v.state)) → (nonce policy : List ℕ) (batches : List Batch)
+    → Run (digest v.hash) (index v.index) nonce policy batches v.state → Run (digest v'.hash) (index v'.index) nonce policy batches v'.state
+supply_step {H} digest index v v' same_state same_hash agree nonce policy batches run =
+    subst (λ (s : State). Run (digest v'.hash) (index v'.index) nonce policy batches s) (sym same_state)
+    (subst (λ (h : H). Run (digest h) (index v'.index) nonce policy batches v.state) (sym same_hash)
+    (supplied (index v.index) (index v'.index) nonce policy batches v.state run agree))

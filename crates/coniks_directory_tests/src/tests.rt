@@ -15,6 +15,7 @@ mod outside;
 mod refused;
 mod renewals;
 mod runs;
+mod supplying;
 mod together;
 mod updates;
 mod watchers;

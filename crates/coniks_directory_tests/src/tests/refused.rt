@@ -7,10 +7,13 @@ ghost use Rattle.coniks_directory_tests.specs.Letters.{index_of_letter};
 ghost use Rattle.coniks_directory.specs.Updates.{IsUpdateOf};
 
 use crate::tests::answers::{Told, asked, digest};
-use crate::tests::clerk::{Clerk, RENEWED, Written, ops_of, with_clerk};
+use crate::tests::clerk::{Clerk, Letters, NONCE, POLICY, RENEWED, Written, ops_of, with_clerk};
 use coniks_chain::{Entry, Sign};
 use coniks_directory::OpKind::{Change, Register};
-use coniks_directory::{BatchFault, CommitFault, InstallFault, LookupFault, Op, Prepared};
+use coniks_directory::{
+    BatchFault, CommitFault, Directory, IndexSource, InstallFault, LookupAtFault, LookupFault, Op,
+    Prepared, SuppliedIndices, SupplyFault,
+};
 use coniks_proof::{Digest, Hash32, Head, Nonce, Sha256Hash};
 use coniks_work::Open;
 use std::process::Abort;
@@ -254,4 +257,42 @@ fn look_up_three<R: Threads + Sync + Abort>(rt: &R, clerk: &mut Clerk<Sha256Hash
 #[test]
 fn lookup(rt: HostRuntime) {
     tell(&rt, |clerk| look_up_three(&rt, clerk));
+}
+
+/// Looks a name up at its index, once more where memory is refused, and says whether it was.
+fn look_up_at<R: Threads + Sync + Abort>(rt: &R, clerk: &mut Clerk<Sha256Hash>) -> bool {
+    second_epoch(rt, clerk, 1);
+    let index = Letters.index(b"b");
+    let before = seen(clerk);
+    let fault = clerk.directory.lookup_at(2, b"b", index).err();
+    assert!(rt; seen(clerk) == before);
+    let Some(fault) = fault else {
+        return false;
+    };
+    assert!(rt; fault == LookupAtFault::OutOfMemory);
+    assert!(rt; clerk.directory.lookup_at(2, b"b", index).is_ok());
+    true
+}
+
+#[test]
+fn lookup_at(rt: HostRuntime) {
+    tell(&rt, |clerk| look_up_at(&rt, clerk));
+}
+
+/// An index that was refused memory isn't there, and can be supplied again.
+#[test]
+fn supply(rt: HostRuntime) {
+    let alloc = rt.alloc();
+    let source = SuppliedIndices::new(alloc);
+    let mut directory = Directory::open(alloc, Sha256Hash, source, NONCE, POLICY);
+    let index = Letters.index(b"b");
+    let supplied = directory.supply(b"b", index);
+    let is_refused = supplied == Err(SupplyFault::OutOfMemory);
+    assert!(rt; is_refused || supplied.is_ok());
+    assert!(rt; directory.source().has(b"b") != is_refused);
+    if is_refused {
+        assert!(rt; directory.supply(b"b", index).is_ok());
+    }
+    assert!(rt; directory.source().index(b"b") == index);
+    let _ = println!(&rt; "{}", if is_refused { "refused" } else { "answered" });
 }

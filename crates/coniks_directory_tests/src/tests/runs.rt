@@ -7,7 +7,8 @@ ghost use Rattle.coniks_directory.specs.History.{root_at, shown_at};
 ghost use Rattle.coniks_directory.specs.Lookups.{IsAcceptedAt};
 ghost use Rattle.coniks_directory.specs.Runs.{Batch, IsPreparedOf, Run, defined};
 ghost use Rattle.coniks_directory.specs.State.{State};
-ghost use Rattle.coniks_directory.specs.Updates.{Grows, IsUpdateOf};
+ghost use Rattle.coniks_directory.specs.Supplied.{AgreeOn};
+ghost use Rattle.coniks_directory.specs.Updates.{Grows, IsUpdateOf, registry_after};
 ghost use Rattle.coniks_proof.specs.Batches.{Operation};
 
 use crate::tests::answers::digest;
@@ -17,8 +18,9 @@ use coniks_directory::OpKind::{Change, Register};
 use coniks_directory::laws::{directory_theorem, updates_stay};
 use coniks_directory::{
     BatchFault, CommitFault, Directory, IndexSource, InstallFault, LookupFault, Op, Prepared,
+    SupplyFault, SupplyIndex,
 };
-use coniks_proof::{Digest, Hash32, Nonce, Proof, Sha256Hash};
+use coniks_proof::{Digest, Hash32, Index, Nonce, Proof, Sha256Hash};
 use coniks_shared::{Board, Publisher};
 use coniks_work::Open;
 use std::process::Abort;
@@ -48,7 +50,7 @@ fn prepare_renewed<H: Hash32 + Sync, X: IndexSource, R: Threads + Sync>(
 }
 
 /// `install`, which makes a run one batch longer, whatever was called since the update was prepared.
-fn install_next<H: Hash32, X: IndexSource, S: Sign>(
+pub fn install_next<H: Hash32, X: IndexSource, S: Sign>(
     directory: &mut Directory<H, X>,
     update: Prepared,
     t: u64,
@@ -61,9 +63,10 @@ fn install_next<H: Hash32, X: IndexSource, S: Sign>(
     requires refused { S.refused_of signer.old < 2 ^ 64 - 1 }
     requires table { publisher.old.table ≡ board.now.table }
     requires published { publisher.old.heads ≡ heads_of (H.digest_of directory.old.hash) directory.old.state.chain }
-    ensures run { OnOk result ((nonce policy : List ℕ) (batches : List Batch) (earlier : State) (brought : Option (List ℕ)) (ops : List Operation) (depth workers : ℕ)
+    ensures run { OnOk result ((then : List ℕ → List ℕ) (nonce policy : List ℕ) (batches : List Batch) (earlier : State) (brought : Option (List ℕ)) (ops : List Operation) (depth workers : ℕ)
         → Run (H.digest_of directory.old.hash) (X.index_of directory.old.index) nonce policy batches directory.old.state
-        → IsPreparedOf (H.digest_of directory.old.hash) (X.index_of directory.old.index) earlier brought ops depth workers update → Grows earlier directory.old.state
+        → IsPreparedOf (H.digest_of directory.old.hash) then earlier brought ops depth workers update → AgreeOn then (X.index_of directory.old.index) (registry_after earlier update)
+        → Grows earlier directory.old.state
         → Run (H.digest_of directory.new.hash) (X.index_of directory.new.index) nonce policy (batches ++ record { t = t; brought = brought; ops = ops } ∷ []) directory.new.state) }
     ensures heads { publisher.new.heads ≡ heads_of (H.digest_of directory.new.hash) directory.new.state.chain }
     ensures table { publisher.new.table ≡ publisher.old.table }
@@ -71,8 +74,41 @@ fn install_next<H: Hash32, X: IndexSource, S: Sign>(
     directory.install(update, t, signer, publisher, board)
 }
 
+/// `supply`, after which a run is one by the indices that the directory holds then.
+pub fn supply_next<H: Hash32, X: SupplyIndex>(
+    directory: &mut Directory<H, X>,
+    name: &[u8],
+    index: Index,
+) -> Result<(), SupplyFault>
+    ensures run { (nonce policy : List ℕ) (batches : List Batch)
+        → Run (H.digest_of directory.old.hash) (X.index_of directory.old.index) nonce policy batches directory.old.state
+        → Run (H.digest_of directory.new.hash) (X.index_of directory.new.index) nonce policy batches directory.new.state }
+    ensures chain { directory.new.state.chain ≡ directory.old.state.chain }
+    ensures hash { directory.new.hash ≡ directory.old.hash }
+{
+    directory.supply(name, index)
+}
+
+/// `supply` while an update waits, which stays one of the directory. Where the update binds the name, the index isn't supplied.
+pub fn supply_beside<H: Hash32, X: SupplyIndex>(
+    directory: &mut Directory<H, X>,
+    update: &Prepared,
+    name: &[u8],
+    index: Index,
+) -> bool
+    requires { IsUpdateOf (H.digest_of directory.old.hash) (X.index_of directory.old.index) directory.old.state update.now }
+    ensures update { IsUpdateOf (H.digest_of directory.new.hash) (X.index_of directory.new.index) directory.new.state update.now }
+    ensures chain { directory.new.state.chain ≡ directory.old.state.chain }
+    ensures hash { directory.new.hash ≡ directory.old.hash }
+{
+    if directory.is_registered_after(update, name) {
+        return false;
+    }
+    directory.supply(name, index).is_ok()
+}
+
 /// `commit`, which makes a run one batch longer.
-fn commit_next<H: Hash32 + Sync, X: IndexSource, S: Sign, R: Threads + Sync>(
+pub fn commit_next<H: Hash32 + Sync, X: IndexSource, S: Sign, R: Threads + Sync>(
     rt: &R,
     directory: &mut Directory<H, X>,
     ops: &[Op],
@@ -95,7 +131,7 @@ fn commit_next<H: Hash32 + Sync, X: IndexSource, S: Sign, R: Threads + Sync>(
 }
 
 /// `root_at`: after a run the root is that of the directory which the run's batches define.
-fn root_of<H: Hash32, X: IndexSource>(directory: &Directory<H, X>, t: u64) -> Option<Digest>
+pub fn root_of<H: Hash32, X: IndexSource>(directory: &Directory<H, X>, t: u64) -> Option<Digest>
     ensures { (nonce policy : List ℕ) (batches : List Batch)
         → Run (H.digest_of directory.now.hash) (X.index_of directory.now.index) nonce policy batches directory.now.state
         → option_map (λ root. root.0) result ≡ option_map (root_at (H.digest_of directory.now.hash) (X.index_of directory.now.index)) (shown_at (defined nonce batches) t) }
