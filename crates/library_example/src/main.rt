@@ -1,13 +1,14 @@
 //! A tour of the libraries. The first page of each is a part of this program.
 //!
-//! `own` has what a user brings, `provider` keeps a directory, `client` checks, audits and watches, `tree` grows a tree
-//! alone, and `lines` answers lines.
+//! `own` has what a user brings, `provider` keeps a directory, `supplied` one whose indices come from outside, `client`
+//! checks, audits and watches, `tree` grows a tree alone, and `lines` answers lines.
 #![tactic(auto)]
 
 mod client;
 mod lines;
 mod own;
 mod provider;
+mod supplied;
 mod tree;
 
 use anyhow::Result;
@@ -19,6 +20,7 @@ fn main(rt: HostRuntime) -> Result<()> {
     client::look_up(&rt, &provider, 2, "mallory")?;
     client::audit(&rt, &provider)?;
     client::watch(&rt, &provider, "bob")?;
+    supplied::supplied_indices(&rt)?;
     tree::small_tree(&rt)?;
     lines::echo_lines(&rt)?;
     lines::answer_script(&rt)?;

@@ -17,7 +17,7 @@ pub const NONCE: Nonce = Nonce([4; 32]);
 pub const INDEX: KeyedIndex = KeyedIndex { key: [5; 32] };
 
 /// The digest of a policy, which the entries name.
-const POLICY: [u8; 32] = [6; 32];
+pub const POLICY: [u8; 32] = [6; 32];
 
 /// A directory, and who signs its entries.
 #[derive(Drop)]
@@ -37,7 +37,7 @@ fn operation(alloc: Global, kind: OpKind, name: &str, key: &str) -> Result<Op, A
 }
 
 /// The batch of the first epoch.
-fn first_batch(alloc: Global) -> Result<Vec<Op>, AllocError> {
+pub fn first_batch(alloc: Global) -> Result<Vec<Op>, AllocError> {
     let alice = operation(alloc, OpKind::Register, "alice", "alice's key")?;
     let bob = operation(alloc, OpKind::Register, "bob", "bob's key")?;
     Ok(vec![in alloc; alice, bob]?)
