@@ -18,8 +18,17 @@
  * `enum coniks_status`, and of the errors that apply it is the first in the order that the call names. After an error
  * nothing is written. From version 1.0.0 on a status keeps its name and its number.
  *
- * Bytes. A proof is the kind of its end, the number of its siblings, the siblings, and what is at its end; an entry is a body
- * of 145 bytes and a signature of 64. docs/FORMATS.md has both layouts, in "A proof in bytes" and "Entries".
+ * Bytes. Numbers have their most significant byte first. The offsets of a proof of n siblings:
+ *
+ *     0           1 byte: the kind of its end, 0 an empty node, 1 the leaf of another index, 2 the leaf of the asked index
+ *     1           2 bytes: n
+ *     3           the siblings, 32 bytes each, from the root down
+ *     3 + 32 n    kind 0: nothing; kind 1: the other index (32) and its commitment (32); kind 2: the opening (32), the length
+ *                 of the name (2), the name, the length of the key (4), the key
+ *
+ * Nothing follows. The offsets of an entry: version 0 (1 byte), epoch 1 (8), epoch before 9 (8), root 17 (32), previous link
+ * 49 (32), nonce 81 (32), policy 113 (32), signature 145 (64). docs/FORMATS.md has more on both, in "A proof in bytes" and
+ * "Entries".
  *
  * Built with: cc program.c $(pkg-config --cflags --libs coniks), or with libconiks.a and no other library. The archive that
  * embed/build makes needs an x86-64 processor of level v2 (SSE4.2).
@@ -39,6 +48,7 @@ extern "C" {
 #define CONIKS_VERSION_MAJOR 1
 #define CONIKS_VERSION_MINOR 0
 #define CONIKS_VERSION_PATCH 0
+#define CONIKS_VERSION_NUMBER (10000 * CONIKS_VERSION_MAJOR + 100 * CONIKS_VERSION_MINOR + CONIKS_VERSION_PATCH)
 
 /* A result that must be used: a status says whether anything was written. */
 #if defined(__GNUC__)
@@ -53,7 +63,8 @@ enum {
     CONIKS_ENTRY_BYTES = 209,     /* both */
     CONIKS_MAX_NAME = 255,        /* bytes of a name; at least 1 */
     CONIKS_MAX_KEY = 16384,       /* bytes of a key; at least 1 */
-    CONIKS_MAX_PROOF = 24872      /* bytes of the longest proof that can be accepted */
+    CONIKS_MAX_PROOF = 24872,     /* bytes of the longest proof that can be accepted */
+    CONIKS_TEXT_BYTES = 128       /* room for each text of coniks_text with its zero byte */
 };
 
 enum coniks_status {
@@ -197,10 +208,14 @@ CONIKS_NODISCARD
 uint32_t coniks_link(const uint8_t *entry, size_t entry_length, coniks_bytes32 *link);
 
 /*
- * Writes what a fault's status says, in English and ASCII, as far as there is room, and returns how many bytes the whole
- * text has: 0 for a number that is no fault's. No zero byte is put after the text.
+ * Writes the text of an error's status, in English and ASCII, and a zero byte after it, as snprintf does. At most `room` bytes
+ * are written, the last one 0; a text that doesn't fit is cut. Returns the length of the whole text without its zero byte. The
+ * text of a number that is no error's status is empty. No text with its zero byte is longer than CONIKS_TEXT_BYTES.
  */
 size_t coniks_text(uint32_t status, uint8_t *text, size_t room);
+
+/* Returns the version of the library. It is CONIKS_VERSION_NUMBER if header and library are of one version. */
+uint32_t coniks_version(void);
 
 #ifdef __cplusplus
 }

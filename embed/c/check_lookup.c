@@ -57,8 +57,8 @@ int main(int argc, char **argv)
         puts("absent");
         return 0;
     }
-    uint8_t text[128];
-    size_t size = coniks_text(status, text, sizeof text);
-    printf("refused (%u): %.*s\n", (unsigned)status, (int)size, (const char *)text);
+    uint8_t text[CONIKS_TEXT_BYTES];
+    coniks_text(status, text, sizeof text);
+    printf("refused (%u): %s\n", (unsigned)status, (const char *)text);
     return 1;
 }

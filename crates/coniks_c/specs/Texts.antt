@@ -1,5 +1,5 @@
 -- What is said of each refusal, in English and ASCII.
-use Rattle.std.specs.Prelude.{ℕ, List, ◌++◌, codes, take, drop, length}
+use Rattle.std.specs.Prelude.{ℕ, List, [], ◌∷◌, ◌++◌, codes, take, drop, length}
 use Rattle.coniks_proof.specs.declared.checker.CheckFault.{CheckFault}
 use Rattle.coniks_proof.specs.declared.checker.CheckFault.TheVariants.{TooDeep, NameLength, KeyLength, WrongName, OtherIsSame, OtherOffPath, RootMismatch}
 use Rattle.coniks_proof.specs.declared.wire.WireFault.{WireFault}
@@ -50,6 +50,8 @@ text_of (Audit fault) = audit_text fault
 text_of EntryLength = codes "the entry hasn't 209 bytes"
 text_of NoEntry = codes "no entry was accepted yet"
 
--- a place with a text at its front: as much of the text as there is room for, and the rest of the place as it was
+-- a place with a text at its front and a zero byte after it: the text is cut to the room before that byte, and the rest of
+-- the place is as it was
 abbrev pub written : List ℕ → List ℕ → List ℕ
-written place text = take (length place) text ++ drop (length text) place
+written [] text = []
+written (b ∷ place) text = take (length place) text ++ 0 ∷ drop (length text) place

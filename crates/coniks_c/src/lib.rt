@@ -12,6 +12,7 @@ mod monitor;
 mod status;
 mod text;
 mod values;
+mod version;
 
 pub use auditor::{coniks_auditor_begin, coniks_auditor_feed, coniks_auditor_head};
 pub use check::coniks_check;
@@ -19,3 +20,4 @@ pub use entries::{coniks_body_bytes, coniks_entry_body, coniks_link};
 pub use monitor::coniks_monitor_step;
 pub use text::coniks_text;
 pub use values::{AuditorState, Bytes32, Bytes145, EntryBody};
+pub use version::coniks_version;

@@ -1,6 +1,6 @@
 //! The texts of faults.
 
-ghost use Rattle.std.specs.Prelude.{◌≡◌, ◌≢◌, IfNone, IfSome, length};
+ghost use Rattle.std.specs.Prelude.{◌≡◌, ◌≢◌, [], IfNone, IfSome, length};
 ghost use Rattle.coniks_c.specs.Statuses.{status_of};
 ghost use Rattle.coniks_c.specs.Texts.{audit_text, check_text, text_of, wire_text, written};
 ghost use Rattle.coniks_c.specs.declared.text.Refusal.{Refusal as Fault};
@@ -116,22 +116,28 @@ fn text_of(refusal: Refusal) -> &'static str
     }
 }
 
-/// Writes as many bytes of a text as there is room for.
+/// Writes a text and a zero byte after it, the text cut to the room that is left for it.
 fn write(text: &[u8], place: &mut [u8])
     ensures { place.new ≡ written place.old text.now }
 {
-    let count = min(text.len(), place.len());
+    if place.is_empty() {
+        return;
+    }
+    let count = min(text.len(), place.len() - 1);
     place[..count].copy_from_slice(&text[..count]);
+    place[count] = 0;
 }
 
-/// Writes what a status says, in English and ASCII: as many bytes of it as there is room for. The result is how many bytes
-/// the whole text has, and 0 for what is no fault's status. No byte of 0 is put after the text.
+/// Writes the text of a status, in English and ASCII, and a zero byte after it, as `snprintf` does: at most as many bytes as
+/// the place has, the last one 0. Returns the length of the whole text without its zero byte. The text of a number that is
+/// no error's status is empty.
 #[unsafe(no_mangle)]
 pub extern "C" fn coniks_text(status: u32, text: &mut [u8]) -> usize
     ensures said { (fault : Fault) → status_of fault ≡ status → (result ≡ length (text_of fault)) × (text.new ≡ written text.old (text_of fault)) }
-    ensures nothing { ((fault : Fault) → status_of fault ≢ status) → (result ≡ 0) × (text.new ≡ text.old) }
+    ensures nothing { ((fault : Fault) → status_of fault ≢ status) → (result ≡ 0) × (text.new ≡ written text.old []) }
 {
     let Some(refusal) = refusal_of(status) else {
+        write(b"", text);
         return 0;
     };
     let whole = text_of(refusal).as_bytes();

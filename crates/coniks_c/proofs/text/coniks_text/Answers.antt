@@ -7,4 +7,4 @@ pub returns-clause-said : goal.returns-clause-said
 returns-clause-said c = λ fault at.
     let same : c.in-Some.refusal ≡ fault = status_once c.in-Some.refusal fault (c.in-Some.ensures.found ∙ sym at) in
     let whole = c.as_bytes-whole.ensures.value ∙ c.text_of.ensures ∙ ap text_of same in
-    (ap length whole, c.write.ensures ∙ ap (written c.args.text.now) whole)
+    (ap length whole, c.write-2.ensures ∙ ap (written c.args.text.now) whole)
