@@ -20,11 +20,15 @@ class Entry:
         self.nonce = whole[81:113]
         self.signature = whole[145:]
 
+    @property
+    def link(self):
+        return link(self.whole)
+
 
 def entry_after(before, key, version, epoch, root, nonce, policy):
     """The entry that a directory signs after another one, or first."""
     body = number(version, 1) + number(epoch, 8) + number(before.epoch if before else 0, 8) + root
-    body += (link(before.whole) if before else ZEROS) + nonce + policy
+    body += (before.link if before else ZEROS) + nonce + policy
     return Entry(body + demonstration_seal(key, body))
 
 
@@ -40,7 +44,7 @@ def audit(entry, before, key):
         raise Fault("NotLater")
     if entry.epoch_before != (before.epoch if before else 0):
         raise Fault("PreviousEpoch")
-    if entry.previous_link != (link(before.whole) if before else ZEROS):
+    if entry.previous_link != (before.link if before else ZEROS):
         raise Fault("PreviousLink")
     if before is not None and entry.version == 1 and entry.nonce != before.nonce:
         raise Fault("NonceChanged")

@@ -1,0 +1,192 @@
+"""Calls of every export of the library for C with their answers, by cases/second, which shares nothing with the library."""
+
+import json
+import struct
+import sys
+from pathlib import Path
+
+HERE = Path(__file__).resolve().parent
+
+import proofs as samples
+
+# cases/second has a module of the same name.
+del sys.modules["proofs"]
+sys.path.insert(0, str(HERE.parent / "cases/second"))
+import bytelists
+import chain
+from members import Fault
+
+judge = chain.judge
+sys.path.pop(0)
+sys.modules["proofs"] = samples
+
+CHECK = ["TooDeep", "NameLength", "KeyLength", "WrongName", "OtherIsSame", "OtherOffPath", "RootMismatch"]
+AUDIT = ["Version", "VersionBack", "FirstEpoch", "NotLater", "PreviousEpoch", "PreviousLink", "NonceChanged", "Verdict"]
+STATUSES = {name: 2 + it for it, name in enumerate(CHECK)} | {name: 33 + it for it, name in enumerate(AUDIT)}
+STATE, BODY, FILL = "=Q32s32sB7s", "=QQ32s32s32s32sB7s", b"\xa5"
+KEY = bytes(32)
+VERSION = 10000
+
+
+def texts():
+    numbers = samples.statuses()
+    return {numbers[name]: it.encode() for name, it in json.loads((HERE / "texts.json").read_text("utf-8")).items()}
+
+
+TEXTS = texts()
+
+
+class Shown:
+    """A proof of bytes that are one."""
+
+    def __init__(self, proof):
+        self.kind = ["empty", "other", "here"][proof[0]]
+        end = 3 + 32 * int.from_bytes(proof[1:3], "big")
+        self.siblings = [proof[it : it + 32] for it in range(3, end, 32)]
+        rest = proof[end:]
+        self.index, self.commitment, self.opening = rest[:32], rest[32:64], rest[:32]
+        size = int.from_bytes(rest[32:34], "big")
+        self.name, self.key = rest[34 : 34 + size], rest[38 + size :]
+
+
+class Before:
+    """What an auditor keeps of an entry."""
+
+    def __init__(self, state):
+        self.epoch, self.link, self.nonce, self.version, _ = struct.unpack(STATE, state)
+
+
+def audited(state, whole, verdict):
+    """The state after an entry of 209 bytes; raises its first fault."""
+    entry, before = chain.Entry(whole), Before(state)
+    entry.signature = chain.demonstration_seal(KEY, entry.body) if verdict == 1 else b""
+    chain.audit(entry, before if before.epoch else None, KEY)
+    return struct.pack(STATE, entry.epoch, bytelists.link(whole), entry.nonce, entry.version, bytes(7))
+
+
+def check(_, nonce, root, index, name, proof, start, length):
+    status = samples.wire_status(proof)
+    if status:
+        return status, start, length
+    try:
+        key = judge(Shown(proof), index, name, nonce, root)
+    except Fault as fault:
+        return STATUSES[fault.answer["fault"]], start, length
+    if key is None:
+        return 1, start, length
+    return 0, struct.pack("=Q", len(proof) - len(key)), struct.pack("=Q", len(key))
+
+
+def begin(_, state):
+    return 0, bytes(80)
+
+
+def feed(verdict, state, entry):
+    if len(entry) != 209:
+        return 48, state
+    try:
+        return 0, audited(state, entry, verdict)
+    except Fault as fault:
+        return STATUSES[fault.answer["fault"]], state
+
+
+def head(_, state, epoch, link):
+    before = Before(state)
+    return (0, state[:8], before.link) if before.epoch else (49, epoch, link)
+
+
+def step(verdict, state, index, name, expected, entry, proof):
+    if len(entry) != 209:
+        return 48, state
+    status = samples.wire_status(proof)
+    if status:
+        return status, state
+    try:
+        after, it = audited(state, entry, verdict), chain.Entry(entry)
+        key = judge(Shown(proof), index, name, it.nonce, it.root)
+    except Fault as fault:
+        return STATUSES[fault.answer["fault"]], state
+    return (0 if key == (expected or None) else 1 if key is None else 9), after
+
+
+def entry_body(_, entry, body):
+    if len(entry) != 209:
+        return 48, body
+    it = chain.Entry(entry)
+    return 0, struct.pack(BODY, it.epoch, it.epoch_before, it.root, it.previous_link, it.nonce, entry[113:145], it.version, bytes(7))
+
+
+def body_bytes(_, body, __):
+    epoch, before, root, link, nonce, policy, version, _ = struct.unpack(BODY, body)
+    return 0, bytes([version]) + epoch.to_bytes(8, "big") + before.to_bytes(8, "big") + root + link + nonce + policy
+
+
+def link(_, entry, place):
+    return (0, bytelists.link(entry)) if len(entry) == 209 else (48, place)
+
+
+def text(status, place):
+    whole = TEXTS.get(status, b"")
+    return len(whole), (whole[: len(place) - 1] + b"\0" + place[len(whole) + 1 :] if place else b"")
+
+
+def version(_):
+    return (VERSION,)
+
+
+CALLS = [check, begin, feed, head, step, entry_body, body_bytes, link, text, version]
+
+
+def some_state(chance):
+    epoch = chance.choice([0, 0, 1, 7, 2**32, 2**64 - 2, 2**64 - 1])
+    return struct.pack(STATE, epoch, chance.randbytes(32), chance.randbytes(32), chance.choice([0, 1, 1, 2, 2, 3]), chance.randbytes(7))
+
+
+def some_entry(chance, state, root, nonce):
+    """An entry that follows the state, or nearly so."""
+    before = Before(state)
+    epoch = chance.choice([min(before.epoch + chance.choice([1, 1, 1, 5]), 2**64 - 1), before.epoch, chance.getrandbits(64)])
+    made = bytearray([chance.choice([1, 2, 2, 2])]) + epoch.to_bytes(8, "big") + before.epoch.to_bytes(8, "big") + root
+    made += (before.link if before.epoch else bytes(32)) + nonce + chance.randbytes(96)
+    how = chance.randrange(8)
+    if how == 0:
+        made[chance.randrange(len(made))] ^= 1 << chance.randrange(8)
+    elif how == 1:
+        made[chance.choice([0, 1, 9, 49, 81])] ^= chance.choice([1, 2, 3, 128])
+    elif how == 2 and chance.randrange(2):
+        made = made[: chance.randrange(209)] if chance.randrange(2) else made + bytes(chance.randrange(1, 40))
+    return bytes(made)
+
+
+def some_call(chance, lines):
+    """A call's number, its number and its arguments."""
+    call = chance.choice([0, 0, 0, 2, 2, 4, 4, 4, 4, *range(10)])
+    given, name, proof = samples.mutated(chance, chance.choice(lines))
+    state, verdict = some_state(chance), chance.choice([1, 1, 1, 1, 1, 1, 0, 2, 2**32 - 1])
+    if chance.randrange(2):
+        state = state[:40] + given["nonce"] + state[72:]
+    entry = some_entry(chance, state, given["root"], chance.choice([given["nonce"], given["nonce"], given["nonce"], chance.randbytes(32)]))
+    key = Shown(proof).key if samples.wire_status(proof) is None and proof[0] == 2 else b""
+    expected = chance.choice([b"", key, key, b"another key"])
+    return call, *[
+        (0, given["nonce"], given["root"], given["index"], name, proof, FILL * 8, FILL * 8),
+        (0, chance.randbytes(80)),
+        (verdict, state, entry),
+        (0, state, FILL * 8, FILL * 32),
+        (verdict, state, given["index"], name, expected, entry, proof),
+        (0, entry, FILL * 152),
+        (0, chance.randbytes(152), FILL * 145),
+        (0, entry, FILL * 32),
+        (chance.choice([chance.randrange(60), chance.getrandbits(32)]), FILL * chance.choice([0, 1, 2, chance.randrange(80), 128])),
+        (0,),
+    ][call]
+
+
+def record(call, number, *arguments):
+    return bytes([call]) + number.to_bytes(4, "big") + b"".join(len(it).to_bytes(4, "big") + it for it in arguments)
+
+
+def answer(call, number, *arguments):
+    """What the driver prints of a call, twice: once for each place of the arguments."""
+    status, *written = CALLS[call](number, *arguments)
+    return " ".join([str(status)] + [it.hex() for it in written])
