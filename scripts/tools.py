@@ -26,6 +26,17 @@ def compiles(text, *words):
     return ran.returncode == 0
 
 
+def packaging_python():
+    """A Python that makes environments and builds packages in them without a registry."""
+    for python in [sys.executable, "/usr/bin/python3"]:
+        ran = subprocess.run([python, "-c", "import ensurepip, setuptools, venv, wheel"], capture_output=True)
+        if ran.returncode == 0:
+            return python
+    return None
+
+
+PYTHON = packaging_python()
+
 # A tool, whether it is there, its packages in Debian, and what is skipped without it.
 TOOLS = {
     "a C compiler": (lambda: has_program(CC), "gcc libc6-dev", "faults/run and embed/test"),
@@ -33,8 +44,10 @@ TOOLS = {
     "the headers of OpenSSL": (lambda: compiles("#include <openssl/evp.h>\n", "-E", "-x", "c"), "libssl-dev", "c/audit_signed.c"),
     "pkg-config": (lambda: has_program("pkg-config"), "pkgconf", "embed/install"),
     "valgrind": (lambda: has_program("valgrind"), "valgrind", "answers under valgrind"),
-    "rustc": (lambda: has_program("rustc"), "rustc", "the example in Rust"),
-    "go": (lambda: has_program("go"), "golang-go", "the example in Go"),
+    "cargo": (lambda: has_program("cargo"), "cargo-web", "the side in Rust"),
+    "go": (lambda: has_program("go"), "golang-go", "the side in Go"),
+    "pip": (lambda: PYTHON is not None, "python3-venv python3-setuptools python3-wheel", "pip install"),
+    "mypy": (lambda: has_program("mypy"), "mypy", "the types of the side in Python"),
     "node": (lambda: has_program("node"), "nodejs", "the page's own tests"),
     "chromium": (lambda: has_program(CHROMIUM), "chromium", "the page in a browser"),
 }

@@ -1,14 +1,12 @@
-//! Checks a proof and audits an entry by the library for C. Its values are those of the worked examples.
-mod coniks;
+//! Checks a proof and audits an entry.
 
-use coniks::{check, Auditor, Refused};
+use coniks::{check, Auditor, Error};
 
-/// 32 bytes of hexadecimal digits.
 fn bytes(text: &str) -> Vec<u8> {
     (0..text.len() / 2).map(|i| u8::from_str_radix(&text[2 * i..2 * i + 2], 16).expect("two digits")).collect()
 }
 
-fn main() -> Result<(), Refused> {
+fn main() -> Result<(), Error> {
     let words: Vec<String> = std::env::args().skip(1).collect();
     let [nonce, root, index, name, proof, entry] = words.as_slice() else {
         eprintln!("example NONCE ROOT INDEX NAME PROOF ENTRY");

@@ -1,8 +1,8 @@
 """The client's side of a CONIKS key directory: a checker of proofs, an auditor of a chain, a monitor of one name.
 
 It calls libconiks.so by ctypes and judges nothing itself: what is accepted is what the proved library accepts. The library
-is looked for where the variable CONIKS_LIBRARY says, then beside this file, then in embed/out, then where the system has
-its libraries.
+is looked for where the variable CONIKS_LIBRARY says, then in this package, then in embed/out of the checkout, then where the
+system has its libraries.
 
     key = coniks.check(entry.nonce, entry.root, index, "alice", proof)     # bytes, or None where the name is bound to none
     auditor = coniks.Auditor()
@@ -24,6 +24,25 @@ import re
 from dataclasses import dataclass
 from pathlib import Path
 from typing import Any, Mapping, Optional, Union
+
+__version__ = "1.0.0"
+__all__ = [
+    "BODY_LENGTH",
+    "ENTRY_LENGTH",
+    "Auditor",
+    "Body",
+    "Head",
+    "Monitor",
+    "Name",
+    "Refused",
+    "Seen",
+    "Status",
+    "check",
+    "library_version",
+    "link",
+    "proof_bytes",
+    "text",
+]
 
 Name = Union[str, bytes]
 
@@ -113,12 +132,15 @@ class _Body(ctypes.Structure):
 
 
 def _load() -> ctypes.CDLL:
-    here = Path(__file__).resolve().parent
-    chosen = os.environ.get("CONIKS_LIBRARY")
-    tried = [chosen] if chosen else [here / "libconiks.so", here.parent / "out" / "libconiks.so", ctypes.util.find_library("coniks")]
-    for place in tried:
-        if place and (chosen or not isinstance(place, Path) or place.exists()):
+    here, chosen = Path(__file__).resolve().parent, os.environ.get("CONIKS_LIBRARY")
+    if chosen:
+        return ctypes.CDLL(chosen)
+    for place in [here / "libconiks.so", here.parent.parent / "out" / "libconiks.so"]:
+        if place.exists():
             return ctypes.CDLL(str(place))
+    found = ctypes.util.find_library("coniks")
+    if found:
+        return ctypes.CDLL(found)
     raise ImportError("libconiks.so isn't there: run embed/build, or set CONIKS_LIBRARY")
 
 
@@ -126,7 +148,7 @@ _library = _load()
 _run = [ctypes.c_char_p, ctypes.c_size_t]
 _32 = ctypes.POINTER(_Bytes32)
 _size = ctypes.POINTER(ctypes.c_size_t)
-for _name, _result, _arguments in [
+for _export, _result, _arguments in [
     ("coniks_check", ctypes.c_uint32, [_32, _32, _32, *_run, *_run, _size, _size]),
     ("coniks_auditor_begin", None, [ctypes.POINTER(_State)]),
     ("coniks_auditor_feed", ctypes.c_uint32, [ctypes.POINTER(_State), *_run, ctypes.c_uint32]),
@@ -136,8 +158,9 @@ for _name, _result, _arguments in [
     ("coniks_body_bytes", None, [ctypes.POINTER(_Body), ctypes.POINTER(_Bytes145)]),
     ("coniks_link", ctypes.c_uint32, [*_run, _32]),
     ("coniks_text", ctypes.c_size_t, [ctypes.c_uint32, ctypes.c_char_p, ctypes.c_size_t]),
+    ("coniks_version", ctypes.c_uint32, []),
 ]:
-    _call = getattr(_library, _name)
+    _call = getattr(_library, _export)
     _call.restype, _call.argtypes = _result, _arguments
 
 
@@ -170,6 +193,12 @@ def _verdict(value: Any) -> bool:
     if not isinstance(value, bool):
         raise TypeError(f"whether the signature is good is True or False, not {type(value).__name__}")
     return value
+
+
+def library_version() -> str:
+    """The version of the library that is called, as `__version__` is that of this package."""
+    number = _library.coniks_version()
+    return f"{number // 10000}.{number // 100 % 100}.{number % 100}"
 
 
 def text(status: int) -> str:

@@ -1,12 +1,13 @@
-// Checks a proof and audits an entry by the library for C.
+// Checks a proof and audits an entry.
 package main
 
 import (
 	"encoding/hex"
+	"errors"
 	"fmt"
 	"os"
 
-	"example.org/coniks/coniks"
+	"example.org/coniks"
 )
 
 func bytes(text string) []byte {
@@ -44,8 +45,8 @@ func main() {
 	var auditor coniks.Auditor
 	before := auditor
 	fmt.Println(auditor.Feed(entry, false))
-	_, _, any := auditor.Head()
-	fmt.Println("as it was:", auditor == before && !any)
+	_, _, err = auditor.Head()
+	fmt.Println("as it was:", auditor == before && errors.Is(err, coniks.ErrNoEntry))
 	if err := auditor.Feed(entry, true); err != nil {
 		fmt.Println(err)
 	}

@@ -1,0 +1,254 @@
+// Package coniks is the client's side of a CONIKS key directory: it checks proofs, audits a chain of signed entries and
+// monitors names.
+//
+// It calls the proved C library and decides nothing itself. It verifies no signatures: verify each one and pass the result.
+// Build the library first with embed/build.
+package coniks
+
+/*
+#cgo CFLAGS: -I${SRCDIR}/../../include
+#cgo LDFLAGS: ${SRCDIR}/../out/libconiks.a
+#include <coniks.h>
+*/
+import "C"
+
+import (
+	"fmt"
+	"unsafe"
+)
+
+// Sizes in bytes.
+const (
+	BodyBytes  = C.CONIKS_BODY_BYTES
+	EntryBytes = C.CONIKS_ENTRY_BYTES
+	StateBytes = C.sizeof_coniks_auditor
+)
+
+// Refused is the error of a proof or an entry that isn't accepted, by its number in coniks.h. Its values are the constants
+// Err..., which errors.Is compares.
+type Refused uint32
+
+// The bytes are a proof's, and the proof isn't accepted.
+const (
+	ErrTooDeep      Refused = C.CONIKS_E_TOO_DEEP
+	ErrNameLength   Refused = C.CONIKS_E_NAME_LENGTH
+	ErrKeyLength    Refused = C.CONIKS_E_KEY_LENGTH
+	ErrWrongName    Refused = C.CONIKS_E_WRONG_NAME
+	ErrOtherIsSame  Refused = C.CONIKS_E_OTHER_IS_SAME
+	ErrOtherOffPath Refused = C.CONIKS_E_OTHER_OFF_PATH
+	ErrRootMismatch Refused = C.CONIKS_E_ROOT_MISMATCH
+)
+
+// The bytes are no proof's.
+const (
+	ErrNoBytes       Refused = C.CONIKS_E_NO_BYTES
+	ErrUnknownKind   Refused = C.CONIKS_E_UNKNOWN_KIND
+	ErrCutInCount    Refused = C.CONIKS_E_CUT_IN_COUNT
+	ErrCutInSiblings Refused = C.CONIKS_E_CUT_IN_SIBLINGS
+	ErrCutInOther    Refused = C.CONIKS_E_CUT_IN_OTHER
+	ErrCutInOpening  Refused = C.CONIKS_E_CUT_IN_OPENING
+	ErrCutInName     Refused = C.CONIKS_E_CUT_IN_NAME
+	ErrCutInKey      Refused = C.CONIKS_E_CUT_IN_KEY
+	ErrBytesFollow   Refused = C.CONIKS_E_BYTES_FOLLOW
+)
+
+// The entry doesn't follow the last one accepted.
+const (
+	ErrVersionUnknown Refused = C.CONIKS_E_VERSION_UNKNOWN
+	ErrVersionBack    Refused = C.CONIKS_E_VERSION_BACK
+	ErrFirstEpoch     Refused = C.CONIKS_E_FIRST_EPOCH
+	ErrNotLater       Refused = C.CONIKS_E_NOT_LATER
+	ErrPreviousEpoch  Refused = C.CONIKS_E_PREVIOUS_EPOCH
+	ErrPreviousLink   Refused = C.CONIKS_E_PREVIOUS_LINK
+	ErrNonceChanged   Refused = C.CONIKS_E_NONCE_CHANGED
+	ErrSignature      Refused = C.CONIKS_E_SIGNATURE
+	ErrEntryLength    Refused = C.CONIKS_E_ENTRY_LENGTH
+	ErrNoEntry        Refused = C.CONIKS_E_NO_ENTRY
+)
+
+func (it Refused) Error() string {
+	if text := Text(uint32(it)); text != "" {
+		return text
+	}
+	return fmt.Sprintf("status %d", uint32(it))
+}
+
+// Text returns what a status of coniks.h says, and the empty text for a number that is no error's.
+func Text(status uint32) string {
+	var text [128]byte
+	size := int(C.coniks_text(C.uint32_t(status), start(text[:]), C.size_t(len(text))))
+	if size > len(text) {
+		size = len(text)
+	}
+	return string(text[:size])
+}
+
+// Version returns the version of the library.
+func Version() string {
+	number := uint32(C.coniks_version())
+	return fmt.Sprintf("%d.%d.%d", number/10000, number/100%100, number%100)
+}
+
+// start is a pointer to the first byte, nil for no bytes.
+func start(bytes []byte) *C.uint8_t {
+	if len(bytes) == 0 {
+		return nil
+	}
+	return (*C.uint8_t)(unsafe.Pointer(&bytes[0]))
+}
+
+func size(bytes []byte) C.size_t {
+	return C.size_t(len(bytes))
+}
+
+func bytes32(bytes *[32]byte) *C.coniks_bytes32 {
+	return (*C.coniks_bytes32)(unsafe.Pointer(bytes))
+}
+
+func verdict(signatureIsGood bool) C.uint32_t {
+	if signatureIsGood {
+		return 1
+	}
+	return 0
+}
+
+func refused(status C.uint32_t) error {
+	if status == C.CONIKS_GOOD {
+		return nil
+	}
+	return Refused(status)
+}
+
+// Check returns the key that a proof shows for a name at its index, under a root and a nonce, and nil if it shows that the
+// name is bound to no key. The key is a part of the proof's slice.
+func Check(nonce, root, index [32]byte, name string, proof []byte) ([]byte, error) {
+	var at, length C.size_t
+	asked := []byte(name)
+	status := C.coniks_check(bytes32(&nonce), bytes32(&root), bytes32(&index), start(asked), size(asked), start(proof),
+		size(proof), &at, &length)
+	switch status {
+	case C.CONIKS_GOOD:
+		return proof[at : at+length : at+length], nil
+	case C.CONIKS_ABSENT:
+		return nil, nil
+	}
+	return nil, Refused(status)
+}
+
+// Auditor follows a chain of entries. Its zero value has seen no entry. It can be copied and compared.
+type Auditor struct{ state C.coniks_auditor }
+
+// Resume returns an auditor that goes on from the state of another one.
+func Resume(state [StateBytes]byte) (it Auditor) {
+	it.state = *(*C.coniks_auditor)(unsafe.Pointer(&state))
+	it.state.unused = [7]C.uint8_t{}
+	return it
+}
+
+// State returns all that the auditor keeps, in this machine's byte order.
+func (it *Auditor) State() [StateBytes]byte {
+	return *(*[StateBytes]byte)(unsafe.Pointer(&it.state))
+}
+
+// Reset makes it an auditor that has seen no entry.
+func (it *Auditor) Reset() {
+	C.coniks_auditor_begin(&it.state)
+}
+
+// Feed accepts an entry that follows the last one. After an error the auditor is unchanged.
+func (it *Auditor) Feed(entry []byte, signatureIsGood bool) error {
+	return refused(C.coniks_auditor_feed(&it.state, start(entry), size(entry), verdict(signatureIsGood)))
+}
+
+// Head returns the epoch and the link of the last entry accepted, and ErrNoEntry before the first.
+func (it *Auditor) Head() (epoch uint64, link [32]byte, err error) {
+	var number C.uint64_t
+	err = refused(C.coniks_auditor_head(&it.state, &number, bytes32(&link)))
+	return uint64(number), link, err
+}
+
+// Seen is what an accepted proof shows, compared with what the client expects.
+type Seen uint32
+
+const (
+	Same    Seen = C.CONIKS_GOOD    // what is expected
+	Absent  Seen = C.CONIKS_ABSENT  // no key, though one is expected
+	Changed Seen = C.CONIKS_CHANGED // another key than the expected one, or one though none is expected
+)
+
+func (it Seen) String() string {
+	switch it {
+	case Same:
+		return "same"
+	case Absent:
+		return "absent"
+	case Changed:
+		return "changed"
+	}
+	return fmt.Sprintf("Seen(%d)", uint32(it))
+}
+
+// Monitor watches one name over a chain, for a client that expects a key, or none if Expected has no bytes. Its auditor
+// follows the chain.
+type Monitor struct {
+	Name     string
+	Index    [32]byte
+	Expected []byte
+	Auditor  Auditor
+}
+
+// Step returns what the proof shows at the entry's epoch. After an error the monitor is unchanged.
+func (it *Monitor) Step(entry []byte, signatureIsGood bool, proof []byte) (Seen, error) {
+	name := []byte(it.Name)
+	status := C.coniks_monitor_step(&it.Auditor.state, bytes32(&it.Index), start(name), size(name), start(it.Expected),
+		size(it.Expected), start(entry), size(entry), verdict(signatureIsGood), start(proof), size(proof))
+	switch Seen(status) {
+	case Same, Absent, Changed:
+		return Seen(status), nil
+	}
+	return 0, Refused(status)
+}
+
+// Link returns the link of an entry, by which the next entry names it.
+func Link(entry []byte) (link [32]byte, err error) {
+	err = refused(C.coniks_link(start(entry), size(entry), bytes32(&link)))
+	return link, err
+}
+
+// Body is what an entry says of an epoch, without its signature.
+type Body struct {
+	Version       uint8
+	Epoch         uint64
+	PreviousEpoch uint64
+	Root          [32]byte
+	PreviousLink  [32]byte
+	Nonce         [32]byte
+	Policy        [32]byte
+}
+
+// BodyOf reads the body of an entry and verifies nothing.
+func BodyOf(entry []byte) (Body, error) {
+	var it C.coniks_body
+	if err := refused(C.coniks_entry_body(start(entry), size(entry), &it)); err != nil {
+		return Body{}, err
+	}
+	return Body{
+		uint8(it.version), uint64(it.epoch), uint64(it.previous_epoch),
+		array(&it.root), array(&it.previous_link), array(&it.nonce), array(&it.policy),
+	}, nil
+}
+
+// Bytes returns the bytes that are signed.
+func (it Body) Bytes() [BodyBytes]byte {
+	var out C.coniks_bytes145
+	body := C.coniks_body{
+		epoch: C.uint64_t(it.Epoch), previous_epoch: C.uint64_t(it.PreviousEpoch), version: C.uint8_t(it.Version),
+		root: *bytes32(&it.Root), previous_link: *bytes32(&it.PreviousLink), nonce: *bytes32(&it.Nonce), policy: *bytes32(&it.Policy),
+	}
+	C.coniks_body_bytes(&body, &out)
+	return *(*[BodyBytes]byte)(unsafe.Pointer(&out))
+}
+
+func array(bytes *C.coniks_bytes32) [32]byte {
+	return *(*[32]byte)(unsafe.Pointer(bytes))
+}

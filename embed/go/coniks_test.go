@@ -1,0 +1,61 @@
+package coniks
+
+import (
+	"encoding/hex"
+	"errors"
+	"testing"
+)
+
+// SHA-256 of the byte 45 and 66 zero bytes: the root of an empty tree under a nonce of zeros (docs/FORMATS.md).
+const emptyRoot = "55fd25353b36d9c01e73d41e753758330f06b9d6a0838d0c60cdeb295cc1c32a"
+
+// SHA-256 of the byte 53 and 209 zero bytes.
+const zerosLink = "ecc9742501e7f52de4a640c0a9b7d540219a5f764d229a40ee1dd1a50bd184e0"
+
+func array32(text string) (out [32]byte) {
+	hex.Decode(out[:], []byte(text))
+	return out
+}
+
+func TestCheckShowsAbsence(t *testing.T) {
+	key, err := Check([32]byte{}, array32(emptyRoot), [32]byte{7}, "alice", []byte{0, 0, 0})
+	if key != nil || err != nil {
+		t.Fatal(key, err)
+	}
+}
+
+func TestCheckRefuses(t *testing.T) {
+	for _, it := range []struct {
+		name  string
+		proof []byte
+		want  error
+	}{
+		{"alice", nil, ErrNoBytes},
+		{"alice", []byte{3, 0, 0}, ErrUnknownKind},
+		{"alice", []byte{0, 0, 0, 0}, ErrBytesFollow},
+		{"", []byte{0, 0, 0}, ErrNameLength},
+	} {
+		if _, err := Check([32]byte{}, array32(emptyRoot), [32]byte{7}, it.name, it.proof); !errors.Is(err, it.want) {
+			t.Error(it.proof, err)
+		}
+	}
+}
+
+func TestLink(t *testing.T) {
+	if link, err := Link(make([]byte, EntryBytes)); link != array32(zerosLink) || err != nil {
+		t.Fatal(link, err)
+	}
+	if _, err := Link(make([]byte, 208)); !errors.Is(err, ErrEntryLength) {
+		t.Fatal(err)
+	}
+}
+
+func TestAuditorIsUnchangedAfterAnError(t *testing.T) {
+	var auditor Auditor
+	if err := auditor.Feed(make([]byte, EntryBytes), true); !errors.Is(err, ErrVersionUnknown) {
+		t.Fatal(err)
+	}
+	if _, _, err := auditor.Head(); !errors.Is(err, ErrNoEntry) || auditor != Resume([StateBytes]byte{}) {
+		t.Fatal(err, auditor)
+	}
+}

@@ -1,0 +1,48 @@
+"""Puts libconiks.so, which embed/build makes, into the package. The rest is in pyproject.toml."""
+
+import atexit
+import shutil
+import sys
+import tempfile
+from pathlib import Path
+
+from setuptools import setup
+from setuptools.command.build_py import build_py
+
+try:
+    from setuptools.command.bdist_wheel import bdist_wheel
+except ImportError:
+    from wheel.bdist_wheel import bdist_wheel
+
+LIBRARY = Path(__file__).resolve().parent.parent / "out" / "libconiks.so"
+# Keeps the checkout free of what a build leaves.
+ROOM = tempfile.mkdtemp()
+atexit.register(shutil.rmtree, ROOM, ignore_errors=True)
+
+
+class WithLibrary(build_py):
+    """Copies the shared library beside the module. An editable install finds it in embed/out."""
+
+    def run(self):
+        super().run()
+        if not LIBRARY.exists():
+            sys.exit(f"{LIBRARY} is missing: run embed/build first")
+        if not getattr(self, "editable_mode", False):
+            self.copy_file(str(LIBRARY), str(Path(self.build_lib) / "coniks" / LIBRARY.name))
+
+
+class OfPlatform(bdist_wheel):
+    """A wheel for any Python 3 on this platform."""
+
+    def finalize_options(self):
+        super().finalize_options()
+        self.root_is_pure = False
+
+    def get_tag(self):
+        return "py3", "none", super().get_tag()[2]
+
+
+setup(
+    cmdclass={"build_py": WithLibrary, "bdist_wheel": OfPlatform},
+    options={"build": {"build_base": ROOM}, "egg_info": {"egg_base": ROOM}},
+)

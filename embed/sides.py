@@ -1,0 +1,408 @@
+"""Tries the sides of the library for C in Python, Go and Rust, for embed/test: as packages, and what they answer.
+
+Each side has a program that answers requests, one a line. What it must answer is what `keydir check`, `keydir audit` and
+`keydir monitor` print, what hashlib computes, and what the header and texts.json say.
+"""
+
+import base64
+import copy
+import hashlib
+import json
+import os
+import pickle
+import random
+import shutil
+import subprocess
+import sys
+import tempfile
+from dataclasses import replace
+from pathlib import Path
+
+import case_files
+import proofs
+import tools
+
+HERE = Path(__file__).resolve().parent
+TOP = HERE.parent
+OUT = HERE / "out"
+KEY = bytes(32)
+SEED = 20261126
+COUNT = 1000
+FAULTS = ["Version", "VersionBack", "FirstEpoch", "NotLater", "PreviousEpoch", "PreviousLink", "NonceChanged", "Verdict"]
+
+
+def run(*words, **more):
+    return subprocess.run([str(it) for it in words], capture_output=True, timeout=3000, **more)
+
+
+def digest(*parts):
+    return hashlib.sha256(b"".join(parts)).digest()
+
+
+def seal(body):
+    """The demonstration seal, by docs/FORMATS.md."""
+    return digest(b"\x41", KEY, body) + digest(b"\x42", KEY, body)
+
+
+def link(entry):
+    return digest(b"\x53", entry)
+
+
+def entry_of(version, epoch, before, root, previous, nonce, policy=bytes(32)):
+    body = bytes([version]) + epoch.to_bytes(8, "big") + before.to_bytes(8, "big") + root + previous + nonce + policy
+    return body + seal(body)
+
+
+def verdict(entry):
+    return int(entry[145:] == seal(entry[:145]))
+
+
+def word(value):
+    return value.hex() or "-"
+
+
+def changed(chance, entry):
+    """An entry that is changed in one field or bit; mostly with its seal, so that the fields are what is judged."""
+    at, size = chance.choice([(0, 1), (1, 8), (9, 8), (17, 32), (49, 32), (81, 32), (113, 32)])
+    value = chance.choice([bytes(size), bytes([0] * (size - 1) + [2]), bytes([255] * size), chance.randbytes(size)])
+    body = entry[:at] + value + entry[at + size : 145]
+    return chance.choice([body + seal(body), body + seal(body), body + entry[145:], entry[: chance.randrange(209)], entry + b"\0"])
+
+
+def chain(chance, length):
+    """The entries of a chain, by docs/FORMATS.md."""
+    version, epoch, before, previous, nonce = 1, chance.randrange(1, 9), 0, bytes(32), chance.randbytes(32)
+    for _ in range(length):
+        entry = entry_of(version, epoch, before, chance.randbytes(32), previous, nonce)
+        yield entry
+        before, previous = epoch, link(entry)
+        epoch += chance.choice([1, 1, 7, 1 << 40])
+        version = max(version, chance.choice([1, 1, 1, 2]))
+        nonce = chance.randbytes(32) if version == 2 else nonce
+
+
+def number_of(answer):
+    """The status of a fault that the program prints."""
+    fault = answer["fault"]
+    if fault == "Member":
+        return 48
+    if fault in FAULTS:
+        return 33 + FAULTS.index(fault)
+    return {name.replace("_", "").lower(): it for name, it in proofs.statuses().items()}[fault.lower()]
+
+
+def of_check(chance, program, lines):
+    """Requests to check proofs, with what the program says of them, or of bytes that are none docs/FORMATS.md."""
+    questions = [proofs.mutated(chance, chance.choice(lines)) for _ in range(COUNT)]
+    for question, theirs in zip(questions, proofs.said_by_program(program, questions), strict=True):
+        given, name, proof = question
+        said = str(proofs.wire_status(proof) or theirs or "")
+        if said:
+            wanted = {"0": f"key {said[2:]}", "1": "absent"}.get(said.split()[0], f"refused {said}")
+            yield " ".join(["check", *(given[it].hex() for it in ("nonce", "root", "index")), word(name), word(proof)]), wanted
+
+
+def state_of(entry):
+    """The state of an auditor after an entry, by docs/FORMATS.md."""
+    if entry is None:
+        return bytes(80).hex()
+    epoch = int.from_bytes(entry[1:9], "big").to_bytes(8, sys.byteorder)
+    return (epoch + link(entry) + entry[81:113] + entry[:1] + bytes(7)).hex()
+
+
+def of_audit(chance, program):
+    """Chains with entries that don't follow between those that do."""
+    for _ in range(COUNT // 40):
+        entries = []
+        for entry in chain(chance, 12):
+            entries += [changed(chance, entry) for _ in range(chance.randrange(4))] + [entry]
+        given = "".join(json.dumps({"entry": it.hex()}) + "\n" for it in entries).encode()
+        said = map(json.loads, run(program, "audit", "--key", KEY.hex(), input=given).stdout.splitlines())
+        yield "begin", state_of(None)
+        yield "head", "refused 49"
+        last = None
+        for entry, answer in zip(entries, said, strict=True):
+            follows = answer.get("ok") == "audit"
+            yield f"feed {word(entry)} {verdict(entry)}", "follows" if follows else f"refused {number_of(answer)}"
+            if follows:
+                last = entry
+                yield "head", f"{answer['epoch']} {answer['link']}"
+            yield "resume", state_of(last)
+
+
+def watched_lines(program):
+    """Lookups of two names at 12 epochs of which one is bound later, and the other changes its key."""
+    op = lambda kind, name, key: {"op": kind, "name": name, "key": base64.b64encode(key).decode(), "opening": "ab" * 32}
+    script = [{"cmd": "open", "key": KEY.hex(), "nonce": "11" * 32, "policy": "33" * 32}]
+    for epoch in range(1, 13):
+        ops = [op("register" if epoch == 1 else "change", "early", b"key-%d" % (epoch // 4))] if epoch % 4 in (0, 1) else []
+        ops += [op("register", "late", b"late")] if epoch == 6 else []
+        script.append({"cmd": "batch", "epoch": epoch, "ops": ops} | ({"nonce": "22" * 32} if epoch == 9 else {}))
+        script += [{"cmd": "lookup", "epoch": epoch, "name": it} for it in ("early", "late")]
+    said = run(program, "run", input="".join(json.dumps(it) + "\n" for it in script).encode()).stdout.splitlines()
+    return [it for it in map(json.loads, said) if it.get("ok") == "lookup"]
+
+
+def of_monitor(chance, program):
+    """Lookups of a name, some with another entry or proof, and expectations between them."""
+    looked = watched_lines(program)
+    for turn in range(COUNT // 30):
+        mine = [it for it in looked if it["name"] == ["early", "late"][turn % 2]]
+        yield f"watch {word(mine[0]['name'].encode())} {mine[0]['index']}", "watched"
+        yield "expect -", "expected"
+        given, requests = [], []
+        for line in mine:
+            for is_changed in [True] * chance.randrange(4) + [False]:
+                entry, proof = bytes.fromhex(line["entry"]), proofs.bytes_of(line["proof"])
+                if chance.randrange(4) == 0:
+                    key = chance.choice([b"", b"late", b"key-0", b"key-1", b"key-2"])
+                    given.append({"cmd": "expect", "key": base64.b64encode(key).decode() if key else None})
+                    requests.append((f"expect {word(key)}", 0))
+                if is_changed and chance.randrange(2):
+                    entry = changed(chance, entry)
+                elif is_changed:
+                    proof = proofs.mutated(chance, line)[2]
+                status = proofs.wire_status(proof)
+                told = {"entry": entry.hex(), "proof": line["proof"] if status else proofs.object_of(proof)}
+                if told["proof"] is not None:
+                    given.append(told if status is None else {"entry": entry.hex()})
+                    requests.append((f"step {word(entry)} {verdict(entry)} {word(proof)}", status))
+        said = run(program, "monitor", "--key", KEY.hex(), "--name", mine[0]["name"], input="".join(json.dumps(it) + "\n" for it in given).encode())
+        for (request, status), answer in zip(requests, map(json.loads, said.stdout.splitlines()), strict=True):
+            if answer.get("ok") == "expect":
+                yield request, "expected"
+            elif answer.get("ok") == "monitor":
+                yield request, answer["seen"]
+            else:
+                yield request, f"refused {status if answer.get('member') == 'proof' else number_of(answer)}"
+
+
+def of_entries(chance):
+    """Bodies, links, texts and the version."""
+    for entry in chain(chance, 100):
+        number = lambda at: int.from_bytes(entry[at : at + 8], "big")
+        parts = " ".join(entry[at : at + 32].hex() for at in (17, 49, 81, 113))
+        yield f"body {entry.hex()}", f"{entry[0]} {number(1)} {number(9)} {parts} {entry[:145].hex()}"
+        yield f"link {entry.hex()}", link(entry).hex()
+        cut = entry[: chance.randrange(209)]
+        yield f"body {word(cut)}", "refused 48"
+        yield f"link {word(cut)}", "refused 48"
+    texts = json.loads((HERE / "texts.json").read_text("utf-8"))
+    numbers = {it: name for name, it in proofs.statuses().items()}
+    for number in range(70):
+        yield f"text {number}", texts.get(numbers.get(number, ""), "")
+    yield "version", header_version()
+
+
+def header_version():
+    return proofs.HEADER.split('#define CONIKS_VERSION "')[1].split('"')[0]
+
+
+def requests_of(program, lines):
+    chance = random.Random(SEED)
+    return [*of_check(chance, program, lines), *of_audit(chance, program), *of_monitor(chance, program), *of_entries(chance)]
+
+
+def try_requests(tell, side, words, requests, **more):
+    """One side's answers to all requests."""
+    ran = run(*words, input="".join(f"{it}\n" for it, _ in requests).encode(), **more)
+    said = ran.stdout.decode().splitlines()
+    wrong = [(*it, mine) for it, mine in zip(requests, said) if mine != it[1]]
+    tell(f"{side}: {len(requests)} requests", len(said) == len(requests) and not wrong, (wrong[:2], ran.stderr.decode()[-500:]))
+
+
+def clone(room):
+    """The files of the checkout, and what embed/build made, in another folder."""
+    for folder in ["embed", "include"]:
+        shutil.copytree(TOP / folder, room / folder, ignore=shutil.ignore_patterns("target", "__pycache__"))
+    return room / "embed"
+
+
+def try_go(tell, skip, here, example, requests):
+    if not (tools.has("go") and tools.has("a C compiler")):
+        return skip("the side in Go", "go")
+    kept = {it: value for it, value in os.environ.items() if not it.startswith("CGO_")}
+    more = {"cwd": here / "go", "env": kept | {"GOCACHE": str(here / "cache"), "GOFLAGS": "", "GOPROXY": "off"}}
+    for words in [["go", "vet", "./..."], ["go", "test", "./..."], ["go", "build", "-o", here / "in_go", "./internal/answers"], ["go", "build", "-o", here / "go_example", "./example"]]:
+        ran = run(*words, **more)
+        tell(" ".join(str(it) for it in words[:2]), ran.returncode == 0, (ran.stdout + ran.stderr).decode()[-2000:])
+    try_requests(tell, "Go", [here / "in_go"], requests)
+    try_example(tell, "Go", here / "go_example", *example)
+
+
+def try_rust(tell, skip, here, example, requests):
+    if not (tools.has("cargo") and tools.has("a C compiler")):
+        return skip("the side in Rust", "cargo")
+    manifest = here / "rust/Cargo.toml"
+    as_it_is = manifest.read_text("utf-8")
+    for edition, needed in [("2024", "1.85"), ("2021", "1.82")]:
+        manifest.write_text(as_it_is.replace('"2021"', f'"{edition}"').replace('"1.82"', f'"{needed}"'))
+        ran = run("cargo", "test", "--offline", "--examples", "--lib", "--tests", cwd=here / "rust", env=os.environ | {"RUSTFLAGS": "-Dwarnings"})
+        tell(f"cargo test, edition {edition}", ran.returncode == 0, ran.stderr.decode()[-2000:])
+    ran = run("cargo", "build", "--offline", "--examples", cwd=here / "rust", env=os.environ | {"RUSTFLAGS": "-Dwarnings"})
+    tell("cargo build", ran.returncode == 0, ran.stderr.decode()[-2000:])
+    try_requests(tell, "Rust", [here / "rust/target/debug/examples/answers"], requests)
+    try_example(tell, "Rust", here / "rust/target/debug/examples/example", *example)
+
+
+def try_example(tell, side, program, words, wanted):
+    said = run(program, *words).stdout.decode().splitlines() if program.exists() else None
+    tell(f"the example in {side}", said == wanted, said)
+
+
+def example_of(coniks, lines):
+    """The words of the examples in Go and Rust, over one lookup with its entry, and what they must print."""
+    line = next(it for it in lines if it["proof"]["end"]["kind"] == "here" and coniks.Body.of_entry(bytes.fromhex(it["entry"])).previous_epoch == 0)
+    words = [line[it] for it in ("nonce", "root", "index", "name")] + [proofs.bytes_of(line["proof"]).hex(), line["entry"]]
+    return words, [
+        base64.b64decode(line["proof"]["end"]["key"]).decode(),
+        "the proof's path doesn't lead to the root",
+        "the signature isn't one for this body",
+        "as it was: true",
+        f"epoch {line['epoch']}",
+    ]
+
+
+def try_python(tell, skip, here, coniks, requests):
+    """The package as pip installs it, with the environment's variables left out."""
+    answers = here / "python/answers.py"
+    try_requests(tell, "Python", [sys.executable, answers], requests)
+    tell("the version of the package", coniks.__version__ == header_version(), coniks.__version__)
+    tell("all exports of the package are there", all(hasattr(coniks, it) for it in coniks.__all__))
+    if not tools.has("pip"):
+        return skip("pip install", "pip")
+    venv, room = here / "venv", here / "elsewhere"
+    room.mkdir()
+    before = sorted(here.glob("python/**/*"))
+    words = [["-m", "venv", "--system-site-packages", venv]]
+    ran = run(tools.PYTHON, *words[0])
+    ran = ran if ran.returncode else run(venv / "bin/pip", "install", "--no-build-isolation", "--no-index", here / "python")
+    tell("pip install", ran.returncode == 0, (ran.stdout + ran.stderr).decode()[-2000:])
+    tell("pip install leaves nothing in the checkout", sorted(here.glob("python/**/*")) == before)
+    shutil.copy(answers, room)
+    shutil.rmtree(here / "out")
+    kept = {it: value for it, value in os.environ.items() if it != "CONIKS_LIBRARY"}
+    try_requests(tell, "Python, installed", [venv / "bin/python3", room / "answers.py"], requests, env=kept, cwd=room)
+    if tools.has("mypy"):
+        ran = run("mypy", "--strict", here / "python/coniks", cwd=room)
+        tell("mypy --strict", ran.returncode == 0, ran.stdout.decode())
+    else:
+        skip("the types of the side in Python", "mypy")
+
+
+def try_watch(tell, program):
+    """The example in Python over the tour: what it audits, checks and sees is what the program says of the same lines."""
+    tour = run(program, "run", stdin=open(TOP / "examples/tour.jsonl", "rb")).stdout
+    ran = run(sys.executable, HERE / "python/watch.py", "--expect", "YWxpY2UtMQ==", "alice", input=tour)
+    said = ran.stdout.decode().splitlines()
+    lines = [json.loads(it) for it in tour.splitlines()]
+    looked = [it for it in lines if it.get("ok") == "lookup"]
+    checked = run(program, "check", input="".join(f"{json.dumps(it)}\n" for it in looked).encode()).stdout.splitlines()
+    wanted = []
+    for line, answer in zip(looked, map(json.loads, checked), strict=True):
+        wanted.append(f"epoch {line['epoch']}, {line['name']}: {answer.get('key', 'absent')}")
+    tell("watch.py checks as the program does", [it for it in said if ", " in it and "watched" not in it] == wanted, said)
+    watched = run(program, "monitor", "--key", "0" * 64, "--name", "alice", "--expect", "YWxpY2UtMQ==",
+                  input="".join(f"{json.dumps(it)}\n" for it in looked if it["name"] == "alice").encode()).stdout.splitlines()  # fmt: skip
+    wanted = [f"epoch {it['epoch']}, watched: {it['seen']}" for it in map(json.loads, watched)]
+    tell("watch.py sees what the program does", wanted and [it for it in said if "watched" in it] == wanted, said)
+    audited = [f"epoch {json.loads(it)['epoch']}: follows" for it in run(
+        program, "audit", "--key", "0" * 64, input="".join(f"{json.dumps(it)}\n" for it in lines if it.get("ok") == "batch").encode()
+    ).stdout.splitlines()]  # fmt: skip
+    tell("watch.py audits as the program does", audited and [it for it in said if it.endswith("follows")] == audited, said)
+
+
+def try_python_faults(tell, coniks, lines):
+    """Exceptions, and that a refusal leaves an auditor as it was."""
+    line = lines[0]
+    entry, proof = bytes.fromhex(line["entry"]), coniks.proof_bytes(line["proof"])
+    body = coniks.Body.of_entry(entry)
+    tell("a body's bytes are the entry's first", bytes(body) == entry[:145])
+    tell("a link is SHA-256 of 53 and the entry", coniks.link(entry) == hashlib.sha256(b"\x53" + entry).digest())
+    auditor = coniks.Auditor()
+    for wrong in [lambda: auditor.feed(entry[:-1], True), lambda: auditor.feed(entry, False), lambda: coniks.link(entry + b"\0")]:
+        try:
+            wrong()
+            tell("refused", False)
+        except coniks.Refused as fault:
+            tell("refused", fault.status.name in ("ENTRY_LENGTH", "SIGNATURE"), fault)
+    tell("an auditor that refused is as it was", auditor.state == bytes(80) and auditor.head is None)
+    for wrong, kind in [
+        (lambda: coniks.check(b"", bytes(32), bytes(32), "a", proof), ValueError),
+        (lambda: coniks.check("", bytes(32), bytes(32), "a", proof), TypeError),
+        (lambda: coniks.Auditor(b"short"), ValueError),
+        (lambda: auditor.feed(entry, 1), TypeError),
+        (lambda: coniks.Monitor("a", bytes(32), b""), ValueError),
+        (lambda: coniks.Monitor("a", bytes(32), "key"), TypeError),
+        (lambda: coniks.text(-1), ValueError),
+        (lambda: coniks.text("4"), TypeError),
+        (lambda: bytes(replace(body, epoch=1 << 64)), ValueError),
+        (lambda: bytes(replace(body, version=256)), ValueError),
+        (lambda: bytes(replace(body, previous_epoch=-1)), ValueError),
+        (lambda: bytes(replace(body, epoch=1.0)), TypeError),
+        (lambda: coniks.proof_bytes([]), TypeError),
+    ]:
+        try:
+            wrong()
+            tell("a wrong argument", False)
+        except kind:
+            tell("a wrong argument", True)
+
+
+def try_python_copies(tell, coniks, lines):
+    """Copies, and what was pickled, go on from where the first one was, which they leave as it is."""
+    line = next(it for it in lines if coniks.Body.of_entry(bytes.fromhex(it["entry"])).previous_epoch == 0)
+    entry, proof, index = bytes.fromhex(line["entry"]), coniks.proof_bytes(line["proof"]), bytes.fromhex(line["index"])
+    for what, copied in [("copy", copy.copy), ("deepcopy", copy.deepcopy), ("pickle", lambda it: pickle.loads(pickle.dumps(it)))]:
+        auditor, monitor = coniks.Auditor(), coniks.Monitor(line["name"], index, b"another key")
+        other, watching = copied(auditor), copied(monitor)
+        other.feed(entry, True)
+        seen = watching.step(entry, True, proof)
+        tell(f"{what} of an auditor", auditor.head is None and other.head is not None and type(other) is coniks.Auditor)
+        tell(f"{what} of a monitor", monitor.head is None and watching.head == other.head and watching.expected == b"another key" and seen is not coniks.Seen.SAME, seen)
+        fault = copied(coniks.Refused(40))
+        tell(f"{what} of a refusal", fault.status == 40 and str(fault) == coniks.text(40), fault)
+
+
+def answer_by_python(coniks, members):
+    """What `keydir check` prints of a line, by the library in Python."""
+    try:
+        proof = coniks.proof_bytes(members.get("proof"))
+    except (TypeError, ValueError):
+        return {"fault": "Member", "member": "proof"}
+    nonce, root, index = [bytes.fromhex(members[it]) for it in ("nonce", "root", "index")]
+    try:
+        key = coniks.check(nonce, root, index, members["name"], proof)
+    except coniks.Refused as fault:
+        return {"fault": "".join(it.title() for it in fault.status.name.split("_"))}
+    shown = {"answer": "absent"} if key is None else {"answer": "key", "key": base64.b64encode(key).decode()}
+    return shown | {"ok": "check"}
+
+
+def try_python_lines(tell, coniks):
+    """Each line of the cases of `check` that is read up to its proof has its answer."""
+    tried, wrong = 0, []
+    for case in case_files.chosen(["check"])[0]:
+        for line, answer in zip(case.given().split(b"\n"), case.read(".out").splitlines()):
+            wanted = json.loads(answer)
+            if wanted.get("fault") == "Json" or wanted.get("member", "proof") != "proof":
+                continue
+            said = answer_by_python(coniks, json.loads(line))
+            tried += 1
+            if said != wanted:
+                wrong.append((case.name, wanted, said))
+    tell("the cases of check, by Python", tried > 100 and not wrong, (tried, wrong[:3]))
+
+
+def try_all(tell, skip, program, coniks, lines):
+    """All sides, over the program's answers."""
+    try_watch(tell, program)
+    try_python_faults(tell, coniks, lines)
+    try_python_copies(tell, coniks, lines)
+    try_python_lines(tell, coniks)
+    requests = requests_of(program, lines)
+    with tempfile.TemporaryDirectory() as room:
+        here = clone(Path(room))
+        try_go(tell, skip, here, example_of(coniks, lines), requests)
+        try_rust(tell, skip, here, example_of(coniks, lines), requests)
+        try_python(tell, skip, here, coniks, requests)
