@@ -3,9 +3,9 @@
 import { createHash } from "node:crypto";
 
 import { bigEndian, bitAt, fromBase64, fromHex, joined, toBase64, toHex } from "./src/bytes.js";
-import { entryOf, linesOf, linesOfBytes, lookupOf, numberOf, objectOf, proofBytes } from "./src/lines.js";
+import { LONGEST, entryOf, linesOf, lookupOf, numberOf, objectOf, proofBytes } from "./src/lines.js";
 import { sha256 } from "./src/sha256.js";
-import { keyText, nameText, short } from "./src/words.js";
+import { counting, keyText, nameText, short } from "./src/words.js";
 
 let [passed, failed] = [0, 0];
 
@@ -59,10 +59,18 @@ for (const [open, close] of [["[", "]"], ['{"a":', "}"]]) {
 }
 for (const hidden of ["1e999", '"\\ud800"', "-1e999", "9".repeat(400), `${"[".repeat(200)}${"]".repeat(200)}`]) same(`hidden by a second one: ${hidden.slice(0, 9)}`, objectOf(`{"x":${hidden},"x":1}`), null);
 same("brackets and digits in a text", objectOf(`{"x":"${"[".repeat(200)} 1e999 \\" {"}`) !== null, true);
-same("lines", linesOf("a\n\nb\n"), ["a", "", "b"]);
-same("a last line without its newline", linesOf("a\n\nb"), ["a", "", "b"]);
-same("no lines", [linesOf(""), linesOfBytes(new Uint8Array(0))], [[], []]);
-same("lines of bytes", linesOfBytes(Uint8Array.of(0xef, 0xbb, 0xbf, 97, 10, 0xff, 10, 10, 98)), ["\ufeffa", null, "", "b"]);
+const linesIn = (/** @type {(string | Uint8Array)[]} */ ...parts) => [...linesOf(parts)].map((it) => ("fault" in it ? { fault: it.fault } : it.text));
+same("lines", linesIn("a\n\nb\n"), ["a", "", "b"]);
+same("a last line without its newline", linesIn("a\n\nb"), ["a", "", "b"]);
+same("no lines", [linesIn(), linesIn(""), linesIn(new Uint8Array(0))], [[], [], []]);
+same("lines of bytes", linesIn(Uint8Array.of(0xef, 0xbb, 0xbf, 97, 10, 0xff, 10, 10, 98)), ["\ufeffa", { fault: "Json" }, "", "b"]);
+same("lines of several files", linesIn("a", Uint8Array.of(98, 10, 99), "d\n"), ["a", "b", "c", "d"]);
+same("where lines end", [...linesOf(["a\nb\n", Uint8Array.of(99, 10)])].map((it) => it.end), [2, 4, 6]);
+for (const [size, is] of [[LONGEST, "aaa"], [LONGEST + 1, { fault: "Long" }]]) {
+  const line = "a".repeat(Number(size));
+  const found = [linesIn(line), linesIn(new TextEncoder().encode(line))].flat().map((it) => (typeof it === "string" ? it.slice(0, 3) : it));
+  same(`a line of ${size} bytes`, found, [is, is]);
+}
 same("a member's number", String(numberOf('{"a":{"epoch":1},"epoch":7,"b":[{"epoch":2}]}', "epoch")), "7");
 for (const none of ['{"a":{"epoch":1}}', '{"epoch":"7"}', '{"epoch":-1}', '{"epoch":1.5}', "{}"]) same(`no number: ${none}`, numberOf(none, "epoch"), null);
 same("a pair of surrogates", objectOf('{"a":"\\ud83d\\ude00"}'), { a: "😀" });
@@ -95,6 +103,8 @@ same("a long key", keyText(new TextEncoder().encode("a".repeat(100)), 3), '"aaa"
 same("a long key that ends otherwise", keyText(joined(new TextEncoder().encode("a".repeat(100)), Uint8Array.of(0)), 3), "0x616161… (101 bytes)");
 same("a name", nameText('a"b ö 😀'), '"a\\"b ö 😀"');
 same("a name that turns what follows", nameText("gro.live\u202e\u2066\u200b\u2028\u0007"), '"gro.live\\u{202e}\\u{2066}\\u{200b}\\u{2028}\\u0007"');
+same("a name that no directory registers", nameText("a".repeat(256)), `"${"a".repeat(255)}"… (256 characters)`);
+same("one and several", [counting(1, "line"), counting(0, "line"), counting(2, "entry", "entries")], ["1 line", "0 lines", "2 entries"]);
 same("a short hash", short(ones), "11111111…1111");
 
 console.log(`${passed} passed, ${failed} failed`);

@@ -2,6 +2,7 @@
 // stands at the end. Everything that came from a line goes in as text.
 
 import { bitAt, toHex } from "./bytes.js";
+import { lookupOf } from "./lines.js";
 import { MARKED, keyText, nameText, short } from "./words.js";
 
 /**
@@ -21,21 +22,21 @@ export function element(tag, kind, ...parts) {
   return made;
 }
 
-/** A hash, of which a touch shows the whole. @param {string} digits @param {string} what @returns {HTMLElement} */
+/** A hash, of which a press shows the whole, also to a screen reader. @param {string} digits @param {string} what @returns {HTMLElement} */
 export function hashButton(digits, what) {
   const made = element("button", "hash", short(digits));
   made.setAttribute("type", "button");
-  made.setAttribute("aria-expanded", "false");
-  made.setAttribute("aria-label", `${what} ${short(digits)}: show it whole`);
-  made.addEventListener("click", () => {
-    const isWhole = made.getAttribute("aria-expanded") === "true";
-    made.setAttribute("aria-expanded", String(!isWhole));
-    made.textContent = isWhole ? short(digits) : digits;
-  });
+  const set = (/** @type {boolean} */ isWhole) => {
+    made.setAttribute("aria-expanded", String(isWhole));
+    made.setAttribute("aria-label", isWhole ? `${what} ${digits}` : `${what} ${short(digits)}: show all digits`);
+    made.textContent = isWhole ? digits : short(digits);
+  };
+  made.addEventListener("click", () => set(made.getAttribute("aria-expanded") !== "true"));
+  set(false);
   return made;
 }
 
-/** The part of a refused proof that its first fault is about. @param {LookupRow} row */
+/** The part of a refused proof that the first error is about. @param {LookupRow} row */
 function marked(row) {
   return "status" in row.verdict && row.verdict.status !== undefined ? MARKED[row.verdict.status] : undefined;
 }
@@ -44,7 +45,7 @@ function marked(row) {
 function mark(isMarked, made) {
   if (isMarked) {
     made.classList.add("wrong");
-    made.append(element("strong", "flag", "doesn't fit"));
+    made.append(element("strong", "flag", "does not fit"));
   }
   return made;
 }
@@ -57,7 +58,7 @@ function levelOf(lookup, level) {
   step.title = bit ? "the index goes right here" : "the index goes left here";
   const none = element("span", "none");
   const made = element("li", `level ${bit ? "right" : "left"}`, ...(bit ? [sibling, step, none] : [none, step, sibling]));
-  made.setAttribute("aria-label", `level ${level + 1}: the index goes ${bit ? "right" : "left"}, the sibling stands ${bit ? "left" : "right"}`);
+  made.setAttribute("aria-label", `level ${level + 1}: the index goes ${bit ? "right" : "left"}, the sibling is on the ${bit ? "left" : "right"}`);
   return made;
 }
 
@@ -70,35 +71,44 @@ function fact(word, what, isMarked = false) {
 /** What stands at the end. @param {LookupRow} row @param {Lookup} lookup */
 function endOf(row, lookup) {
   const [end, wrong] = [lookup.end, marked(row)];
-  if (end.kind === "empty") return element("div", "end empty", element("h4", "", "An empty node"), "No index of the tree begins with these bits.");
+  if (end.kind === "empty") return element("div", "end empty", element("h3", "", "An empty node"), "No index in the tree begins with these bits.");
   if (end.kind === "other") {
     const index = fact("its index", hashButton(toHex(end.index), "the other index"), wrong === "other");
-    return element("div", "end other", element("h4", "", "The leaf of another index"), index, fact("its commitment", hashButton(toHex(end.commitment), "the commitment")));
+    return element("div", "end other", element("h3", "", "The leaf of another index"), index, fact("its commitment", hashButton(toHex(end.commitment), "the commitment")));
   }
   const key = element("code", "", keyText(end.key, 400));
-  return element("div", "end here", element("h4", "", "The leaf of this index"),
+  return element("div", "end here", element("h3", "", "The leaf of this index"),
     fact("name", element("bdi", "code", nameText(end.name)), wrong === "name"),
     fact("key", key, wrong === "key"),
     fact("opening", hashButton(toHex(end.opening), "the opening")));
 }
 
-/** The most levels that are drawn at once. */
-const MOST = 300;
+/** What the drawing means, in the field's terms. */
+const TERMS = [
+  ["Epoch", "A numbered version of the directory. The provider signs one root for each."],
+  ["Root", "The hash at the top of the tree. It commits to every name and key of the epoch."],
+  ["0 and 1", "The bits of the name's index: 0 leads to the left half of the tree, 1 to the right half."],
+  ["Sibling", "The hash of the half that the path leaves out. What is at the end, hashed upwards with the siblings, must give the root."],
+];
+
+/** @param {Lookup} lookup @param {boolean} isMarked */
+function captionOf(lookup, isMarked) {
+  const asked = element("p", "asked", "Asked for ", element("bdi", "", nameText(lookup.name)), " at the index ", hashButton(toHex(lookup.index), "the index"), " under the nonce ", hashButton(toHex(lookup.nonce), "the nonce"));
+  const terms = TERMS.flatMap(([term, meaning]) => [element("dt", "", term), element("dd", "", meaning)]);
+  return element("figcaption", "", mark(isMarked, asked), element("dl", "", ...terms));
+}
 
 /** The drawing of a lookup's path. @param {LookupRow} row @returns {HTMLElement} */
 export function pathOf(row) {
-  const made = element("figure", "path");
-  const lookup = row.lookup;
-  if (lookup === null) return made;
+  const lookup = lookupOf(row.text);
+  if ("fault" in lookup) return element("p", "unpathed", "The line has no whole proof, so no path is drawn.");
   const wrong = marked(row);
-  const top = element("div", "root", element("h4", "", "Root"), hashButton(toHex(lookup.root), "the root"));
+  const top = element("div", "root", element("h3", "", "Root"), hashButton(toHex(lookup.root), "the root"));
   const levels = element("ol", "levels");
-  levels.setAttribute("aria-label", "the way from the root down");
-  for (let level = 0; level < Math.min(lookup.siblings.length, MOST, 256); level++) levels.append(levelOf(lookup, level));
-  made.append(mark(wrong === "root", top), levels);
-  if (lookup.siblings.length > 256) made.append(mark(true, element("div", "deep", `${lookup.siblings.length} siblings, and a path has at most 256`)));
-  made.append(endOf(row, lookup));
-  const asked = element("figcaption", "", "asked for ", element("bdi", "", nameText(lookup.name)), " at the index ", hashButton(toHex(lookup.index), "the index"), ` under the nonce `, hashButton(toHex(lookup.nonce), "the nonce"));
-  made.append(mark(wrong === "asked", asked));
-  return made;
+  levels.setAttribute("aria-label", "the authentication path from the root down");
+  for (let level = 0; level < Math.min(lookup.siblings.length, 256); level++) levels.append(levelOf(lookup, level));
+  const drawn = element("div", "drawn", mark(wrong === "root", top), levels);
+  if (lookup.siblings.length > 256) drawn.append(mark(true, element("div", "deep", `${lookup.siblings.length} siblings; a path has at most 256`)));
+  drawn.append(endOf(row, lookup));
+  return element("figure", "path", drawn, captionOf(lookup, wrong === "asked"));
 }

@@ -18,36 +18,52 @@ const NAME = 256;
 
 const utf8 = new TextEncoder();
 
-/** The lines of a text. Bytes after the last newline are a line if there is one at least. @param {string} text @returns {string[]} */
-export function linesOf(text) {
-  const lines = text.split("\n");
-  if (lines.at(-1) === "") lines.pop();
-  return lines;
+/**
+ * A line, or why it isn't read, and where the next one begins.
+ * @typedef {{text: string, end: number} | {fault: "Json" | "Long", end: number}} Line
+ */
+
+/** No line of a directory is longer: a key has at most 16,384 bytes, and a path 256 siblings. */
+export const LONGEST = 262_144;
+
+/** The lines of texts and of files' bytes, one after another. @param {(string | Uint8Array)[]} parts @returns {Generator<Line>} */
+export function* linesOf(parts) {
+  let before = 0;
+  for (const part of parts) {
+    for (const line of typeof part === "string" ? linesOfText(part) : linesOfBytes(part)) yield { ...line, end: before + line.end };
+    before += part.length;
+  }
 }
 
-/**
- * The lines of a file's bytes; null for one that isn't UTF-8.
- * @param {Uint8Array} bytes
- * @returns {(string | null)[]}
- */
-export function linesOfBytes(bytes) {
+/** The lines of a text. Bytes after the last newline are a line if there is one at least. @param {string} text @returns {Generator<Line>} */
+export function* linesOfText(text) {
+  for (let at = 0; at < text.length; ) {
+    const found = text.indexOf("\n", at);
+    const end = found < 0 ? text.length : found;
+    const next = end + 1;
+    yield end - at > LONGEST ? { fault: "Long", end: next } : { text: text.slice(at, end), end: next };
+    at = next;
+  }
+}
+
+/** The lines of a file's bytes. @param {Uint8Array} bytes @returns {Generator<Line>} */
+export function* linesOfBytes(bytes) {
   const decoder = new TextDecoder("utf-8", { fatal: true, ignoreBOM: true });
-  const lines = [];
   for (let at = 0; at < bytes.length; ) {
     const found = bytes.indexOf(10, at);
     const end = found < 0 ? bytes.length : found;
-    lines.push(textOf(decoder, bytes.subarray(at, end)));
-    at = end + 1;
+    const next = end + 1;
+    yield end - at > LONGEST ? { fault: "Long", end: next } : decoded(decoder, bytes.subarray(at, end), next);
+    at = next;
   }
-  return lines;
 }
 
-/** @param {TextDecoder} decoder @param {Uint8Array} bytes @returns {string | null} */
-function textOf(decoder, bytes) {
+/** @param {TextDecoder} decoder @param {Uint8Array} bytes @param {number} end @returns {Line} */
+function decoded(decoder, bytes, end) {
   try {
-    return decoder.decode(bytes);
+    return { text: decoder.decode(bytes), end };
   } catch {
-    return null;
+    return { fault: "Json", end };
   }
 }
 
@@ -146,13 +162,21 @@ function proofOf(value) {
 }
 
 /**
- * The lookup that a line holds, its members read in their order.
+ * The lookup that a line holds.
  * @param {string} line
  * @returns {Lookup | Refused}
  */
 export function lookupOf(line) {
   const object = objectOf(line);
-  if (object === null) return { fault: "Json" };
+  return object === null ? { fault: "Json" } : lookupIn(object);
+}
+
+/**
+ * The lookup that a line's object holds, its members read in their order.
+ * @param {Record<string, any>} object
+ * @returns {Lookup | Refused}
+ */
+export function lookupIn(object) {
   const index = digest(member(object, "index"));
   if (index === null) return { fault: "Member", member: "index" };
   const name = member(object, "name");

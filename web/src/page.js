@@ -3,93 +3,118 @@
 import { fromHex } from "./bytes.js";
 import { Coniks } from "./coniks.js";
 import { element, pathOf } from "./draw.js";
-import { linesOf, linesOfBytes } from "./lines.js";
-import { Reading } from "./reading.js";
-import { SEEN, keyText, nameText } from "./words.js";
+import { LONGEST, linesOf } from "./lines.js";
+import { Reading, isOtherEpoch } from "./reading.js";
+import { counting, keyText, nameText } from "./words.js";
 
 /**
  * @typedef {import("./reading.js").Row} Row
  * @typedef {import("./reading.js").LookupRow} LookupRow
  * @typedef {import("./reading.js").EntryRow} EntryRow
+ * @typedef {import("./reading.js").Seen} Seen
  */
 
 /** Milliseconds after which the page is drawn again while lines are read, and rows that are shown at first. */
-const TURN = 30;
+const TURN = 20;
 const SHOWN = 200;
 
-/** Names that the menu lists. */
+/** Epochs of a name that are shown at first, and names that the menu lists. */
+const EPOCHS = 100;
 const NAMES = 500;
 
-/** With more lines the first lookup isn't unfolded, and progress is shown. */
+/** With more lines the first lookup isn't unfolded. */
 const MANY = 100;
 
-/** A longer text isn't put into the field, which would take longer than judging it. */
+/** A longer text isn't put into the field, which would take longer than checking it. */
 const LONG = 200_000;
+
+/** The key of the example. */
+const KEY = "0".repeat(64);
 
 /** @param {string} id @returns {any} */
 const part = (id) => document.getElementById(id);
 
 /** @type {Coniks} */
 let coniks;
-/** The lines that were given last; null for one that isn't UTF-8. @type {(string | null)[]} */
+/** The texts and files that were given last. @type {(string | Uint8Array)[]} */
 let given = [];
 /** Counts readings, so that one that was started after another ends that one. */
 let turn = 0;
+/** The reading that is to stop where it is. */
+let cancelled = 0;
 
-/** The epoch of a line's entry, or what a line without one says. @param {LookupRow} row @returns {string} */
+/** The epoch of a line's entry, or what a line without one says. @param {{epoch?: bigint | null, said: bigint | null}} row @returns {string} */
 function epochWords(row) {
-  if (row.epoch !== null) return ` at epoch ${row.epoch}`;
+  if (row.epoch) return ` at epoch ${row.epoch}`;
   return row.said === null ? "" : ` at an epoch that the line calls ${row.said}`;
 }
 
 /** @param {LookupRow | EntryRow} row @returns {string} what a line says of its epoch that its entry doesn't say */
 function otherEpoch(row) {
-  return row.epoch !== null && row.said !== null && row.said !== row.epoch ? `; the line calls it epoch ${row.said}, which its entry does not` : "";
+  return isOtherEpoch(row) ? `; the line calls it epoch ${row.said}, which its entry does not` : "";
 }
 
-/** @param {LookupRow} row @returns {string} */
-export function verdictWords(row, text = (/** @type {number} */ it) => coniks.text(it)) {
+const STANDINGS = {
+  authentic: "its entry is in the audited chain, whose signatures are verified",
+  consistent: "its entry is in the pasted chain, whose signatures are not verified",
+  missing: "its entry isn't in the pasted chain",
+  other: "the root or the nonce isn't that of its entry",
+  unsigned: "its entry's signature isn't one under this key",
+  broken: "its entry isn't 418 hexadecimal digits",
+  none: "the line has no entry",
+};
+
+/** Why a lookup is refused. @param {Reading} reading @param {LookupRow} row @returns {string} */
+function refusalWords(reading, row) {
   const verdict = row.verdict;
-  if ("answer" in verdict) {
-    const name = nameText(row.lookup?.name ?? "");
-    return `${name} is ${verdict.answer === "key" ? "bound to this key" : "not registered"}${epochWords(row)}`;
-  }
-  if (verdict.fault === "Json") return "refused: the line isn't a JSON object";
-  if (verdict.fault === "Member") return `refused: the member ${JSON.stringify(verdict.member)} is missing or isn't what it should be`;
-  return `refused: ${text(verdict.status ?? 0)}`;
+  if ("answer" in verdict) return STANDINGS[reading.standing(row)];
+  if (verdict.fault === "Member") return `the member ${JSON.stringify(verdict.member)} is missing or malformed`;
+  return coniks.text(verdict.status ?? 0);
+}
+
+/** The name and the epoch of a refused lookup. @param {{name: string | null, epoch?: bigint | null, said: bigint | null}} row @returns {string} */
+function askedWords(row) {
+  return `${row.name === null ? "a lookup" : nameText(row.name)}${epochWords(row)}`;
 }
 
 /** @param {Reading} reading @param {LookupRow} row @returns {string} */
-function standingWords(reading, row) {
-  const words = {
-    authentic: "authentic: its entry is in the audited chain, whose signatures are verified",
-    consistent: "consistent, not authenticated: its entry is in the pasted chain, whose signatures are not verified",
-    other: "the root or the nonce isn't that of its entry",
-    missing: "its entry isn't in the pasted chain",
-    none: "no entry is pasted with it",
-  }[reading.standing(row)];
-  return words + (reading.key === null ? "; at the index in this line" : "") + otherEpoch(row);
+function verdictWords(reading, row) {
+  if (reading.stateOf(row) === "refused") return `refused: ${askedWords(row)}: ${refusalWords(reading, row)}`;
+  const isBound = "answer" in row.verdict && row.verdict.answer === "key";
+  return `${nameText(row.name ?? "")} is ${isBound ? "bound to this key" : "not registered"}${epochWords(row)}`;
 }
 
-/** Whether a lookup is authentic, consistent or refused. @param {Reading} reading @param {LookupRow} row @returns {string} */
-function stateOf(reading, row) {
-  if (!("answer" in row.verdict)) return "bad";
-  return reading.standing(row) === "authentic" && !otherEpoch(row) ? "good" : "consistent";
+const STATES = { authentic: "authentic: ", consistent: "consistent, not authenticated: ", refused: "" };
+
+/** @param {Reading} reading @param {LookupRow} row @returns {string} */
+function standingWords(reading, row) {
+  const index = reading.key === null ? "; at the index in this line" : "";
+  return STATES[reading.stateOf(row)] + STANDINGS[reading.standing(row)] + index + otherEpoch(row);
 }
 
 /** @param {EntryRow} row @returns {string} */
 function entryWords(row) {
-  const signature = row.signature === null ? "its signature is not verified" : "its seal is the key's";
-  const words = row.status === 0 ? `epoch ${row.epoch} follows in the chain; ${signature}` : `the entry of epoch ${row.epoch} is refused: ${coniks.text(row.status)}`;
+  const signature = row.signature === null ? "its signature is not verified" : "its signature is verified";
+  const words = row.status === 0 ? `epoch ${row.epoch} follows in the chain; ${signature}` : `refused: the entry of epoch ${row.epoch}: ${coniks.text(row.status)}`;
   return words + otherEpoch(row);
+}
+
+/** @param {Exclude<Row, LookupRow>} row @returns {string} */
+function plainWords(row) {
+  if (row.what === "entry") return entryWords(row);
+  if (row.what === "unproved") return `refused: ${askedWords(row)}: the answer has no proof`;
+  if (row.what === "refusal") return `the directory refused a request: ${nameText(row.fault)}`;
+  if (row.what === "broken") return "refused: the entry isn't 418 hexadecimal digits";
+  if (row.what === "other") return "neither a lookup nor an entry";
+  return row.fault === "Json" ? "refused: the line isn't a JSON object" : `refused: the line is longer than ${LONGEST} bytes`;
 }
 
 /** @param {Reading} reading @param {LookupRow} row */
 function lookupItem(reading, row) {
-  const made = element("details", `lookup ${stateOf(reading, row)}`);
-  const summary = element("summary", "", element("bdi", "verdict", verdictWords(row)));
+  const made = element("details", `lookup ${reading.stateOf(row)}`);
+  const summary = element("summary", "", element("bdi", "verdict", verdictWords(reading, row)));
   if ("key" in row.verdict) summary.append(element("code", "key", keyText(row.verdict.key, 80)));
-  if (row.lookup) summary.append(element("span", "standing", standingWords(reading, row)));
+  summary.append(element("span", "standing", standingWords(reading, row)));
   made.append(summary);
   made.addEventListener("toggle", () => {
     if (/** @type {HTMLDetailsElement} */ (made).open && made.childElementCount === 1) made.append(pathOf(row));
@@ -97,168 +122,274 @@ function lookupItem(reading, row) {
   return made;
 }
 
-/** @param {Reading} reading @param {Row} row */
-function item(reading, row) {
-  const shown = row.what === "lookup" ? lookupItem(reading, row) : element("p", row.what === "entry" && row.status !== 0 ? "entry bad" : "entry", row.what === "entry" ? entryWords(row) : "neither a lookup nor an entry");
-  return element("li", "", element("span", "number", `line ${row.number}`), shown);
+/** @param {Exclude<Row, LookupRow>} row */
+function plainItem(row) {
+  const words = plainWords(row);
+  return element("p", words.startsWith("refused") ? "plain refused" : "plain", element("bdi", row.what === "entry" ? "entry" : "", words));
 }
 
 /** @param {Reading} reading @param {number} from */
 function show(reading, from) {
   const list = part("results");
-  for (const row of reading.rows.slice(from, from + SHOWN)) list.append(item(reading, row));
+  reading.rows.slice(from, from + SHOWN).forEach((row, i) => {
+    const shown = row.what === "lookup" ? lookupItem(reading, row) : plainItem(row);
+    list.append(element("li", "", element("span", "number", `line ${from + i + 1}`), shown));
+  });
   const more = part("more");
   more.hidden = reading.rows.length <= from + SHOWN;
   more.onclick = () => show(reading, from + SHOWN);
 }
 
+/** @param {Seen} it @returns {string} */
+function seenWords(it) {
+  if (it.seen === "first") return `first key ${keyText(it.key, 40)}`;
+  if (it.seen === "registered") return `registered with the key ${keyText(it.key, 40)}`;
+  if (it.seen === "same") return `same key ${keyText(it.key, 40)}`;
+  if (it.seen === "changed") return `changed from ${keyText(it.from, 40)} to ${keyText(it.key, 40)}`;
+  if (it.seen === "absent") return `absent, after the key ${keyText(it.from, 40)}`;
+  return it.seen === "unregistered" ? "not registered" : `refused: ${coniks.text(it.status)}`;
+}
+
+/** The epochs of a name, some at a time. @param {Reading} reading @param {string} name */
+function showTimeline(reading, name) {
+  const [list, later, watched] = [part("timeline"), part("later"), reading.watched(name)];
+  let next = watched.next();
+  list.replaceChildren(...(next.done ? [element("li", "", "none of its entries is in the pasted chain")] : []));
+  later.onclick = () => {
+    for (let shown = 0; !next.done && shown < EPOCHS; next = watched.next(), shown++) {
+      const it = next.value;
+      list.append(element("li", it.seen, element("span", "epoch", `epoch ${it.epoch}`), element("bdi", "", seenWords(it))));
+    }
+    later.hidden = next.done;
+  };
+  later.onclick();
+}
+
 /** @param {Reading} reading */
 function showWatched(reading) {
-  const [box, choice] = [part("watch"), part("watched")];
+  const choice = part("watched");
   const names = reading.names();
-  box.hidden = names.length === 0;
+  part("watch").hidden = names.length === 0;
   choice.replaceChildren(...names.slice(0, NAMES).map((it) => new Option(nameText(it), it)));
-  part("unlisted").textContent = names.length > NAMES ? `The first ${NAMES} of ${names.length} names are listed.` : "";
-  const drawn = () => {
-    const watched = reading.watched(choice.value, SHOWN);
-    const epochs = watched.epochs.map(({ epoch, status }) => {
-      const word = SEEN[status] ?? "refused";
-      return element("li", word, element("span", "epoch", `epoch ${epoch}`), element("strong", "", word));
-    });
-    if (watched.more) epochs.push(element("li", "", `${watched.more} more are not shown`));
-    part("timeline").className = reading.key === null ? "" : "good";
-    part("timeline").replaceChildren(...(epochs.length ? epochs : [element("li", "", "none of its entries is in the pasted chain")]));
-  };
-  choice.onchange = drawn;
-  drawn();
+  part("unlisted").textContent = names.length > NAMES ? `The menu has the first ${NAMES} of ${names.length} names.` : "";
+  choice.onchange = () => showTimeline(reading, choice.value);
+  if (names.length) showTimeline(reading, choice.value);
 }
 
-/** @param {number} count @param {string} one @param {string} many */
-function counting(count, one, many) {
-  return `${count} ${count === 1 ? one : many}`;
+/** How many rows there are of each kind. @typedef {Record<string, number>} Counts */
+
+/** What a row counts as. @param {Row} row @param {Reading} reading @returns {string} */
+function kindOf(row, reading) {
+  if (row.what === "lookup") return reading.stateOf(row);
+  if (row.what === "entry") return row.status === 0 ? "followed" : "unfollowed";
+  return row.what === "unread" ? row.fault : row.what;
 }
 
-/** @param {Reading} reading */
-function counted(reading) {
-  const lookups = /** @type {LookupRow[]} */ (reading.rows.filter((it) => it.what === "lookup"));
-  const entries = /** @type {EntryRow[]} */ (reading.rows.filter((it) => it.what === "entry"));
-  const keys = lookups.filter((it) => "answer" in it.verdict && it.verdict.answer === "key").length;
-  const absent = lookups.filter((it) => "answer" in it.verdict && it.verdict.answer === "absent").length;
-  const followed = entries.filter((it) => it.status === 0).length;
-  const signed = reading.key === null ? "their signatures are not verified" : "their signatures are verified";
-  const [of_lookups, of_entries] = [counting(lookups.length, "lookup", "lookups"), counting(entries.length, "entry", "entries")];
-  const chain = entries.length ? `: ${followed} ${followed === 1 ? "follows" : "follow"}, ${signed}` : "";
-  return `${of_lookups}: ${counting(keys, "key", "keys")}, ${absent} absent, ${lookups.length - keys - absent} refused. ${of_entries}${chain}.`;
+/** @param {Counts} counts @param {string} kind */
+function add(counts, kind) {
+  counts[kind] = (counts[kind] ?? 0) + 1;
 }
 
-/** @returns {Uint8Array | null | undefined} the seal's key, null where none is given, undefined where it isn't one */
-function sealKey() {
+/** @param {Counts} counts @param {boolean} isKeyed @returns {string} */
+function entriesWords(counts, isKeyed) {
+  const [followed, refused] = [counts.followed ?? 0, (counts.unfollowed ?? 0) + (counts.broken ?? 0)];
+  const broken = counts.broken ? `, ${counts.broken} of them malformed` : "";
+  const signed = `${followed === 1 ? "its signature is" : "their signatures are"}${isKeyed ? "" : " not"} verified`;
+  const chain = followed ? `: ${followed} ${followed === 1 ? "follows" : "follow"} in the chain, ${signed}` : "";
+  return `${counting(followed + refused, "entry", "entries")}${chain}${refused ? `; ${refused} refused${broken}` : ""}.`;
+}
+
+/** @param {Counts} counts @param {boolean} isKeyed @returns {string} */
+function counted(counts, isKeyed) {
+  const [authentic, consistent, refused] = [counts.authentic ?? 0, counts.consistent ?? 0, counts.refused ?? 0];
+  const lookups = `${counting(authentic + consistent + refused, "lookup")}: ${authentic} authentic, ${consistent} consistent but not authenticated, ${refused} refused.`;
+  const rest = [
+    [counts.unproved, "answer without a proof", "answers without a proof"],
+    [counts.refusal, "request that the directory refused", "requests that the directory refused"],
+    [counts.Json, "line that isn't a JSON object", "lines that aren't JSON objects"],
+    [counts.Long, "line that is too long", "lines that are too long"],
+    [counts.other, "other line", "other lines"],
+  ];
+  const others = rest.flatMap(([many, one, more]) => (many ? [`${counting(/** @type {number} */ (many), String(one), String(more))}.`] : []));
+  return [lookups, entriesWords(counts, isKeyed), ...others].join(" ");
+}
+
+/** @returns {Uint8Array | null | undefined} the key of the demonstration, null where none is given, undefined where it isn't one */
+function demonstrationKey() {
   const text = part("key").value.trim();
   if (text === "") return null;
   const bytes = fromHex(text);
   return bytes !== null && bytes.length === 32 ? bytes : undefined;
 }
 
-/** @param {(string | null)[]} lines */
-async function readAll(lines) {
-  const mine = ++turn;
-  const key = sealKey();
-  part("key").setAttribute("aria-invalid", String(key === undefined));
-  const reading = new Reading(coniks, key ?? null);
-  part("results").replaceChildren();
-  part("more").hidden = true;
-  part("watch").hidden = true;
-  const progress = part("progress");
-  progress.max = lines.length;
-  progress.hidden = lines.length <= MANY;
-  let drawn = performance.now();
-  for (let at = 0; at < lines.length; at++) {
-    reading.read(lines[at], at + 1);
-    if (performance.now() - drawn > TURN) {
-      progress.value = at;
-      part("summary").textContent = `${at + 1} of ${lines.length} lines`;
-      await new Promise((go) => setTimeout(go));
-      if (mine !== turn) return;
-      drawn = performance.now();
-    }
+/** @param {string} words  what is wrong with the key */
+function tellKey(words) {
+  part("key").setAttribute("aria-invalid", String(words !== ""));
+  part("keyed-as").textContent = words;
+}
+
+/** @returns {string} what is wrong with a text that isn't a key */
+function keyWords() {
+  const text = part("key").value.trim();
+  const what = /^[0-9a-fA-F]*$/.test(text) ? `this text has ${counting(text.length, "digit")}` : "this text has other characters";
+  return `not a key: a key has 64 hexadecimal digits, and ${what}. No signature is verified.`;
+}
+
+/** Lets the browser draw and answer, where it hasn't for a while. */
+class Pause {
+  constructor() {
+    this.last = performance.now();
   }
-  progress.hidden = true;
-  part("summary").textContent = lines.length ? counted(reading) : "Nothing is pasted.";
-  part("summary").dataset.done = String(lines.length);
+
+  /** @returns {boolean} */
+  isDue() {
+    return performance.now() - this.last > TURN;
+  }
+
+  async take() {
+    await new Promise((go) => setTimeout(go));
+    this.last = performance.now();
+  }
+}
+
+/** Reads lines until all are read or reading is cancelled. @param {Reading} reading @param {number} mine @returns {Promise<boolean>} whether another reading took over */
+async function readLines(reading, mine) {
+  const [pause, progress] = [new Pause(), part("progress")];
+  progress.max = given.reduce((size, it) => size + it.length, 0);
+  for (const line of linesOf(given)) {
+    reading.read(line);
+    if (!pause.isDue()) continue;
+    progress.value = line.end;
+    part("reading").hidden = false;
+    await pause.take();
+    if (mine !== turn) return true;
+    if (cancelled === mine) break;
+  }
+  return false;
+}
+
+/** @param {Reading} reading @param {number} mine @returns {Promise<Counts | null>} null where another reading took over */
+async function countRows(reading, mine) {
+  const [pause, counts] = [new Pause(), /** @type {Counts} */ ({})];
+  for (const row of reading.rows) {
+    add(counts, kindOf(row, reading));
+    if (row.what === "entry" && row.signature !== null) add(counts, row.signature ? "signed" : "unsigned");
+    if (!pause.isDue()) continue;
+    await pause.take();
+    if (mine !== turn) return null;
+  }
+  return counts;
+}
+
+/** Reads what is given, and shows it. */
+async function readAll() {
+  const mine = ++turn;
+  const key = demonstrationKey();
+  tellKey(key === undefined ? keyWords() : "");
+  const reading = new Reading(coniks, key ?? null);
+  for (const id of ["more", "watch", "reading"]) part(id).hidden = true;
+  part("results").replaceChildren();
+  if (await readLines(reading, mine)) return;
+  const counts = await countRows(reading, mine);
+  if (counts === null) return;
+  showAll(reading, counts, cancelled === mine);
+}
+
+/** @param {Reading} reading @param {Counts} counts @param {boolean} isCancelled */
+function showAll(reading, counts, isCancelled) {
+  const lines = reading.rows.length;
+  part("reading").hidden = true;
+  part("folded").textContent = lines ? `${counting(lines, "line")}: show them, or paste others` : "Paste lines";
+  const cut = isCancelled ? `Cancelled after ${counting(lines, "line")}; the rest is not read. ` : "";
+  part("summary").textContent = cut + (lines ? counted(counts, reading.key !== null) : "Nothing is pasted.");
+  part("summary").dataset.done = String(lines);
+  if (counts.unsigned && !counts.signed) tellKey(`wrong key: no signature of ${counting(counts.unsigned, "entry", "entries")} is one under it`);
   show(reading, 0);
   showWatched(reading);
   const first = /** @type {HTMLDetailsElement | null} */ (document.querySelector("details.lookup"));
-  if (first && lines.length <= MANY) first.open = true;
+  if (first && lines <= MANY) first.open = true;
 }
 
-/** The lines of files, one after another. @param {Iterable<File>} files @returns {Promise<(string | null)[]>} */
-async function linesOfFiles(files) {
+/** The bytes of files, one after another. @param {Iterable<File>} files @returns {Promise<Uint8Array[]>} */
+async function bytesOf(files) {
   const all = [];
-  for (const file of files) all.push(linesOfBytes(new Uint8Array(await file.arrayBuffer())));
-  return all.flat();
+  for (const file of files) all.push(new Uint8Array(await file.arrayBuffer()));
+  return all;
+}
+
+/** Takes texts or files, of which only a short text is put into the field. @param {(string | Uint8Array)[]} parts */
+function take(parts) {
+  const [text] = parts;
+  part("lines").value = typeof text === "string" && text.length <= LONG ? text : "";
+  part("pasted").open = false;
+  given = parts;
+  return readAll();
 }
 
 /** @param {DataTransfer | null} dropped */
 async function takeDropped(dropped) {
   const files = [...(dropped?.files ?? [])];
-  return files.length ? takeLines(await linesOfFiles(files)) : takeText(dropped?.getData("text/plain") ?? "");
+  return take(files.length ? await bytesOf(files) : [dropped?.getData("text/plain") ?? ""]);
 }
 
-function listen() {
-  const input = part("lines");
+/** @param {ClipboardEvent} event */
+function takePasted(event) {
+  const text = event.clipboardData?.getData("text/plain") ?? "";
+  const isShort = text.length <= LONG && /** @type {Element} */ (event.target).closest("input, textarea");
+  if (isShort || text === "") return;
+  event.preventDefault();
+  take([text]);
+}
+
+function listenToLines() {
+  const [input, files] = [part("lines"), part("file")];
   let waiting = 0;
   const soon = () => {
     clearTimeout(waiting);
-    waiting = window.setTimeout(() => readAll(given), 150);
+    waiting = window.setTimeout(readAll, 150);
   };
-  input.addEventListener("input", () => {
-    given = linesOf(input.value);
+  input.addEventListener("input", (/** @type {InputEvent} */ event) => {
+    given = [input.value];
+    part("pasted").open = event.inputType !== "insertFromPaste";
     soon();
   });
   part("key").addEventListener("input", soon);
-  input.addEventListener("paste", (/** @type {ClipboardEvent} */ event) => {
-    const text = event.clipboardData?.getData("text/plain") ?? "";
-    if (text.length <= LONG) return;
-    event.preventDefault();
-    takeText(text);
-  });
-  part("file").addEventListener("change", async () => {
-    const files = [...part("file").files];
+  files.addEventListener("change", async () => {
+    const parts = await bytesOf(files.files);
     // The same file can be opened again.
-    part("file").value = "";
-    if (files.length) await takeLines(await linesOfFiles(files));
+    files.value = "";
+    if (parts.length) await take(parts);
   });
+}
+
+/** @param {string} key */
+function takeExample(key) {
+  part("key").value = key;
+  return take([part("tour").textContent ?? ""]);
+}
+
+function listen() {
+  listenToLines();
+  document.addEventListener("paste", takePasted);
   document.addEventListener("dragover", (event) => event.preventDefault());
   document.addEventListener("drop", async (event) => {
     event.preventDefault();
     await takeDropped(event.dataTransfer);
   });
-  part("example").addEventListener("click", () => takeText(part("tour").textContent ?? ""));
-}
-
-/** @param {string} text */
-function takeText(text) {
-  part("lines").value = text.length > LONG ? "" : text;
-  given = linesOf(text);
-  return readAll(given);
-}
-
-/** Lines of files aren't put into the field, in which bytes that aren't UTF-8 would be lost. @param {(string | null)[]} lines */
-function takeLines(lines) {
-  part("lines").value = "";
-  given = lines;
-  return readAll(lines);
+  part("example").addEventListener("click", () => takeExample(""));
+  part("keyed").addEventListener("click", () => takeExample(KEY));
+  part("cancel").addEventListener("click", () => (cancelled = turn));
 }
 
 export async function begin() {
   try {
     const text = part("module").textContent ?? "";
     coniks = await Coniks.of(Uint8Array.from(atob(text.trim()), (it) => it.charCodeAt(0)));
-  } catch (fault) {
+  } catch (error) {
     part("unsupported").hidden = false;
-    part("reason").textContent = String(fault);
+    part("reason").textContent = String(error);
     return;
   }
   listen();
-  await takeText(part("tour").textContent ?? "");
+  await takeExample("");
 }

@@ -2,23 +2,37 @@
 
 import { toHex } from "./bytes.js";
 import { Coniks } from "./coniks.js";
-import { entryOf, lookupOf, nameBytes, numberOf, objectOf, proofBytes } from "./lines.js";
+import { entryOf, lookupIn, lookupOf, nameBytes, numberOf, objectOf, proofBytes } from "./lines.js";
 import { indexOf, isSealed } from "./seal.js";
 import { FAULTS } from "./words.js";
 
 /**
- * Where a lookup's entry is: in the chain, whose signatures were verified (authentic) or not (consistent), in it with another
- * root or nonce (other), not in it (missing), or not there (none).
- * @typedef {"authentic" | "consistent" | "other" | "missing" | "none"} Standing
+ * Where a lookup's entry is: in the chain, whose signatures were verified (authentic) or not (consistent), not in it (missing),
+ * of another root or nonce (other), not signed by the key (unsigned), not 209 bytes (broken), or not in the line (none).
+ * @typedef {"authentic" | "consistent" | "missing" | "other" | "unsigned" | "broken" | "none"} Standing
  *
  * @typedef {import("./lines.js").Lookup} Lookup
  * @typedef {{fault: string, member?: string, status?: number} | {answer: "absent"} | {answer: "key", key: Uint8Array}} Verdict
- * @typedef {{what: "lookup", number: number, text: string, epoch: bigint | null, said: bigint | null, lookup: Lookup | null, proof: Uint8Array | null, verdict: Verdict, entry: Uint8Array | null}} LookupRow
- * @typedef {{what: "entry", number: number, epoch: bigint | null, said: bigint | null, status: number, signature: boolean | null}} EntryRow
- * @typedef {{what: "passed over", number: number}} OtherRow
- * @typedef {LookupRow | EntryRow | OtherRow} Row
+ * @typedef {{what: "lookup", text: string, name: string | null, epoch: bigint | null, said: bigint | null, verdict: Verdict, entry: Standing | "own", link: string}} LookupRow
+ * @typedef {{what: "entry", epoch: bigint | null, said: bigint | null, status: number, signature: boolean | null}} EntryRow
+ * @typedef {{what: "unproved", name: string | null, said: bigint | null}} UnprovedRow
+ * @typedef {{what: "refusal", fault: string}} RefusalRow
+ * @typedef {{what: "broken" | "other"} | {what: "unread", fault: "Json" | "Long"}} PlainRow
+ * @typedef {LookupRow | EntryRow | UnprovedRow | RefusalRow | PlainRow} Row
  * @typedef {{state: Uint8Array, isGood: boolean}} Before
+ *
+ * What is seen of a name at an epoch: its first key, a key after none, the same one, another one, none any more, or none yet.
+ * @typedef {{seen: "first" | "registered" | "same", key: Uint8Array}
+ *   | {seen: "changed", from: Uint8Array, key: Uint8Array}
+ *   | {seen: "absent", from: Uint8Array}
+ *   | {seen: "unregistered"}
+ *   | {seen: "refused", status: number}} Seen
  */
+
+const [SAME, ABSENT, CHANGED] = [0, 1, 9];
+
+/** Rows that hold nothing of their lines. @type {Record<string, PlainRow>} */
+const PLAIN = { broken: { what: "broken" }, other: { what: "other" }, Json: { what: "unread", fault: "Json" }, Long: { what: "unread", fault: "Long" } };
 
 export class Reading {
   /**
@@ -31,41 +45,76 @@ export class Reading {
     this.state = coniks.begin();
     /** What stood before each accepted entry, by its link. @type {Map<string, Before>} */
     this.before = new Map();
-    /** @type {Row[]} */
+    /** One for each line. @type {Row[]} */
     this.rows = [];
+    /** @type {LookupRow[]} */
+    this.lookups = [];
+    /** The lookups with entries, by their names. @type {Map<string, LookupRow[]>} */
+    this.byName = new Map();
   }
 
-  /** @param {string | null} given  a line, null for one that isn't UTF-8 @param {number} number */
-  read(given, number) {
-    const line = given ?? "";
+  /** @param {import("./lines.js").Line} line */
+  read(line) {
+    const row = "fault" in line ? PLAIN[line.fault] : this.rowOf(line.text);
+    this.rows.push(row);
+    if (row.what === "lookup") this.keep(row);
+  }
+
+  /** @param {string} line @returns {Row} */
+  rowOf(line) {
     const object = objectOf(line);
-    const isEntry = object !== null && !("proof" in object) && entryOf(object) !== null;
-    if (isEntry) this.rows.push(this.audited(line, /** @type {any} */ (object), number));
-    else if (object === null || "proof" in object) this.rows.push(this.checked(line, object, number));
-    else this.rows.push({ what: "passed over", number });
+    if (object === null) return PLAIN.Json;
+    if ("proof" in object) return this.checked(line, object);
+    if (object.ok === "lookup" || "index" in object) return { what: "unproved", name: textOf(object.name), said: numberOf(line, "epoch") };
+    if ("entry" in object) return this.audited(line, object);
+    return typeof object.fault === "string" ? { what: "refusal", fault: object.fault } : PLAIN.other;
   }
 
-  /** @param {string} line @param {Record<string, any>} object @param {number} number @returns {EntryRow} */
-  audited(line, object, number) {
-    const entry = /** @type {Uint8Array} */ (entryOf(object));
+  /** @param {LookupRow} row */
+  keep(row) {
+    this.lookups.push(row);
+    if (row.name === null || row.epoch === null || "member" in row.verdict) return;
+    const rows = this.byName.get(row.name);
+    if (rows) rows.push(row);
+    else this.byName.set(row.name, [row]);
+  }
+
+  /** @param {string} line @param {Record<string, any>} object @returns {Row} */
+  audited(line, object) {
+    const entry = entryOf(object);
+    if (entry === null) return PLAIN.broken;
     const signature = this.key === null ? null : isSealed(this.key, entry);
     const [state, isGood] = [this.state.slice(), signature !== false];
     const status = this.coniks.feed(this.state, entry, isGood);
     if (status === 0) this.before.set(this.coniks.link(entry), { state, isGood });
-    return { what: "entry", number, epoch: this.epochOf(entry), said: numberOf(line, "epoch"), status, signature };
+    return { what: "entry", epoch: this.epochOf(entry), said: numberOf(line, "epoch"), status, signature };
   }
 
-  /** @param {string} line @param {Record<string, any> | null} object @param {number} number @returns {LookupRow} */
-  checked(line, object, number) {
-    const lookup = lookupOf(line);
+  /** @param {string} line @param {Record<string, any> | null} object @returns {LookupRow} */
+  checked(line, object) {
+    const lookup = object === null ? { fault: /** @type {const} */ ("Json") } : lookupIn(object);
     const entry = object === null ? null : entryOf(object);
-    const [epoch, said] = [entry && this.epochOf(entry), object && numberOf(line, "epoch")];
-    const rest = { what: /** @type {const} */ ("lookup"), number, text: line, epoch, said, entry };
-    if ("fault" in lookup) return { ...rest, lookup: null, proof: null, verdict: lookup };
-    const proof = proofBytes(lookup);
+    const rest = {
+      what: /** @type {const} */ ("lookup"),
+      text: line,
+      name: object && textOf(object.name),
+      epoch: entry && this.epochOf(entry),
+      said: object && numberOf(line, "epoch"),
+      entry: entry === null ? /** @type {const} */ (object && "entry" in object ? "broken" : "none") : this.tie(entry, lookup),
+      link: entry === null ? "" : this.coniks.link(entry),
+    };
+    if ("fault" in lookup) return { ...rest, verdict: lookup };
     const name = nameBytes(lookup.name);
     const index = this.key === null ? lookup.index : indexOf(this.key, name);
-    return { ...rest, lookup, proof, verdict: verdictOf(this.coniks.check(lookup.nonce, lookup.root, index, name, proof)) };
+    return { ...rest, verdict: verdictOf(this.coniks.check(lookup.nonce, lookup.root, index, name, proofBytes(lookup))) };
+  }
+
+  /** Whether an entry is a lookup's own. @param {Uint8Array} entry @param {Lookup | {fault: string}} lookup @returns {"own" | "other" | "unsigned"} */
+  tie(entry, lookup) {
+    const body = this.coniks.body(entry);
+    const isOwn = "fault" in lookup || (body !== null && body.root === toHex(lookup.root) && body.nonce === toHex(lookup.nonce));
+    if (!isOwn) return "other";
+    return this.key === null || isSealed(this.key, entry) ? "own" : "unsigned";
   }
 
   /**
@@ -74,47 +123,74 @@ export class Reading {
    * @returns {Standing}
    */
   standing(row) {
-    if (row.entry === null || row.lookup === null) return "none";
-    const body = this.coniks.body(row.entry);
-    const isOfEntry = body !== null && body.root === toHex(row.lookup.root) && body.nonce === toHex(row.lookup.nonce);
-    if (!isOfEntry) return "other";
-    if (!this.before.has(this.coniks.link(row.entry))) return "missing";
+    if (row.entry !== "own") return row.entry;
+    if (!this.before.has(row.link)) return "missing";
     return this.key === null ? "consistent" : "authentic";
+  }
+
+  /** Whether a lookup is authentic, consistent or refused. @param {LookupRow} row @returns {"authentic" | "consistent" | "refused"} */
+  stateOf(row) {
+    const standing = this.standing(row);
+    if (!("answer" in row.verdict) || standing === "other" || standing === "unsigned") return "refused";
+    return standing === "authentic" && !isOtherEpoch(row) ? "authentic" : "consistent";
   }
 
   /** The names of which there are lookups with entries, in their order. @returns {string[]} */
   names() {
-    const names = this.rows.flatMap((it) => (it.what === "lookup" && it.lookup && it.entry ? [it.lookup.name] : []));
-    return [...new Set(names)];
+    return [...this.byName.keys()];
   }
 
   /**
-   * What a monitor of a name sees at the first so many epochs whose entries are in the chain, and how many more there are.
-   * It expects the first key that it is shown, or that there is none, at the name's index: with the demonstration's key the
-   * computed one, else the first line's.
-   * @param {string} name @param {number} most
-   * @returns {{epochs: {epoch: string, status: number}[], more: number}}
+   * What a monitor of a name sees at each epoch whose entry is in the chain. It takes the first key that it is shown as right. The
+   * index is the computed one with the demonstration's key, else that of the first line.
+   * @param {string} name
+   * @returns {Generator<{epoch: bigint | null} & Seen>}
    */
-  watched(name, most) {
-    const rows = this.rows.filter((it) => it.what === "lookup" && it.lookup?.name === name && ["authentic", "consistent"].includes(this.standing(it)));
-    const inOrder = /** @type {LookupRow[]} */ (rows).sort((a, b) => Number(/** @type {bigint} */ (a.epoch) - /** @type {bigint} */ (b.epoch)));
-    const first = inOrder.find((it) => "answer" in it.verdict);
-    const expected = first && "answer" in first.verdict && first.verdict.answer === "key" ? first.verdict.key : new Uint8Array(0);
-    const index = this.key === null ? (first ?? inOrder[0])?.lookup?.index : indexOf(this.key, nameBytes(name));
-    const epochs = inOrder.slice(0, most).map((row) => {
-      const entry = /** @type {Uint8Array} */ (row.entry);
-      const { state, isGood } = /** @type {Before} */ (this.before.get(this.coniks.link(entry)));
-      const wanted = { index: /** @type {Uint8Array} */ (index), name: nameBytes(name), expected };
-      const status = this.coniks.step(state.slice(), wanted, entry, isGood, /** @type {Uint8Array} */ (row.proof));
-      return { epoch: String(row.epoch), status };
-    });
-    return { epochs, more: inOrder.length - epochs.length };
+  *watched(name) {
+    const rows = (this.byName.get(name) ?? []).filter((it) => ["authentic", "consistent"].includes(this.standing(it)));
+    rows.sort((a, b) => (/** @type {bigint} */ (a.epoch) < /** @type {bigint} */ (b.epoch) ? -1 : Number(a.epoch !== b.epoch)));
+    const first = rows.find((it) => "answer" in it.verdict) ?? rows[0];
+    const index = this.key === null ? first && /** @type {Lookup} */ (lookupOf(first.text)).index : indexOf(this.key, nameBytes(name));
+    let [expected, isFirst] = [new Uint8Array(0), true];
+    for (const row of rows) {
+      const seen = this.seen(row, { index, name: nameBytes(name), expected }, isFirst);
+      yield { epoch: row.epoch, ...seen };
+      if (seen.seen === "first" || seen.seen === "registered") expected = seen.key;
+      isFirst &&= seen.seen === "refused";
+    }
+  }
+
+  /**
+   * @param {LookupRow} row @param {{index: Uint8Array, name: Uint8Array, expected: Uint8Array}} wanted
+   * @param {boolean} isFirst  whether nothing was seen of the name before
+   * @returns {Seen}
+   */
+  seen(row, wanted, isFirst) {
+    const object = /** @type {Record<string, any>} */ (objectOf(row.text));
+    const [lookup, entry] = [/** @type {Lookup} */ (lookupIn(object)), /** @type {Uint8Array} */ (entryOf(object))];
+    const { state, isGood } = /** @type {Before} */ (this.before.get(row.link));
+    const status = this.coniks.step(state.slice(), wanted, entry, isGood, proofBytes(lookup));
+    const [expects, key] = [wanted.expected.length > 0, lookup.end.kind === "here" ? lookup.end.key : new Uint8Array(0)];
+    if (status === SAME) return expects ? { seen: "same", key } : { seen: "unregistered" };
+    if (status === ABSENT) return { seen: "absent", from: wanted.expected };
+    if (status !== CHANGED) return { seen: "refused", status };
+    return expects ? { seen: "changed", from: wanted.expected, key } : { seen: isFirst ? "first" : "registered", key };
   }
 
   /** @param {Uint8Array} entry @returns {bigint | null} */
   epochOf(entry) {
     return this.coniks.body(entry)?.epoch ?? null;
   }
+}
+
+/** Whether a line says another epoch than its entry. @param {{epoch: bigint | null, said: bigint | null}} row */
+export function isOtherEpoch(row) {
+  return row.epoch !== null && row.said !== null && row.said !== row.epoch;
+}
+
+/** @param {any} value @returns {string | null} */
+function textOf(value) {
+  return typeof value === "string" ? value : null;
 }
 
 /** @param {import("./coniks.js").Checked} checked @returns {Verdict} */

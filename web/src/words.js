@@ -21,9 +21,6 @@ export const FAULTS = {
   40: "Verdict",
 };
 
-/** What a monitor sees. @type {Record<number, "same" | "absent" | "changed">} */
-export const SEEN = { 0: "same", 1: "absent", 9: "changed" };
-
 /**
  * Of a refused proof, the part that the first fault is about.
  * @type {Record<number, "depth" | "asked" | "key" | "name" | "other" | "root">}
@@ -43,14 +40,24 @@ export function keyText(key, most) {
   return key.length > most ? `${text}… (${key.length} bytes)` : text;
 }
 
+/** A longer name, which no directory registers, is cut. */
+const NAME = 255;
+
 /**
  * A name in quotation marks, in which what isn't seen, or turns what follows it, is written out: control and format
- * characters, line and paragraph separators, and what Unicode doesn't assign.
+ * characters, line and paragraph separators, and what Unicode doesn't assign. A cut name ends with its length.
  * @param {string} name
  * @returns {string}
  */
 export function nameText(name) {
-  return JSON.stringify(name).replace(/[\p{Cc}\p{Cf}\p{Co}\p{Cn}\p{Zl}\p{Zp}]/gu, (it) => `\\u{${/** @type {number} */ (it.codePointAt(0)).toString(16)}}`);
+  const part = JSON.stringify(name.slice(0, NAME));
+  const text = part.replace(/[\p{Cc}\p{Cf}\p{Co}\p{Cn}\p{Zl}\p{Zp}]/gu, (it) => `\\u{${/** @type {number} */ (it.codePointAt(0)).toString(16)}}`);
+  return name.length > NAME ? `${text}… (${name.length} characters)` : text;
+}
+
+/** A number of things, with the word for one or for several. @param {number} count @param {string} one @param {string} many */
+export function counting(count, one, many = `${one}s`) {
+  return `${count} ${count === 1 ? one : many}`;
 }
 
 /** The first and last digits of a hash. @param {string} digits @returns {string} */
