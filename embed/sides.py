@@ -112,7 +112,7 @@ def state_of(entry):
 
 def of_audit(chance, program):
     """Chains with entries that don't follow between those that do."""
-    for _ in range(COUNT // 40):
+    for _ in range(COUNT // 25):
         entries = []
         for entry in chain(chance, 12):
             entries += [changed(chance, entry) for _ in range(chance.randrange(4))] + [entry]
@@ -146,7 +146,7 @@ def watched_lines(program):
 def of_monitor(chance, program):
     """Lookups of a name, some with another entry or proof, and expectations between them."""
     looked = watched_lines(program)
-    for turn in range(COUNT // 30):
+    for turn in range(COUNT // 25):
         mine = [it for it in looked if it["name"] == ["early", "late"][turn % 2]]
         yield f"watch {word(mine[0]['name'].encode())} {mine[0]['index']}", "watched"
         yield "expect -", "expected"
@@ -394,6 +394,22 @@ def try_python_lines(tell, coniks):
     tell("the cases of check, by Python", tried > 100 and not wrong, (tried, wrong[:3]))
 
 
+def try_javascript(tell, skip, requests):
+    if not tools.has("node"):
+        return skip("the module for web projects", "node")
+    ran = run(TOP / "web/build")
+    tell("web/build", ran.returncode == 0, ran.stderr.decode()[-2000:])
+    named = json.loads((TOP / "web/out/package.json").read_text("utf-8"))
+    tell("the version of the module", named["version"] == header_version(), named)
+    tell("the files of the module", all((TOP / "web/out" / it).is_file() for it in named["files"]), named)
+    if tools.has("tsc"):
+        ran = run("tsc", "--noEmit", "--strict", "--target", "es2020", "--module", "es2020", "--moduleResolution", "node", TOP / "web/example.ts")
+        tell("the types of the module", ran.returncode == 0, ran.stdout.decode())
+    else:
+        skip("the types of the module", "tsc")
+    try_requests(tell, "JavaScript", ["node", "--experimental-wasm-memory64", TOP / "web/answers.mjs"], requests)
+
+
 def try_all(tell, skip, program, coniks, lines):
     """All sides, over the program's answers."""
     try_watch(tell, program)
@@ -406,3 +422,4 @@ def try_all(tell, skip, program, coniks, lines):
         try_go(tell, skip, here, example_of(coniks, lines), requests)
         try_rust(tell, skip, here, example_of(coniks, lines), requests)
         try_python(tell, skip, here, coniks, requests)
+    try_javascript(tell, skip, requests)

@@ -49,6 +49,7 @@ TOOLS = {
     "pip": (lambda: PYTHON is not None, "python3-venv python3-setuptools python3-wheel", "pip install"),
     "mypy": (lambda: has_program("mypy"), "mypy", "the types of the side in Python"),
     "node": (lambda: has_program("node"), "nodejs", "the page's own tests"),
+    "tsc": (lambda: has_program("tsc"), "node-typescript", "the types of the module for web projects"),
     "chromium": (lambda: has_program(CHROMIUM), "chromium", "the page in a browser"),
 }
 
