@@ -54,9 +54,9 @@ static void make(EVP_PKEY *key, const coniks_auditor *state, uint64_t epoch, uin
 
 static void tell(const char *what, uint32_t status, const coniks_auditor *state)
 {
-    uint8_t text[128];
+    uint8_t text[CONIKS_TEXT_BYTES];
     size_t size = coniks_text(status, text, sizeof text);
-    printf("%s: %u%s%.*s, at epoch %llu\n", what, (unsigned)status, size ? ", " : "", (int)size, (const char *)text,
+    printf("%s: %u%s%s, at epoch %llu\n", what, (unsigned)status, size ? ", " : "", (const char *)text,
            (unsigned long long)state->epoch);
 }
 
