@@ -205,6 +205,8 @@ def requests_of(program, lines):
 
 def try_requests(tell, side, words, requests, **more):
     """One side's answers to all requests."""
+    if not shutil.which(words[0]):
+        return tell(f"{side}: {words[0]} is missing", False)
     ran = run(*words, input="".join(f"{it}\n" for it, _ in requests).encode(), **more)
     said = ran.stdout.decode().splitlines()
     wrong = [(*it, mine) for it, mine in zip(requests, said) if mine != it[1]]
