@@ -45,7 +45,7 @@ let cancelled = 0;
 
 /** The epoch of a line's entry, or what a line without one says. @param {{epoch?: bigint | null, said: bigint | null}} row @returns {string} */
 function epochWords(row) {
-  if (row.epoch) return ` at epoch ${row.epoch}`;
+  if (typeof row.epoch === "bigint") return ` at epoch ${row.epoch}`;
   return row.said === null ? "" : ` at an epoch that the line calls ${row.said}`;
 }
 
@@ -292,20 +292,22 @@ async function readAll() {
   if (await readLines(reading, mine)) return;
   const counts = await countRows(reading, mine);
   if (counts === null) return;
-  showAll(reading, counts, cancelled === mine);
+  showRows(reading, counts, cancelled === mine);
+  await new Pause().take();
+  if (mine !== turn) return;
+  showWatched(reading);
+  part("summary").dataset.done = String(reading.rows.length);
 }
 
 /** @param {Reading} reading @param {Counts} counts @param {boolean} isCancelled */
-function showAll(reading, counts, isCancelled) {
+function showRows(reading, counts, isCancelled) {
   const lines = reading.rows.length;
   part("reading").hidden = true;
   part("folded").textContent = lines ? `${counting(lines, "line")}: show them, or paste others` : "Paste lines";
   const cut = isCancelled ? `Cancelled after ${counting(lines, "line")}; the rest is not read. ` : "";
   part("summary").textContent = cut + (lines ? counted(counts, reading.key !== null) : "Nothing is pasted.");
-  part("summary").dataset.done = String(lines);
   if (counts.unsigned && !counts.signed) tellKey(`wrong key: no signature of ${counting(counts.unsigned, "entry", "entries")} is one under it`);
   show(reading, 0);
-  showWatched(reading);
   const first = /** @type {HTMLDetailsElement | null} */ (document.querySelector("details.lookup"));
   if (first && lines <= MANY) first.open = true;
 }
