@@ -30,8 +30,12 @@
  * 49 (32), nonce 81 (32), policy 113 (32), signature 145 (64). docs/FORMATS.md has more on both, in "A proof in bytes" and
  * "Entries".
  *
- * Built with: cc program.c $(pkg-config --cflags --libs coniks), or with libconiks.a and no other library. The archive that
- * embed/build makes needs an x86-64 processor of level v2 (SSE4.2).
+ * Build and run, in the repository:
+ *
+ *     embed/build && cc program.c -Iinclude embed/out/libconiks.a -o program && ./program
+ *
+ * After embed/install: cc program.c $(pkg-config --cflags --libs coniks). The archive for x86-64 needs a processor of level
+ * x86-64-v2 (SSE4.2).
  */
 #ifndef CONIKS_H
 #define CONIKS_H
@@ -53,8 +57,11 @@ extern "C" {
 /* A result that must be used: a status says whether anything was written. */
 #if defined(__GNUC__)
 #define CONIKS_NODISCARD __attribute__((warn_unused_result))
+/* Pointers that must not be NULL. One with a length beside it may be NULL if that length is 0. */
+#define CONIKS_NONNULL(...) __attribute__((nonnull(__VA_ARGS__)))
 #else
 #define CONIKS_NODISCARD
+#define CONIKS_NONNULL(...)
 #endif
 
 enum {
@@ -154,12 +161,13 @@ typedef struct coniks_body {
  * Root and nonce are those of an entry that was audited. The index is the caller's to compute, or to verify, from the name
  * (a verifiable unpredictable function in CONIKS, section 3.4): for another index a proof tells of another name.
  */
-CONIKS_NODISCARD
+CONIKS_NODISCARD CONIKS_NONNULL(1, 2, 3, 8, 9)
 uint32_t coniks_check(const coniks_bytes32 *nonce, const coniks_bytes32 *root, const coniks_bytes32 *index,
                       const uint8_t *name, size_t name_length, const uint8_t *proof, size_t proof_length,
                       size_t *key_start, size_t *key_length);
 
 /* Makes the state of an auditor that has seen no entry: all bytes 0. */
+CONIKS_NONNULL(1)
 void coniks_auditor_begin(coniks_auditor *state);
 
 /*
@@ -172,7 +180,7 @@ void coniks_auditor_begin(coniks_auditor *state);
  * Returns CONIKS_GOOD where the entry follows the last one accepted, which it then takes the place of; else 48, or the
  * first of 33 to 40, and the state is as it was.
  */
-CONIKS_NODISCARD
+CONIKS_NODISCARD CONIKS_NONNULL(1)
 uint32_t coniks_auditor_feed(coniks_auditor *state, const uint8_t *entry, size_t entry_length,
                              uint32_t signature_verdict);
 
@@ -180,7 +188,7 @@ uint32_t coniks_auditor_feed(coniks_auditor *state, const uint8_t *entry, size_t
  * The head: epoch and link of the last entry accepted. Two auditors with the same head have seen the same chain, or two
  * different byte strings of equal SHA-256. Returns CONIKS_E_NO_ENTRY where there was none.
  */
-CONIKS_NODISCARD
+CONIKS_NODISCARD CONIKS_NONNULL(1, 2, 3)
 uint32_t coniks_auditor_head(const coniks_auditor *state, uint64_t *epoch, coniks_bytes32 *link);
 
 /*
@@ -191,20 +199,21 @@ uint32_t coniks_auditor_head(const coniks_auditor *state, uint64_t *epoch, conik
  * and CONIKS_CHANGED where it shows another key, or one where none is expected: then the entry is accepted. Else the first
  * of 48, 17 to 25, 33 to 40 and 2 to 8, and the state is as it was.
  */
-CONIKS_NODISCARD
+CONIKS_NODISCARD CONIKS_NONNULL(1, 2)
 uint32_t coniks_monitor_step(coniks_auditor *state, const coniks_bytes32 *index, const uint8_t *name, size_t name_length,
                              const uint8_t *expected, size_t expected_length, const uint8_t *entry, size_t entry_length,
                              uint32_t signature_verdict, const uint8_t *proof, size_t proof_length);
 
 /* Reads the body of an entry. Returns CONIKS_GOOD or CONIKS_E_ENTRY_LENGTH. Nothing is judged. */
-CONIKS_NODISCARD
+CONIKS_NODISCARD CONIKS_NONNULL(3)
 uint32_t coniks_entry_body(const uint8_t *entry, size_t entry_length, coniks_body *body);
 
 /* Writes the bytes of a body, to be signed; an entry is these and the signature's 64. */
+CONIKS_NONNULL(1, 2)
 void coniks_body_bytes(const coniks_body *body, coniks_bytes145 *bytes);
 
 /* Writes the link of an entry, by which the next one names it. Returns CONIKS_GOOD or CONIKS_E_ENTRY_LENGTH. */
-CONIKS_NODISCARD
+CONIKS_NODISCARD CONIKS_NONNULL(3)
 uint32_t coniks_link(const uint8_t *entry, size_t entry_length, coniks_bytes32 *link);
 
 /*
