@@ -99,8 +99,11 @@ same("a printable key", keyText(new TextEncoder().encode("alice-1"), 80), '"alic
 same("another key", keyText(Uint8Array.of(0, 200), 80), "0x00c8");
 same("the digits of another key, as text", keyText(new TextEncoder().encode("0x00c8"), 80), '"0x00c8"');
 same("a key of no bytes", keyText(new Uint8Array(0), 80), '""');
-same("a long key", keyText(new TextEncoder().encode("a".repeat(100)), 3), '"aaa"… (100 bytes)');
-same("a long key that ends otherwise", keyText(joined(new TextEncoder().encode("a".repeat(100)), Uint8Array.of(0)), 3), "0x616161… (101 bytes)");
+const hashed = (/** @type {Uint8Array} */ bytes) => createHash("sha256").update(bytes).digest("hex");
+const long = new TextEncoder().encode("a".repeat(100));
+same("a long key", keyText(long, 3), `"aaa"… (100 bytes, SHA-256 ${hashed(long)})`);
+const ended = joined(long, Uint8Array.of(0));
+same("a long key that ends otherwise", keyText(ended, 3), `0x616161… (101 bytes, SHA-256 ${hashed(ended)})`);
 same("a name", nameText('a"b ö 😀'), '"a\\"b ö 😀"');
 same("a name that turns what follows", nameText("gro.live\u202e\u2066\u200b\u2028\u0007"), '"gro.live\\u{202e}\\u{2066}\\u{200b}\\u{2028}\\u0007"');
 same("a name that no directory registers", nameText("a".repeat(256)), `"${"a".repeat(255)}"… (256 characters)`);

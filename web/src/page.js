@@ -142,11 +142,11 @@ function show(reading, from) {
 
 /** @param {Seen} it @returns {string} */
 function seenWords(it) {
-  if (it.seen === "first") return `first key ${keyText(it.key, 40)}`;
-  if (it.seen === "registered") return `registered with the key ${keyText(it.key, 40)}`;
-  if (it.seen === "same") return `same key ${keyText(it.key, 40)}`;
-  if (it.seen === "changed") return `changed from ${keyText(it.from, 40)} to ${keyText(it.key, 40)}`;
-  if (it.seen === "absent") return `absent, after the key ${keyText(it.from, 40)}`;
+  if (it.seen === "first") return `first key ${keyText(it.key, 64)}`;
+  if (it.seen === "registered") return `registered with the key ${keyText(it.key, 64)}`;
+  if (it.seen === "same") return `same key ${keyText(it.key, 64)}`;
+  if (it.seen === "changed") return `changed from ${keyText(it.from, 64)} to ${keyText(it.key, 64)}`;
+  if (it.seen === "absent") return `absent, after the key ${keyText(it.from, 64)}`;
   return it.seen === "unregistered" ? "not registered" : `refused: ${coniks.text(it.status)}`;
 }
 

@@ -1,6 +1,7 @@
 // What is said of a status, a key and a name, in words.
 
 import { toHex } from "./bytes.js";
+import { sha256 } from "./sha256.js";
 
 /** The names of faults, as the program tells them. @type {Record<number, string>} */
 export const FAULTS = {
@@ -29,7 +30,7 @@ export const MARKED = { 2: "depth", 3: "asked", 4: "key", 5: "name", 6: "other",
 
 /**
  * A key as text in quotation marks if it is printable, else as 0x and hexadecimal digits, so that no two keys look the same.
- * Of a long key so many bytes, and then its length.
+ * Of a long key so many bytes, and then its length and its SHA-256.
  * @param {Uint8Array} key @param {number} most
  * @returns {string}
  */
@@ -37,7 +38,7 @@ export function keyText(key, most) {
   const part = key.slice(0, most);
   const isPlain = key.every((it) => it >= 0x20 && it < 0x7f);
   const text = isPlain ? JSON.stringify(new TextDecoder().decode(part)) : `0x${toHex(part)}`;
-  return key.length > most ? `${text}… (${key.length} bytes)` : text;
+  return key.length > most ? `${text}… (${key.length} bytes, SHA-256 ${toHex(sha256(key))})` : text;
 }
 
 /** A longer name, which no directory registers, is cut. */
