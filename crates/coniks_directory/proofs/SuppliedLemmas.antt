@@ -1,4 +1,4 @@
--- The indices that a map holds of the names that it was supplied.
+-- The index that a map of supplied indices holds for a name.
 use Rattle.std.proofs.Common.{◌≡◌, ℕ, List, [], ◌∷◌, map, Bool, true, false, refl, sym, ap, ◌∙◌, Some, None, if◌then◌else◌, is_some}
 use Rattle.std.specs.BTreeMap.{insert_entry}
 use Rattle.std.specs.Ordering.{match_ordering}
@@ -14,7 +14,7 @@ module _ {K : Type 0} (key : K → List ℕ) where
   abbrev pub seen : K × Index → Supplied
   seen e = (key e.0, e.1.0)
 
-  -- the map's own search finds what was supplied
+  -- the search of the map finds what was supplied
   module _ (test : K → Bool) (name : List ℕ) (is : (k : K) → test k ≡ bytes_eq name (key k)) where
     pub supplied_none : (es : List (K × Index)) → lookup test es ≡ None → supplied_index (map seen es) name ≡ zeros
     supplied_none [] none = refl

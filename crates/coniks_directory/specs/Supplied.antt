@@ -1,4 +1,4 @@
--- Indices that are supplied after `open`: two functions of indices that agree on the registered names say the same of a directory.
+-- Indices that are supplied after `open`. Two functions of indices that agree on the registered names say the same of a directory.
 use Rattle.std.specs.Prelude.{◌≡◌, ◌≢◌, ℕ, List, [], ◌∷◌, Bool, true, false, None, if◌then◌else◌, is_some}
 use Rattle.std.specs.List.{list_any}
 use Rattle.std.specs.Str.{bytes_eq}
@@ -30,13 +30,13 @@ pub record MaySupply (of : List ℕ → List ℕ) (registry : Registry) (name in
 abbrev pub HasOtherIndex : (List ℕ → List ℕ) → Registry → List ℕ → List ℕ → Type 0
 HasOtherIndex of registry name index = (has_name registry name ≡ true) × (of name ≢ index)
 
--- why an index isn't taken: the first error that applies, in the order of the type
+-- why an index is refused: the first error that applies, in the order of the type
 abbrev pub IsSupplyFault : (List ℕ → List ℕ) → Registry → List ℕ → List ℕ → SupplyFault → Type 0
 IsSupplyFault of registry name index NameLength = fits MAX_NAME name ≡ false
 IsSupplyFault of registry name index OtherIndex = (fits MAX_NAME name ≡ true) × HasOtherIndex of registry name index
 IsSupplyFault of registry name index OutOfMemory = MaySupply of registry name index
 
--- why a lookup of a name at this index isn't answered: the first error that applies, in the order of the type
+-- why a lookup of a name at this index is refused: the first error that applies, in the order of the type
 abbrev pub IsMissedAt : (List ℕ → List ℕ) → List Shown → Registry → ℕ → List ℕ → List ℕ → LookupAtFault → Type 0
 IsMissedAt of history registry t name index at.UnknownEpoch = shown_at history t ≡ None
 IsMissedAt of history registry t name index at.NameLength = (is_some (shown_at history t) ≡ true) × (fits MAX_NAME name ≡ false)
@@ -47,7 +47,7 @@ IsMissedAt of history registry t name index at.OutOfMemory = (is_some (shown_at 
 abbrev pub Supplied : Type 0
 Supplied = List ℕ × List ℕ
 
--- the index that was supplied for a name, or 32 zero bytes where none was
+-- the index that was supplied for a name, or 32 zero bytes if none was
 abbrev pub supplied_index : List Supplied → List ℕ → List ℕ
 supplied_index [] name = zeros
 supplied_index (e ∷ es) name = if bytes_eq name e.0 then e.1 else supplied_index es name
