@@ -2,7 +2,7 @@
 use Rattle.std.proofs.Common.{◌≡◌, ℕ, ◌+◌, List, [], ◌∷◌, ◌++◌, length, map, take, drop, true, false, refl, sym, ap, subst, ◌∙◌, ◌||◌, inl, inr, Option, None, append_assoc, slice_get, Some}
 use Rattle.std.proofs.lemmas.List.{take-append-drop}
 use Rattle.std.proofs.lemmas.Bool.{or_left}
-use Rattle.coniks_directory.proofs.Words.{Batch, Entry, Epoch, HoldsEpoch, IsAccepted, IsChainOf, IsMap, IsUpdate, IsUpdateOf, Grows, Mirrors, Numbered, Operation, Prepared, Record}
+use Rattle.coniks_directory.proofs.Words.{Batch, Before, Entry, Epoch, HoldsEpoch, IsAccepted, IsChainOf, IsMap, IsUpdate, IsUpdateOf, Grows, Mirrors, Numbered, Operation, Prepared, Record}
 use Rattle.coniks_directory.proofs.Words.{Registered, Registry, SameEntries, Shown, State, Whole, after, backed_by, before_at, body_of, bound_by, bytes_eq}
 use Rattle.coniks_directory.proofs.Words.{bytes_eq-Decides, clashes, entries_of, false_from_ne_true, fault_from, fault_of, first_fault, has_name, history_of, latest_registry, map-append, or_cases}
 use Rattle.coniks_directory.proofs.Words.{or_right, overlaid, placed, rebound, records_after, registered_at, registered_of, registry_after, registry_at, root_at, shown_after, shown_next, shown_of}
@@ -133,6 +133,10 @@ module _ (hash of also : List ℕ → List ℕ) where
 
   pub root_agree : (shown : Shown) → AgreeOn of also shown.registry → root_at hash of shown ≡ root_at hash also shown
   root_agree shown agree = rw (entries_agree shown.registry agree) refl
+
+  -- and so are bodies
+  pub body_agree : (policy : List ℕ) (before : Option Before) (shown : Shown) → AgreeOn of also shown.registry → body_of hash of policy before shown ≡ body_of hash also policy before shown
+  body_agree policy before shown agree = ap (λ (r : List ℕ). record (body_of hash of policy before shown) { root = record { 0 = r } }) (root_agree shown agree)
 
   pub mirrors_agree : (records : List Record) (es : List Numbered) (registry : Registry) → AgreeOn of also registry → Mirrors hash of records es registry → Mirrors hash also records es registry
   mirrors_agree records es registry agree m =

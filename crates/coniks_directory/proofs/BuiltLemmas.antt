@@ -10,7 +10,12 @@ use Rattle.coniks_proof.proofs.Lemmas.{increasing_map, may_follow, named_in, nam
 use Rattle.coniks_tree.specs.Parts.{entries_of as entries_of_changes}
 use Rattle.coniks_tree.specs.Entries.{Lists}
 use Rattle.coniks_tree.proofs.Lemmas.{Extends-append, Lists-apart, Lists-stands}
+use Rattle.coniks_tree.specs.Counts.{new_nodes, new_within}
+use Rattle.coniks_directory.specs.Built.{IsCounted}
+use Rattle.coniks_directory.specs.Nodes.{places_of}
+use Rattle.coniks_directory.specs.SuppliedBatches.{AreOf, indices_in}
 use Rattle.coniks_directory.proofs.GrowthLemmas.{no_more}
+use Rattle.coniks_directory.proofs.NodeLemmas.{AreAlike, changes_alike, count_same, mirrors_alike, nothing_alike}
 use Rattle.coniks_directory.proofs.MirrorLemmas.{IsMap-backed, registered_at-extended}
 use Rattle.coniks_directory.proofs.HolderLemmas.{backed_in, in_backed}
 use Rattle.coniks_directory.proofs.OverlaidLemmas.{IsMap-overlaid, overlaid_new, overlaid_old, within-overlaid}
@@ -134,6 +139,16 @@ old_map hash of nonce nodes records None registry none = rw none (
   },
 )
 
+-- nothing takes one node, as does the empty map
+none_counted : node_count (unchanged None) ≡ new_nodes 0 [] []
+unfolding new_nodes new_within
+none_counted = refl
+
+-- records whose indices are those of their names
+held_by : (of : List ℕ → List ℕ) (records : List Record) → ((n : ℕ) (r : Record) → slice_get records n ≡ Some r → r.index.0 ≡ of r.binding.name) → AreOf of (indices_in records)
+held_by of [] all = tt
+held_by of (r ∷ rs) all = (all 0 r refl, held_by of rs (λ n x at. all (suc n) x at))
+
 few_kept : (root : Option Root) → node_count (unchanged root) ≤ 1
 few_kept (Some root) = omega arith
 few_kept None = omega arith
@@ -178,6 +193,8 @@ module _ (hash of : List ℕ → List ℕ) (nonce latest : List ℕ) (nodes : Li
     pub empty : length growth.changes.items ≡ 0 → p ≡ unchanged growth.root
     pub placed : (all : List Record) → Extends records all → AllPlaced all growth.changes.items → Placed all p
     pub keeps : growth.root ≡ None → KeepsNone p
+    pub many : 0 < length growth.changes.items → (entries : List Numbered) → IsOldMap hash nonce nodes records growth.root entries → AreInOrder 0 (entries_of_changes growth.changes.items)
+        → AreApart 0 (overwritten entries (entries_of_changes growth.changes.items)) → node_count p ≡ new_nodes 0 entries (entries_of_changes growth.changes.items)
     pub stands : (entries : List Numbered) → IsOldMap hash nonce nodes records growth.root entries → AreInOrder 0 (entries_of_changes growth.changes.items)
         → AreApart 0 (overwritten entries (entries_of_changes growth.changes.items)) → Stands hash nonce nodes records p [] (overwritten entries (entries_of_changes growth.changes.items))
 
@@ -225,10 +242,57 @@ module _ (hash of : List ℕ → List ℕ) (nonce latest : List ℕ) (nodes : Li
         let few = made.few in
         (rw (← many) (grind arith), λ none. made.empty (many ∙ none) ∙ ap unchanged kept.0)
 
+    -- as many nodes as the indices of the old map and of the changes say
+    count_kept : anew ≡ false → 0 < length ops → node_count p ≡ new_nodes 0 (places_of of registry) (places_of of (map bound_by ops))
+    unfolding changed old
+    count_kept off some =
+        let kept = grows.kept off in
+        let is : entries_of_changes growth.changes.items ≡ entries_of_changes changes = ap entries_of_changes kept.1 in
+        let there : IsOldMap hash nonce nodes records growth.root old.0 = rw (kept.0, sym (under off)) old.1 in
+        let many : length growth.changes.items ≡ length ops = ap length kept.1 ∙ as_many in
+        made.many (omega (arith, many, some)) old.0 there (rw is (AreIncreasing-in_order (entries_of_changes changes) own c.increasing)) (rw is (IsMap-apart changed changed_map))
+        ∙ ap (new_nodes 0 old.0) is
+        ∙ count_same old.0 (places_of of registry) (entries_of_changes changes) (places_of of (map bound_by ops)) (mirrors_alike hash of records old.0 registry old.2)
+        (changes_alike hash of (length records) (map bound_by ops) new numbers (entries_of_changes changes) s c own)
+
+    -- or as many as the whole changed map has
+    listed_alike : (on : anew ≡ true) → AreAlike (entries_of_changes growth.changes.items) (places_of of (after registry ops))
+    listed_alike on =
+        let l = listed on in
+        let m = mirrors_alike hash of (records ++ new) changed (after registry ops) mirrored in
+        record {
+          there = λ e is. m.there e (l.same.back e is);
+          back = λ f is. let k = m.back f is in (k.0, l.same.there k.0 k.1, k.2);
+          one = l.once changed_map;
+          other = m.other;
+        }
+
+    count_anew : anew ≡ true → node_count p ≡ new_nodes 0 [] (places_of of (after registry ops))
+    count_anew on =
+        let l = listed on in
+        let cs = growth.changes.items in
+        let alike = count_same [] [] (entries_of_changes cs) (places_of of (after registry ops)) nothing_alike (listed_alike on) in
+        (elim cs as (λ xs. cs ≡ xs → node_count p ≡ new_nodes 0 [] (entries_of_changes xs)) [
+          | [] ↦ λ is. rw (made.empty (ap length is), grows.none on) none_counted
+          | x ∷ xs ↦ λ is.
+              let some : 0 < length cs = rw is (omega arith) in
+              made.many some [] (rw (grows.none on) refl) l.order (Lists-apart cs changed l) ∙ ap (λ ys. new_nodes 0 [] (entries_of_changes ys)) is
+        ]) refl
+        ∙ alike
+
+    counts : (b : Bool) → anew ≡ b → IsCounted b of root registry ops p
+    counts true on = count_anew on
+    counts false off = (elim ops as (λ os. ops ≡ os → IsCounted false of root registry os p) [
+      | [] ↦ λ is. (few_from_root off).1 (ap length is)
+      | x ∷ xs ↦ λ is. count_kept off (rw is (omega arith)) ∙ ap (λ os. new_nodes 0 (places_of of registry) (places_of of (map bound_by os))) is
+    ]) refl
+
     pub built : IsBuilt hash of nonce nodes records root registry ops anew p new
     built = record {
       binds = s.binds;
       fits = made.fits;
+      counted = counts anew refl;
+      held = held_by of new (λ n r at. (s.drafted n r at).indexed);
       small = (elim anew as (λ b. anew ≡ b → IsSmall b root ops (after registry ops) p) [ true ↦ few_anew | false ↦ few_from_root ]) refl;
       placed = made.placed (records ++ new) (Extends-append records new) (grows.placed (records ++ new) (Extends-append records new) stored);
       entries = changed;

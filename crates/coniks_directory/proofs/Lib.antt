@@ -9,6 +9,7 @@ mod SealLemmas
 mod OrderLemmas
 mod OverlaidLemmas
 mod GrowthLemmas
+mod NodeLemmas
 mod BuiltLemmas
 mod NumberLemmas
 mod LookupLemmas
@@ -21,3 +22,4 @@ mod StepLemmas
 mod AgreementLemmas
 mod RunLemmas
 mod SuppliedLemmas
+mod SuppliedBatchLemmas

@@ -3,6 +3,8 @@ use Rattle.std.proofs.Common.{◌≡◌, ℕ, zero, suc, ◌+◌, ◌*◌, ◌-�
 use Rattle.coniks_directory.proofs.Words.{AddsFew, Brings, Epoch, IsBuilt, IsLatestRoot, IsSmall, IsUpdateBy, Nonce, Op, Prepared, Registered, Registry, Root, Shown, State}
 use Rattle.coniks_directory.proofs.Words.{Whole, after, bound_by, history_of, latest_registry, length-map, map-append, nonce_after, option_map}
 use Rattle.coniks_directory.proofs.Words.{most_nodes, node_count, operation_of, operations, overlaid, registered_of, registry_after, shown_of}
+use Rattle.coniks_directory.specs.Built.{IsCounted}
+use Rattle.coniks_directory.specs.Nodes.{epoch_nodes}
 use Rattle.coniks_proof.proofs.Lemmas.{overlaid-append}
 use Rattle.coniks_directory.proofs.LastLemmas.{last_found, none_last}
 use Rattle.coniks_directory.proofs.StateLemmas.{latest-is, latest-last, nonce-last, registry_at-all}
@@ -48,6 +50,16 @@ module _ (hash of : List ℕ → List ℕ) (s : State) where
       adds None true same small = absurd (let never = same in cc)
       adds (Some nonce) false same small = absurd (let never = same in cc)
 
+      count : (brought : Option (List ℕ)) (anew : Bool) → anew ≡ is_some brought → IsCounted anew of root (latest_registry (history_of s)) (operations ops) p.part
+          → p.new_nodes ≡ epoch_nodes of (history_of s) brought (operations ops)
+      count None false same counted = p.counted ∙ (elim (operations ops) as (λ os. IsCounted false of root (latest_registry (history_of s)) os p.part → node_count p.part ≡ epoch_nodes of (history_of s) None os) [
+        | [] ↦ λ is. ap node_count is ∙ latest.counted
+        | x ∷ xs ↦ λ is. is
+      ]) counted
+      count (Some nonce) true same counted = p.counted ∙ counted
+      count None true same counted = absurd (let never = same in cc)
+      count (Some nonce) false same counted = absurd (let never = same in cc)
+
       pub update_by : (brought : Option (List ℕ)) (anew : Bool) → anew ≡ is_some brought → p.base ≡ length s.epochs → Brings s brought p
           → IsBuilt hash of p.nonce.0 s.nodes s.records root (latest_registry (history_of s)) (operations ops) anew p.part p.records.items → IsUpdateBy hash of s brought ops p
       update_by brought anew same base brings b =
@@ -66,6 +78,9 @@ module _ (hash of : List ℕ → List ℕ) (s : State) where
             };
             brings = brings;
             registry = registry;
+            binds = b.binds;
+            held = b.held;
+            nodes = count brought anew same b.counted;
             few = adds brought anew same b.small;
           }
 

@@ -53,6 +53,14 @@ IsBatchFault of registry ops depth workers (At position fault) =
     AreWorkers workers × (depth ≤ MAX_DEPTH) × (length ops ≤ MAX_OPERATIONS) × (first_fault of registry ops ≡ Some (position, fault_is fault))
 IsBatchFault of registry ops depth workers OutOfMemory = AreWorkers workers × (depth ≤ MAX_DEPTH) × (length ops ≤ MAX_OPERATIONS)
 
+-- it is one of the limits of workers, depth and length
+abbrev pub IsLimit : BatchFault → Type 0
+IsLimit Workers = Unit {0}
+IsLimit Depth = Unit {0}
+IsLimit BatchTooLong = Unit {0}
+IsLimit (At position fault) = ⊥
+IsLimit OutOfMemory = ⊥
+
 -- how many nodes an epoch takes at most, which comes after this history with so many operations; without operations it takes just so many
 abbrev pub most_nodes : List Shown → ℕ → ℕ
 most_nodes [] zero = 1

@@ -1,9 +1,10 @@
 -- The part and the records of a batch, and the update that they make.
-use Rattle.std.specs.Prelude.{◌≡◌, ◌≤◌, ◌+◌, ◌*◌, ℕ, List, [], ◌++◌, length, map, Bool, true, false, Option, Some, None}
+use Rattle.std.specs.Prelude.{◌≡◌, ◌≤◌, ◌+◌, ◌*◌, ℕ, List, [], ◌∷◌, ◌++◌, length, map, Bool, true, false, Option, Some, None}
 use Rattle.coniks_proof.specs.Batches.{Operation, after, bound_by}
 use Rattle.coniks_proof.specs.Changes.{AreApart, AreInOrder, overwritten}
 use Rattle.coniks_proof.specs.Maps.{IsMap}
 use Rattle.coniks_proof.specs.Registry.{Registry}
+use Rattle.coniks_tree.specs.Counts.{new_nodes}
 use Rattle.coniks_tree.specs.Entries.{Lists}
 use Rattle.coniks_tree.specs.Parts.{AllPlaced, Fits, KeepsNone, Placed, Stands, entries_of, node_count}
 use Rattle.coniks_tree.specs.Table.{Extends, Numbered}
@@ -15,7 +16,9 @@ use Rattle.coniks_tree.specs.declared.table.Root.{Root}
 use Rattle.coniks_work.specs.Grown.{IsOldMap, unchanged}
 use Rattle.coniks_directory.specs.Batches.{most_anew, most_nodes, operations}
 use Rattle.coniks_directory.specs.History.{latest_registry}
+use Rattle.coniks_directory.specs.Nodes.{epoch_nodes, places_of}
 use Rattle.coniks_directory.specs.State.{Mirrors, State, history_of, registered_of}
+use Rattle.coniks_directory.specs.SuppliedBatches.{AreOf, indices_in, indices_of}
 use Rattle.coniks_directory.specs.Updates.{Brings, IsUpdate, registry_after}
 use Rattle.coniks_directory.specs.declared.batch.Op.{Op}
 use Rattle.coniks_directory.specs.declared.growth.Growth.{Growth}
@@ -41,11 +44,19 @@ abbrev pub IsSmall : Bool → Option Root → List Operation → Registry → Pa
 IsSmall false root ops registry part = (node_count part ≤ 512 * length ops + 1) × (length ops ≡ 0 → part ≡ unchanged root)
 IsSmall true root ops registry part = (node_count part ≤ most_anew registry) × KeepsNone part
 
+-- how many nodes the part takes: of the whole map, where it is made anew, or of what the operations change; without operations it is the old root
+abbrev pub IsCounted : Bool → (List ℕ → List ℕ) → Option Root → Registry → List Operation → Part → Type 0
+IsCounted true of root registry ops part = node_count part ≡ new_nodes 0 [] (places_of of (after registry ops))
+IsCounted false of root registry [] part = part ≡ unchanged root
+IsCounted false of root registry (op ∷ ops) part = node_count part ≡ new_nodes 0 (places_of of registry) (places_of of (map bound_by (op ∷ ops)))
+
 -- the part and the new records are those of a batch on a registry, which the root shows, over the nodes and the records that there were
 pub record IsBuilt (hash of : List ℕ → List ℕ) (nonce : List ℕ) (nodes : List Node) (records : List Record) (root : Option Root) (registry : Registry) (ops : List Operation) (anew : Bool) (part : Part) (new : List Record) : Type 0 where
   pub binds : map registered_of new ≡ map bound_by ops
   pub fits : Fits (length nodes) 0 part
   pub small : IsSmall anew root ops (after registry ops) part
+  pub counted : IsCounted anew of root registry ops part
+  pub held : AreOf of (indices_in new)
   pub placed : Placed (records ++ new) part
   pub entries : List Numbered
   pub stands : Stands hash nonce nodes records part [] entries
@@ -61,4 +72,7 @@ pub record IsUpdateBy (hash of : List ℕ → List ℕ) (s : State) (brought : O
   pub update : IsUpdate hash of s p
   pub brings : Brings s brought p
   pub registry : registry_after s p ≡ after (latest_registry (history_of s)) (operations ops)
+  pub binds : map registered_of p.records.items ≡ map bound_by (operations ops)
+  pub held : AreOf of (indices_of p)
   pub few : AddsFew s brought ops p
+  pub nodes : p.new_nodes ≡ epoch_nodes of (history_of s) brought (operations ops)

@@ -11,3 +11,5 @@ pub mod Installed
 pub mod Supplied
 pub mod Directories
 pub mod Runs
+pub mod Nodes
+pub mod SuppliedBatches

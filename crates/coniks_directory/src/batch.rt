@@ -2,7 +2,7 @@
 
 ghost use Rattle.std.specs.Prelude.{◌≤◌, List, ℕ, IfErr, OnOk, length};
 ghost use Rattle.coniks_proof.specs.Registry.{Registry};
-ghost use Rattle.coniks_directory.specs.Batches.{AreWorkers, IsBatchFault, operations};
+ghost use Rattle.coniks_directory.specs.Batches.{AreWorkers, IsBatchFault, IsLimit, operations};
 
 use coniks_proof::{Bytes, MAX_KEY, MAX_NAME, MAX_OPERATIONS, Opening};
 use coniks_work::{MAX_DEPTH, MAX_WORKERS};
@@ -67,6 +67,7 @@ pub(crate) fn within_limits(ops: &[Op], depth: usize, workers: usize) -> Result<
     ensures depth { OnOk result (depth ≤ MAX_DEPTH) }
     ensures few { OnOk result (length ops.now ≤ MAX_OPERATIONS) }
     ensures refused { IfErr result (λ fault. (of : List ℕ → List ℕ) (registry : Registry) → IsBatchFault of registry (operations ops.now) depth workers fault) }
+    ensures limit { IfErr result IsLimit }
 {
     if workers == 0 || workers > MAX_WORKERS {
         return Err(BatchFault::Workers);

@@ -11,19 +11,23 @@ ghost use Rattle.coniks_directory.specs.History.{AllHaveOwnIndices, AreRising, A
 
 use crate::batch::{BatchFault, Op, within_limits};
 use crate::held::Held;
-use crate::install::{enter, head_of, last_link, may_install, put_head, signed};
+use crate::install::{enter, head_of, last_link, make_body, may_install, put_head, signed};
+use crate::judge::judged;
 use crate::lengths::{is_length, is_name};
 use crate::lookup::{LookupAtFault, LookupFault, SignedProof};
 use crate::preparing::update_on;
 use crate::source::IndexSource;
 use crate::stand::{holder_at, is_of};
-use crate::supplied::{SupplyFault, SupplyIndex};
+use crate::supplied::{SuppliedIndices, SupplyFault, SupplyIndex};
+use crate::supplied_batch::{
+    BatchIndices, SuppliedBatch, SuppliedBatchFault, earlier_of, supply_all,
+};
 use crate::update::{CommitFault, InstallFault, Prepared};
-use coniks_chain::{Entry, Sign};
+use coniks_chain::{Body, Entry, Sign};
 use coniks_proof::{Digest, Hash32, Index, MAX_NAME, Nonce, Proof};
 use coniks_shared::{Board, Publisher};
 use coniks_work::Gate;
-use std::alloc::Global;
+use std::alloc::{AllocError, Global};
 use std::marker::Model;
 use std::thread::Threads;
 
@@ -49,6 +53,8 @@ impl<H: Hash32, X: IndexSource> Model for Directory<H, X> {
 }
 
 impl<H: Hash32, X: IndexSource> Directory<H, X> {
+    ghost use Rattle.coniks_chain.specs.Chain.{before_at, link_before};
+    ghost use Rattle.coniks_directory.specs.History.{latest_epoch};
     ghost use Rattle.coniks_directory.specs.State.{opened};
 
     /// A directory with no epochs and no names, whose trees are hashed under this nonce until an update brings another,
@@ -80,6 +86,23 @@ impl<H: Hash32, X: IndexSource> Directory<H, X> {
         ensures names { AllHaveOwnIndices (X.index_of self.now.index) (history self.now) }
     {
         &self.held.chain
+    }
+
+    /// Returns the number of the latest epoch, or 0 before the first.
+    pub fn latest_epoch(&self) -> u64
+        ensures { result ≡ latest_epoch (history self.now) }
+    {
+        self.held.latest()
+    }
+
+    /// Returns the link of the latest entry, or 32 zero bytes before the first. The publisher has published just the heads of
+    /// the directory's chain.
+    pub fn latest_link(&self, publisher: &Publisher) -> Digest
+        requires { publisher.now.heads ≡ heads H.digest_of self.now }
+        ensures { result.0 ≡ link_before (before_at (H.digest_of self.now.hash) None self.now.state.chain (length self.now.state.chain)) }
+    {
+        let _ = &self.held;
+        last_link(publisher)
     }
 
     /// The root of an epoch, where one was installed under exactly this number.
@@ -272,6 +295,7 @@ impl<H: Hash32, X: IndexSource> Directory<H, X> {
         ensures history { OnOk result (history self.new ≡ history self.old ++ shown_after self.old.state update t ∷ []) }
         ensures chain { IfOk result (λ entry. self.new.state.chain ≡ self.old.state.chain ++ entry ∷ []) }
         ensures nodes { OnOk result (length self.new.state.nodes ≡ length self.old.state.nodes + nodes_added update) }
+        ensures body { IfOk result (λ entry. entry.body ≡ NextBody H.digest_of X.index_of self.old (shown_after self.old.state update t)) }
         ensures may { OnOk result (MayInstall self.old.state (base_of update) t (length publisher.old.heads) board.now.capacity) }
 
         // The one signature that the signer made is the one that stands in the chain.
@@ -311,6 +335,7 @@ impl<H: Hash32, X: IndexSource> Directory<H, X> {
 }
 
 impl<H: Hash32 + Sync, X: IndexSource> Directory<H, X> {
+    ghost use Rattle.coniks_directory.specs.Nodes.{epoch_nodes};
     ghost use Rattle.coniks_directory.specs.Updates.{CommitLeavesSigner, Grows, IsCommitFault, MayInstall, commit_refusals, nodes_added, registry_after, shown_next};
 
     /// Judges a batch and makes its update, which `install` puts in: the epoch's tree with the changed paths made anew and
@@ -332,6 +357,7 @@ impl<H: Hash32 + Sync, X: IndexSource> Directory<H, X> {
         ensures update { IfOk result (Prepares H.digest_of X.index_of self.now) }
         ensures keeps { IfOk result (Renews self.now None) }
         ensures registry { IfOk result (λ p. registry_after self.now.state p ≡ after (registry self.now) (operations ops.now)) }
+        ensures nodes { IfOk result (λ p. nodes_added p ≡ epoch_nodes (X.index_of self.now.index) (history self.now) None (operations ops.now)) }
         ensures few { IfOk result (λ p. nodes_added p ≤ most_nodes (history self.now) (length ops.now)) }
         ensures none { IfOk result (λ p. length ops.now ≡ 0 → nodes_added p ≡ most_nodes (history self.now) 0) }
         ensures accepted { OnOk result (Accepts X.index_of self.now (operations ops.now) depth workers) }
@@ -369,6 +395,7 @@ impl<H: Hash32 + Sync, X: IndexSource> Directory<H, X> {
         ensures update { IfOk result (Prepares H.digest_of X.index_of self.now) }
         ensures renews { IfOk result (Renews self.now (Some nonce.0)) }
         ensures registry { IfOk result (λ p. registry_after self.now.state p ≡ after (registry self.now) (operations ops.now)) }
+        ensures nodes { IfOk result (λ p. nodes_added p ≡ epoch_nodes (X.index_of self.now.index) (history self.now) (Some nonce.0) (operations ops.now)) }
         ensures few { IfOk result (λ p. nodes_added p ≤ most_anew (after (registry self.now) (operations ops.now))) }
         ensures anew { IfOk result (λ p. KeepsNone p.part) }
         ensures accepted { OnOk result (Accepts X.index_of self.now (operations ops.now) depth workers) }
@@ -441,6 +468,210 @@ impl<H: Hash32 + Sync, X: IndexSource> Directory<H, X> {
         match self.install(update, t, signer, publisher, board) {
             Ok(entry) => Ok(entry),
             Err((fault, _)) => Err(CommitFault::Install(fault)),
+        }
+    }
+}
+
+impl<H: Hash32> Directory<H, SuppliedIndices> {
+    ghost use Rattle.std.specs.Prelude.{length};
+    ghost use Rattle.coniks_chain.specs.Chain.{before_at};
+    ghost use Rattle.coniks_directory.specs.Chain.{body_of};
+    ghost use Rattle.coniks_directory.specs.Supplied.{supplied_index};
+    ghost use Rattle.coniks_directory.specs.SuppliedBatches.{IsSuppliedUpdate, indices_of, put_indices};
+    ghost use Rattle.coniks_directory.specs.Updates.{Grows, IsRefused, MayInstall, base_of, nodes_added, refusals, shown_after};
+
+    /// Supplies the indices of an update's names, which the update holds, and installs it as `install` does. A name is
+    /// registered from then on, and keeps its index.
+    ///
+    /// After an error nothing is installed or published. If the error is `OutOfMemory` or `SignerRefused`, some of the
+    /// update's indices may be supplied, and the same update can be installed again.
+    #[tactic(auto, using(crate::proofs::FreshLemmas::growth))]
+    pub fn install_supplied<S: Sign>(
+        &mut self,
+        update: Prepared,
+        t: u64,
+        signer: &mut S,
+        publisher: &mut Publisher,
+        board: &Board,
+    ) -> Result<Entry, (InstallFault, Prepared)>
+        requires update { (index : List ℕ → List ℕ) × IsSuppliedUpdate (H.digest_of self.old.hash) (supplied_index self.old.index) (registry self.old) self.old.state update index }
+        requires made { S.made_of signer.old < 2 ^ 64 - 1 }
+        requires refused { S.refused_of signer.old < 2 ^ 64 - 1 }
+        requires table { publisher.old.table ≡ board.now.table }
+        requires published { publisher.old.heads ≡ heads H.digest_of self.old }
+        ensures history { OnOk result (history self.new ≡ history self.old ++ shown_after self.old.state update t ∷ []) }
+        ensures chain { IfOk result (λ entry. self.new.state.chain ≡ self.old.state.chain ++ entry ∷ []) }
+        ensures nodes { OnOk result (length self.new.state.nodes ≡ length self.old.state.nodes + nodes_added update) }
+        ensures indices { OnOk result (self.new.index ≡ put_indices self.old.index (indices_of update)) }
+        ensures body { IfOk result (λ entry. (index : List ℕ → List ℕ) → IsSuppliedUpdate (H.digest_of self.old.hash) (supplied_index self.old.index) (registry self.old) self.old.state update index
+            → entry.body ≡ body_of (H.digest_of self.old.hash) index self.old.state.policy (before_at (H.digest_of self.old.hash) None self.old.state.chain (length self.old.state.chain)) (shown_after self.old.state update t)) }
+        ensures may { OnOk result (MayInstall self.old.state (base_of update) t (length publisher.old.heads) board.now.capacity) }
+        ensures signed { IfOk result (λ entry. S.last_of signer.new ≡ Some entry) }
+        ensures asked { IfOk result (λ entry. S.signs signer.old (body_bytes entry.body) (Some entry.signature) signer.new) }
+        ensures heads { publisher.new.heads ≡ heads H.digest_of self.new }
+        ensures table { publisher.new.table ≡ publisher.old.table }
+        ensures hash { self.new.hash ≡ self.old.hash }
+        ensures grows { Grows self.old.state self.new.state }
+        ensures refused { IfErr result (λ r. IsRefused self.old.state (base_of update) t (length publisher.old.heads) board.now.capacity r.0) }
+        ensures unsigned { IfErr result (λ r. (S.made_of signer.new ≡ S.made_of signer.old) × (S.refused_of signer.new ≡ S.refused_of signer.old + refusals r.0)) }
+        ensures unchanged { OnErr result ((self.new.state ≡ self.old.state) × (publisher.new ≡ publisher.old)) }
+        ensures handed_back { IfErr result (λ r. r.1 ≡ update) }
+    {
+        let (published, capacity) = (publisher.published(), board.capacity());
+        if let Err(fault) = may_install(&self.held, update.base, t, published, capacity) {
+            return Err((fault, update));
+        }
+        if supply_all(&mut self.source, &update.records).is_err() {
+            return Err((InstallFault::OutOfMemory, update));
+        }
+        self.install(update, t, signer, publisher, board)
+    }
+}
+
+impl<H: Hash32, X: IndexSource> Directory<H, X> {
+    ghost use Rattle.coniks_chain.specs.Chain.{before_at};
+    ghost use Rattle.coniks_directory.specs.Chain.{body_of};
+    ghost use Rattle.coniks_directory.specs.State.{Whole};
+    ghost use Rattle.coniks_directory.specs.Supplied.{AgreeOn, Supplied};
+    ghost use Rattle.coniks_directory.specs.SuppliedBatches.{IsEarliest, IsFresh, given_index, index_in, indexed, other_from};
+    ghost use Rattle.coniks_directory.specs.Updates.{IsUpdate, shown_after};
+
+    /// Returns the body that an install of an update under the number `t` asks the signer to sign. The update was prepared
+    /// from the directory as it is, and the publisher has published just the heads of its chain.
+    pub fn next_body(&self, update: &Prepared, t: u64, publisher: &Publisher) -> Body
+        requires update { (index : List ℕ → List ℕ) × IsUpdate (H.digest_of self.now.hash) index self.now.state update.now }
+        requires published { publisher.now.heads ≡ heads H.digest_of self.now }
+        ensures { (index : List ℕ → List ℕ) → AgreeOn (X.index_of self.now.index) index (registry self.now) → IsUpdate (H.digest_of self.now.hash) index self.now.state update.now
+            → result ≡ body_of (H.digest_of self.now.hash) index self.now.state.policy (before_at (H.digest_of self.now.hash) None self.now.state.chain (length self.now.state.chain)) (shown_after self.now.state update.now t) }
+    {
+        make_body(&self.held, &self.h, update, t, last_link(publisher))
+    }
+
+    /// Adds the index that comes with an operation, unless its name is registered or an earlier operation has the name.
+    fn add_fresh(
+        &self,
+        fresh: &mut SuppliedIndices,
+        name: &[u8],
+        index: Index,
+    ) -> Result<(), AllocError>
+        ensures { OnOk result ((named : List Supplied) → IsFresh (registry self.now) fresh.old named → IsFresh (registry self.now) fresh.new (named ++ (name.now, index.0) ∷ [])) }
+    {
+        if self.is_registered(name) {
+            return Ok(());
+        }
+        if fresh.has(name) {
+            return Ok(());
+        }
+        fresh.supply(name, index)
+    }
+
+    /// The indices that a batch is checked by: a registered name keeps its index, and another name has the one that comes with
+    /// it. If the batch has a name twice, its first index counts.
+    fn indices_with(&self, batch: &SuppliedBatch<'_>) -> Result<BatchIndices<'_, X>, AllocError>
+        requires { length batch.now.ops.now ≡ length batch.now.indices.now }
+        ensures { IfOk result (λ it. given_index it.fresh (X.index_of it.source.now) ≡ index_in (X.index_of self.now.index) (registry self.now) (indexed batch.now.ops.now batch.now.indices.now)) }
+    {
+        let mut fresh = SuppliedIndices::new(self.alloc);
+        for place in 0..batch.ops.len() {
+            let index = batch.indices[place];
+            self.add_fresh(&mut fresh, batch.ops[place].name.as_slice(), index)?;
+        }
+        Ok(BatchIndices {
+            source: &self.source,
+            fresh,
+        })
+    }
+
+    /// The place of the first operation whose name is registered with another index, if there is one.
+    fn first_other(&self, batch: &SuppliedBatch<'_>) -> Option<usize>
+        requires { length batch.now.ops.now ≡ length batch.now.indices.now }
+        ensures { result ≡ other_from (X.index_of self.now.index) (registry self.now) 0 (indexed batch.now.ops.now batch.now.indices.now) }
+    {
+        for place in 0..batch.ops.len() {
+            let index = batch.indices[place];
+            if self.has_other_index(batch.ops[place].name.as_slice(), &index) {
+                return Some(place);
+            }
+        }
+        None
+    }
+
+    /// Why a batch isn't accepted if this place is the first with another index: the first error of the operations, unless
+    /// that index comes before it.
+    fn fault_or_other(
+        &self,
+        indices: &BatchIndices<'_, X>,
+        ops: &[Op],
+        place: usize,
+    ) -> SuppliedBatchFault
+        requires { Whole (H.digest_of self.now.hash) (given_index indices.now.fresh (X.index_of indices.now.source.now)) self.now.state }
+        ensures { IsEarliest (given_index indices.now.fresh (X.index_of indices.now.source.now)) (registry self.now) (operations ops.now) place result }
+    {
+        let root = self.held.latest_root();
+        let Err(fault) = judged(self.alloc, &self.h, indices, &self.held.tree, root, ops) else {
+            return SuppliedBatchFault::OtherIndex { position: place };
+        };
+        match fault {
+            BatchFault::At { position, fault } => earlier_of(position, fault, place),
+            other => SuppliedBatchFault::Batch(other),
+        }
+    }
+}
+
+impl<H: Hash32 + Sync, X: IndexSource> Directory<H, X> {
+    ghost use Rattle.coniks_directory.specs.Nodes.{epoch_nodes};
+    ghost use Rattle.coniks_directory.specs.SuppliedBatches.{IsSuppliedFault, IsSuppliedUpdate, IsWithin, index_in, indexed, indices_by, indices_of, supplied_fault};
+    ghost use Rattle.coniks_directory.specs.Updates.{IsUpdate, nodes_added, registry_after};
+
+    /// Prepares a batch whose operations come with the indices of their names, as `prepare` and `prepare_with` do. Nothing is
+    /// stored: `install_supplied` supplies the indices, so a batch that is refused or never installed leaves none. A new
+    /// name is registered at the index that comes with its operation, whatever the source has for it.
+    ///
+    /// There are as many indices as operations. If a name is registered with another index, the error is `OtherIndex`,
+    /// unless an earlier operation has an error, or this one has one that comes before `IndexClash`.
+    pub fn prepare_supplied<G: Gate + Sync, R: Threads + Sync>(
+        &self,
+        rt: &R,
+        batch: &SuppliedBatch<'_>,
+        depth: usize,
+        workers: usize,
+        gate: &G,
+    ) -> Result<Prepared, SuppliedBatchFault>
+        requires { length batch.now.ops.now ≡ length batch.now.indices.now }
+        ensures update { IfOk result (λ p. IsUpdate (H.digest_of self.now.hash) (index_in (X.index_of self.now.index) (registry self.now) (indexed batch.now.ops.now batch.now.indices.now)) self.now.state p) }
+        ensures installable { IfOk result (λ p. IsSuppliedUpdate (H.digest_of self.now.hash) (X.index_of self.now.index) (registry self.now) self.now.state p (index_in (X.index_of self.now.index) (registry self.now) (indexed batch.now.ops.now batch.now.indices.now))) }
+        ensures brings { IfOk result (Renews self.now (option_map (λ (n : Nonce). n.0) batch.now.nonce)) }
+        ensures registry { IfOk result (λ p. registry_after self.now.state p ≡ after (registry self.now) (operations batch.now.ops.now)) }
+        ensures indices { IfOk result (λ p. indices_of p ≡ indices_by (index_in (X.index_of self.now.index) (registry self.now) (indexed batch.now.ops.now batch.now.indices.now)) (operations batch.now.ops.now)) }
+        ensures nodes { IfOk result (λ p. nodes_added p ≡ epoch_nodes (index_in (X.index_of self.now.index) (registry self.now) (indexed batch.now.ops.now batch.now.indices.now)) (history self.now) (option_map (λ (n : Nonce). n.0) batch.now.nonce) (operations batch.now.ops.now)) }
+        ensures within { OnOk result (IsWithin (indexed batch.now.ops.now batch.now.indices.now) depth workers) }
+        ensures faultless { OnOk result (supplied_fault (X.index_of self.now.index) (registry self.now) (indexed batch.now.ops.now batch.now.indices.now) ≡ None) }
+        ensures refused { IfErr result (IsSuppliedFault (X.index_of self.now.index) (registry self.now) (indexed batch.now.ops.now batch.now.indices.now) depth workers) }
+    {
+        let _ = &self.held;
+        if let Err(fault) = within_limits(batch.ops, depth, workers) {
+            return Err(SuppliedBatchFault::Batch(fault));
+        }
+        let Ok(indices) = self.indices_with(batch) else {
+            return Err(SuppliedBatchFault::Batch(BatchFault::OutOfMemory));
+        };
+        if let Some(position) = self.first_other(batch) {
+            return Err(self.fault_or_other(&indices, batch.ops, position));
+        }
+        match update_on(
+            rt,
+            self.alloc,
+            &self.h,
+            &indices,
+            &self.held,
+            batch.nonce,
+            batch.ops,
+            depth,
+            workers,
+            gate,
+        ) {
+            Ok(update) => Ok(update),
+            Err(fault) => Err(SuppliedBatchFault::Batch(fault)),
         }
     }
 }

@@ -72,7 +72,13 @@ fn make_room(held: &mut Held, update: &Prepared) -> Result<(), OutOfMemory>
 }
 
 /// What the entry says of the epoch that an update makes under a number, where the entry before it has this link.
-fn make_body<H: Hash32>(held: &Held, h: &H, update: &Prepared, t: u64, previous: Digest) -> Body
+pub(crate) fn make_body<H: Hash32>(
+    held: &Held,
+    h: &H,
+    update: &Prepared,
+    t: u64,
+    previous: Digest,
+) -> Body
     requires { Fits (length held.now.tree.nodes.items) 0 update.now.part }
     ensures { IsSigned (H.digest_of h.now) (state_of held.now) update.now t previous.0 result }
 {

@@ -70,6 +70,7 @@ mod sealing;
 pub mod source;
 mod stand;
 pub mod supplied;
+pub mod supplied_batch;
 pub mod update;
 
 pub use batch::{BatchFault, Op, OpFault, OpKind};
@@ -77,4 +78,5 @@ pub use directory::Directory;
 pub use lookup::{LookupAtFault, LookupFault, SignedProof};
 pub use source::IndexSource;
 pub use supplied::{SuppliedIndices, SupplyFault, SupplyIndex};
+pub use supplied_batch::{SuppliedBatch, SuppliedBatchFault};
 pub use update::{CommitFault, InstallFault, Prepared};

@@ -1,7 +1,7 @@
 //! Indices that another process computes, and the caller supplies after `open`.
 
 ghost use Rattle.std.specs.Prelude.{◌≡◌, OnErr, OnOk, []};
-ghost use Rattle.coniks_directory.specs.Supplied.{IsSupplied};
+ghost use Rattle.coniks_directory.specs.Supplied.{IsSupplied, supplied_index};
 
 use crate::source::IndexSource;
 use coniks_proof::{Index, MAX_NAME};
@@ -39,8 +39,9 @@ impl Model for SuppliedIndices {
 }
 
 impl SuppliedIndices {
-    ghost use Rattle.coniks_directory.specs.Supplied.{is_supplied};
-    ghost use Rattle.std.specs.Prelude.{◌≡◌, []};
+    ghost use Rattle.std.specs.Prelude.{◌≡◌, ◌&&◌, [], length, not};
+    ghost use Rattle.std.specs.Str.{bytes_eq};
+    ghost use Rattle.coniks_directory.specs.Supplied.{is_supplied, supplied_index};
 
     /// Returns a source without indices. Allocates nothing.
     pub fn new(alloc: Global) -> SuppliedIndices
@@ -57,6 +58,20 @@ impl SuppliedIndices {
         ensures { result ≡ is_supplied self.now name.now }
     {
         self.indices.contains_key(name)
+    }
+
+    /// Returns whether an index other than this one was supplied for the name.
+    pub fn has_other(&self, name: &[u8], index: &Index) -> bool
+        ensures { result ≡ is_supplied self.now name.now && not (bytes_eq (supplied_index self.now name.now) index.now.0) }
+    {
+        self.has(name) && self.index(name).0 != index.0
+    }
+
+    /// Returns for how many names an index was supplied.
+    pub fn count(&self) -> usize
+        ensures { result ≡ length self.now }
+    {
+        self.indices.len()
     }
 }
 
@@ -75,7 +90,13 @@ impl IndexSource for SuppliedIndices {
 }
 
 impl SupplyIndex for SuppliedIndices {
-    fn supply(&mut self, name: &[u8], index: Index) -> Result<(), AllocError> {
+    ghost use Rattle.coniks_directory.specs.SuppliedBatches.{put_index};
+
+    fn supply(&mut self, name: &[u8], index: Index) -> Result<(), AllocError>
+        ensures supplied { OnOk result (IsSupplied (supplied_index self.old) name.now index.0 (supplied_index self.new)) }
+        ensures put { OnOk result (self.new ≡ put_index self.old name.now index.0) }
+        ensures unchanged { OnErr result (self.new ≡ self.old) }
+    {
         let name = Vec::from_slice(self.alloc, name)?;
         self.indices.insert(name, index)?;
         Ok(())

@@ -21,5 +21,6 @@ returns g c = λ of latest registry ops under shown drafts sealed none.
       empty = rw c.deref.ensures.value at e.same;
       placed = rw c.deref.ensures.value at e.placed;
       keeps = e.keeps;
+      many = rw c.deref.ensures.value at e.new;
       stands = rw c.deref.ensures.value at e.stands;
     })

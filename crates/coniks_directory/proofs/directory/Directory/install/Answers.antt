@@ -70,3 +70,13 @@ returns-in-Ok-clause-good g c = λ good.
 
 pub returns-in-Ok-clause-grows : goal.returns-in-Ok-clause-grows
 returns-in-Ok-clause-grows g c = rw (← c.self.view_is) (left_in g c).grows
+
+-- the body is that of the next entry
+pub returns-in-Ok-clause-body : goal.returns-in-Ok-clause-body
+returns-in-Ok-clause-body g c =
+    let d = c.self.inside in
+    let hash = g.H.Hash32.digest_of d.h in
+    let of = g.X.IndexSource.index_of d.source in
+    let u = fresh hash of (state_of d.held) c.args.update (rw (← c.self.view_is) at c.requires.update) c.in_default.ensures.ok.fresh in
+    let linked = c.last_link-previous.ensures hash d.held.chain.items (rw (← c.self.view_is) at c.requires.published) in
+    rw (← c.self.view_is) (c.in-Ok.ensures.body of c.self.invariant u linked)

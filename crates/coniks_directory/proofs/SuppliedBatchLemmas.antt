@@ -1,0 +1,474 @@
+-- Batches whose operations come with indices: the indices that they are judged by, their first fault, and what an install supplies.
+use Rattle.std.proofs.Common.{◌≡◌, ◌≤◌, ◌<◌, ◌⊎◌, get_or, ℕ, zero, suc, ◌+◌, List, [], ◌∷◌, ◌++◌, length, map, take, drop, Bool, true, false, not, ◌&&◌, ◌||◌, refl, sym, ap, ◌∙◌, arith, inl, inr, Option, Some, None, Result, Ok, Err, if◌then◌else◌, slice_get, nat_lt, nat_le}
+use Rattle.std.specs.Prelude.{IfOk, OnOk}
+use Rattle.std.specs.Result.{is_err}
+use Rattle.std.proofs.lemmas.Bool.Decides.{nat_tests}
+use Rattle.std.specs.BTreeMap.{insert_entry}
+use Rattle.std.specs.Ordering.{match_ordering}
+use Rattle.std.specs.declared.cmp.Ordering.{Ordering}
+use Rattle.std.specs.declared.cmp.Ordering.TheVariants.{Equal, Greater, Less}
+use Rattle.std.proofs.Math.Path.{fun_ext}
+use Rattle.coniks_proof.specs.declared.values.TheConstants.{MAX_OPERATIONS}
+use Rattle.coniks_work.specs.declared.jobs.TheConstants.{MAX_DEPTH}
+use Rattle.coniks_directory.specs.Batches.{AreWorkers, IsBatchFault, IsLimit}
+use Rattle.coniks_directory.specs.Judged.{IsJudgedFault}
+use Rattle.coniks_directory.specs.declared.batch.BatchFault.{BatchFault}
+use Rattle.coniks_directory.specs.declared.batch.OpFault.{OpFault}
+use Rattle.coniks_directory.specs.declared.batch.BatchFault.TheVariants as batch_fault
+use Rattle.coniks_directory.specs.declared.supplied_batch.SuppliedBatchFault.{SuppliedBatchFault}
+use Rattle.coniks_directory.specs.declared.supplied_batch.SuppliedBatchFault.TheVariants.{Batch as InBatch, OtherIndex}
+use Rattle.coniks_proof.specs.Batches.{name_length, key_length, name_twice, name_taken, name_unknown}
+use Rattle.coniks_proof.specs.declared.values.Index.{Index}
+use Rattle.coniks_directory.proofs.Words.{Fault, Op, Operation, Prepared, Record, Registered, Registry, State, Whole, at_drop_all, at_drop_more, bound_by, bytes_eq, bytes_eq-Decides, fault_from, fault_of, first_fault}
+use Rattle.coniks_directory.proofs.Words.{get_or_from_slice_get, has_name, history_of, index_clash, is_eq, is_eq-slice_cmp, latest_registry, map-append, nat_cmp, operation_of, operations, or_cases, placed, registered_of, registry_after, slice_cmp, slice_get-get_or, slice_get_read, slice_get_within, zeros}
+use Rattle.coniks_directory.specs.Supplied.{AgreeOn, HasOtherIndex, Supplied, is_supplied, supplied_index}
+use Rattle.coniks_directory.specs.SuppliedBatches.{AreOf, Indexed, IsEarliest, IsFresh, IsSuppliedFault, IsWithin, SuppliedFault, earlier_of, earliest, given_index, has_other, index_in, indexed, indices_by, indices_in, named_in, of_operation, operations_of, or_other, other_from, other_index, placed_fault}
+use Rattle.coniks_directory.specs.SuppliedBatches.{put_index, put_indices, supplied_fault, supplied_fault_from, supplied_fault_is}
+use Rattle.coniks_directory.proofs.AgreementLemmas.{leaves_name}
+use Rattle.coniks_directory.proofs.LastLemmas.{take_next}
+use Rattle.coniks_directory.proofs.SuppliedLemmas.{seen}
+use Rattle.coniks_proof.proofs.Lemmas.{eq_apart, eq_same}
+
+-- ---- one more index
+
+-- a map's insert is that of what is seen of it
+module _ {K : Type 0} (key : K → List ℕ) (cmp : K → K → Ordering) (is : (x y : K) → cmp x y ≡ slice_cmp nat_cmp (key x) (key y)) (k : K) (v : Index) where
+  pub seen_insert : (es : List (K × Index)) → map (seen key) (insert_entry cmp es k v) ≡ put_index (map (seen key) es) (key k) v.0
+  seen_insert [] = refl
+  seen_insert (e ∷ es) =
+      (elim (cmp k e.0) as (λ o. cmp k e.0 ≡ o → map (seen key) (match_ordering o ((k, v) ∷ e ∷ es) ((e.0, v) ∷ es) (e ∷ insert_entry cmp es k v)) ≡ put_index (seen key e ∷ map (seen key) es) (key k) v.0) [
+        | Less ↦ λ o. let same : slice_cmp nat_cmp (key k) (key e.0) ≡ Less = sym (is k e.0) ∙ o in rw same refl
+        | Equal ↦ λ o. let same : slice_cmp nat_cmp (key k) (key e.0) ≡ Equal = sym (is k e.0) ∙ o in rw same refl
+        | Greater ↦ λ o. let same : slice_cmp nat_cmp (key k) (key e.0) ≡ Greater = sym (is k e.0) ∙ o in rw same (ap (λ xs. seen key e ∷ xs) (seen_insert es))
+      ]) refl
+
+module _ (name index : List ℕ) where
+  abbrev here : List ℕ → Bool
+  here other = bytes_eq other name
+
+  -- the name has the index, and each other what it had
+  pub index_put : (es : List Supplied) (other : List ℕ) → supplied_index (put_index es name index) other ≡ (if here other then index else supplied_index es other)
+  index_put [] other = refl
+  index_put (e ∷ es) other =
+      (elim (slice_cmp nat_cmp name e.0) as (λ o. slice_cmp nat_cmp name e.0 ≡ o → supplied_index (match_ordering o ((name, index) ∷ e ∷ es) ((e.0, index) ∷ es) (e ∷ put_index es name index)) other ≡ (if here other then index else supplied_index (e ∷ es) other)) [
+        | Less ↦ λ _. refl
+        | Equal ↦ λ o.
+            let same : name ≡ e.0 = (bytes_eq-Decides name e.0).0 (sym (is_eq-slice_cmp name e.0) ∙ ap is_eq o) in
+            (elim (bytes_eq other e.0) as (λ b. bytes_eq other e.0 ≡ b → (if b then index else supplied_index es other) ≡ (if here other then index else (if b then e.1 else supplied_index es other))) [
+              | true ↦ λ on. let on' : bytes_eq other name ≡ true = ap (bytes_eq other) same ∙ on in rw on' refl
+              | false ↦ λ off. let off' : bytes_eq other name ≡ false = ap (bytes_eq other) same ∙ off in rw off' refl
+            ]) refl
+        | Greater ↦ λ o.
+            let apart : bytes_eq name e.0 ≡ false = sym (is_eq-slice_cmp name e.0) ∙ ap is_eq o in
+            (elim (bytes_eq other e.0) as (λ b. bytes_eq other e.0 ≡ b → (if b then e.1 else supplied_index (put_index es name index) other) ≡ (if here other then index else (if b then e.1 else supplied_index es other))) [
+              | true ↦ λ on.
+                  let at = (bytes_eq-Decides other e.0).0 on in
+                  let off : bytes_eq other name ≡ false = eq_apart other name (λ both. let is_same = eq_same name e.0 (sym both ∙ at) in cc) in
+                  rw off refl
+              | false ↦ λ off. index_put es other
+            ]) refl
+      ]) refl
+
+  -- and it is the one name more
+  pub has_put : (es : List Supplied) (other : List ℕ) → is_supplied (put_index es name index) other ≡ here other || is_supplied es other
+  has_put [] other = refl
+  has_put (e ∷ es) other =
+      (elim (slice_cmp nat_cmp name e.0) as (λ o. slice_cmp nat_cmp name e.0 ≡ o → is_supplied (match_ordering o ((name, index) ∷ e ∷ es) ((e.0, index) ∷ es) (e ∷ put_index es name index)) other ≡ here other || is_supplied (e ∷ es) other) [
+        | Less ↦ λ _. refl
+        | Equal ↦ λ o.
+            let same : name ≡ e.0 = (bytes_eq-Decides name e.0).0 (sym (is_eq-slice_cmp name e.0) ∙ ap is_eq o) in
+            let on : bytes_eq other name ≡ bytes_eq other e.0 = ap (bytes_eq other) same in
+            rw on (elim (bytes_eq other e.0) as (λ b. b || is_supplied es other ≡ b || (b || is_supplied es other)) [ true ↦ refl | false ↦ refl ])
+        | Greater ↦ λ _.
+            rw (has_put es other)
+            (elim (bytes_eq other e.0) as (λ b. b || (here other || is_supplied es other) ≡ here other || (b || is_supplied es other)) [
+              | true ↦ elim (here other) as (λ c. true ≡ c || true) [ true ↦ refl | false ↦ refl ]
+              | false ↦ refl
+            ])
+      ]) refl
+
+-- ---- lists of names with indices
+
+pub index_append : (xs ys : List Supplied) (name : List ℕ) → supplied_index (xs ++ ys) name ≡ (if is_supplied xs name then supplied_index xs name else supplied_index ys name)
+index_append [] ys name = refl
+index_append (x ∷ xs) ys name = elim (bytes_eq name x.0) as (λ b. (if b then x.1 else supplied_index (xs ++ ys) name) ≡ (if (b || is_supplied xs name) then (if b then x.1 else supplied_index xs name) else supplied_index ys name)) [
+  | true ↦ refl
+  | false ↦ index_append xs ys name
+]
+
+pub has_append : (xs ys : List Supplied) (name : List ℕ) → is_supplied (xs ++ ys) name ≡ is_supplied xs name || is_supplied ys name
+has_append [] ys name = refl
+has_append (x ∷ xs) ys name = elim (bytes_eq name x.0) as (λ b. b || is_supplied (xs ++ ys) name ≡ (b || is_supplied xs name) || is_supplied ys name) [
+  | true ↦ refl
+  | false ↦ has_append xs ys name
+]
+
+-- a name without an index counts as at zeros
+no_index : (xs : List Supplied) (name : List ℕ) → is_supplied xs name ≡ false → supplied_index xs name ≡ zeros
+no_index [] name none = refl
+no_index (x ∷ xs) name none = (elim (bytes_eq name x.0) as (λ b. b || is_supplied xs name ≡ false → (if b then x.1 else supplied_index xs name) ≡ zeros) [
+  | true ↦ λ never. absurd (let no = never in cc)
+  | false ↦ λ off. no_index xs name off
+]) none
+
+-- of a batch, the names that aren't registered, with the indices that come first
+module _ (registry : Registry) where
+  pub none_fresh : IsFresh registry [] []
+  none_fresh = record { none = λ name has. refl; names = λ name off. refl; indices = λ name off. refl }
+
+  -- one more that another name has adds nothing for a name
+  more_names : (named : List Supplied) (n i name : List ℕ) → bytes_eq name n ≡ false → is_supplied (named ++ (n, i) ∷ []) name ≡ is_supplied named name
+  more_names named n i name off = has_append named ((n, i) ∷ []) name ∙ rw off (elim (is_supplied named name) as (λ c. c || false ≡ c) [ true ↦ refl | false ↦ refl ])
+
+  more_index : (named : List Supplied) (n i name : List ℕ) → bytes_eq name n ≡ false → supplied_index (named ++ (n, i) ∷ []) name ≡ supplied_index named name
+  more_index named n i name off =
+      index_append named ((n, i) ∷ []) name
+      ∙ rw off ((elim (is_supplied named name) as (λ c. is_supplied named name ≡ c → (if c then supplied_index named name else zeros) ≡ supplied_index named name) [
+        | true ↦ λ _. refl
+        | false ↦ λ none. sym (no_index named name none)
+      ]) refl)
+
+  apart : (n name : List ℕ) (P : List ℕ → Bool) (a b : Bool) → P n ≡ a → P name ≡ b → (a ≡ b → ⊥) → bytes_eq name n ≡ false
+  apart n name P a b at there never = eq_apart name n (λ same. never (sym at ∙ ap P (sym same) ∙ there))
+
+  -- a registered name keeps its index
+  pub fresh_skip : (fresh named : List Supplied) (n i : List ℕ) → has_name registry n ≡ true → IsFresh registry fresh named → IsFresh registry fresh (named ++ (n, i) ∷ [])
+  fresh_skip fresh named n i has f = record {
+    none = f.none;
+    names = λ name off. f.names name off ∙ sym (more_names named n i name (apart n name (has_name registry) true false has off (λ same. let never = same in cc)));
+    indices = λ name off. f.indices name off ∙ sym (more_index named n i name (apart n name (has_name registry) true false has off (λ same. let never = same in cc)));
+  }
+
+  -- of a name that stands twice the first index counts
+  pub fresh_kept : (fresh named : List Supplied) (n i : List ℕ) → has_name registry n ≡ false → is_supplied fresh n ≡ true → IsFresh registry fresh named → IsFresh registry fresh (named ++ (n, i) ∷ [])
+  fresh_kept fresh named n i gone there f =
+      let among : is_supplied named n ≡ true = sym (f.names n gone) ∙ there in
+      record {
+        none = f.none;
+        names = λ name off. f.names name off ∙ sym (has_append named ((n, i) ∷ []) name ∙ (elim (bytes_eq name n) as (λ b. bytes_eq name n ≡ b → is_supplied named name || (b || false) ≡ is_supplied named name) [
+          | true ↦ λ on. let here : is_supplied named name ≡ true = ap (is_supplied named) ((bytes_eq-Decides name n).0 on) ∙ among in rw here refl
+          | false ↦ λ _. elim (is_supplied named name) as (λ c. c || false ≡ c) [ true ↦ refl | false ↦ refl ]
+        ]) refl);
+        indices = λ name off. f.indices name off ∙ sym (index_append named ((n, i) ∷ []) name ∙ (elim (is_supplied named name) as (λ c. is_supplied named name ≡ c → (if c then supplied_index named name else supplied_index ((n, i) ∷ []) name) ≡ supplied_index named name) [
+          | true ↦ λ _. refl
+          | false ↦ λ none. let other = apart n name (is_supplied named) true false among none (λ same. let never = same in cc) in rw other (sym (no_index named name none))
+        ]) refl);
+      }
+
+  -- any other name is new
+  pub fresh_put : (fresh named : List Supplied) (n i : List ℕ) → has_name registry n ≡ false → is_supplied fresh n ≡ false → IsFresh registry fresh named → IsFresh registry (put_index fresh n i) (named ++ (n, i) ∷ [])
+  fresh_put fresh named n i gone free f =
+      let not_among : is_supplied named n ≡ false = sym (f.names n gone) ∙ free in
+      record {
+        none = λ name has.
+            let other = apart n name (has_name registry) false true gone has (λ same. let never = same in cc) in
+            has_put n i fresh name ∙ rw other (f.none name has);
+        names = λ name off. has_put n i fresh name ∙ ap (λ c. bytes_eq name n || c) (f.names name off)
+            ∙ (elim (bytes_eq name n) as (λ b. b || is_supplied named name ≡ is_supplied named name || (b || false)) [
+              | true ↦ elim (is_supplied named name) as (λ c. true ≡ c || true) [ true ↦ refl | false ↦ refl ]
+              | false ↦ elim (is_supplied named name) as (λ c. c ≡ c || false) [ true ↦ refl | false ↦ refl ]
+            ])
+            ∙ sym (has_append named ((n, i) ∷ []) name);
+        indices = λ name off. index_put n i fresh name ∙ ap (λ c. if bytes_eq name n then i else c) (f.indices name off)
+            ∙ sym (index_append named ((n, i) ∷ []) name ∙ (elim (is_supplied named name) as (λ c. is_supplied named name ≡ c → (if c then supplied_index named name else (if bytes_eq name n then i else zeros)) ≡ (if bytes_eq name n then i else supplied_index named name)) [
+              | true ↦ λ there. let other = apart n name (is_supplied named) false true not_among there (λ same. let never = same in cc) in rw other refl
+              | false ↦ λ none. rw (no_index named name none) refl
+            ]) refl);
+      }
+
+  -- then the indices are those that the batch is checked by
+  pub fresh_index : (of : List ℕ → List ℕ) (fresh : List Supplied) (batch : List Indexed) → IsFresh registry fresh (named_in batch) → given_index fresh of ≡ index_in of registry batch
+  fresh_index of fresh batch f = fun_ext (λ name. (elim (has_name registry name) as (λ b. has_name registry name ≡ b → given_index fresh of name ≡ (if b then of name else given_index (named_in batch) of name)) [
+    | true ↦ λ has. rw (f.none name has) refl
+    | false ↦ λ off. rw (f.names name off, f.indices name off) refl
+  ]) refl)
+
+  -- and a registered name has the index that it had
+  pub given_agree : (of : List ℕ → List ℕ) (batch : List Indexed) → AgreeOn of (index_in of registry batch) registry
+  given_agree of batch name has = rw has refl
+
+-- ---- operations with their indices
+
+pub indexed_at : (ops : List Op) (indices : List Index) (i : ℕ) (op : Op) (index : Index) → slice_get ops i ≡ Some op → slice_get indices i ≡ Some index
+    → slice_get (indexed ops indices) i ≡ Some (record { op = operation_of op; index = index.0 })
+indexed_at [] indices i op index at there = absurd (let never = at in cc)
+indexed_at (x ∷ ops) [] i op index at there = absurd (let never = there in cc)
+indexed_at (x ∷ ops) (y ∷ indices) zero op index at there = let one : x ≡ op = cc in let two : y ≡ index = cc in rw (one, two) refl
+indexed_at (x ∷ ops) (y ∷ indices) (suc i) op index at there = indexed_at ops indices i op index at there
+
+-- as the code reads them
+pub indexed_here : (ops : List Op) (indices : List Index) (i : ℕ) (op : Op) (missing : Index) → length ops ≡ length indices → i < length ops → op ≡ get_or ops i op
+    → slice_get (indexed ops indices) i ≡ Some (record { op = operation_of op; index = (get_or indices i missing).0 })
+indexed_here ops indices i op missing same below is =
+    indexed_at ops indices i op (get_or indices i missing) (slice_get_read ops (length ops) i op refl below is) (slice_get-get_or indices i missing (omega (arith, same, below)))
+
+pub indexed_length : (ops : List Op) (indices : List Index) → length ops ≡ length indices → length (indexed ops indices) ≡ length ops
+indexed_length [] indices same = refl
+indexed_length (x ∷ ops) [] same = absurd (let never = same in cc)
+indexed_length (x ∷ ops) (y ∷ indices) same = ap suc (indexed_length ops indices (let less = same in omega arith))
+
+pub indexed_operations : (ops : List Op) (indices : List Index) → length ops ≡ length indices → operations_of (indexed ops indices) ≡ operations ops
+indexed_operations [] indices same = refl
+indexed_operations (x ∷ ops) [] same = absurd (let never = same in cc)
+indexed_operations (x ∷ ops) (y ∷ indices) same = ap (λ xs. operation_of x ∷ xs) (indexed_operations ops indices (let less = same in omega arith))
+
+-- the names up to the next place
+pub named_next : (xs : List Indexed) (i : ℕ) (x : Indexed) → slice_get xs i ≡ Some x → named_in (take (i + 1) xs) ≡ named_in (take i xs) ++ (x.op.name, x.index) ∷ []
+named_next xs i x at = ap named_in (take_next xs i x at) ∙ map-append (λ (y : Indexed). (y.op.name, y.index)) (take i xs) (x ∷ [])
+
+-- up to a place no name is registered with another index
+abbrev pub IsClear : (List ℕ → List ℕ) → Registry → List Indexed → ℕ → Type 0
+IsClear of registry xs i = other_from of registry 0 xs ≡ other_from of registry i (drop i xs)
+
+pub other-next : (of : List ℕ → List ℕ) (registry : Registry) (xs : List Indexed) (i : ℕ) (x : Indexed) → slice_get xs i ≡ Some x → IsClear of registry xs i
+    → other_from of registry 0 xs ≡ (if has_other of registry x then Some i else other_from of registry (i + 1) (drop (i + 1) xs))
+other-next of registry xs i x at clear =
+    clear ∙ at_drop_more (other_from of registry i) xs i x (slice_get_within xs i x at) ∙ ap (λ y. other_from of registry i (y ∷ drop (i + 1) xs)) (get_or_from_slice_get xs i x x at)
+
+pub other-all : (of : List ℕ → List ℕ) (registry : Registry) (xs : List Indexed) (i : ℕ) → length xs ≤ i → IsClear of registry xs i → other_from of registry 0 xs ≡ None
+other-all of registry xs i past clear = clear ∙ at_drop_all (other_from of registry i) xs i past
+
+-- what the tests of a name's index say of an operation
+pub other_on : (of : List ℕ → List ℕ) (registry : Registry) (x : Indexed) → HasOtherIndex of registry x.op.name x.index → has_other of registry x ≡ true
+other_on of registry x other =
+    let off : bytes_eq (of x.op.name) x.index ≡ false = eq_apart (of x.op.name) x.index other.1 in
+    rw (other.0, off) refl
+
+pub other_off : (of : List ℕ → List ℕ) (registry : Registry) (x : Indexed) → (has_name registry x.op.name ≡ true → of x.op.name ≡ x.index) → has_other of registry x ≡ false
+other_off of registry x kept = (elim (has_name registry x.op.name) as (λ b. has_name registry x.op.name ≡ b → b && not (bytes_eq (of x.op.name) x.index) ≡ false) [
+  | true ↦ λ has. let on = eq_same (of x.op.name) x.index (kept has) in rw on refl
+  | false ↦ λ _. refl
+]) refl
+
+-- ---- the first fault
+
+other_later : (of : List ℕ → List ℕ) (registry : Registry) (place : ℕ) (xs : List Indexed) (q : ℕ) → other_from of registry place xs ≡ Some q → place ≤ q
+other_later of registry place [] q found = absurd (let never = found in cc)
+other_later of registry place (x ∷ xs) q found = (elim (has_other of registry x) as (λ b. (if b then Some place else other_from of registry (place + 1) xs) ≡ Some q → place ≤ q) [
+  | true ↦ λ here. let same : place ≡ q = cc in omega arith
+  | false ↦ λ later. let after = other_later of registry (place + 1) xs q later in omega arith
+]) found
+
+fault_later : (of : List ℕ → List ℕ) (registry : Registry) (earlier : List Registered) (place : ℕ) (ops : List Operation) (at : ℕ × Fault) → fault_from of registry earlier place ops ≡ Some at → place ≤ at.0
+fault_later of registry earlier place [] at found = absurd (let never = found in cc)
+fault_later of registry earlier place (op ∷ ops) at found = (elim (fault_of of registry earlier op) as (λ f. placed place f (fault_from of registry (earlier ++ bound_by op ∷ []) (place + 1) ops) ≡ Some at → place ≤ at.0) [
+  | None ↦ λ later. let after = fault_later of registry (earlier ++ bound_by op ∷ []) (place + 1) ops at later in omega arith
+  | Some f ↦ λ here. let same : (place, f) ≡ at = cc in let first : place ≡ at.0 = ap (λ (x : ℕ × Fault). x.0) same in omega arith
+]) found
+
+-- an error comes before another index at a later place, and an index before an error at a later place
+fault_first : (place : ℕ) (f : Fault) (q : ℕ) → place < q → earlier_of place f q ≡ (place, of_operation f)
+fault_first place f q before =
+    let lt : nat_lt place q ≡ true = grind (arith, nat_tests) in
+    let le : nat_le place q ≡ true = grind (arith, nat_tests) in
+    elim f as (λ g. earlier_of place g q ≡ (place, of_operation g)) [
+      | name_length ↦ rw le refl
+      | key_length ↦ rw le refl
+      | name_twice ↦ rw le refl
+      | name_taken ↦ rw le refl
+      | name_unknown ↦ rw le refl
+      | index_clash ↦ rw lt refl
+    ]
+
+other_first : (p : ℕ) (f : Fault) (q : ℕ) → q < p → earlier_of p f q ≡ (q, other_index)
+other_first p f q before =
+    let lt : nat_lt p q ≡ false = grind (arith, nat_tests) in
+    let le : nat_le p q ≡ false = grind (arith, nat_tests) in
+    elim f as (λ g. earlier_of p g q ≡ (q, other_index)) [
+      | name_length ↦ rw le refl
+      | key_length ↦ rw le refl
+      | name_twice ↦ rw le refl
+      | name_taken ↦ rw le refl
+      | name_unknown ↦ rw le refl
+      | index_clash ↦ rw lt refl
+    ]
+
+-- at one place the clash comes last
+at_once : (place : ℕ) (f : Fault) (later : Option (ℕ × SuppliedFault)) → placed_fault place (or_other true (Some f)) later ≡ Some (earlier_of place f place)
+at_once place f later =
+    let lt : nat_lt place place ≡ false = grind (arith, nat_tests) in
+    let le : nat_le place place ≡ true = grind (arith, nat_tests) in
+    elim f as (λ g. placed_fault place (or_other true (Some g)) later ≡ Some (earlier_of place g place)) [
+      | name_length ↦ rw le refl
+      | key_length ↦ rw le refl
+      | name_twice ↦ rw le refl
+      | name_taken ↦ rw le refl
+      | name_unknown ↦ rw le refl
+      | index_clash ↦ rw lt refl
+    ]
+
+module _ (of index : List ℕ → List ℕ) (registry : Registry) where
+  -- the first fault is the earliest of the operations' and the other indices'
+  pub earliest_fault : (earlier : List Registered) (place : ℕ) (xs : List Indexed)
+      → supplied_fault_from of registry index earlier place xs ≡ earliest (fault_from index registry earlier place (operations_of xs)) (other_from of registry place xs)
+  earliest_fault earlier place [] = refl
+  earliest_fault earlier place (x ∷ xs) =
+      let next = earlier ++ bound_by x.op ∷ [] in
+      let rest = earliest_fault next (place + 1) xs in
+      let more = fault_from index registry next (place + 1) (operations_of xs) in
+      let others = other_from of registry (place + 1) xs in
+      let left = supplied_fault_from of registry index next (place + 1) xs in
+      elim (fault_of index registry earlier x.op) as (λ f. placed_fault place (or_other (has_other of registry x) f) left ≡ earliest (placed place f more) (if has_other of registry x then Some place else others)) [
+        | None ↦ elim (has_other of registry x) as (λ b. placed_fault place (or_other b None) left ≡ earliest more (if b then Some place else others)) [
+          | true ↦ (elim more as (λ m. more ≡ m → Some (place, other_index) ≡ earliest m (Some place)) [
+            | None ↦ λ _. refl
+            | Some at ↦ λ found. ap Some (sym (other_first at.0 at.1 place (let late = fault_later index registry next (place + 1) (operations_of xs) at found in omega arith)))
+          ]) refl
+          | false ↦ rest
+        ]
+        | Some f ↦ elim (has_other of registry x) as (λ b. placed_fault place (or_other b (Some f)) left ≡ earliest (Some (place, f)) (if b then Some place else others)) [
+          | true ↦ at_once place f left
+          | false ↦ (elim others as (λ o. others ≡ o → placed_fault place (or_other false (Some f)) left ≡ earliest (Some (place, f)) o) [
+            | None ↦ λ _. refl
+            | Some q ↦ λ found. ap Some (sym (fault_first place f q (let late = other_later of registry (place + 1) xs q found in omega arith)))
+          ]) refl
+        ]
+      ]
+
+-- ---- why a batch isn't accepted
+
+module _ (of : List ℕ → List ℕ) (registry : Registry) (ops : List Op) (indices : List Index) (long : length ops ≡ length indices) (depth workers : ℕ) where
+  abbrev batch : List Indexed
+  batch = indexed ops indices
+
+  -- the first fault by the operations alone, and by the other indices
+  faults : (other : Option ℕ) → other_from of registry 0 batch ≡ other → supplied_fault of registry batch ≡ earliest (first_fault (index_in of registry batch) registry (operations ops)) other
+  faults other is =
+      earliest_fault of (index_in of registry batch) registry [] 0 batch
+      ∙ rw (is, indexed_operations ops indices long) refl
+
+  pub limit_fault : (fault : BatchFault) → IsLimit fault → IsBatchFault of registry (operations ops) depth workers fault → IsSuppliedFault of registry batch depth workers (InBatch fault)
+  limit_fault batch_fault.Workers limit f = f
+  limit_fault batch_fault.Depth limit f = f
+  limit_fault batch_fault.BatchTooLong limit f = rw (indexed_operations ops indices long) f
+  limit_fault (batch_fault.At position fault) limit f = absurd limit
+  limit_fault batch_fault.OutOfMemory limit f = absurd limit
+
+  pub within_is : AreWorkers workers → depth ≤ MAX_DEPTH → length ops ≤ MAX_OPERATIONS → IsWithin batch depth workers
+  within_is crew shallow few = record { crew = crew; shallow = shallow; few = rw (indexed_length ops indices long) few }
+
+  -- with another index at a place
+  pub other_fault : (place : ℕ) (fault : SuppliedBatchFault) → IsWithin batch depth workers → other_from of registry 0 batch ≡ Some place
+      → IsEarliest (index_in of registry batch) registry (operations ops) place fault → IsSuppliedFault of registry batch depth workers fault
+  other_fault place (InBatch batch_fault.Workers) within other f = absurd f
+  other_fault place (InBatch batch_fault.Depth) within other f = absurd f
+  other_fault place (InBatch batch_fault.BatchTooLong) within other f = absurd f
+  other_fault place (InBatch batch_fault.OutOfMemory) within other f = within
+  other_fault place (InBatch (batch_fault.At position fault)) within other f = (within, faults (Some place) other ∙ f)
+  other_fault place (OtherIndex position) within other f = (within, faults (Some place) other ∙ f)
+
+  -- and without one
+  pub no_fault : other_from of registry 0 batch ≡ None → first_fault (index_in of registry batch) registry (operations ops) ≡ None → supplied_fault of registry batch ≡ None
+  no_fault other none = faults None other ∙ ap (λ f. earliest f None) none
+
+  pub judged_fault : (fault : BatchFault) → IsWithin batch depth workers → other_from of registry 0 batch ≡ None → IsJudgedFault (index_in of registry batch) registry (operations ops) fault
+      → IsSuppliedFault of registry batch depth workers (InBatch fault)
+  judged_fault batch_fault.Workers within other f = absurd f
+  judged_fault batch_fault.Depth within other f = absurd f
+  judged_fault batch_fault.BatchTooLong within other f = absurd f
+  judged_fault batch_fault.OutOfMemory within other f = within
+  judged_fault (batch_fault.At position fault) within other f = (within, faults None other ∙ ap (λ g. earliest g None) f)
+
+-- what is told is the earliest
+pub told_earliest : (index : List ℕ → List ℕ) (registry : Registry) (ops : List Operation) (place : ℕ) (fault : SuppliedBatchFault) (at : ℕ × SuppliedFault) → supplied_fault_is fault ≡ Some at
+    → earliest (first_fault index registry ops) (Some place) ≡ Some at → IsEarliest index registry ops place fault
+told_earliest index registry ops place (InBatch batch_fault.Workers) at told first = absurd (let never = told in cc)
+told_earliest index registry ops place (InBatch batch_fault.Depth) at told first = absurd (let never = told in cc)
+told_earliest index registry ops place (InBatch batch_fault.BatchTooLong) at told first = absurd (let never = told in cc)
+told_earliest index registry ops place (InBatch batch_fault.OutOfMemory) at told first = absurd (let never = told in cc)
+told_earliest index registry ops place (InBatch (batch_fault.At position fault)) at told first = first ∙ sym told
+told_earliest index registry ops place (OtherIndex position) at told first = first ∙ sym told
+
+-- what isn't an operation's is memory
+pub other_judged : (index : List ℕ → List ℕ) (registry : Registry) (ops : List Operation) (place : ℕ) (fault : BatchFault) → ((position : ℕ) (f : OpFault) → fault ≡ batch_fault.At position f → ⊥)
+    → IsJudgedFault index registry ops fault → IsEarliest index registry ops place (InBatch fault)
+other_judged index registry ops place batch_fault.Workers off f = f
+other_judged index registry ops place batch_fault.Depth off f = f
+other_judged index registry ops place batch_fault.BatchTooLong off f = f
+other_judged index registry ops place batch_fault.OutOfMemory off f = tt
+other_judged index registry ops place (batch_fault.At position fault) off f = absurd (off position fault refl)
+
+-- ---- what an update holds
+
+-- the indices of records are those of the operations
+pub held_is : (of : List ℕ → List ℕ) (records : List Record) (ops : List Operation) → map registered_of records ≡ map bound_by ops → AreOf of (indices_in records) → indices_in records ≡ indices_by of ops
+held_is of [] [] binds held = refl
+held_is of [] (op ∷ ops) binds held = absurd (let never = binds in cc)
+held_is of (r ∷ rs) [] binds held = absurd (let never = binds in cc)
+held_is of (r ∷ rs) (op ∷ ops) binds held =
+    let first : registered_of r ≡ bound_by op = cc in
+    let rest : map registered_of rs ≡ map bound_by ops = cc in
+    let name : r.binding.name ≡ op.name = ap (λ (b : Registered). b.name) first in
+    let index : r.index.0 ≡ of op.name = held.0 ∙ ap of name in
+    rw (name, index, held_is of rs ops rest held.1) refl
+
+-- ---- what an install supplies
+
+pub put-append : (source xs ys : List Supplied) → put_indices source (xs ++ ys) ≡ put_indices (put_indices source xs) ys
+put-append source [] ys = refl
+put-append source (x ∷ xs) ys = put-append (put_index source x.0 x.1) xs ys
+
+pub put_next : (source : List Supplied) (records : List Record) (i : ℕ) (r : Record) → slice_get records i ≡ Some r
+    → put_indices source (indices_in (take (i + 1) records)) ≡ put_index (put_indices source (indices_in (take i records))) r.binding.name r.index.0
+put_next source records i r at =
+    ap (put_indices source) (ap indices_in (take_next records i r at) ∙ map-append (λ (x : Record). (x.binding.name, x.index.0)) (take i records) (r ∷ []))
+    ∙ put-append source (indices_in (take i records)) (indices_in (r ∷ []))
+
+-- a name that has the function's index, or is among the names, has it then
+pub put_of : (of : List ℕ → List ℕ) (ps source : List Supplied) (name : List ℕ) → AreOf of ps → (supplied_index source name ≡ of name) ⊎ (is_supplied ps name ≡ true)
+    → supplied_index (put_indices source ps) name ≡ of name
+put_of of [] source name held (inl at) = at
+put_of of [] source name held (inr never) = absurd (let no = never in cc)
+put_of of (p ∷ ps) source name held known =
+    put_of of ps (put_index source p.0 p.1) name held.1
+    ((elim (bytes_eq name p.0) as (λ b. bytes_eq name p.0 ≡ b → (supplied_index (put_index source p.0 p.1) name ≡ of name) ⊎ (is_supplied ps name ≡ true)) [
+      | true ↦ λ on. inl (index_put p.0 p.1 source name ∙ rw on (held.0 ∙ ap of (sym ((bytes_eq-Decides name p.0).0 on))))
+      | false ↦ λ off. elim known [
+        | inl at ↦ inl (index_put p.0 p.1 source name ∙ rw off at)
+        | inr there ↦ inr (rw off at there)
+      ]
+    ]) refl)
+
+-- the names of records are those of their bindings
+pub has_indices : (records : List Record) (name : List ℕ) → is_supplied (indices_in records) name ≡ has_name (map registered_of records) name
+has_indices [] name = refl
+has_indices (r ∷ rs) name =
+    let same : bytes_eq name r.binding.name ≡ bytes_eq r.binding.name name = (elim (bytes_eq r.binding.name name) as (λ b. bytes_eq r.binding.name name ≡ b → bytes_eq name r.binding.name ≡ b) [
+      | true ↦ λ on. eq_same name r.binding.name (sym ((bytes_eq-Decides r.binding.name name).0 on))
+      | false ↦ λ off. eq_apart name r.binding.name (λ at. let on = eq_same r.binding.name name (sym at) in cc)
+    ]) refl in
+    rw (same, has_indices rs name) refl
+
+-- once an update's indices are supplied, the source gives each name that the update leaves the index by which it was prepared
+pub supplied_all : (hash of : List ℕ → List ℕ) (source : List Supplied) (s : State) (p : Prepared) → Whole hash (supplied_index source) s
+    → AgreeOn (supplied_index source) of (latest_registry (history_of s)) → AreOf of (indices_in p.records.items)
+    → AgreeOn of (supplied_index (put_indices source (indices_in p.records.items))) (registry_after s p)
+supplied_all hash of source s p whole agree held name has =
+    let known = or_cases (has_name (latest_registry (history_of s)) name) (has_name (map registered_of p.records.items) name) (sym (leaves_name hash (supplied_index source) s p name whole) ∙ has) in
+    sym (put_of of (indices_in p.records.items) source name held (elim known [
+      | inl old ↦ inl (agree name old)
+      | inr new ↦ inr (has_indices p.records.items name ∙ new)
+    ]))
+
+-- the source keeps the indices of the registered names
+pub kept_agree : (index : List ℕ → List ℕ) (source ps : List Supplied) (registry : Registry) → AgreeOn (supplied_index source) index registry → AreOf index ps
+    → AgreeOn (supplied_index source) (supplied_index (put_indices source ps)) registry
+kept_agree index source ps registry agree held name has = agree name has ∙ sym (put_of index ps source name held (inl (agree name has)))
+
+pub held_take : (index : List ℕ → List ℕ) (records : List Record) (n : ℕ) → AreOf index (indices_in records) → AreOf index (indices_in (take n records))
+held_take index records zero held = tt
+held_take index [] (suc n) held = tt
+held_take index (r ∷ rs) (suc n) held = (held.0, held_take index rs n held.1)
+
+-- what holds of a value holds of what follows from it
+pub if_ok-map : {T E : Type 0} (r : Result T E) (P Q : T → Type 0) → ((x : T) → P x → Q x) → IfOk r P → IfOk r Q
+if_ok-map (Ok x) P Q more is = more x is
+if_ok-map (Err e) P Q more is = is
+
+pub on_ok-map : {T E : Type 0} (r : Result T E) (P Q : Type 0) → (P → Q) → OnOk r P → OnOk r Q
+on_ok-map (Ok x) P Q more is = more is
+on_ok-map (Err e) P Q more is = is
+
+pub of_ok : {T E : Type 0} (r : Result T E) (P : Type 0) → false ≡ is_err r → OnOk r P → P
+of_ok (Ok x) P off is = is
+of_ok (Err e) P off is = absurd (let never = off in cc)

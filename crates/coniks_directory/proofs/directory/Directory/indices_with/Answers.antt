@@ -1,0 +1,35 @@
+use Rattle.std.proofs.Common.{◌≡◌, List, [], ap, arith, get_or, length, subst, sym, take, ◌≤◌, ◌∙◌}
+use Rattle.coniks_directory.proofs.Words.{Op, history_of, latest_registry, operation_of, state_of, take_all}
+use Rattle.coniks_proof.specs.declared.values.Index.{Index}
+use Rattle.coniks_directory.specs.Supplied.{Supplied}
+use Rattle.coniks_directory.specs.SuppliedBatches.{Indexed, IsFresh, indexed, named_in}
+use Rattle.coniks_directory.proofs.SuppliedBatchLemmas.{fresh_index, indexed_here, indexed_length, named_next}
+use Rattle.coniks_directory.proofs.directory.Directory.indices_with.Goals as goal
+
+pub loop-place-preserved : goal.loop-place-preserved
+loop-place-preserved g c =
+    let registry = latest_registry (history_of c.args.self.now.state) in
+    let ops = c.args.batch.now.ops.now in
+    let indices = c.args.batch.now.indices.now in
+    let i = c.loop-place.place in
+    let op = c.index-batch-place.result in
+    let missing : Index = record { 0 = [] } in
+    let index = get_or indices i missing in
+    let x : Indexed = record { op = operation_of op; index = index.0 } in
+    let at = indexed_here ops indices i op missing c.requires c.loop-place-test.true c.index-batch-place.is in
+    let named : c.as_slice.result.now ≡ op.name = c.as_slice.ensures ∙ ap (λ (o : Op). o.name) (sym c.index-batch-place.is) in
+    let before = named_in (take i (indexed ops indices)) in
+    let fresh = c.in_ok-add_fresh.ensures before c.loop-place.invariant in
+    subst (λ (xs : List Supplied). IsFresh registry c.add_fresh.new.fresh xs) (sym (named_next (indexed ops indices) i x at)) (rw named at fresh)
+
+pub returns : goal.returns
+returns g c =
+    let d = c.self.inside in
+    let of = g.X.IndexSource.index_of d.source in
+    let registry = latest_registry (history_of (state_of d.held)) in
+    let ops = c.args.batch.now.ops.now in
+    let indices = c.args.batch.now.indices.now in
+    let long = indexed_length ops indices c.requires in
+    let past : length (indexed ops indices) ≤ c.loop-place.place = (let end = c.loop-place-test.false in omega (arith, long, end)) in
+    let all = rw (take_all c.loop-place.place (indexed ops indices) past) at c.loop-place.invariant in
+    rw (← c.self.view_is) (fresh_index registry of c.loop-place.fresh (indexed ops indices) (rw (← c.self.view_is) at all))

@@ -1,0 +1,22 @@
+-- How many nodes an epoch adds to the tree.
+use Rattle.std.specs.Prelude.{ℕ, List, [], ◌∷◌, map, Option, Some, None}
+use Rattle.coniks_proof.specs.Batches.{Operation, after, bound_by}
+use Rattle.coniks_proof.specs.Registry.{Registered, Registry}
+use Rattle.coniks_tree.specs.Counts.{new_nodes}
+use Rattle.coniks_tree.specs.Table.{Numbered}
+use Rattle.coniks_directory.specs.Batches.{most_nodes}
+use Rattle.coniks_directory.specs.History.{Shown, latest_registry}
+
+-- where a name stands in the map; no count depends on what stands there
+abbrev pub place_of : (List ℕ → List ℕ) → Registered → Numbered
+place_of of b = record { index = of b.name; commitment = []; behind = 0 }
+
+abbrev pub places_of : (List ℕ → List ℕ) → Registry → List Numbered
+places_of of registry = map (place_of of) registry
+
+-- how many nodes the epoch of a batch adds after this history: those of the whole map, where every node is made anew under a nonce, else
+-- those that the batch's operations change; without operations the first epoch adds one and a later one none
+abbrev pub epoch_nodes : (List ℕ → List ℕ) → List Shown → Option (List ℕ) → List Operation → ℕ
+epoch_nodes of history (Some nonce) ops = new_nodes 0 [] (places_of of (after (latest_registry history) ops))
+epoch_nodes of history None [] = most_nodes history 0
+epoch_nodes of history None (op ∷ ops) = new_nodes 0 (places_of of (latest_registry history)) (places_of of (map bound_by (op ∷ ops)))
