@@ -1,4 +1,4 @@
-"""`keydir audit` and `keydir monitor`: entries, each compared with the last one that was accepted."""
+"""Entries, and `keydir audit` and `keydir monitor`, which compare each with the last one that was accepted."""
 
 import members
 from bytelists import ZEROS, demonstration_index, demonstration_seal, link, number
@@ -25,11 +25,10 @@ class Entry:
         return link(self.whole)
 
 
-def entry_after(before, key, version, epoch, root, nonce, policy):
-    """The entry that a directory signs after another one, or first."""
+def body_after(before, version, epoch, root, nonce, policy):
+    """The body of an entry that follows another one, or is the first."""
     body = number(version, 1) + number(epoch, 8) + number(before.epoch if before else 0, 8) + root
-    body += (before.link if before else ZEROS) + nonce + policy
-    return Entry(body + demonstration_seal(key, body))
+    return body + (before.link if before else ZEROS) + nonce + policy
 
 
 def audit(entry, before, key):

@@ -1,14 +1,13 @@
-"""`keydir run`: the directory, with the registry of each epoch kept whole."""
+"""`keydir run`: the directory, with the registry of each epoch kept whole; and what `provider` has in common with it."""
 
 import base64
 
-from bytelists import LONGEST_KEY, LONGEST_NAME, commitment, demonstration_index, link
-from chain import entry_after
+from bytelists import LONGEST_KEY, LONGEST_NAME, commitment, demonstration_index, demonstration_seal
+from chain import Entry, body_after
 from members import Fault, Wrong, array, b64, h32, member, object_in, read_object, text, texts_bytes, whole_number
 from tree import node, path
 
 MOST_OPERATIONS = 4096
-MOST_EPOCHS = 1024
 
 
 class Operation:
@@ -22,17 +21,17 @@ class Operation:
             raise Wrong
 
 
-def operations(elements):
+def operations(elements, kind):
     found = []
     for position, element in enumerate(elements):
         try:
-            found.append(Operation(element))
+            found.append(kind(element))
         except Wrong:
             raise Fault("Member", member="ops", position=position)
     return found
 
 
-def fault_of(operation, earlier, registry):
+def fault_of(operation, earlier, registered):
     """The first fault of an operation after the names of the earlier ones, or None."""
     if not 1 <= len(operation.name) <= LONGEST_NAME:
         return "NameLength"
@@ -40,11 +39,103 @@ def fault_of(operation, earlier, registry):
         return "KeyLength"
     if operation.name in earlier:
         return "NameTwice"
-    if operation.op == "register" and operation.name in registry:
+    if operation.op == "register" and operation.name in registered:
         return "NameTaken"
-    if operation.op == "change" and operation.name not in registry:
+    if operation.op == "change" and operation.name not in registered:
         return "NameUnknown"
     return None
+
+
+class Lines:
+    """A directory that answers lines, one of its methods for each command: what its kinds have in common."""
+
+    Operation = Operation
+
+    def __init__(self):
+        self.is_open = False
+        self.epochs = {}
+        self.latest = 0
+
+    def answer(self, line):
+        members = read_object(line)
+        command = members.get("cmd")
+        if not isinstance(command, str) or command not in self.COMMANDS:
+            raise Fault("Command")
+        return getattr(self, self.COMMANDS[command])(members)
+
+    def be_open(self, nonce, policy):
+        if self.is_open:
+            raise Fault("AlreadyOpen")
+        self.is_open = True
+        self.version, self.nonce, self.policy = 1, nonce, policy
+        return {"ok": "open"}
+
+    def must_be_open(self):
+        if not self.is_open:
+            raise Fault("NotOpen")
+
+    def read_batch(self, members):
+        """A batch's epoch, its nonce or None, and its operations."""
+        number = member(members, "epoch", whole_number)
+        nonce = member(members, "nonce", h32) if "nonce" in members else None
+        return number, nonce, operations(member(members, "ops", array), self.Operation)
+
+    def judge_batch(self, ops, registered):
+        """The operations by their names, where they have no fault over the registered names; else the batch's fault."""
+        if len(ops) > MOST_OPERATIONS:
+            raise Fault("BatchTooLong")
+        earlier = {}
+        for position, operation in enumerate(ops):
+            fault = self.fault_of(operation, earlier, registered)
+            if fault:
+                raise Fault(fault, position=position)
+            earlier[operation.name] = operation
+        return earlier
+
+    def fault_of(self, operation, earlier, registered):
+        return fault_of(operation, earlier, registered)
+
+    def must_be_next(self, number):
+        if number <= self.latest:
+            raise Fault("EpochNotLater", latest=self.latest)
+        if len(self.epochs) == self.MOST_EPOCHS:
+            raise Fault("BoardFull")
+
+    def epoch_and_name(self, members):
+        """The number of the epoch and the name of a lookup."""
+        return member(members, "epoch", whole_number), member(members, "name", text)
+
+    def epoch_asked(self, number, name):
+        self.must_be_open()
+        epoch = self.epochs.get(number)
+        if epoch is None:
+            raise Fault("UnknownEpoch")
+        if not 1 <= len(name.encode("utf-8")) <= LONGEST_NAME:
+            raise Fault("NameLength")
+        return epoch
+
+
+def answer_of_entry(entry, ok):
+    """The answer to a line that adds an entry to the chain."""
+    return {"entry": entry.whole.hex(), "epoch": entry.epoch, "link": entry.link.hex(), "ok": ok, "root": entry.root.hex()}
+
+
+def answer_of_lookup(entry, name, index, siblings, end):
+    answer = {"entry": entry.whole.hex(), "epoch": entry.epoch, "index": index.hex(), "name": name, "ok": "lookup"}
+    answer |= {"nonce": entry.nonce.hex(), "root": entry.root.hex()}
+    return answer | {"proof": {"end": end, "siblings": [sibling.hex() for sibling in siblings]}}
+
+
+def end_elsewhere(found):
+    """The end of a path that shows no leaf of the index: what is found there is the entry of another index, or none."""
+    if not found:
+        return {"kind": "empty"}
+    [(index, committed)] = found
+    return {"commitment": committed.hex(), "index": index.hex(), "kind": "other"}
+
+
+def end_here(name, key, opening):
+    return {"key": base64.b64encode(key).decode(), "kind": "here", "name": name, "opening": opening.hex()}
 
 
 class Epoch:
@@ -56,73 +147,37 @@ class Epoch:
         self.tree = tree
 
 
-class Directory:
-    def __init__(self):
-        self.is_open = False
-        self.epochs = {}
-        self.latest = 0
-
-    def answer(self, line):
-        members = read_object(line)
-        commands = {"open": self.open, "batch": self.batch, "lookup": self.look_up}
-        command = members.get("cmd")
-        if not isinstance(command, str) or command not in commands:
-            raise Fault("Command")
-        return commands[command](members)
+class Directory(Lines):
+    COMMANDS = {"open": "open", "batch": "batch", "lookup": "look_up"}
+    MOST_EPOCHS = 1024
 
     def open(self, members):
         key = member(members, "key", h32)
         nonce = member(members, "nonce", h32)
         policy = member(members, "policy", h32)
-        if self.is_open:
-            raise Fault("AlreadyOpen")
-        self.is_open = True
-        self.key, self.policy = key, policy
-        self.version, self.nonce = 1, nonce
-        return {"ok": "open"}
+        answer = self.be_open(nonce, policy)
+        self.key = key
+        return answer
 
     def batch(self, members):
-        number = member(members, "epoch", whole_number)
-        nonce = member(members, "nonce", h32) if "nonce" in members else None
-        ops = operations(member(members, "ops", array))
+        number, nonce, ops = self.read_batch(members)
         self.must_be_open()
         before = self.epochs.get(self.latest)
         registry = before.registry if before else {}
-        changed = self.changed_by(ops, registry)
+        changed = {name: (it.key, it.opening) for name, it in self.judge_batch(ops, registry).items()}
         registry = {**registry, **changed}
-        if number <= self.latest:
-            raise Fault("EpochNotLater", latest=self.latest)
-        if len(self.epochs) == MOST_EPOCHS:
-            raise Fault("BoardFull")
+        self.must_be_next(number)
         if nonce is not None:
             self.version, self.nonce = 2, nonce
         tree = self.tree_after(before, registry, changed, nonce is not None)
-        root = self.root(tree)
-        entry = self.entry_of(before, number, root)
+        entry = self.entry_of(before, number, self.root(tree))
         self.epochs[number] = Epoch(entry, registry, tree)
         self.latest = number
-        answer = {"epoch": number, "link": link(entry.whole).hex(), "ok": "batch"}
-        return {**answer, "entry": entry.whole.hex(), "root": root.hex()}
+        return answer_of_entry(entry, "batch")
 
     def entry_of(self, before, number, root):
-        last = before.entry if before else None
-        return entry_after(last, self.key, self.version, number, root, self.nonce, self.policy)
-
-    def must_be_open(self):
-        if not self.is_open:
-            raise Fault("NotOpen")
-
-    def changed_by(self, ops, registry):
-        """What a batch's operations bind; else the batch's fault."""
-        if len(ops) > MOST_OPERATIONS:
-            raise Fault("BatchTooLong")
-        earlier = {}
-        for position, operation in enumerate(ops):
-            fault = fault_of(operation, earlier, registry)
-            if fault:
-                raise Fault(fault, position=position)
-            earlier[operation.name] = (operation.key, operation.opening)
-        return earlier
+        body = body_after(before.entry if before else None, self.version, number, root, self.nonce, self.policy)
+        return Entry(body + demonstration_seal(self.key, body))
 
     def tree_after(self, before, registry, changed, is_renewed):
         """An epoch's tree: here all entries of its registry."""
@@ -142,29 +197,12 @@ class Directory:
         )
 
     def look_up(self, members):
-        number = member(members, "epoch", whole_number)
-        name = member(members, "name", text)
-        self.must_be_open()
-        epoch = self.epochs.get(number)
-        if epoch is None:
-            raise Fault("UnknownEpoch")
-        if not 1 <= len(name.encode("utf-8")) <= LONGEST_NAME:
-            raise Fault("NameLength")
+        number, name = self.epoch_and_name(members)
+        epoch = self.epoch_asked(number, name)
         index = demonstration_index(self.key, name.encode("utf-8"))
-        answer = {"epoch": number, "index": index.hex(), "name": name, "ok": "lookup"}
-        answer["entry"] = epoch.entry.whole.hex()
-        answer["nonce"] = epoch.entry.nonce.hex()
-        answer["root"] = epoch.entry.root.hex()
-        answer["proof"] = self.proof(epoch, index, name)
-        return answer
-
-    def proof(self, epoch, index, name):
         siblings, found = self.path(epoch, index)
-        if not found:
-            end = {"kind": "empty"}
-        elif found[0][0] != index:
-            end = {"commitment": found[0][1].hex(), "index": found[0][0].hex(), "kind": "other"}
+        if found and found[0][0] == index:
+            end = end_here(name, *epoch.registry[name.encode("utf-8")])
         else:
-            key, opening = epoch.registry[name.encode("utf-8")]
-            end = {"key": base64.b64encode(key).decode(), "kind": "here", "name": name, "opening": opening.hex()}
-        return {"end": end, "siblings": [sibling.hex() for sibling in siblings]}
+            end = end_elsewhere(found)
+        return answer_of_lookup(epoch.entry, name, index, siblings, end)

@@ -1,4 +1,4 @@
-"""A directory of many names: a second reading of docs/FORMATS.md, whose epochs share what doesn't change of their trees."""
+"""Trees whose epochs share what doesn't change, and with them a `keydir run` for many names."""
 
 from bytelists import bit, empty_node, interior_node, leaf
 from directory import Directory
@@ -50,6 +50,29 @@ def grown(node, nonce, prefix, changes):
     return joined(*(grown(child, nonce, prefix + (side,), parts[side]) for side, child in enumerate(node.children)))
 
 
+def path_to(node, index):
+    """The hashes beside the way to an index, from the root down, and the entries where it ends: one or none."""
+    siblings = []
+    while node.children is not None:
+        side = bit(index, len(siblings))
+        siblings.append(node.children[1 - side].hash)
+        node = node.children[side]
+    return siblings, node.entries
+
+
+def nodes_under(changes, node, level):
+    """How many nodes of a grown tree are new at and below a node.
+
+    A node is new where something changes under it. Beside such a node, a leaf or an empty node is made again, and a node of
+    two entries or more is kept with all that is below it.
+    """
+    if not changes:
+        return 0 if node.children else 1
+    if not node.children:
+        return 1
+    return 1 + sum(nodes_under(part, child, level + 1) for part, child in zip(halves(changes, level), node.children))
+
+
 class GrownDirectory(Directory):
     """As `Directory`, but an epoch's tree is grown from the one before, where the nonce stays."""
 
@@ -62,9 +85,4 @@ class GrownDirectory(Directory):
         return tree.hash
 
     def path(self, epoch, index):
-        node, siblings = epoch.tree, []
-        while node.children is not None:
-            side = bit(index, len(siblings))
-            siblings.append(node.children[1 - side].hash)
-            node = node.children[side]
-        return siblings, node.entries
+        return path_to(epoch.tree, index)

@@ -1,0 +1,152 @@
+"""`provider`: the directory whose indices and signatures come from outside. Its epochs share what doesn't change."""
+
+from bisect import bisect_right
+
+from bytelists import ZEROS, commitment
+from chain import Entry, body_after
+from directory import Lines, Operation, answer_of_entry, answer_of_lookup, end_elsewhere, end_here
+from grown import built, grown, nodes_under, path_to
+from members import Fault, bytes_in_digits, h32, member, object_in
+
+SIGNATURE_LENGTH = 64
+
+
+class SuppliedOperation(Operation):
+    """An operation with the index of its name."""
+
+    def __init__(self, value):
+        super().__init__(value)
+        self.index = h32(object_in(value).get("index"))
+
+    @property
+    def entry(self):
+        return self.index, commitment(self.opening, self.name, self.key)
+
+
+def signature(value):
+    return bytes_in_digits(value, SIGNATURE_LENGTH)
+
+
+class Update:
+    """What `prepare` makes and `install` stores: an epoch without its signature."""
+
+    def __init__(self, body, version, nonce, operations, tree, nodes):
+        self.body, self.version, self.nonce = body, version, nonce
+        self.operations, self.tree, self.nodes = operations, tree, nodes
+
+
+class Epoch:
+    def __init__(self, entry, tree):
+        self.entry, self.tree = entry, tree
+
+
+class Record:
+    """A registered name by its index: the operations on it, and the epochs at which these were installed."""
+
+    def __init__(self):
+        self.epochs, self.operations = [], []
+
+    def add(self, epoch, operation):
+        self.epochs.append(epoch)
+        self.operations.append(operation)
+
+    def at(self, epoch):
+        """The latest operation at an epoch at which the name is registered."""
+        return self.operations[bisect_right(self.epochs, epoch) - 1]
+
+
+class SuppliedDirectory(Lines):
+    COMMANDS = {"open": "open", "prepare": "prepare", "install": "install", "lookup": "look_up", "latest": "tell_latest"}
+    MOST_EPOCHS = 65536
+    Operation = SuppliedOperation
+
+    def __init__(self):
+        super().__init__()
+        self.indices = {}
+        self.records = {}
+        self.nodes = 0
+        self.pending = None
+
+    def open(self, members):
+        nonce = member(members, "nonce", h32)
+        return self.be_open(nonce, member(members, "policy", h32))
+
+    def judge_batch(self, ops, registered):
+        self.indices_before = set()
+        return super().judge_batch(ops, registered)
+
+    def fault_of(self, operation, earlier, registered):
+        """The first fault of an operation; its index isn't another name's, and that of a registered name stays."""
+        fault = super().fault_of(operation, earlier, registered)
+        if fault:
+            return fault
+        if registered.get(operation.name, operation.index) != operation.index:
+            return "OtherIndex"
+        is_taken = operation.index in self.records and operation.name not in registered
+        if is_taken or operation.index in self.indices_before:
+            return "IndexClash"
+        self.indices_before.add(operation.index)
+        return None
+
+    def prepare(self, members):
+        number, nonce, ops = self.read_batch(members)
+        self.must_be_open()
+        self.judge_batch(ops, self.indices)
+        self.must_be_next(number)
+        version, nonce, is_renewed = (self.version, self.nonce, False) if nonce is None else (2, nonce, True)
+        before = self.epochs.get(self.latest)
+        tree, nodes = self.tree_after(before, nonce, ops, is_renewed)
+        body = body_after(before.entry if before else None, version, number, tree.hash, nonce, self.policy)
+        self.pending = Update(body, version, nonce, ops, tree, nodes)
+        return {"body": body.hex(), "epoch": number, "nodes": nodes, "ok": "prepare", "root": tree.hash.hex()}
+
+    def tree_after(self, before, nonce, ops, is_renewed):
+        """The tree of an epoch, and how many of its nodes are new."""
+        changes = sorted(it.entry for it in ops)
+        if before is None or is_renewed:
+            entries = sorted((dict(self.entries()) | dict(changes)).items())
+            tree = built(nonce, (), entries)
+            return tree, nodes_under(entries, tree, 0)
+        tree = grown(before.tree, nonce, (), changes)
+        return tree, nodes_under(changes, tree, 0) if changes else 0
+
+    def entries(self):
+        """The entries of the latest epoch's tree."""
+        return (it.operations[-1].entry for it in self.records.values())
+
+    def install(self, members):
+        signed = member(members, "signature", signature)
+        self.must_be_open()
+        if self.pending is None:
+            raise Fault("NotPrepared")
+        update, self.pending = self.pending, None
+        entry = Entry(update.body + signed)
+        self.version, self.nonce, self.latest = update.version, update.nonce, entry.epoch
+        self.epochs[entry.epoch] = Epoch(entry, update.tree)
+        self.nodes += update.nodes
+        for operation in update.operations:
+            self.indices[operation.name] = operation.index
+            self.records.setdefault(operation.index, Record()).add(entry.epoch, operation)
+        return answer_of_entry(entry, "install")
+
+    def look_up(self, members):
+        number, name = self.epoch_and_name(members)
+        index = member(members, "index", h32)
+        epoch = self.epoch_asked(number, name)
+        if self.indices.get(name.encode("utf-8"), index) != index:
+            raise Fault("OtherIndex")
+        siblings, found = path_to(epoch.tree, index)
+        return answer_of_lookup(epoch.entry, name, index, siblings, self.end(number, index, found))
+
+    def end(self, number, index, found):
+        """The end of a path. A leaf of the index has the name that is registered with it, which may be another one."""
+        if not found or found[0][0] != index:
+            return end_elsewhere(found)
+        shown = self.records[index].at(number)
+        return end_here(shown.name.decode("utf-8"), shown.key, shown.opening)
+
+    def tell_latest(self, members):
+        self.must_be_open()
+        latest = self.epochs.get(self.latest)
+        link = latest.entry.link if latest else ZEROS
+        return {"epoch": self.latest, "link": link.hex(), "names": len(self.indices), "nodes": self.nodes, "ok": "latest"}
