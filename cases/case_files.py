@@ -4,12 +4,20 @@ import json
 from pathlib import Path
 
 HERE = Path(__file__).resolve().parent
-FOLDERS = ["run", "check", "audit", "monitor", "words"]
+
+# The folders of each program.
+FOLDERS = {"keydir": ["run", "check", "audit", "monitor", "words"], "provider": ["provider", "provider-words"]}
 KINDS = [".in", ".make", ".out", ".holds", ".words", ".status", ".err", ".turns"]
 
 
 class Unknown(Exception):
     """What no case or folder is named."""
+
+
+def program_at(path):
+    """Which program a file is by its name: `keydir` if it has another name than these."""
+    name = Path(path).name
+    return name if name in FOLDERS else "keydir"
 
 
 class Case:
@@ -78,7 +86,7 @@ def chosen(names):
     cases, wrong = {}, []
     for name in names:
         folder, _, one = name.rstrip("/").partition("/")
-        if folder not in FOLDERS:
+        if not any(folder in it for it in FOLDERS.values()):
             raise Unknown(f"no folder of cases: {folder}")
         found, faults = cases_of(HERE / folder)
         if not one:

@@ -1,4 +1,4 @@
-"""The lines of `cases/size`: a directory of many names, and how many there are of each."""
+"""The lines of `cases/size`, a directory of many names and how many there are of each, and those of `cases/full-board`."""
 
 import base64
 import hashlib
@@ -61,3 +61,35 @@ def lines(size):
         yield text_of({"cmd": "batch", "epoch": epoch, **members})
     for it in [*lookups(size, 1, size.batch), *lookups(size, epoch, size.names)]:
         yield text_of(it)
+
+
+# How many epochs the board of `provider` takes.
+BOARD = 65536
+INDEX, OTHER_INDEX = "22" * 32, "a2" * 32
+
+
+def signature(epoch):
+    return hashlib.sha512(b"%d" % epoch).hexdigest()
+
+
+def board_lines():
+    """The lines of `cases/full-board`: empty epochs as many as the board takes but one, one that registers a name, and more."""
+    register = {**operation("register", 0, 0), "index": INDEX}
+    change = {**operation("change", 0, 1), "index": INDEX}
+    yield text_of({"cmd": "open", "nonce": NONCE, "policy": POLICY})
+    for epoch in range(1, BOARD + 1):
+        yield text_of({"cmd": "prepare", "epoch": epoch, "ops": [register] if epoch == BOARD else []})
+        yield text_of({"cmd": "install", "signature": signature(epoch)})
+    yield from map(text_of, lines_on_full_board(change))
+
+
+def lines_on_full_board(change):
+    """Lines after the last epoch: updates that the board refuses, or an error that is told before; lookups, and the latest."""
+    yield {"cmd": "prepare", "epoch": BOARD + 1, "ops": [change]}
+    yield {"cmd": "prepare", "epoch": BOARD + 1, "nonce": LATER_NONCE, "ops": []}
+    yield {"cmd": "install", "signature": signature(0)}
+    yield {"cmd": "prepare", "epoch": BOARD, "ops": [change]}
+    yield {"cmd": "prepare", "epoch": BOARD + 1, "ops": [{**change, "index": OTHER_INDEX}]}
+    for epoch in (1, BOARD, BOARD + 1):
+        yield {"cmd": "lookup", "epoch": epoch, "name": change["name"], "index": INDEX}
+    yield {"cmd": "latest"}

@@ -10,6 +10,10 @@ class Refused(Exception):
     """Words that are refused, with the reason."""
 
 
+class Asked(Exception):
+    """Words that ask for a text, which is printed in place of a run."""
+
+
 def options_of(words, names):
     """The values of options, each as `--name value` or `--name=value`."""
     values = {}
@@ -62,6 +66,9 @@ def run(program, words, engine_of):
     try:
         check_text(words)
         engine = engine_of(words)
+    except Asked as asked:
+        print(asked)
+        return 0
     except Refused as refused:
         print(f"{program}: {refused}", file=sys.stderr)
         return 2
