@@ -1,4 +1,4 @@
-"""`keydir run`: the directory, with the registry of each epoch kept whole; and what `provider` has in common with it."""
+"""`keydir run`: the directory, with the registry of each epoch kept whole; and the parts that `provider` shares."""
 
 import base64
 
@@ -47,7 +47,10 @@ def fault_of(operation, earlier, registered):
 
 
 class Lines:
-    """A directory that answers lines, one of its methods for each command: what its kinds have in common."""
+    """A directory that answers lines.
+
+    Each kind of directory has COMMANDS, the name of its method for each command, and MOST_EPOCHS.
+    """
 
     Operation = Operation
 
@@ -81,7 +84,7 @@ class Lines:
         return number, nonce, operations(member(members, "ops", array), self.Operation)
 
     def judge_batch(self, ops, registered):
-        """The operations by their names, where they have no fault over the registered names; else the batch's fault."""
+        """Refuses a batch that has a fault over the registered names. Returns its operations by their names."""
         if len(ops) > MOST_OPERATIONS:
             raise Fault("BatchTooLong")
         earlier = {}
@@ -102,7 +105,7 @@ class Lines:
             raise Fault("BoardFull")
 
     def epoch_and_name(self, members):
-        """The number of the epoch and the name of a lookup."""
+        """The number of the epoch and the name that a lookup asks for."""
         return member(members, "epoch", whole_number), member(members, "name", text)
 
     def epoch_asked(self, number, name):
@@ -127,7 +130,7 @@ def answer_of_lookup(entry, name, index, siblings, end):
 
 
 def end_elsewhere(found):
-    """The end of a path that shows no leaf of the index: what is found there is the entry of another index, or none."""
+    """The end of a path that has no leaf of the index, over the entries there: that of another index, or none."""
     if not found:
         return {"kind": "empty"}
     [(index, committed)] = found

@@ -1,4 +1,4 @@
-"""What both programs do with the words of their command line and with the lines of standard input."""
+"""How both programs read their command line and answer the lines of standard input."""
 
 import json
 import sys
@@ -11,7 +11,7 @@ class Refused(Exception):
 
 
 class Asked(Exception):
-    """Words that ask for a text, which is printed in place of a run."""
+    """A text that the command line asks for; it is printed and nothing is run."""
 
 
 def options_of(words, names):
@@ -47,7 +47,7 @@ def check_text(words):
 
 
 def answer_lines(engine):
-    """Answers each line of standard input as it comes; whether all were accepted and showed what was expected."""
+    """Answers each line of standard input at once. Whether all were accepted and showed what was expected."""
     all_well = True
     for line in sys.stdin.buffer:
         try:
@@ -62,7 +62,7 @@ def answer_lines(engine):
 
 
 def run(program, words, engine_of):
-    """Runs a program's engine, which its words choose, over standard input. The status."""
+    """Runs the engine that the command line chooses over standard input. Returns the status."""
     try:
         check_text(words)
         engine = engine_of(words)

@@ -1,4 +1,4 @@
-"""Trees whose epochs share what doesn't change, and with them a `keydir run` for many names."""
+"""Trees whose epochs share unchanged nodes, and a `keydir run` over them for many names."""
 
 from bytelists import bit, empty_node, interior_node, leaf
 from directory import Directory
@@ -61,10 +61,10 @@ def path_to(node, index):
 
 
 def nodes_under(changes, node, level):
-    """How many nodes of a grown tree are new at and below a node.
+    """How many nodes of a grown tree are new, at a node and below it.
 
-    A node is new where something changes under it. Beside such a node, a leaf or an empty node is made again, and a node of
-    two entries or more is kept with all that is below it.
+    A node is new if something changes under it. Beside a new node, an unchanged leaf or empty node is made again. An unchanged
+    node with two entries or more is kept, with all nodes below it.
     """
     if not changes:
         return 0 if node.children else 1

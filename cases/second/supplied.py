@@ -1,4 +1,4 @@
-"""`provider`: the directory whose indices and signatures come from outside. Its epochs share what doesn't change."""
+"""`provider`: the directory whose indices and signatures come from outside. Its epochs share unchanged nodes."""
 
 from bisect import bisect_right
 
@@ -41,7 +41,7 @@ class Epoch:
 
 
 class Record:
-    """A registered name by its index: the operations on it, and the epochs at which these were installed."""
+    """The operations on the name that has an index, and the epochs at which these were installed."""
 
     def __init__(self):
         self.epochs, self.operations = [], []
@@ -51,11 +51,13 @@ class Record:
         self.operations.append(operation)
 
     def at(self, epoch):
-        """The latest operation at an epoch at which the name is registered."""
+        """The latest operation at an epoch. The name must be registered there."""
         return self.operations[bisect_right(self.epochs, epoch) - 1]
 
 
 class SuppliedDirectory(Lines):
+    """A directory with the index of each registered name, the record of each index, and the number of nodes made so far."""
+
     COMMANDS = {"open": "open", "prepare": "prepare", "install": "install", "lookup": "look_up", "latest": "tell_latest"}
     MOST_EPOCHS = 65536
     Operation = SuppliedOperation
@@ -76,7 +78,7 @@ class SuppliedDirectory(Lines):
         return super().judge_batch(ops, registered)
 
     def fault_of(self, operation, earlier, registered):
-        """The first fault of an operation; its index isn't another name's, and that of a registered name stays."""
+        """The first fault of an operation, with those of its index; the index is noted for the operations after it."""
         fault = super().fault_of(operation, earlier, registered)
         if fault:
             return fault
@@ -139,7 +141,7 @@ class SuppliedDirectory(Lines):
         return answer_of_lookup(epoch.entry, name, index, siblings, self.end(number, index, found))
 
     def end(self, number, index, found):
-        """The end of a path. A leaf of the index has the name that is registered with it, which may be another one."""
+        """The end of a path. A leaf of the index has the name registered with it, which may not be the one asked for."""
         if not found or found[0][0] != index:
             return end_elsewhere(found)
         shown = self.records[index].at(number)
