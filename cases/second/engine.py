@@ -39,11 +39,11 @@ def check_workers_and_depth(values):
     check_range(values, "--depth", 0, 12)
 
 
-def check_text(words):
+def check_text(words, reason):
     try:
         "".join(words).encode("utf-8")
     except UnicodeEncodeError:
-        raise Refused("a word is not UTF-8")
+        raise Refused(reason)
 
 
 def answer_lines(engine):
@@ -61,10 +61,13 @@ def answer_lines(engine):
     return all_well
 
 
-def run(program, words, engine_of):
-    """Runs the engine that the command line chooses over standard input. Returns the status."""
+def run(program, words, engine_of, not_text):
+    """Runs the engine that the command line chooses over standard input. Returns the status.
+
+    `not_text` is the error text for an argument that isn't UTF-8.
+    """
     try:
-        check_text(words)
+        check_text(words, not_text)
         engine = engine_of(words)
     except Asked as asked:
         print(asked)
