@@ -11,6 +11,9 @@ system has its libraries.
 Nonces, roots, indices, links and digests are 32 bytes, entries 209. A name is text or bytes, a proof its bytes (see
 `proof_bytes`). Wrong types raise TypeError, wrong sizes and numbers that don't fit ValueError, and what the library refuses
 `Refused`. Auditors and monitors can be copied and pickled, and so can `Refused`; a copy goes on by itself.
+
+The library is loaded at the first call, which raises ImportError if there is none. The module `coniks.provider` runs a
+directory and does not need the library.
 """
 
 from __future__ import annotations
@@ -144,11 +147,10 @@ def _load() -> ctypes.CDLL:
     raise ImportError("libconiks.so isn't there: run embed/build, or set CONIKS_LIBRARY")
 
 
-_library = _load()
 _run = [ctypes.c_char_p, ctypes.c_size_t]
 _32 = ctypes.POINTER(_Bytes32)
 _size = ctypes.POINTER(ctypes.c_size_t)
-for _export, _result, _arguments in [
+_exports: list[tuple[str, Any, list[Any]]] = [
     ("coniks_check", ctypes.c_uint32, [_32, _32, _32, *_run, *_run, _size, _size]),
     ("coniks_auditor_begin", None, [ctypes.POINTER(_State)]),
     ("coniks_auditor_feed", ctypes.c_uint32, [ctypes.POINTER(_State), *_run, ctypes.c_uint32]),
@@ -159,9 +161,24 @@ for _export, _result, _arguments in [
     ("coniks_link", ctypes.c_uint32, [*_run, _32]),
     ("coniks_text", ctypes.c_size_t, [ctypes.c_uint32, ctypes.c_char_p, ctypes.c_size_t]),
     ("coniks_version", ctypes.c_uint32, []),
-]:
-    _call = getattr(_library, _export)
-    _call.restype, _call.argtypes = _result, _arguments
+]
+
+
+class _Library:
+    """The exports of the shared library, which is loaded when the first of them is taken."""
+
+    def __getattr__(self, name: str) -> Any:
+        library = _load()
+        for export, result, arguments in _exports:
+            call = getattr(library, export)
+            call.restype, call.argtypes = result, arguments
+            vars(self)[export] = call
+        if name not in vars(self):
+            raise AttributeError(name)
+        return vars(self)[name]
+
+
+_library = _Library()
 
 
 def _bytes(value: Any, what: str) -> bytes:
