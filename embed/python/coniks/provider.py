@@ -1,0 +1,924 @@
+"""Runs a CONIKS key directory: the program `provider` as a child process, with your own indices and signatures.
+
+    with FileLog("alice.log") as log, Provider("provider", index, sign, log, policy=policy) as provider:
+        epoch = provider.commit(1, [Register("alice", b"key")])
+        found = provider.lookup("alice")
+
+`index(name)` returns the 32 bytes at which a name is stored, as the output of a verifiable random function (VRF). It returns
+the same bytes for a name each time. `sign(body)` returns the signature, 64 bytes, of the 145 bytes of a signed tree root
+(STR). `sign` must not call `commit`, `retry`, `restart` or `close`.
+
+The directory is in the child's memory, and the log is its store. Each accepted line is appended to the log, and a new child
+replays it. So the log is a script: `provider < alice.log` prints the same answers. `prepare` lines have the member `body`
+beside those of docs/FORMATS.md, and `install` lines the member `link`. The program ignores both; a replay is compared with
+them.
+
+What holds, if the log keeps each line whose `append` returned:
+
+- An epoch that `commit` returned is in the directory after each restart, with the same entry.
+- The signer is asked for one body per epoch number. It can be asked for that body again.
+- No lookup shows an entry before the log has it.
+
+An update is pending from the `prepare` line in the log to the `install` line. A provider that starts signs and installs the
+pending update first. If the signer fails, the update stays pending: `retry`, or `commit` of the same operations, asks for
+the same body again, and `commit` under a later epoch number replaces the update. All calls can be used from several threads.
+
+Each error is a `ProviderError`. A `Fault` is the program's, one class for each of docs/FORMATS.md, and changes nothing. After
+`ProgramFailed`, `LogFailed`, `Overtaken` or `ReplayDiffers` each call raises `RestartNeeded` until `restart` returns.
+"""
+
+from __future__ import annotations
+
+import base64
+import fcntl
+import json
+import os
+import secrets
+import select
+import subprocess
+import threading
+import time
+from contextlib import contextmanager
+from dataclasses import dataclass, field
+from typing import Any, Callable, Iterable, Iterator, Mapping, Optional, Protocol, Sequence, Union
+
+from . import BODY_LENGTH, ENTRY_LENGTH, _bytes, _number
+
+__all__ = [
+    "AlreadyOpen",
+    "BatchTooLong",
+    "BoardFull",
+    "Change",
+    "Closed",
+    "Command",
+    "Epoch",
+    "EpochNotLater",
+    "EpochSpent",
+    "Fault",
+    "FileLog",
+    "IndexClash",
+    "Json",
+    "KeyLength",
+    "Latest",
+    "Log",
+    "LogFailed",
+    "Lookup",
+    "Member",
+    "NameLength",
+    "NameTaken",
+    "NameTwice",
+    "NameUnknown",
+    "NotOpen",
+    "NotPrepared",
+    "Operation",
+    "OtherIndex",
+    "Overtaken",
+    "Pending",
+    "ProgramFailed",
+    "Provider",
+    "ProviderError",
+    "Register",
+    "ReplayDiffers",
+    "RestartNeeded",
+    "SignerFailed",
+    "UnknownEpoch",
+    "entries",
+]
+
+SIGNATURE_LENGTH = 64
+# Lookups that are sent before their answers are read. They fit into a pipe, so that both sides never wait for each other.
+_AT_ONCE = 32768
+_CHUNK = 1 << 20
+
+Path = Union[str, "os.PathLike[str]"]
+
+
+class ProviderError(Exception):
+    """An error of this module."""
+
+
+class Fault(ProviderError):
+    """The program refuses a line, and nothing is changed. `position` is that of the operation at fault, counted from 0,
+    `latest` the latest epoch, `member` the line's member that is missing or wrong; each is None for other faults."""
+
+    said = "the line is refused"
+
+    def __init__(self, position: Optional[int] = None, latest: Optional[int] = None, member: Optional[str] = None):
+        self.position, self.latest, self.member = position, latest, member
+        given = [("operation", position), ("latest epoch", latest), ("member", member)]
+        super().__init__(", ".join([self.said, *(f"{what} {it}" for what, it in given if it is not None)]))
+
+    def __reduce__(self) -> tuple[type[Fault], tuple[Any, ...]]:
+        return type(self), (self.position, self.latest, self.member)
+
+
+class Json(Fault):
+    said = "the line is no JSON object"
+
+
+class Command(Fault):
+    said = "the line has no command of the program"
+
+
+class Member(Fault):
+    said = "a member is missing or wrong"
+
+
+class NotOpen(Fault):
+    said = "the directory isn't open"
+
+
+class AlreadyOpen(Fault):
+    said = "the directory is open already"
+
+
+class BatchTooLong(Fault):
+    said = "a batch has at most 4,096 operations"
+
+
+class NameLength(Fault):
+    said = "a name has 1 to 255 bytes"
+
+
+class KeyLength(Fault):
+    said = "a key has 1 to 16,384 bytes"
+
+
+class NameTwice(Fault):
+    said = "an earlier operation has this name"
+
+
+class NameTaken(Fault):
+    said = "the name to register is registered already"
+
+
+class NameUnknown(Fault):
+    said = "the name to change isn't registered"
+
+
+class OtherIndex(Fault):
+    said = "the name is registered with another index"
+
+
+class IndexClash(Fault):
+    said = "another name has this index"
+
+
+class EpochNotLater(Fault):
+    said = "the epoch isn't later than the latest one"
+
+
+class BoardFull(Fault):
+    said = "the directory has 65,536 epochs"
+
+
+class NotPrepared(Fault):
+    said = "no update is pending"
+
+
+class UnknownEpoch(Fault):
+    said = "there is no such epoch"
+
+
+_FAULTS: dict[str, type[Fault]] = {
+    it.__name__: it
+    for it in [
+        Json, Command, Member, NotOpen, AlreadyOpen, BatchTooLong, NameLength, KeyLength, NameTwice, NameTaken, NameUnknown,
+        OtherIndex, IndexClash, EpochNotLater, BoardFull, NotPrepared, UnknownEpoch,
+    ]
+}  # fmt: skip
+
+
+class EpochSpent(ProviderError):
+    """The signer was asked for another body of this epoch number or a later one, `asked`, so `epoch` can't be used."""
+
+    def __init__(self, epoch: int, asked: int):
+        self.epoch, self.asked = epoch, asked
+        super().__init__(f"epoch {epoch} isn't later than {asked}, for which the signer was asked with other operations")
+
+    def __reduce__(self) -> tuple[type[EpochSpent], tuple[int, int]]:
+        return type(self), (self.epoch, self.asked)
+
+
+class SignerFailed(ProviderError):
+    """The signer raised an exception, which is the cause, or returned no valid signature. The update stays pending."""
+
+
+class ProgramFailed(ProviderError):
+    """The program ended, took longer than the timeout, or printed what docs/FORMATS.md doesn't define."""
+
+
+class LogFailed(ProviderError):
+    """The log could not be read or written, or is that of another directory."""
+
+
+class Overtaken(LogFailed):
+    """The log has a line at this position already, which another provider appended."""
+
+
+class ReplayDiffers(ProviderError):
+    """The program answers a line of the log otherwise than it did when the line was appended."""
+
+
+class RestartNeeded(ProviderError):
+    """An earlier error, the cause, left the child and the log apart. `restart` replays the log."""
+
+
+class Closed(ProviderError):
+    """The provider is closed."""
+
+
+def _opening() -> bytes:
+    return secrets.token_bytes(32)
+
+
+@dataclass(frozen=True)
+class Register:
+    """Binds a name that isn't registered to a key. The opening blinds the commitment: 32 random bytes, never used twice."""
+
+    name: str
+    key: bytes
+    opening: bytes = field(default_factory=_opening, repr=False)
+
+
+@dataclass(frozen=True)
+class Change:
+    """Binds a registered name to another key."""
+
+    name: str
+    key: bytes
+    opening: bytes = field(default_factory=_opening, repr=False)
+
+
+Operation = Union[Register, Change]
+
+
+@dataclass(frozen=True)
+class Epoch:
+    """An installed epoch: its number, its root, its entry in the chain (209 bytes) and that entry's link."""
+
+    epoch: int
+    root: bytes
+    link: bytes
+    entry: bytes
+
+
+@dataclass(frozen=True)
+class Pending:
+    """An update that isn't installed, and whose body the signer was or will be asked to sign."""
+
+    epoch: int
+    root: bytes
+    body: bytes
+
+
+@dataclass(frozen=True)
+class Latest:
+    """The latest epoch, its entry's link, the number of registered names, and the number of nodes in the node table. Before
+    the first epoch: 0, 32 zero bytes, 0, 0."""
+
+    epoch: int
+    link: bytes
+    names: int
+    nodes: int
+
+
+@dataclass(frozen=True)
+class Lookup:
+    """A name's proof at an epoch. `coniks.proof_bytes(lookup.proof)` is the proof in bytes, `line` the program's line, which
+    `keydir check` reads."""
+
+    name: str
+    epoch: int
+    index: bytes
+    nonce: bytes
+    root: bytes
+    entry: bytes
+    proof: Mapping[str, Any]
+    line: bytes
+
+
+class Log(Protocol):
+    """Where a provider's lines are stored. Lines have no newline and are counted from 0."""
+
+    def append(self, position: int, line: bytes) -> None:
+        """Stores a line so that it outlives the machine's failure, and then returns. Raises `Overtaken` if the log has a line
+        at this position. After another exception the line may be stored or not."""
+
+    def read(self, position: int) -> Iterator[bytes]:
+        """Returns the lines from a position on."""
+
+
+class FileLog:
+    """A log in a file, one line after another. One process has it open at a time.
+
+    The file has mode 0600: it contains keys, and the openings that blind the commitments.
+    """
+
+    def __init__(self, path: Path):
+        """Opens the file, or creates it. Drops a cut last line. Raises `LogFailed` if another process has it open."""
+        self._is_bad = False
+        try:
+            self._file = os.open(path, os.O_RDWR | os.O_CREAT | os.O_CLOEXEC, 0o600)
+        except OSError as error:
+            raise LogFailed(f"the log can't be opened: {error}") from error
+        try:
+            fcntl.flock(self._file, fcntl.LOCK_EX | fcntl.LOCK_NB)
+            self._count, self._end = self._mend()
+            _sync_folder(path)
+        except BlockingIOError as error:
+            self.close()
+            raise LogFailed("another process has the log open") from error
+        except OSError as error:
+            self.close()
+            raise LogFailed(f"the log can't be opened: {error}") from error
+
+    def _mend(self) -> tuple[int, int]:
+        """The number of whole lines and where they end. What follows is dropped, and the last whole line is on the disk."""
+        count, start, end, at = 0, 0, 0, 0
+        while chunk := os.pread(self._file, _CHUNK, at):
+            last = chunk.rfind(b"\n")
+            if last >= 0:
+                before = chunk.rfind(b"\n", 0, last)
+                start, end = end if before < 0 else at + before + 1, at + last + 1
+            count += chunk.count(b"\n")
+            at += len(chunk)
+        line = os.pread(self._file, end - start, start)
+        # No line has a zero byte. After a power failure a file has them in place of what wasn't written.
+        if b"\0" in line:
+            count, end, line = count - 1, start, b""
+        os.ftruncate(self._file, end)
+        # A process that was killed, or whose sync failed, may have left the last line in the page cache alone. It is written
+        # again, because a page whose write failed counts as written.
+        self._write(line, end - len(line))
+        os.fsync(self._file)
+        return count, end
+
+    def _write(self, data: bytes, at: int) -> None:
+        while data:
+            size = os.pwrite(self._file, data, at)
+            data, at = data[size:], at + size
+
+    def append(self, position: int, line: bytes) -> None:
+        """Appends a line and syncs the file. After an error the file is as before, or the log fails from then on."""
+        self._check()
+        if b"\n" in line or b"\0" in line:
+            raise ValueError("a line has no newline and no zero byte")
+        if position < self._count:
+            raise Overtaken(f"the log has {self._count} lines, so position {position} is taken")
+        if position > self._count:
+            raise ValueError(f"the log has {self._count} lines, so the next position isn't {position}")
+        try:
+            self._write(line + b"\n", self._end)
+            os.fsync(self._file)
+        except BaseException as error:
+            self._undo()
+            if isinstance(error, OSError):
+                raise LogFailed(f"the log can't be written: {error}") from error
+            raise
+        self._count, self._end = position + 1, self._end + len(line) + 1
+
+    def _undo(self) -> None:
+        """Drops a line that may be cut, or be in the page cache alone."""
+        try:
+            os.ftruncate(self._file, self._end)
+            os.fsync(self._file)
+        except OSError:
+            self._is_bad = True
+
+    def read(self, position: int) -> Iterator[bytes]:
+        """Returns the lines from a position on, as they are at the call of it."""
+        self._check()
+        return self._lines(position, self._end)
+
+    def _lines(self, position: int, end: int) -> Iterator[bytes]:
+        at, number, parts = 0, 0, [b""]
+        while at < end:
+            try:
+                chunk = os.pread(self._file, min(_CHUNK, end - at), at)
+            except OSError as error:
+                raise LogFailed(f"the log can't be read: {error}") from error
+            if not chunk:
+                raise LogFailed("the log was cut by another process")
+            at += len(chunk)
+            first, *lines = chunk.split(b"\n")
+            parts.append(first)
+            for line in lines:
+                if number >= position:
+                    yield b"".join(parts)
+                number, parts = number + 1, [line]
+
+    def _check(self) -> None:
+        if self._file < 0:
+            raise LogFailed("the log is closed")
+        if self._is_bad:
+            raise LogFailed("what an append left can't be dropped: open the log again")
+
+    def close(self) -> None:
+        """Closes the file. Another process can open it then."""
+        if self._file >= 0:
+            os.close(self._file)
+            self._file = -1
+
+    def __enter__(self) -> FileLog:
+        return self
+
+    def __exit__(self, *_: object) -> None:
+        self.close()
+
+
+def _sync_folder(path: Path) -> None:
+    folder = os.open(os.path.dirname(os.path.abspath(path)), os.O_RDONLY | os.O_DIRECTORY | os.O_CLOEXEC)
+    try:
+        os.fsync(folder)
+    finally:
+        os.close(folder)
+
+
+class _Child:
+    """The program as a child process: lines go in and come out. It is in a session of its own, so that a terminal's interrupt
+    doesn't end it, and it ends with its parent, because its input does."""
+
+    def __init__(self, words: Sequence[str], timeout: Optional[float]):
+        try:
+            self._process = subprocess.Popen(words, stdin=subprocess.PIPE, stdout=subprocess.PIPE, bufsize=0, start_new_session=True)
+        except OSError as error:
+            raise ProgramFailed(f"the program can't be started: {error}") from error
+        assert self._process.stdin and self._process.stdout
+        self._in, self._out = self._process.stdin.fileno(), self._process.stdout.fileno()
+        self._timeout = timeout
+        self._held, self._at = b"", 0
+        if timeout is not None:
+            os.set_blocking(self._in, False)
+
+    @property
+    def pid(self) -> int:
+        return self._process.pid
+
+    def _wait(self, place: int, event: int, until: float) -> None:
+        """Waits for a pipe to be ready, if there is a timeout."""
+        if self._timeout is not None:
+            poll = select.poll()
+            poll.register(place, event)
+            if not poll.poll(max(0, until - time.monotonic()) * 1000):
+                raise ProgramFailed(f"the program didn't answer in {self._timeout} seconds")
+
+    def send(self, data: bytes) -> None:
+        """Writes whole lines."""
+        until, rest = time.monotonic() + (self._timeout or 0), memoryview(data)
+        while rest:
+            try:
+                rest = rest[os.write(self._in, rest) :]
+            except BlockingIOError:
+                self._wait(self._in, select.POLLOUT, until)
+            except OSError:
+                raise self._ended() from None
+
+    def receive(self) -> bytes:
+        """Reads a line."""
+        end = self._held.find(b"\n", self._at)
+        if end < 0:
+            until = time.monotonic() + (self._timeout or 0)
+            while end < 0:
+                self._wait(self._out, select.POLLIN, until)
+                more = os.read(self._out, 65536)
+                if not more:
+                    raise self._ended()
+                held = self._held[self._at :]
+                self._held, self._at = held + more, 0
+                end = self._held.find(b"\n", len(held))
+        line = self._held[self._at : end]
+        self._at = end + 1
+        return line
+
+    def _ended(self) -> ProgramFailed:
+        try:
+            return ProgramFailed(f"the program ended with status {self._process.wait(5)}, see its standard error")
+        except subprocess.TimeoutExpired:
+            return ProgramFailed("the program closed its streams")
+
+    def stop(self, seconds: float) -> None:
+        """Ends the program: its input ends, and after some seconds it is killed. The log has all that matters."""
+        assert self._process.stdin and self._process.stdout
+        self._process.stdin.close()
+        try:
+            self._process.wait(seconds)
+        except subprocess.TimeoutExpired:
+            self._process.kill()
+            self._process.wait()
+        self._process.stdout.close()
+
+
+_HALFWAY = ProviderError("a call was interrupted")
+
+
+class Provider:
+    """A directory that the program `provider` keeps, with its log.
+
+    `program` is the program's path, or its path and first arguments. `log` isn't closed by the provider. `policy` is the
+    digest in each entry, 32 bytes, and `nonce` that of the first epoch: 32 random bytes if it is None. Both are in the log
+    from the first start on; later starts raise `LogFailed` if one is given that isn't the log's.
+
+    `verify(body, signature)` returns whether a signature is valid, and is called before one is installed: the program verifies
+    none. `workers` and `depth` are the program's options. `timeout` is how many seconds one line may take; without it there is
+    no limit.
+
+    Starting replays the log, then signs and installs the pending update if there is one. If the signer fails, `SignerFailed`
+    is raised. With `sign_pending=False` that update stays pending.
+    """
+
+    def __init__(
+        self,
+        program: Union[Path, Sequence[str]],
+        index: Callable[[str], bytes],
+        sign: Callable[[bytes], bytes],
+        log: Log,
+        *,
+        policy: bytes,
+        nonce: Optional[bytes] = None,
+        verify: Optional[Callable[[bytes, bytes], bool]] = None,
+        workers: Optional[int] = None,
+        depth: Optional[int] = None,
+        timeout: Optional[float] = None,
+        sign_pending: bool = True,
+    ):
+        words = [os.fspath(program)] if isinstance(program, (str, os.PathLike)) else list(program)
+        for option, value in [("--workers", workers), ("--depth", depth)]:
+            words += [] if value is None else [option, str(_number(value, 64, option))]
+        self._words = words
+        self._index, self._sign, self._verify, self._log, self._timeout = index, sign, verify, log, timeout
+        self._policy = _sized(policy, 32, "the policy")
+        self._nonce = None if nonce is None else _sized(nonce, 32, "the nonce")
+        self._child: Optional[_Child] = None
+        self._is_closed = False
+        # Held by calls that change the directory, the signer's time included.
+        self._changing = threading.Lock()
+        # Held while the child answers, until the log has what it must. Lookups go on while the signer is asked.
+        self._asking = threading.Lock()
+        self._broken: Optional[ProviderError] = _HALFWAY
+        try:
+            self._start(sign_pending)
+        except BaseException:
+            self.close()
+            raise
+
+    # What a crash, an exception or a failed append leaves behind, after each step of a commit:
+    #
+    #   1. the child accepts `prepare`       The log doesn't have the line, and the signer wasn't asked: as if never called.
+    #   2. the log appends it                A start finds the update pending. Its body is the logged one (`_replay` compares).
+    #   3. the signer returns the signature  As after 2: it is asked for the same body again.
+    #   4. the child accepts `install`       As after 2. No lookup has shown the entry, because `_asking` is held up to 5.
+    #   5. the log appends it                A start finds the epoch installed, with this signature.
+    #
+    # A line that was cut by a crash is dropped with the log's start. After an append that failed, the line may be in the log
+    # or not, which is one of the two neighbouring rows. So after an error in 1 to 2 or 4 to 5 the child isn't asked again:
+    # `_broken` is set before the first step, and reset after the last. An error in 3 leaves child and log as after 2.
+    #
+    # Epoch numbers of `prepare` lines only rise: the child refuses those up to the latest installed one, and `_prepare` those
+    # up to the pending one. So of one number there is one `prepare` line in the log, and one body that was asked for.
+
+    @contextmanager
+    def _steps(self) -> Iterator[_Child]:
+        """Steps between which the child and the log may differ. A `Fault` changes neither; after all else a restart is needed."""
+        with self._asking:
+            if self._is_closed:
+                raise Closed("the provider is closed")
+            if self._broken or not self._child:
+                raise RestartNeeded(f"restart() is needed: {self._broken}") from self._broken
+            self._broken = _HALFWAY
+            try:
+                yield self._child
+            except Fault:
+                self._broken = None
+                raise
+            except ProviderError as error:
+                self._broken = error
+                raise
+            self._broken = None
+
+    def _start(self, sign_pending: bool) -> None:
+        with self._changing:
+            with self._asking:
+                if self._is_closed:
+                    raise Closed("the provider is closed")
+                self._broken = _HALFWAY
+                try:
+                    if self._child:
+                        self._child.stop(0)
+                    self._child = _Child(self._words, self._timeout)
+                    self._replay(self._child)
+                except ProviderError as error:
+                    self._broken = error
+                    raise
+                self._broken = None
+            if self._pending and sign_pending:
+                self._settle()
+
+    def _replay(self, child: _Child) -> None:
+        """Brings a new child to where the log is, and opens a directory if the log has no line."""
+        self._position = 0
+        self._pending: Optional[Pending] = None
+        self._pending_line = b""
+        self._latest = Epoch(0, bytes(32), bytes(32), b"")
+        for line in self._logged():
+            try:
+                self._replay_line(child, line, _object(line, LogFailed))
+            except Fault as fault:
+                raise ReplayDiffers(f"line {self._position} of the log is refused: {fault}") from fault
+            self._position += 1
+        if self._position == 0:
+            nonce = self._nonce or secrets.token_bytes(32)
+            line = _line({"cmd": "open", "nonce": nonce.hex(), "policy": self._policy.hex()})
+            _ask(child, line)
+            self._append(line)
+
+    def _logged(self) -> Iterator[bytes]:
+        try:
+            yield from self._log.read(0)
+        except ProviderError:
+            raise
+        except Exception as error:
+            raise LogFailed(f"the log can't be read: {error}") from error
+
+    def _replay_line(self, child: _Child, line: bytes, said: Mapping[str, Any]) -> None:
+        """Asks for one line of the log, and compares the answer: of `prepare` the body, and of `install` the link."""
+        answer = _ask(child, line)
+        if said.get("cmd") == "open":
+            for name, given in [("policy", self._policy), ("nonce", self._nonce)]:
+                if given is not None and _digits(said, name, 32, LogFailed) != given:
+                    raise LogFailed(f"the log's directory has another {name}")
+        elif said.get("cmd") == "prepare":
+            if answer.get("body") != said.get("body"):
+                raise ReplayDiffers(f"line {self._position} of the log has another body")
+            self._pending, self._pending_line = self._prepared(_number_in(said, "epoch", LogFailed), answer), line
+        elif said.get("cmd") == "install":
+            if answer.get("link") != said.get("link"):
+                raise ReplayDiffers(f"line {self._position} of the log has another link")
+            signature = _digits(said, "signature", SIGNATURE_LENGTH, LogFailed)
+            self._pending, self._latest = None, self._installed(signature, answer)
+        else:
+            raise LogFailed(f"line {self._position} of the log is none of a provider")
+
+    def _append(self, line: bytes) -> None:
+        try:
+            self._log.append(self._position, line)
+        except LogFailed:
+            raise
+        except Exception as error:
+            raise LogFailed(f"the log can't be written: {error}") from error
+        self._position += 1
+
+    def _prepared(self, epoch: int, answer: Mapping[str, Any]) -> Pending:
+        """The update that the child has prepared. Its body is one of this epoch, after the latest one."""
+        body, root = _digits(answer, "body", BODY_LENGTH), _digits(answer, "root", 32)
+        numbers = epoch.to_bytes(8, "big") + self._latest.epoch.to_bytes(8, "big")
+        if body[1:81] != numbers + root + self._latest.link or body[113:] != self._policy:
+            raise ProgramFailed(f"the body of epoch {epoch} doesn't follow the entry of epoch {self._latest.epoch}")
+        return Pending(epoch, root, body)
+
+    def _installed(self, signature: bytes, answer: Mapping[str, Any]) -> Epoch:
+        """The epoch that the child has installed. Its entry is what was signed, with the signature."""
+        pending = self._pending
+        root, link, entry = (_digits(answer, it, size) for it, size in [("root", 32), ("link", 32), ("entry", ENTRY_LENGTH)])
+        epoch = Epoch(_number_in(answer, "epoch"), root, link, entry)
+        if not pending or (epoch.epoch, root, entry) != (pending.epoch, pending.root, pending.body + signature):
+            raise ProgramFailed(f"the entry of epoch {epoch.epoch} isn't what was signed")
+        return epoch
+
+    def commit(self, epoch: int, operations: Iterable[Operation], nonce: Optional[bytes] = None) -> Epoch:
+        """Binds names to keys in a new epoch, and returns it once the log has its entry. A `nonce` rehashes the whole tree.
+
+        Raises a `Fault` if the program refuses the batch, and then nothing is changed. Raises `SignerFailed` if the signer
+        fails: the update stays pending, and `commit` with the same arguments, or `retry`, asks for the same body again.
+        Operations have a random opening: pass the same objects. Raises `EpochSpent` for other operations under the epoch of
+        the pending update or an earlier one.
+        """
+        line = self._prepare_line(epoch, operations, nonce)
+        with self._changing:
+            self._prepare(epoch, line)
+            return self._settle()
+
+    def _prepare_line(self, epoch: int, operations: Iterable[Operation], nonce: Optional[bytes]) -> bytes:
+        listed: list[dict[str, Any]] = []
+        for it in operations:
+            if not isinstance(it, (Register, Change)):
+                raise TypeError(f"an operation is Register or Change, not {type(it).__name__}")
+            kind, key, opening = type(it).__name__.lower(), _bytes(it.key, "a key"), _sized(it.opening, 32, "an opening")
+            listed.append(
+                {"op": kind, "name": _text(it.name), "index": self._index_of(it.name).hex(), "key": base64.b64encode(key).decode(), "opening": opening.hex()}
+            )
+        brought = {} if nonce is None else {"nonce": _sized(nonce, 32, "the nonce").hex()}
+        return _line({"cmd": "prepare", "epoch": _number(epoch, 64, "the epoch"), **brought, "ops": listed})
+
+    def _prepare(self, epoch: int, line: bytes) -> None:
+        """Makes the update of a line the pending one, in the child and in the log."""
+        with self._steps():
+            pending = self._pending
+        if pending and _with(line, "body", pending.body) == self._pending_line:
+            return
+        if pending and epoch <= pending.epoch:
+            raise EpochSpent(epoch, pending.epoch)
+        with self._steps() as child:
+            prepared = self._prepared(epoch, _ask(child, line))
+            line = _with(line, "body", prepared.body)
+            self._append(line)
+            self._pending, self._pending_line = prepared, line
+
+    def _settle(self) -> Epoch:
+        """Has the pending update signed, and installs it."""
+        pending = self._pending
+        if not pending:
+            raise NotPrepared()
+        signature = self._signature(pending.body)
+        with self._steps() as child:
+            line = _line({"cmd": "install", "signature": signature.hex()})
+            try:
+                answer = _ask(child, line)
+            except Fault as fault:
+                raise ProgramFailed(f"the program refuses a pending update: {fault}") from fault
+            epoch = self._installed(signature, answer)
+            self._append(_with(line, "link", epoch.link))
+            self._pending, self._latest = None, epoch
+            return epoch
+
+    def _signature(self, body: bytes) -> bytes:
+        try:
+            signature = _sized(self._sign(body), SIGNATURE_LENGTH, "a signature")
+            is_valid = self._verify is None or self._verify(body, signature)
+        except Exception as error:
+            raise SignerFailed(f"the signer failed: {error}") from error
+        if is_valid is not True:
+            raise SignerFailed("the signer returned a signature that isn't valid")
+        return signature
+
+    def retry(self) -> Epoch:
+        """Has the pending update signed, and installs it. Raises `NotPrepared` if there is none."""
+        with self._changing:
+            with self._steps():
+                pass
+            return self._settle()
+
+    @property
+    def pending(self) -> Optional[Pending]:
+        """The update that isn't installed, because the signer failed; None if there is none."""
+        return self._pending
+
+    def lookup(self, name: str, epoch: Optional[int] = None) -> Lookup:
+        """A name's proof at an epoch, the latest if none is given."""
+        line = self._lookup_line(name, self._latest.epoch if epoch is None else epoch)
+        with self._steps() as child:
+            child.send(line)
+            return _lookup(child.receive())
+
+    def lookups(self, names: Iterable[str], epoch: Optional[int] = None) -> list[Lookup]:
+        """The proofs of many names at one epoch, in their order: more lookups a second than by `lookup`. Raises the first
+        `Fault` of a name."""
+        epoch = self._latest.epoch if epoch is None else epoch
+        found: list[Lookup] = []
+        for lines in _grouped((self._lookup_line(it, epoch) for it in names), _AT_ONCE):
+            fault: Optional[Fault] = None
+            with self._steps() as child:
+                child.send(b"".join(lines))
+                for _ in lines:
+                    try:
+                        found.append(_lookup(child.receive()))
+                    except Fault as told:
+                        fault = fault or told
+            if fault:
+                raise fault
+        return found
+
+    def _lookup_line(self, name: str, epoch: int) -> bytes:
+        index = self._index_of(name).hex()
+        return _line({"cmd": "lookup", "epoch": _number(epoch, 64, "the epoch"), "index": index, "name": name}) + b"\n"
+
+    def _index_of(self, name: str) -> bytes:
+        return _sized(self._index(_text(name)), 32, "an index")
+
+    def latest(self) -> Latest:
+        """The latest epoch, and how large the directory is."""
+        with self._steps() as child:
+            answer = _ask(child, b'{"cmd":"latest"}')
+            epoch, names, nodes = (_number_in(answer, it) for it in ("epoch", "names", "nodes"))
+            return Latest(epoch, _digits(answer, "link", 32), names, nodes)
+
+    @property
+    def pid(self) -> Optional[int]:
+        """The child's process number."""
+        return self._child.pid if self._child else None
+
+    def restart(self, sign_pending: bool = True) -> None:
+        """Ends the child, starts another one, replays the log and signs and installs the pending update, as a start does. If
+        `SignerFailed` is raised, the directory is usable and the update pending."""
+        self._start(sign_pending)
+
+    def close(self) -> None:
+        """Ends the child. The log stays open, since the caller opened it."""
+        with self._changing, self._asking:
+            self._is_closed = True
+            if self._child:
+                self._child.stop(5)
+                self._child = None
+
+    def __enter__(self) -> Provider:
+        return self
+
+    def __exit__(self, *_: object) -> None:
+        self.close()
+
+
+def entries(log: Log) -> Iterator[bytes]:
+    """The entries of all epochs that a log has, in their order, 209 bytes each: what an auditor takes."""
+    body = b""
+    for line in log.read(0):
+        said = _object(line, LogFailed)
+        if said.get("cmd") == "prepare":
+            body = _digits(said, "body", BODY_LENGTH, LogFailed)
+        elif said.get("cmd") == "install":
+            yield body + _digits(said, "signature", SIGNATURE_LENGTH, LogFailed)
+
+
+def _line(members: Mapping[str, Any]) -> bytes:
+    return json.dumps(members, ensure_ascii=False, separators=(",", ":")).encode()
+
+
+def _with(line: bytes, member: str, value: bytes) -> bytes:
+    """A line with one more member, of hexadecimal digits."""
+    return b'%s,"%s":"%s"}' % (line[:-1], member.encode(), value.hex().encode())
+
+
+def _object(line: bytes, error: type[ProviderError]) -> Any:
+    try:
+        members = json.loads(line)
+    except ValueError:
+        members = None
+    if not isinstance(members, dict):
+        raise error(f"a line is no JSON object: {line[:80]!r}")
+    return members
+
+
+def _digits(members: Mapping[str, Any], name: str, size: int, error: type[ProviderError] = ProgramFailed) -> bytes:
+    """The bytes of a member of hexadecimal digits."""
+    try:
+        value = bytes.fromhex(members[name])
+    except (KeyError, TypeError, ValueError):
+        value = b""
+    if len(value) != size:
+        raise error(f"the member {name} isn't {2 * size} hexadecimal digits")
+    return value
+
+
+def _number_in(members: Mapping[str, Any], name: str, error: type[ProviderError] = ProgramFailed) -> int:
+    value = members.get(name)
+    if not isinstance(value, int):
+        raise error(f"the member {name} isn't a number")
+    return value
+
+
+def _sized(value: Any, size: int, what: str) -> bytes:
+    value = _bytes(value, what)
+    if len(value) != size:
+        raise ValueError(f"{what} has {size} bytes, not {len(value)}")
+    return bytes(value)
+
+
+def _text(name: Any) -> str:
+    if not isinstance(name, str):
+        raise TypeError(f"a name is text, not {type(name).__name__}")
+    return name
+
+
+def _answer(line: bytes) -> Mapping[str, Any]:
+    """What the program printed, if it accepted a line; else raises the fault."""
+    members: Mapping[str, Any] = _object(line, ProgramFailed)
+    if "ok" in members:
+        return members
+    kind = _FAULTS.get(str(members.get("fault")))
+    if kind is None:
+        raise ProgramFailed(f"the program printed {line[:80]!r}")
+    raise kind(members.get("position"), members.get("latest"), members.get("member"))
+
+
+def _ask(child: _Child, line: bytes) -> Mapping[str, Any]:
+    child.send(line + b"\n")
+    return _answer(child.receive())
+
+
+def _lookup(line: bytes) -> Lookup:
+    it = _answer(line)
+    index, nonce, root = (_digits(it, name, 32) for name in ("index", "nonce", "root"))
+    return Lookup(it["name"], it["epoch"], index, nonce, root, _digits(it, "entry", ENTRY_LENGTH), it["proof"], line)
+
+
+def _grouped(lines: Iterable[bytes], size: int) -> Iterator[list[bytes]]:
+    """The lines in groups of at most so many bytes, or of one line."""
+    group: list[bytes] = []
+    room = size
+    for line in lines:
+        if group and len(line) > room:
+            yield group
+            group, room = [], size
+        group.append(line)
+        room -= len(line)
+    if group:
+        yield group
