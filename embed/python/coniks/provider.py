@@ -40,192 +40,28 @@ import threading
 import time
 from contextlib import contextmanager
 from dataclasses import dataclass, field
-from typing import Any, Callable, Iterable, Iterator, Mapping, Optional, Protocol, Sequence, Union
+from typing import Any, Callable, Iterable, Iterator, Mapping, Optional, Sequence, Union
 
-from . import BODY_LENGTH, ENTRY_LENGTH, _bytes, _number
+from . import BODY_LENGTH, ENTRY_LENGTH, _bytes, _number, faults
+from .faults import *
+from .log import FileLog, Log, Path
 
 __all__ = [
-    "AlreadyOpen",
-    "BatchTooLong",
-    "BoardFull",
     "Change",
-    "Closed",
-    "Command",
     "Epoch",
-    "EpochNotLater",
-    "EpochSpent",
-    "Fault",
-    "FileLog",
-    "IndexClash",
-    "Json",
-    "KeyLength",
     "Latest",
-    "Log",
-    "LogFailed",
     "Lookup",
-    "Member",
-    "NameLength",
-    "NameTaken",
-    "NameTwice",
-    "NameUnknown",
-    "NotOpen",
-    "NotPrepared",
     "Operation",
-    "OtherIndex",
-    "Overtaken",
     "Pending",
-    "ProgramFailed",
     "Provider",
-    "ProviderError",
     "Register",
-    "ReplayDiffers",
-    "RestartNeeded",
-    "SignerFailed",
-    "UnknownEpoch",
     "entries",
 ]
+__all__ += faults.__all__
+__all__ += ["FileLog", "Log"]
 
 SIGNATURE_LENGTH = 64
-# Lookups that are sent before their answers are read. They fit into a pipe, so that both sides never wait for each other.
-_AT_ONCE = 32768
-_CHUNK = 1 << 20
-
-Path = Union[str, "os.PathLike[str]"]
-
-
-class ProviderError(Exception):
-    """An error of this module."""
-
-
-class Fault(ProviderError):
-    """The program refuses a line, and nothing is changed. `position` is that of the operation at fault, counted from 0,
-    `latest` the latest epoch, `member` the line's member that is missing or wrong; each is None for other faults."""
-
-    said = "the line is refused"
-
-    def __init__(self, position: Optional[int] = None, latest: Optional[int] = None, member: Optional[str] = None):
-        self.position, self.latest, self.member = position, latest, member
-        given = [("operation", position), ("latest epoch", latest), ("member", member)]
-        super().__init__(", ".join([self.said, *(f"{what} {it}" for what, it in given if it is not None)]))
-
-    def __reduce__(self) -> tuple[type[Fault], tuple[Any, ...]]:
-        return type(self), (self.position, self.latest, self.member)
-
-
-class Json(Fault):
-    said = "the line is no JSON object"
-
-
-class Command(Fault):
-    said = "the line has no command of the program"
-
-
-class Member(Fault):
-    said = "a member is missing or wrong"
-
-
-class NotOpen(Fault):
-    said = "the directory isn't open"
-
-
-class AlreadyOpen(Fault):
-    said = "the directory is open already"
-
-
-class BatchTooLong(Fault):
-    said = "a batch has at most 4,096 operations"
-
-
-class NameLength(Fault):
-    said = "a name has 1 to 255 bytes"
-
-
-class KeyLength(Fault):
-    said = "a key has 1 to 16,384 bytes"
-
-
-class NameTwice(Fault):
-    said = "an earlier operation has this name"
-
-
-class NameTaken(Fault):
-    said = "the name to register is registered already"
-
-
-class NameUnknown(Fault):
-    said = "the name to change isn't registered"
-
-
-class OtherIndex(Fault):
-    said = "the name is registered with another index"
-
-
-class IndexClash(Fault):
-    said = "another name has this index"
-
-
-class EpochNotLater(Fault):
-    said = "the epoch isn't later than the latest one"
-
-
-class BoardFull(Fault):
-    said = "the directory has 65,536 epochs"
-
-
-class NotPrepared(Fault):
-    said = "no update is pending"
-
-
-class UnknownEpoch(Fault):
-    said = "there is no such epoch"
-
-
-_FAULTS: dict[str, type[Fault]] = {
-    it.__name__: it
-    for it in [
-        Json, Command, Member, NotOpen, AlreadyOpen, BatchTooLong, NameLength, KeyLength, NameTwice, NameTaken, NameUnknown,
-        OtherIndex, IndexClash, EpochNotLater, BoardFull, NotPrepared, UnknownEpoch,
-    ]
-}  # fmt: skip
-
-
-class EpochSpent(ProviderError):
-    """The signer was asked for another body of this epoch number or a later one, `asked`, so `epoch` can't be used."""
-
-    def __init__(self, epoch: int, asked: int):
-        self.epoch, self.asked = epoch, asked
-        super().__init__(f"epoch {epoch} isn't later than {asked}, for which the signer was asked with other operations")
-
-    def __reduce__(self) -> tuple[type[EpochSpent], tuple[int, int]]:
-        return type(self), (self.epoch, self.asked)
-
-
-class SignerFailed(ProviderError):
-    """The signer raised an exception, which is the cause, or returned no valid signature. The update stays pending."""
-
-
-class ProgramFailed(ProviderError):
-    """The program ended, took longer than the timeout, or printed what docs/FORMATS.md doesn't define."""
-
-
-class LogFailed(ProviderError):
-    """The log could not be read or written, or is that of another directory."""
-
-
-class Overtaken(LogFailed):
-    """The log has a line at this position already, which another provider appended."""
-
-
-class ReplayDiffers(ProviderError):
-    """The program answers a line of the log otherwise than it did when the line was appended."""
-
-
-class RestartNeeded(ProviderError):
-    """An earlier error, the cause, left the child and the log apart. `restart` replays the log."""
-
-
-class Closed(ProviderError):
-    """The provider is closed."""
+_GET_PIPE_SIZE = 1032  # fcntl.F_GETPIPE_SZ, from Python 3.10 on
 
 
 def _opening() -> bytes:
@@ -298,143 +134,6 @@ class Lookup:
     line: bytes
 
 
-class Log(Protocol):
-    """Where a provider's lines are stored. Lines have no newline and are counted from 0."""
-
-    def append(self, position: int, line: bytes) -> None:
-        """Stores a line so that it outlives the machine's failure, and then returns. Raises `Overtaken` if the log has a line
-        at this position. After another exception the line may be stored or not."""
-
-    def read(self, position: int) -> Iterator[bytes]:
-        """Returns the lines from a position on."""
-
-
-class FileLog:
-    """A log in a file, one line after another. One process has it open at a time.
-
-    The file has mode 0600: it contains keys, and the openings that blind the commitments.
-    """
-
-    def __init__(self, path: Path):
-        """Opens the file, or creates it. Drops a cut last line. Raises `LogFailed` if another process has it open."""
-        self._is_bad = False
-        try:
-            self._file = os.open(path, os.O_RDWR | os.O_CREAT | os.O_CLOEXEC, 0o600)
-        except OSError as error:
-            raise LogFailed(f"the log can't be opened: {error}") from error
-        try:
-            fcntl.flock(self._file, fcntl.LOCK_EX | fcntl.LOCK_NB)
-            self._count, self._end = self._mend()
-            _sync_folder(path)
-        except BlockingIOError as error:
-            self.close()
-            raise LogFailed("another process has the log open") from error
-        except OSError as error:
-            self.close()
-            raise LogFailed(f"the log can't be opened: {error}") from error
-
-    def _mend(self) -> tuple[int, int]:
-        """The number of whole lines and where they end. What follows is dropped, and the last whole line is on the disk."""
-        count, start, end, at = 0, 0, 0, 0
-        while chunk := os.pread(self._file, _CHUNK, at):
-            last = chunk.rfind(b"\n")
-            if last >= 0:
-                before = chunk.rfind(b"\n", 0, last)
-                start, end = end if before < 0 else at + before + 1, at + last + 1
-            count += chunk.count(b"\n")
-            at += len(chunk)
-        line = os.pread(self._file, end - start, start)
-        # No line has a zero byte. After a power failure a file has them in place of what wasn't written.
-        if b"\0" in line:
-            count, end, line = count - 1, start, b""
-        os.ftruncate(self._file, end)
-        # A process that was killed, or whose sync failed, may have left the last line in the page cache alone. It is written
-        # again, because a page whose write failed counts as written.
-        self._write(line, end - len(line))
-        os.fsync(self._file)
-        return count, end
-
-    def _write(self, data: bytes, at: int) -> None:
-        while data:
-            size = os.pwrite(self._file, data, at)
-            data, at = data[size:], at + size
-
-    def append(self, position: int, line: bytes) -> None:
-        """Appends a line and syncs the file. After an error the file is as before, or the log fails from then on."""
-        self._check()
-        if b"\n" in line or b"\0" in line:
-            raise ValueError("a line has no newline and no zero byte")
-        if position < self._count:
-            raise Overtaken(f"the log has {self._count} lines, so position {position} is taken")
-        if position > self._count:
-            raise ValueError(f"the log has {self._count} lines, so the next position isn't {position}")
-        try:
-            self._write(line + b"\n", self._end)
-            os.fsync(self._file)
-        except BaseException as error:
-            self._undo()
-            if isinstance(error, OSError):
-                raise LogFailed(f"the log can't be written: {error}") from error
-            raise
-        self._count, self._end = position + 1, self._end + len(line) + 1
-
-    def _undo(self) -> None:
-        """Drops a line that may be cut, or be in the page cache alone."""
-        try:
-            os.ftruncate(self._file, self._end)
-            os.fsync(self._file)
-        except OSError:
-            self._is_bad = True
-
-    def read(self, position: int) -> Iterator[bytes]:
-        """Returns the lines from a position on, as they are at the call of it."""
-        self._check()
-        return self._lines(position, self._end)
-
-    def _lines(self, position: int, end: int) -> Iterator[bytes]:
-        at, number, parts = 0, 0, [b""]
-        while at < end:
-            try:
-                chunk = os.pread(self._file, min(_CHUNK, end - at), at)
-            except OSError as error:
-                raise LogFailed(f"the log can't be read: {error}") from error
-            if not chunk:
-                raise LogFailed("the log was cut by another process")
-            at += len(chunk)
-            first, *lines = chunk.split(b"\n")
-            parts.append(first)
-            for line in lines:
-                if number >= position:
-                    yield b"".join(parts)
-                number, parts = number + 1, [line]
-
-    def _check(self) -> None:
-        if self._file < 0:
-            raise LogFailed("the log is closed")
-        if self._is_bad:
-            raise LogFailed("what an append left can't be dropped: open the log again")
-
-    def close(self) -> None:
-        """Closes the file. Another process can open it then."""
-        if self._file >= 0:
-            os.close(self._file)
-            self._file = -1
-
-    def __enter__(self) -> FileLog:
-        return self
-
-    def __exit__(self, *_: object) -> None:
-        self.close()
-
-
-def _sync_folder(path: Path) -> None:
-    folder = os.open(os.path.dirname(os.path.abspath(path)), os.O_RDONLY | os.O_DIRECTORY | os.O_CLOEXEC)
-    try:
-        os.fsync(folder)
-    finally:
-        os.close(folder)
-
-
 class _Child:
     """The program as a child process: lines go in and come out. It is in a session of its own, so that a terminal's interrupt
     doesn't end it, and it ends with its parent, because its input does."""
@@ -448,6 +147,9 @@ class _Child:
         self._in, self._out = self._process.stdin.fileno(), self._process.stdout.fileno()
         self._timeout = timeout
         self._held, self._at = b"", 0
+        # Lines of this size in all are written before their answers are read. The pipe has room for them, so that the child
+        # and its parent never both wait for the other to read.
+        self.at_once = fcntl.fcntl(self._in, _GET_PIPE_SIZE) // 2
         if timeout is not None:
             os.set_blocking(self._in, False)
 
@@ -550,7 +252,7 @@ class Provider:
         self._policy = _sized(policy, 32, "the policy")
         self._nonce = None if nonce is None else _sized(nonce, 32, "the nonce")
         self._child: Optional[_Child] = None
-        self._is_closed = False
+        self._is_closed, self._owner = False, os.getpid()
         # Held by calls that change the directory, the signer's time included.
         self._changing = threading.Lock()
         # Held while the child answers, until the log has what it must. Lookups go on while the signer is asked.
@@ -583,6 +285,8 @@ class Provider:
         with self._asking:
             if self._is_closed:
                 raise Closed("the provider is closed")
+            if os.getpid() != self._owner:
+                raise Closed("the provider belongs to the process that this one was forked from")
             if self._broken or not self._child:
                 raise RestartNeeded(f"restart() is needed: {self._broken}") from self._broken
             self._broken = _HALFWAY
@@ -775,7 +479,9 @@ class Provider:
         `Fault` of a name."""
         epoch = self._latest.epoch if epoch is None else epoch
         found: list[Lookup] = []
-        for lines in _grouped((self._lookup_line(it, epoch) for it in names), _AT_ONCE):
+        with self._steps() as child:
+            at_once = child.at_once
+        for lines in _grouped((self._lookup_line(it, epoch) for it in names), at_once):
             fault: Optional[Fault] = None
             with self._steps() as child:
                 child.send(b"".join(lines))
@@ -893,7 +599,7 @@ def _answer(line: bytes) -> Mapping[str, Any]:
     members: Mapping[str, Any] = _object(line, ProgramFailed)
     if "ok" in members:
         return members
-    kind = _FAULTS.get(str(members.get("fault")))
+    kind = faults.BY_NAME.get(str(members.get("fault")))
     if kind is None:
         raise ProgramFailed(f"the program printed {line[:80]!r}")
     raise kind(members.get("position"), members.get("latest"), members.get("member"))
