@@ -4,6 +4,7 @@ from __future__ import annotations
 
 import fcntl
 import os
+import time
 from typing import Iterator, Protocol, Union
 
 from .faults import LogFailed, Overtaken
@@ -12,6 +13,7 @@ __all__ = ["FileLog", "Log", "Path"]
 
 Path = Union[str, "os.PathLike[str]"]
 _CHUNK = 1 << 20
+_LOCK_SECONDS = 1
 
 
 class Log(Protocol):
@@ -39,7 +41,7 @@ class FileLog:
         except OSError as error:
             raise LogFailed(f"the log can't be opened: {error}") from error
         try:
-            fcntl.flock(self._file, fcntl.LOCK_EX | fcntl.LOCK_NB)
+            self._lock()
             self._count, self._end = self._mend()
             _sync_folder(path)
         except BlockingIOError as error:
@@ -48,6 +50,18 @@ class FileLog:
         except OSError as error:
             self.close()
             raise LogFailed(f"the log can't be opened: {error}") from error
+
+    def _lock(self) -> None:
+        """Takes the file for this process. One that was killed while it started a child may have it for some milliseconds more,
+        until the child has closed what it was born with."""
+        until = time.monotonic() + _LOCK_SECONDS
+        while True:
+            try:
+                return fcntl.flock(self._file, fcntl.LOCK_EX | fcntl.LOCK_NB)
+            except BlockingIOError:
+                if time.monotonic() > until:
+                    raise
+                time.sleep(0.01)
 
     def _mend(self) -> tuple[int, int]:
         """The number of whole lines and where they end. What follows is dropped, and the last whole line is on the disk."""

@@ -1,0 +1,165 @@
+"""Kills a process that commits and looks up, its child or both, at random moments; then all that was acknowledged must be there.
+
+`drive` is the process: it commits batches, some by a signer that fails, while a thread looks names up. It lists each epoch that
+`commit` returned, each entry that a lookup showed, and, by its signer, each body to sign.
+"""
+
+import base64
+import json
+import os
+import random
+import signal
+import subprocess
+import sys
+import tempfile
+import threading
+import time
+from pathlib import Path
+
+from stand_ins import HERE, Ed25519, Salted, Signer, append, audited, has_library, lines, nacl, opened, shown
+from coniks.provider import Change, Fault, FileLog, ProgramFailed, ProviderError, Register, RestartNeeded, SignerFailed, entries
+
+KINDS = {"salted": Salted, "ed25519": Ed25519}
+# A room is left for a new one after so many kills, so that replays stay short.
+KILLS_OF_ROOM = 20
+
+
+def some_batch(chance, provider):
+    """Registers names that follow those there are, and changes some of them."""
+    there, size = provider.latest().names, chance.randrange(4)
+    made = [Register(f"user-{there + it}", b"key-%d" % chance.randrange(1 << 30)) for it in range(size)]
+    names = chance.sample(range(there), min(there, chance.randrange(3)))
+    return made + [Change(f"user-{it}", b"key-%d" % chance.randrange(1 << 30)) for it in names]
+
+
+def commit(chance, provider, epoch, operations):
+    """Commits: after the signer fails again with the same operations, or by `retry`, or under a later epoch."""
+    while True:
+        try:
+            return provider.commit(epoch, operations)
+        except SignerFailed:
+            turn = chance.randrange(3)
+            if turn == 0:
+                epoch += chance.randrange(1, 4)
+            elif turn == 1:
+                try:
+                    return provider.retry()
+                except SignerFailed:
+                    pass
+
+
+def look(room, provider, seed):
+    """Looks names up, and lists each entry that is shown."""
+    chance, seen = random.Random(seed), set()
+    while True:
+        try:
+            found = provider.lookup(f"user-{chance.randrange(40)}")
+        except (Fault, RestartNeeded, ProgramFailed):
+            time.sleep(0.001)
+            continue
+        if found.entry not in seen:
+            seen.add(found.entry)
+            append(room / "shown", found.entry.hex())
+
+
+def drive(room, program, kind, seed):
+    chance, room = random.Random(seed), Path(room)
+    signer = Signer(room, KINDS[kind]())
+
+    def before():
+        time.sleep(chance.choice([0, 0, 0.001, 0.004]))
+        signer.fails = chance.randrange(5) == 0
+
+    signer.before = before
+    with FileLog(room / "log") as log:
+        while True:
+            try:
+                provider = opened(program, log, signer)
+                break
+            except SignerFailed:
+                pass
+        threading.Thread(target=look, args=(room, provider, seed), daemon=True).start()
+        while True:
+            try:
+                made = some_batch(chance, provider)
+                epoch = commit(chance, provider, provider.latest().epoch + chance.randrange(1, 3), made)
+                keys = {it.name: base64.b64encode(it.key).decode() for it in made}
+                append(room / "acknowledged", json.dumps([epoch.epoch, epoch.entry.hex(), keys]))
+            except (ProgramFailed, RestartNeeded):
+                while True:
+                    try:
+                        provider.restart()
+                        break
+                    except ProviderError:
+                        pass
+
+
+def children_of(process):
+    try:
+        return [int(it) for it in Path(f"/proc/{process}/task/{process}/children").read_text().split()]
+    except OSError:
+        return []
+
+
+def kill(process):
+    try:
+        os.kill(process, signal.SIGKILL)
+    except ProcessLookupError:
+        pass
+
+
+def check(tell, what, room, program, kind, library):
+    """Starts once more, and compares the directory with the lists."""
+    signer = Signer(room, KINDS[kind]())
+    with FileLog(room / "log") as log, opened(program, log, signer) as provider:
+        by_epoch = {int.from_bytes(it[1:9], "big"): it for it in entries(log)}
+        acknowledged = [json.loads(it) for it in lines(room / "acknowledged")]
+        tell(f"{what}: each acknowledged epoch is in the log", all(by_epoch.get(epoch) == bytes.fromhex(entry) for epoch, entry, _ in acknowledged))
+        for epoch, entry, keys in acknowledged[-20:]:
+            found = provider.lookups(keys, epoch)
+            said = {it.name: base64.b64encode(shown(it) or b"").decode() for it in found}
+            tell(f"{what}: epoch {epoch} has its keys", said == keys and all(it.entry.hex() == entry for it in found), (said, keys))
+        tell(f"{what}: each entry shown is in the chain", all(it in by_epoch.values() for it in map(bytes.fromhex, lines(room / "shown"))))
+        tell(f"{what}: one body for each epoch", signer.is_asked_once(), signer.asked())
+        tell(f"{what}: the chain is audited", audited(entries(log), signer.keys, library))
+        latest = provider.latest()
+        tell(f"{what}: nothing is pending, and the latest is the log's", provider.pending is None and latest.epoch == max(by_epoch, default=0))
+    return len(acknowledged), len(lines(room / "shown"))
+
+
+def one_kill(chance, room, program, kind):
+    """Starts the process, and kills it or its child, and then it."""
+    words = [sys.executable, str(HERE / "kills.py"), str(room), program, kind, str(chance.randrange(1 << 30))]
+    with open(room / "said", "ab") as said, subprocess.Popen(words, stdout=said, stderr=said) as process:
+        time.sleep(chance.uniform(0, 0.6))
+        turn = chance.choice(["process", "child", "both", "child first"])
+        if turn == "child":
+            for it in children_of(process.pid):
+                kill(it)
+            time.sleep(chance.uniform(0, 0.4))
+        children = children_of(process.pid)
+        for it in {"both": [process.pid, *children], "child first": [*children, process.pid]}.get(turn, [process.pid]):
+            kill(it)
+        ended = process.wait()
+    return turn, ended == -signal.SIGKILL
+
+
+def try_kills(tell, program, count, seed=20261126):
+    chance, library, counts = random.Random(seed), has_library(), {}
+    acknowledged = seen = 0
+    for done in range(0, count, KILLS_OF_ROOM):
+        kind = "ed25519" if nacl and done // KILLS_OF_ROOM % 2 else "salted"
+        with tempfile.TemporaryDirectory() as room:
+            for number in range(done, min(count, done + KILLS_OF_ROOM)):
+                turn, was_killed = one_kill(chance, Path(room), program, kind)
+                what = f"kill {number} ({turn}, {kind})"
+                tell(f"{what}: it ran until it was killed", was_killed, (Path(room) / "said").read_text()[-2000:])
+                counts[turn] = counts.get(turn, 0) + 1
+                there = check(tell, what, Path(room), program, kind, library)
+            acknowledged, seen = acknowledged + there[0], seen + there[1]
+    told = ", ".join(f"{it} {counts[it]}" for it in sorted(counts))
+    print(f"{count} kills ({told}): {acknowledged} epochs acknowledged, {seen} entries shown", flush=True)
+
+
+if __name__ == "__main__":
+    drive(*sys.argv[1:4], int(sys.argv[4]))

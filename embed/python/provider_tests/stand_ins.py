@@ -1,0 +1,156 @@
+"""What the tests of `coniks.provider` use in place of a service: indices, signers that list each body, an auditor, and a program
+that prints what it is told."""
+
+import hashlib
+import json
+import os
+import sys
+import time
+from pathlib import Path
+
+HERE = Path(__file__).resolve().parent
+TOP = HERE.parent.parent.parent
+sys.dont_write_bytecode = True
+sys.path[:0] = [str(HERE.parent), str(TOP / "scripts"), str(TOP / "cases/second")]
+
+import chain
+import coniks
+from bytelists import link
+from coniks import provider
+from members import Fault as SecondFault
+from proofs import Proof, judge
+
+try:
+    import nacl.exceptions
+    import nacl.signing
+except ImportError:
+    nacl = None
+
+POLICY = bytes([7]) * 32
+KEY = bytes([9]) * 32
+
+
+def index(name):
+    return hashlib.sha256(b"index of " + name.encode()).digest()
+
+
+def append(file, text):
+    """Appends a line, so that it is there if the process is killed afterwards."""
+    place = os.open(file, os.O_WRONLY | os.O_CREAT | os.O_APPEND, 0o600)
+    os.write(place, f"{text}\n".encode())
+    os.fsync(place)
+    os.close(place)
+
+
+def lines(file):
+    return Path(file).read_text().splitlines() if Path(file).exists() else []
+
+
+class Salted:
+    """Signs by a hash with a random half, so that two signatures of one body differ. It has no security."""
+
+    def sign(self, body):
+        salt = os.urandom(32)
+        return salt + hashlib.sha256(KEY + salt + body).digest()
+
+    def verify(self, body, signature):
+        return signature[32:] == hashlib.sha256(KEY + signature[:32] + body).digest()
+
+
+class Ed25519:
+    """Signs by Ed25519, over PyNaCl."""
+
+    def __init__(self):
+        self._key = nacl.signing.SigningKey(KEY)
+
+    def sign(self, body):
+        return self._key.sign(body).signature
+
+    def verify(self, body, signature):
+        try:
+            return bool(self._key.verify_key.verify(body, signature))
+        except nacl.exceptions.BadSignatureError:
+            return False
+
+
+class Signer:
+    """Lists each body that it is asked for, and then signs it, unless it is told to fail."""
+
+    def __init__(self, room, keys):
+        self.file, self.keys, self.fails, self.before = Path(room) / "asked", keys, 0, lambda: None
+
+    def __call__(self, body):
+        append(self.file, body.hex())
+        self.before()
+        if self.fails:
+            self.fails -= 1
+            raise TimeoutError("the signer is told to fail")
+        return self.keys.sign(body)
+
+    def verify(self, body, signature):
+        return self.keys.verify(body, signature)
+
+    def asked(self):
+        """The bodies asked for, by their epochs."""
+        bodies = {}
+        for it in map(bytes.fromhex, lines(self.file)):
+            bodies.setdefault(int.from_bytes(it[1:9], "big"), set()).add(it)
+        return bodies
+
+    def is_asked_once(self):
+        return all(len(it) == 1 for it in self.asked().values())
+
+
+def opened(program, log, signer, **more):
+    return provider.Provider(program, index, signer, log, policy=POLICY, verify=signer.verify, **more)
+
+
+def has_library():
+    try:
+        return bool(coniks.library_version())
+    except ImportError:
+        return False
+
+
+def audited(entries, keys, library):
+    """Whether a chain is accepted: by the second implementation's auditor, and by the proved one if the library is built."""
+    before, auditor = None, coniks.Auditor() if library else None
+    for whole in entries:
+        entry = chain.Entry(whole)
+        try:
+            chain.audit(entry, before, KEY)
+        except SecondFault as fault:
+            # The last thing that it compares is the demonstration's seal, in place of which is a signature here.
+            if fault.answer["fault"] != "Verdict":
+                return False
+        if not keys.verify(entry.body, entry.signature) or entry.epoch == 0:
+            return False
+        if auditor:
+            auditor.feed(whole, True)
+        before = entry
+    return not auditor or before is None or auditor.head.link == link(before.whole)
+
+
+def shown(found):
+    """The key that a lookup's proof shows by the second implementation's checker; None if it shows that there is none."""
+    entry = chain.Entry(found.entry)
+    assert (entry.root, entry.nonce, entry.epoch) == (found.root, found.nonce, found.epoch)
+    return judge(Proof(json.loads(found.line)["proof"]), found.index, found.name.encode(), found.nonce, found.root)
+
+
+def fake(told):
+    """Prints one of these lines for each that it reads; in place of a line, `end N` ends with a status and `wait N` waits."""
+    for line in lines(told):
+        if not sys.stdin.readline():
+            return 0
+        if line.startswith("end "):
+            return int(line[4:])
+        if line.startswith("wait "):
+            time.sleep(float(line[5:]))
+        print(line, flush=True)
+    sys.stdin.read()
+    return 0
+
+
+if __name__ == "__main__":
+    sys.exit(fake(sys.argv[1]))
