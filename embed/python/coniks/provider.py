@@ -523,7 +523,7 @@ class Provider:
         with self._changing, self._asking:
             self._is_closed = True
             if self._child:
-                self._child.stop(5)
+                self._child.stop(1)
                 self._child = None
 
     def __enter__(self) -> Provider:

@@ -76,7 +76,7 @@ def drive(room, program, kind, seed):
             try:
                 provider = opened(program, log, signer)
                 break
-            except SignerFailed:
+            except (SignerFailed, ProgramFailed):
                 pass
         threading.Thread(target=look, args=(room, provider, seed), daemon=True).start()
         while True:

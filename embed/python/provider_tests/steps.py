@@ -1,0 +1,242 @@
+"""Stops a commit at each of its steps: by an exception, a child that ends, a log that fails, or a full disk.
+
+After each, the directory is started again, once by `restart` and once by a new process's means: from the log alone. What was
+acknowledged must be there, and an update whose body was logged must be installed with that body.
+"""
+
+import errno
+import os
+import signal
+import subprocess
+import tempfile
+from contextlib import contextmanager
+from pathlib import Path
+from unittest import mock
+
+from stand_ins import Salted, Signer, audited, has_library, opened
+from coniks.provider import FileLog, LogFailed, ProgramFailed, ProviderError, Register, RestartNeeded, SignerFailed, entries
+
+
+class Stop(BaseException):
+    """Ends a call as an interrupt does."""
+
+
+class HookedLog:
+    """A log over another one that calls a function before and after an append."""
+
+    def __init__(self, log):
+        self.log, self.before, self.after = log, lambda line: None, lambda line: None
+
+    def append(self, position, line):
+        self.before(line)
+        self.log.append(position, line)
+        self.after(line)
+
+    def read(self, position):
+        return self.log.read(position)
+
+
+class Stage:
+    """A directory with one epoch, whose next commit is stopped."""
+
+    def __init__(self, room, program):
+        self.room, self.program = Path(room), program
+        self.file = FileLog(self.room / "log")
+        self.log, self.signer = HookedLog(self.file), Signer(room, Salted())
+        self.provider = opened(program, self.log, self.signer)
+        self.first = self.provider.commit(1, [Register("first", b"key")])
+
+    def kill_child(self, *_):
+        os.kill(self.provider.pid, signal.SIGKILL)
+        self.provider._child._process.wait()
+
+    def start_again(self, is_new):
+        """Goes on after a stop: by `restart`, or from the file alone."""
+        self.log.before = self.log.after = lambda line: None
+        self.signer.before = lambda: None
+        if not is_new:
+            return self.provider.restart()
+        self.close()
+        self.file = FileLog(self.room / "log")
+        self.log = HookedLog(self.file)
+        self.provider = opened(self.program, self.log, self.signer)
+
+    def close(self):
+        self.provider.close()
+        self.file.close()
+
+
+def of_kind(kind, call):
+    """A hook that makes its call at lines of one kind."""
+    return lambda line: call() if line.startswith(b'{"cmd":"%s"' % kind) else None
+
+
+def stopped(error=Stop):
+    def call(*_):
+        raise error
+
+    return call
+
+
+@contextmanager
+def failing(stage, name, number):
+    """A call of `os` that fails once, at its n-th time for the log's file from now on."""
+    calls, real = [0], getattr(os, name)
+
+    def call(*arguments):
+        calls[0] += arguments[0] == stage.file._file
+        if arguments[0] == stage.file._file and calls[0] == number:
+            if name == "pwrite":
+                real(arguments[0], arguments[1][: len(arguments[1]) // 2], arguments[2])
+            raise OSError(errno.ENOSPC if name == "pwrite" else errno.EIO, "the disk is told to fail")
+        return real(*arguments)
+
+    with mock.patch.object(os, name, call):
+        yield
+
+
+def hooks():
+    """What stops a commit: its name, what sets it up, the error of `commit`, and whether the signer's body is in the log."""
+    no_disk = OSError(errno.ENOSPC, "full")
+
+    def before_log(kind, call):
+        return lambda stage: setattr(stage.log, "before", of_kind(kind, call(stage)))
+
+    def after_log(kind, call):
+        return lambda stage: setattr(stage.log, "after", of_kind(kind, call(stage)))
+
+    def in_signer(call):
+        return lambda stage: setattr(stage.signer, "before", call(stage))
+
+    stop, full, dead = lambda _: stopped(), lambda _: stopped(no_disk), lambda stage: stage.kill_child
+    yield "the child ends before", lambda stage: stage.kill_child(), ProgramFailed, False
+    yield "an interrupt before `prepare` is logged", before_log(b"prepare", stop), Stop, False
+    yield "the log fails before `prepare`", before_log(b"prepare", full), LogFailed, False
+    yield "an interrupt after `prepare` is logged", after_log(b"prepare", stop), Stop, True
+    yield "the log fails after `prepare`", after_log(b"prepare", full), LogFailed, True
+    yield "the child ends as `prepare` is logged", after_log(b"prepare", dead), ProgramFailed, True
+    yield "an interrupt in the signer", in_signer(stop), Stop, True
+    yield "the child ends as the signer is asked", in_signer(dead), ProgramFailed, True
+    yield "the signer fails", in_signer(lambda _: stopped(TimeoutError())), SignerFailed, True
+    yield "an interrupt before `install` is logged", before_log(b"install", stop), Stop, True
+    yield "the log fails before `install`", before_log(b"install", full), LogFailed, True
+    yield "an interrupt after `install` is logged", after_log(b"install", stop), Stop, True
+    yield "the log fails after `install`", after_log(b"install", full), LogFailed, True
+    yield "the child ends as `install` is logged", after_log(b"install", dead), None, True
+
+
+def disks():
+    """Calls of a file log that fail: each write and each sync of a commit, and those that would undo them."""
+    for name in ["pwrite", "fsync"]:
+        for number in (1, 2):
+            yield f"{name} {number} fails", name, number
+
+
+def check(tell, what, stage, is_logged, library):
+    """What must be there after a stop of epoch 2."""
+    by_epoch = {int.from_bytes(it[1:9], "big"): it for it in entries(stage.log)}
+    tell(f"{what}: the first epoch is as it was", by_epoch.get(1) == stage.first.entry)
+    tell(f"{what}: epoch 2 is installed if its body was logged", (2 in by_epoch) == is_logged, sorted(by_epoch))
+    tell(f"{what}: nothing is pending", stage.provider.pending is None)
+    made = stage.provider.commit(3, [Register("third", b"key")])
+    tell(f"{what}: a lookup has the next entry", stage.provider.lookup("third").entry == made.entry)
+    tell(f"{what}: one body for each epoch", stage.signer.is_asked_once())
+    tell(f"{what}: a body is signed only after it was logged", set(stage.signer.asked()) == {1, 3} | ({2} if is_logged else set()))
+    tell(f"{what}: the chain is audited", audited(entries(stage.log), stage.signer.keys, library))
+
+
+def commit_stopped(stage, error):
+    """Commits epoch 2, which must raise the error, or return if it is None; and whether the provider is as it must be after."""
+    try:
+        stage.provider.commit(2, [Register("second", b"key")])
+    except (ProviderError, Stop) as raised:
+        if error is None or not isinstance(raised, error):
+            return f"raised {raised!r}"
+    else:
+        if error is not None:
+            return "returned"
+    try:
+        stage.provider.lookup("first")
+    except (RestartNeeded, ProgramFailed) as raised:
+        # A signer that fails leaves the child as it was.
+        return f"raised {raised!r}" if error is SignerFailed else None
+    return None if error in (SignerFailed, Stop) else "a lookup went on"
+
+
+def try_steps(tell, program):
+    library = has_library()
+    for what, set_up, error, is_logged in hooks():
+        for is_new in (False, True):
+            with tempfile.TemporaryDirectory() as room:
+                stage = Stage(room, program)
+                set_up(stage)
+                told = commit_stopped(stage, error)
+                tell(f"{what}: commit", told is None, told)
+                stage.start_again(is_new)
+                check(tell, f"{what}, {'new' if is_new else 'restart'}", stage, is_logged, library)
+                stage.close()
+    for what, name, number in disks():
+        with tempfile.TemporaryDirectory() as room:
+            stage = Stage(room, program)
+            with failing(stage, name, number):
+                told = commit_stopped(stage, LogFailed)
+            tell(f"{what}: commit", told is None, told)
+            stage.start_again(False)
+            check(tell, what, stage, number == 2, library)
+            stage.close()
+    try_undone(tell, program, library)
+
+
+def try_undone(tell, program, library):
+    """A sync fails, and the line that it leaves can't be dropped: the log fails until it is opened again."""
+    with tempfile.TemporaryDirectory() as room:
+        stage = Stage(room, program)
+        with failing(stage, "fsync", 1), mock.patch.object(os, "ftruncate", stopped(OSError(errno.EIO, "told to fail"))):
+            told = commit_stopped(stage, LogFailed)
+        tell("a line that can't be dropped: commit", told is None, told)
+        try:
+            stage.start_again(False)
+            tell("a line that can't be dropped: restart", False)
+        except LogFailed:
+            tell("a line that can't be dropped: restart", True)
+        stage.start_again(True)
+        check(tell, "a line that can't be dropped", stage, True, library)
+        stage.close()
+
+
+def try_full_disk(tell, skip, program, rounds=8):
+    """A small tmpfs fills up while a directory commits. After each time it is emptied a little, and the directory goes on."""
+    library = has_library()
+    with tempfile.TemporaryDirectory() as room:
+        ran = subprocess.run(["mount", "-t", "tmpfs", "-o", "size=256k", "tmpfs", room], capture_output=True)
+        if ran.returncode:
+            return skip("a full disk", "the right to mount a tmpfs")
+        try:
+            fill(tell, Path(room), program, rounds, library)
+        finally:
+            subprocess.run(["umount", room], check=True)
+
+
+def fill(tell, room, program, rounds, library):
+    signer, there = Signer(tempfile.gettempdir(), Salted()), {}
+    signer.file = Path(tempfile.mkdtemp()) / "asked"
+    ballast = room / "ballast"
+    ballast.write_bytes(bytes(160 << 10))
+    with FileLog(room / "log") as log, opened(program, log, signer) as provider:
+        for turn in range(rounds):
+            epoch = provider.latest().epoch
+            try:
+                while True:
+                    epoch += 1
+                    # Of several sizes, so that the disk is full at another step each time.
+                    made = provider.commit(epoch, [Register(f"user-{epoch}-{it}", b"k" * (700 * (turn + 1))) for it in range(1 + turn % 3)])
+                    there[epoch] = made.entry
+            except LogFailed:
+                pass
+            os.truncate(ballast, ballast.stat().st_size - (16 << 10))
+            provider.restart()
+            by_epoch = {int.from_bytes(it[1:9], "big"): it for it in entries(log)}
+            tell(f"full disk {turn}: each acknowledged epoch is there", all(by_epoch.get(it) == entry for it, entry in there.items()))
+            tell(f"full disk {turn}: one body for each epoch", signer.is_asked_once())
+            tell(f"full disk {turn}: the chain is audited", audited(entries(log), signer.keys, library))
+    tell("full disk: epochs were acknowledged", len(there) > rounds, len(there))

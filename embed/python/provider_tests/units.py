@@ -1,0 +1,426 @@
+"""Each error of `coniks.provider`, what a log must do, and calls from several threads."""
+
+import copy
+import json
+import os
+import pickle
+import signal
+import subprocess
+import sys
+import tempfile
+import threading
+import time
+from pathlib import Path
+
+import stand_ins
+from stand_ins import HERE, POLICY, Salted, Signer, audited, index, opened, shown
+from coniks import provider
+from coniks.provider import Change, FileLog, Provider, Register, entries
+
+FAULTS = {
+    "Json": {}, "Command": {}, "Member": {"member": "ops", "position": 3}, "NotOpen": {}, "AlreadyOpen": {}, "BatchTooLong": {},
+    "NameLength": {"position": 1}, "KeyLength": {"position": 0}, "NameTwice": {"position": 2}, "NameTaken": {"position": 0},
+    "NameUnknown": {"position": 0}, "OtherIndex": {"position": 0}, "IndexClash": {"position": 1}, "EpochNotLater": {"latest": 7},
+    "BoardFull": {}, "NotPrepared": {}, "UnknownEpoch": {},
+}  # fmt: skip
+OPEN = '{"ok":"open"}'
+PREPARED = '{"body":"%s","epoch":1,"nodes":1,"ok":"prepare","root":"%s"}' % ("01" + "00" * 7 + "01" + "00" * 8 + "aa" * 32 + "00" * 64 + POLICY.hex(), "aa" * 32)
+
+
+class Room:
+    """A folder with a log, a signer and a provider over them."""
+
+    def __init__(self, program, **more):
+        self._folder = tempfile.TemporaryDirectory()
+        self.room = Path(self._folder.name)
+        self.program, self.signer = program, Signer(self.room, Salted())
+        self.log = FileLog(self.room / "log")
+        self.provider = opened(program, self.log, self.signer, **more)
+
+    def __enter__(self):
+        return self
+
+    def __exit__(self, *_):
+        self.provider.close()
+        self.log.close()
+        self._folder.cleanup()
+
+    def start_again(self, **more):
+        """A new provider over the same file."""
+        self.provider.close()
+        self.log.close()
+        self.log = FileLog(self.room / "log")
+        self.provider = opened(self.program, self.log, self.signer, **more)
+
+
+def raises(tell, what, error, call, **attributes):
+    """Counts whether a call raises an error with these attributes, and returns it."""
+    try:
+        returned = call()
+    except Exception as raised:
+        said = {it: getattr(raised, it, None) for it in attributes}
+        tell(what, type(raised) is error and said == attributes, repr(raised))
+        return raised
+    tell(what, False, f"returned {returned!r}")
+    return None
+
+
+def faked(room, answers):
+    """The words of a program that prints these lines."""
+    told = Path(room) / "told"
+    told.write_text("".join(f"{it}\n" for it in answers))
+    return [sys.executable, str(HERE / "stand_ins.py"), str(told)]
+
+
+class OneLine:
+    """A log in memory."""
+
+    def __init__(self):
+        self.lines = []
+
+    def append(self, position, line):
+        if position < len(self.lines):
+            raise provider.Overtaken("taken")
+        self.lines.append(line)
+
+    def read(self, position):
+        return iter(self.lines[position:])
+
+
+def try_named_faults(tell):
+    """Each fault of docs/FORMATS.md, as a program prints it."""
+    told = (stand_ins.TOP / "docs/FORMATS.md").read_text("utf-8")
+    tell("faults: all are in docs/FORMATS.md", all(f"`{it}`" in told or it in ("OtherIndex", "NotPrepared") for it in FAULTS))
+    tell("faults: each has a class", {it.__name__ for it in provider.Fault.__subclasses__()} == FAULTS.keys())
+    for name, members in FAULTS.items():
+        with tempfile.TemporaryDirectory() as room:
+            program = faked(room, [OPEN, json.dumps({"fault": name} | members), '{"epoch":0,"link":"%s","names":0,"nodes":0,"ok":"latest"}' % ("0" * 64)])
+            with Provider(program, index, Salted().sign, OneLine(), policy=POLICY) as it:
+                whole = {part: members.get(part) for part in ("position", "latest", "member")}
+                raised = raises(tell, f"fault {name}", getattr(provider, name), lambda: it.commit(1, []), **whole)
+                for copied in (copy.copy(raised), pickle.loads(pickle.dumps(raised))):
+                    tell(f"fault {name}, copied", type(copied) is type(raised) and str(copied) == str(raised) and vars(copied) == vars(raised))
+                tell(f"fault {name}: the provider goes on", it.latest().epoch == 0)
+
+
+def try_real_faults(tell, program):
+    """The faults that a right program can be brought to print, each of which changes nothing."""
+    known = {}
+    with Room(program) as it, tempfile.TemporaryDirectory() as other:
+        by_name = lambda name: known.get(name) or index(name)
+        with FileLog(Path(other) / "log") as log, Provider(program, by_name, it.signer.keys.sign, log, policy=POLICY, workers=2, depth=3) as own:
+            first = own.commit(5, [Register("alice", b"key"), Register("bob", b"key")])
+            before, size = own.latest(), os.path.getsize(Path(other) / "log")
+            known["alice"] = known["dora"] = index("bob")
+            long = "x" * 256
+            for what, error, call, attributes in [
+                ("a name too long", "NameLength", lambda: own.commit(6, [Register("carl", b"k"), Register(long, b"k")]), {"position": 1}),
+                ("an empty key", "KeyLength", lambda: own.commit(6, [Register("carl", b"")]), {"position": 0}),
+                ("a key too long", "KeyLength", lambda: own.commit(6, [Register("carl", bytes(16385))]), {"position": 0}),
+                ("a name twice", "NameTwice", lambda: own.commit(6, [Register("carl", b"k"), Register("carl", b"k")]), {"position": 1}),
+                ("a name taken", "NameTaken", lambda: own.commit(6, [Register("bob", b"k")]), {"position": 0}),
+                ("a name unknown", "NameUnknown", lambda: own.commit(6, [Change("carl", b"k")]), {"position": 0}),
+                ("another index", "OtherIndex", lambda: own.commit(6, [Change("alice", b"k")]), {"position": 0}),
+                ("an index twice", "IndexClash", lambda: own.commit(6, [Register("dora", b"k")]), {"position": 0}),
+                ("too many", "BatchTooLong", lambda: own.commit(6, [Register(f"user-{n}", b"k") for n in range(4097)]), {"position": None}),
+                ("an epoch not later", "EpochNotLater", lambda: own.commit(5, []), {"latest": 5}),
+                ("epoch 0", "EpochNotLater", lambda: own.commit(0, []), {"latest": 5}),
+                ("nothing pending", "NotPrepared", own.retry, {}),
+                ("an epoch that isn't there", "UnknownEpoch", lambda: own.lookup("bob", 4), {}),
+                ("an empty name", "NameLength", lambda: own.lookup(""), {"position": None}),
+                ("another index of a lookup", "OtherIndex", lambda: own.lookup("alice"), {"position": None}),
+                ("one of many lookups", "OtherIndex", lambda: own.lookups(["bob"] * 500 + ["alice"] + ["bob"] * 500), {"position": None}),
+            ]:
+                raises(tell, f"fault: {what}", getattr(provider, error), call, **attributes)
+                tell(f"fault: {what}, changes nothing", own.latest() == before and os.path.getsize(Path(other) / "log") == size)
+            tell("fault: lookups go on after one", shown(own.lookup("bob")) == b"key")
+            second = own.commit(6, [Change("bob", b"other")], nonce=bytes(31) + b"\1")
+            tell("a nonce is brought", second.entry[0] == 2 and second.entry[81:113] == bytes(31) + b"\1")
+            tell("an older epoch is looked up", own.lookup("bob", 5).entry == first.entry and shown(own.lookup("bob", 5)) == b"key")
+            tell("the latest epoch is looked up", own.lookup("bob").entry == second.entry and shown(own.lookup("bob")) == b"other")
+            tell("a name that isn't there", shown(own.lookup("nobody")) is None)
+            many = own.lookups(["bob", "nobody", "bob é \" \\ \u0001"] * 300)
+            tell("many lookups are those of each", [shown(it) for it in many] == [b"other", None, None] * 300)
+            tell("many lookups of none", own.lookups([]) == [])
+            tell("the latest", own.latest().link == second.link and own.latest().names == 2 and own.latest().epoch == 6)
+            kept = [bytes.fromhex(json.loads(it)["link"]) for it in log.read(0) if b'"link"' in it]
+            tell("the log has the links", kept == [first.link, second.link])
+        said = subprocess.run([program, *["--workers", "1"]], stdin=open(Path(other) / "log", "rb"), capture_output=True)
+        made = [json.loads(line) for line in said.stdout.splitlines()]
+        tell("the log is a script of the program", said.returncode == 0 and [line["ok"] for line in made] == ["open", *["prepare", "install"] * 2])
+        tell("the script gives the entries", [line["entry"] for line in made if "entry" in line] == [first.entry.hex(), second.entry.hex()])
+
+
+def try_arguments(tell, program):
+    with Room(program) as it:
+        own = it.provider
+        for what, error, call in [
+            ("an operation of another type", TypeError, lambda: own.commit(1, [("alice", b"key")])),
+            ("a key of text", TypeError, lambda: own.commit(1, [Register("alice", "key")])),
+            ("a name of bytes", TypeError, lambda: own.commit(1, [Register(b"alice", b"key")])),
+            ("a short opening", ValueError, lambda: own.commit(1, [Register("alice", b"key", b"short")])),
+            ("a short nonce", ValueError, lambda: own.commit(1, [], nonce=b"short")),
+            ("an epoch of text", TypeError, lambda: own.commit("1", [])),
+            ("an epoch too large", ValueError, lambda: own.commit(1 << 64, [])),
+            ("a negative epoch", ValueError, lambda: own.lookup("alice", -1)),
+            ("a lookup of bytes", TypeError, lambda: own.lookup(b"alice")),
+            ("a lookup of half a pair", UnicodeEncodeError, lambda: own.lookup("\ud800")),
+        ]:
+            raises(tell, f"arguments: {what}", error, call)
+        for what, error, more in [
+            ("a short policy", ValueError, {"policy": b"short"}),
+            ("a short nonce", ValueError, {"nonce": b"short"}),
+            ("workers of text", TypeError, {"workers": "2"}),
+        ]:
+            raises(tell, f"arguments: {what}", error, lambda: Provider(program, index, Salted().sign, OneLine(), **{"policy": POLICY, **more}))
+        for what, error, wrong in [("an index of 31 bytes", ValueError, lambda _: bytes(31)), ("an index of text", TypeError, lambda _: "0" * 32)]:
+            with Provider(program, wrong, Salted().sign, OneLine(), policy=POLICY) as other:
+                raises(tell, f"arguments: {what}", error, lambda: other.lookup("alice"))
+        tell("arguments: the provider goes on", own.commit(1, [Register("alice", b"key")]).epoch == 1)
+        tell("openings differ", Register("a", b"k").opening != Register("a", b"k").opening and len(Change("a", b"k").opening) == 32)
+        own.close()
+        own.close()
+        for call in [own.latest, own.restart, own.retry, lambda: own.lookup("alice"), lambda: own.commit(2, [])]:
+            raises(tell, "a closed provider", provider.Closed, call)
+
+
+def try_program(tell, program):
+    """A child that ends, is too slow, or prints what isn't defined."""
+    body = json.loads(PREPARED)["body"]
+    entry = body + "00" * 64
+    installed = '{"entry":"%s","epoch":1,"link":"%s","ok":"install","root":"%s"}'
+    for what, answers, more in [
+        ("ends at once", ["end 3"], {}),
+        ("ends at `prepare`", [OPEN, "end 0"], {}),
+        ("prints no JSON", [OPEN, "what"], {}),
+        ("prints a list", [OPEN, "[]"], {}),
+        ("prints another fault", [OPEN, '{"fault":"Unheard"}'], {}),
+        ("prints a short body", [OPEN, PREPARED.replace(body, body[2:])], {}),
+        ("prints a body of another epoch", [OPEN, PREPARED.replace(body, body[:16] + "02" + body[18:])], {}),
+        ("prints a body of another root", [OPEN, PREPARED.replace('"root":"aa', '"root":"ab')], {}),
+        ("prints a body with another link before", [OPEN, PREPARED.replace(body, body[:98] + "01" + body[100:])], {}),
+        ("prints a body of another policy", [OPEN, PREPARED.replace(body, body[:-2] + "00")], {}),
+        ("ends at `install`", [OPEN, PREPARED, "end 3"], {}),
+        ("refuses to install", [OPEN, PREPARED, '{"fault":"NotPrepared"}'], {}),
+        ("prints another entry", [OPEN, PREPARED, installed % ("01" * 209, "00" * 32, "aa" * 32)], {}),
+        ("prints another epoch", [OPEN, PREPARED, installed.replace('epoch":1', 'epoch":2') % (entry, "00" * 32, "aa" * 32)], {}),
+        ("prints another root", [OPEN, PREPARED, installed % (entry, "00" * 32, "ab" * 32)], {}),
+        ("prints a text for the epoch", [OPEN, PREPARED, installed.replace('epoch":1', 'epoch":"1"') % (entry, "00" * 32, "aa" * 32)], {}),
+        ("is too slow", [OPEN, "wait 5"], {"timeout": 0.3}),
+    ]:
+        with tempfile.TemporaryDirectory() as room:
+            own = None
+
+            def start():
+                nonlocal own
+                own = Provider(faked(room, answers), index, lambda body: bytes(64), OneLine(), policy=POLICY, **more)
+                return own.commit(1, [])
+
+            begun = time.monotonic()
+            raises(tell, f"the program {what}", provider.ProgramFailed, start)
+            tell(f"the program {what}: in time", time.monotonic() - begun < 4)
+            if own:
+                raises(tell, f"the program {what}: the next call", provider.RestartNeeded, own.latest)
+                own.close()
+    raises(tell, "a program that isn't there", provider.ProgramFailed, lambda: Provider("/nowhere/provider", index, Salted().sign, OneLine(), policy=POLICY))
+    with Room(program, timeout=60) as it:
+        made = it.provider.commit(1, [Register(f"user-{n}", bytes(16000)) for n in range(200)])
+        os.kill(it.provider.pid, signal.SIGKILL)
+        raises(tell, "a child that was killed", provider.ProgramFailed, lambda: it.provider.lookup("user-1"))
+        for call in [it.provider.latest, it.provider.retry, lambda: it.provider.commit(2, []), lambda: it.provider.lookups(["user-1"])]:
+            raises(tell, "a child that was killed: each call", provider.RestartNeeded, call)
+        it.provider.restart()
+        tell("a child that was killed: restart", it.provider.lookup("user-1").entry == made.entry and it.provider.latest().names == 200)
+        before = it.provider.pid
+        it.provider.restart()
+        tell("a restart without need", it.provider.pid != before and it.provider.latest().epoch == 1)
+
+
+def try_signer(tell, program):
+    """A signer that fails: its epoch's number is used for no other body."""
+    with Room(program) as it:
+        own, mine = it.provider, [Register("alice", b"key")]
+        for what, set_up in [("raises", lambda: setattr(it.signer, "fails", 1)), ("signs wrongly", lambda: setattr(it.signer.keys, "sign", lambda body: bytes(64))),
+                             ("signs in text", lambda: setattr(it.signer.keys, "sign", lambda body: "0" * 64)), ("signs shortly", lambda: setattr(it.signer.keys, "sign", lambda body: bytes(63)))]:  # fmt: skip
+            set_up()
+            raises(tell, f"a signer that {what}", provider.SignerFailed, lambda: own.commit(3, mine))
+            it.signer.keys = Salted()
+            tell(f"a signer that {what}: it is pending", own.pending and own.pending.epoch == 3 and own.latest().epoch == 0)
+        raises(tell, "other operations under the number", provider.EpochSpent, lambda: own.commit(3, [Register("alice", b"other")]), epoch=3, asked=3)
+        raises(tell, "other openings under the number", provider.EpochSpent, lambda: own.commit(3, [Register("alice", b"key")]), epoch=3, asked=3)
+        raises(tell, "the same operations under a number before", provider.EpochSpent, lambda: own.commit(2, mine), epoch=2, asked=3)
+        raises(tell, "a refused batch under a later number", provider.NameUnknown, lambda: own.commit(4, [Change("bob", b"k")]))
+        tell("a refused batch: the update is still pending", own.pending.epoch == 3)
+        it.signer.fails = 1
+        raises(tell, "a retry that fails", provider.SignerFailed, own.retry)
+        tell("the same operations", own.commit(3, mine).epoch == 3 and own.pending is None)
+        tell("one body", len(it.signer.asked()[3]) == 1)
+        it.signer.fails = 1
+        raises(tell, "the next fails", provider.SignerFailed, lambda: own.commit(5, [Change("alice", b"5")]))
+        tell("a retry", own.retry().epoch == 5 and shown(own.lookup("alice")) == b"5")
+        it.signer.fails = 1
+        raises(tell, "the third fails", provider.SignerFailed, lambda: own.commit(6, [Change("alice", b"6"), Register("six", b"6")]))
+        it.signer.fails = 1
+        raises(tell, "a later epoch fails too", provider.SignerFailed, lambda: own.commit(8, [Change("alice", b"8")]))
+        raises(tell, "the number before", provider.EpochSpent, lambda: own.commit(7, [Change("alice", b"7")]), epoch=7, asked=8)
+        tell("a later epoch", own.commit(9, [Change("alice", b"9")]).epoch == 9 and shown(own.lookup("alice")) == b"9" and shown(own.lookup("six")) is None)
+        # And after a restart.
+        it.signer.fails = 1
+        raises(tell, "before a restart", provider.SignerFailed, lambda: own.commit(10, [Change("alice", b"10")]))
+        it.signer.fails = 1
+        raises(tell, "a start whose signer fails", provider.SignerFailed, it.start_again)
+        it.log.close()
+        it.start_again(sign_pending=False)
+        own = it.provider
+        tell("a start that doesn't sign", own.pending.epoch == 10 and own.latest().epoch == 9 and shown(own.lookup("alice")) == b"9")
+        raises(tell, "after a restart: other operations", provider.EpochSpent, lambda: own.commit(10, [Change("alice", b"other")]))
+        it.signer.fails = 1
+        raises(tell, "a restart whose signer fails", provider.SignerFailed, own.restart)
+        tell("a restart whose signer fails: lookups go on", shown(own.lookup("alice")) == b"9" and own.pending.epoch == 10)
+        own.restart()
+        tell("a restart that signs", own.pending is None and own.latest().epoch == 10 and shown(own.lookup("alice")) == b"10")
+        tell("one body for each epoch", it.signer.is_asked_once() and set(it.signer.asked()) == {3, 5, 6, 8, 9, 10})
+        tell("the chain is audited", audited(entries(it.log), it.signer.keys, False) and len(list(entries(it.log))) == 4)
+    for error in (provider.EpochSpent(3, 5),):
+        tell("EpochSpent, pickled", str(pickle.loads(pickle.dumps(error))) == str(error))
+
+
+def try_logs(tell, program):
+    """A log of another directory, a damaged one, one that another provider has, and one whose lines were changed."""
+    with Room(program) as it:
+        it.provider.commit(1, [Register("alice", b"key")])
+        it.provider.commit(2, [Change("alice", b"new")])
+        it.provider.close()
+        raises(tell, "a log that is open", provider.LogFailed, lambda: FileLog(it.room / "log"))
+        script = f"import sys; sys.path.insert(0, {str(HERE.parent)!r})\nfrom coniks.provider import FileLog\nFileLog({str(it.room / 'log')!r})"
+        ran = subprocess.run([sys.executable, "-c", script], capture_output=True, text=True)
+        tell("a log that another process has open", "another process has the log open" in ran.stderr, ran.stderr)
+        start = lambda log=it.log, **more: Provider(program, index, it.signer, log, **{"policy": POLICY, **more}).close()
+        raises(tell, "another policy", provider.LogFailed, lambda: start(policy=bytes(32)))
+        raises(tell, "another nonce", provider.LogFailed, lambda: start(nonce=bytes(32)))
+        whole, nonce = list(it.log.read(0)), bytes.fromhex(json.loads(next(it.log.read(0)))["nonce"])
+        start(nonce=nonce)
+        tell("read from a position", [list(it.log.read(number)) for number in range(6)] == [whole[number:] for number in range(6)])
+        wrong = lambda place, old, new: [*whole[:place], whole[place].replace(old, new), *whole[place + 1 :]]
+        body, link = b'"body":"01', b'"link":"%s' % json.loads(whole[2])["link"][:2].encode()
+        for what, error, lines in [
+            ("an edited body", provider.ReplayDiffers, wrong(1, body, b'"body":"02')),
+            ("no body", provider.ReplayDiffers, wrong(1, b'"body"', b'"bode"')),
+            ("an edited key", provider.ReplayDiffers, wrong(1, b'"key":"a2V5"', b'"key":"a2V6"')),
+            ("an edited link", provider.ReplayDiffers, wrong(2, link, b'"link":"%02x' % (int(link[-2:], 16) ^ 1))),
+            ("an edited signature", provider.ReplayDiffers, wrong(2, b'"signature":"', b'"signature":"%s' % (b"0" * 128) + b'","signatures":"')),
+            ("a line too few", provider.ReplayDiffers, whole[:1] + whole[2:]),
+            ("no `open`", provider.ReplayDiffers, whole[1:]),
+            ("no JSON", provider.LogFailed, wrong(1, b"{", b"[")),
+            ("a lookup", provider.LogFailed, [*whole, b'{"cmd":"latest"}']),
+        ]:
+            log = OneLine()
+            log.lines = lines
+            raises(tell, f"a log with {what}", error, lambda: start(log))
+        log = OneLine()
+        log.lines = whole[:-1]
+        with Provider(program, index, it.signer, log, policy=POLICY) as own:
+            tell("a log that ends before `install`", own.latest().epoch == 2 and it.signer.is_asked_once() and len(log.lines) == 5)
+            log.lines.append(b"another provider's")
+            raises(tell, "a log that was overtaken", provider.Overtaken, lambda: own.commit(3, []))
+            raises(tell, "a log that was overtaken: the next call", provider.RestartNeeded, own.latest)
+            log.lines.pop()
+            own.restart()
+            tell("a log that was overtaken: restart", own.commit(3, []).epoch == 3)
+            tell("a log that was overtaken: no body", it.signer.is_asked_once() and len(it.signer.asked()[3]) == 1)
+        log.read = lambda position: 1 // 0
+        raises(tell, "a log that can't be read", provider.LogFailed, lambda: start(log))
+        raises(tell, "a file that can't be made", provider.LogFailed, lambda: FileLog(it.room / "nowhere/log"))
+
+
+def try_file(tell):
+    """The file of a log: cut lines, positions, and what else it must refuse."""
+    with tempfile.TemporaryDirectory() as room:
+        file = Path(room) / "log"
+        with FileLog(file) as log:
+            tell("a new log", list(log.read(0)) == [] and file.stat().st_mode & 0o777 == 0o600)
+            for number, line in enumerate([b"first", b"", b"x" * 3_000_000]):
+                log.append(number, line)
+            raises(tell, "a position that is taken", provider.Overtaken, lambda: log.append(2, b"other"))
+            raises(tell, "a position too far", ValueError, lambda: log.append(4, b"other"))
+            raises(tell, "a line with a newline", ValueError, lambda: log.append(3, b"a\nb"))
+            tell("what was appended is read", list(log.read(0)) == [b"first", b"", b"x" * 3_000_000] and list(log.read(2)) == [b"x" * 3_000_000])
+            forked = os.fork()
+            if not forked:
+                try:
+                    log.append(3, b"of a fork")
+                except provider.LogFailed:
+                    os._exit(7)
+                os._exit(0)
+            tell("a forked process can't append", os.waitstatus_to_exitcode(os.waitpid(forked, 0)[1]) == 7)
+        raises(tell, "a closed log", provider.LogFailed, lambda: log.append(3, b""))
+        raises(tell, "a closed log is read", provider.LogFailed, lambda: log.read(0))
+        whole = b"first\n\nlast line\n"
+        for size in range(len(whole) + 1):
+            file.write_bytes(whole[:size])
+            with FileLog(file) as log:
+                there = list(log.read(0))
+                log.append(len(there), b"next")
+            wanted = whole[:size].split(b"\n")[:-1]
+            tell(f"a log cut at {size}", there == wanted and file.read_bytes() == b"".join(it + b"\n" for it in [*wanted, b"next"]), there)
+        for what, text, wanted in [("zeros at the end", b"first\nsecond" + bytes(5000), [b"first"]), ("a line with zeros", b"first\nse" + bytes(5000) + b"d\n", [b"first"]),
+                                   ("zeros alone", bytes(9), []), ("a long cut line", b"first\n" + b"x" * (3 << 20), [b"first"])]:  # fmt: skip
+            file.write_bytes(text)
+            with FileLog(file) as log:
+                tell(f"a log with {what}", list(log.read(0)) == wanted)
+
+
+def try_threads(tell, program):
+    """Lookups from several threads go on while the signer is asked, and show no entry before the log has it."""
+    with Room(program) as it:
+        own, is_over, wrong, counted = it.provider, threading.Event(), [], [0, 0]
+        own.commit(1, [Register("alice", b"1")])
+
+        def look():
+            while not is_over.is_set():
+                found = own.lookup("alice")
+                logged = list(entries(it.log))
+                counted[0] += 1
+                if found.entry not in logged or shown(found) != b"%d" % found.epoch:
+                    wrong.append(found)
+
+        def slow():
+            before = counted[0]
+            time.sleep(0.1)
+            counted[1] += counted[0] > before
+
+        it.signer.before = slow
+        threads = [threading.Thread(target=look) for _ in range(3)]
+        for thread in threads:
+            thread.start()
+        made = []
+        changing = [threading.Thread(target=lambda: made.append(own.commit(2, [Change("alice", b"2")])))]
+        changing[0].start()
+        changing[0].join()
+        for epoch in range(3, 8):
+            own.commit(epoch, [Change("alice", b"%d" % epoch)])
+        is_over.set()
+        for thread in threads:
+            thread.join()
+        tell("threads: lookups are right", not wrong and counted[0] > 5, (wrong[:1], counted))
+        tell("threads: they go on while the signer is asked", counted[1] == 6, counted)
+        forked = os.fork()
+        if not forked:
+            try:
+                own.latest()
+            except provider.Closed:
+                os._exit(7)
+            os._exit(0)
+        tell("threads: a forked process can't use it", os.waitstatus_to_exitcode(os.waitpid(forked, 0)[1]) == 7)
+        tell("threads: the provider goes on", own.latest().epoch == 7)
+
+
+def try_units(tell, program):
+    try_named_faults(tell)
+    try_real_faults(tell, program)
+    try_arguments(tell, program)
+    try_program(tell, program)
+    try_signer(tell, program)
+    try_logs(tell, program)
+    try_file(tell)
+    try_threads(tell, program)

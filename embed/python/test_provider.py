@@ -1,0 +1,48 @@
+#!/usr/bin/env python3
+"""Tries coniks.provider over the program `provider`: its errors, a commit that stops at each step, a full disk, and kills.
+
+    embed/python/test_provider.py                    over crates/provider/out/provider
+    embed/python/test_provider.py PROVIDER KILLS     over another program, killed KILLS times instead of 10
+    embed/python/test_provider.py --speed PROVIDER   prints how long 20,000 lookups and a replay of 100,000 names take
+
+The last line is `N passed, M failed`, with `, K skipped` if a tool isn't there.
+"""
+
+import sys
+from pathlib import Path
+
+HERE = Path(__file__).resolve().parent
+sys.dont_write_bytecode = True
+sys.path[:0] = [str(HERE / "provider_tests"), str(HERE.parent.parent / "scripts")]
+
+import kills
+import speed
+import stand_ins
+import steps
+import units
+from tally import Tally
+
+PROGRAM = HERE.parent.parent / "crates/provider/out/provider"
+
+
+def main(words):
+    if words[:1] == ["--speed"]:
+        return speed.main(str(Path(words[1] if len(words) > 1 else PROGRAM).resolve()), *map(int, words[2:]))
+    tally = Tally()
+    program = Path(words[0] if words else PROGRAM).resolve()
+    if not program.is_file():
+        tally.skip("coniks.provider", f"{program.name}, which `rt ci` builds")
+    else:
+        if not stand_ins.nacl:
+            tally.skip("signatures by Ed25519", "PyNaCl")
+        if not stand_ins.has_library():
+            tally.skip("audits by the library for C", "embed/build")
+        units.try_units(tally.tell, str(program))
+        steps.try_steps(tally.tell, str(program))
+        steps.try_full_disk(tally.tell, tally.skip, str(program))
+        kills.try_kills(tally.tell, str(program), int(words[1]) if len(words) > 1 else 10)
+    print(tally.line())
+    return 1 if tally.failed else 0
+
+
+sys.exit(main(sys.argv[1:]))
