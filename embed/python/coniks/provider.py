@@ -555,7 +555,7 @@ def _with(line: bytes, member: str, value: bytes) -> bytes:
 
 def _object(line: bytes, error: type[ProviderError]) -> Any:
     try:
-        members = json.loads(line)
+        members = json.loads(line.decode())
     except ValueError:
         members = None
     if not isinstance(members, dict):
