@@ -25,6 +25,7 @@ import tools
 HERE = Path(__file__).resolve().parent
 TOP = HERE.parent
 OUT = HERE / "out"
+PROVIDER = TOP / "crates/provider/out/provider"
 KEY = bytes(32)
 SEED = 20261126
 COUNT = 1000
@@ -225,6 +226,12 @@ def try_go(tell, skip, here, example, requests):
         return skip("the side in Go", "go")
     kept = {it: value for it, value in os.environ.items() if not it.startswith("CGO_")}
     more = {"cwd": here / "go", "env": kept | {"GOCACHE": str(here / "cache"), "GOFLAGS": "", "GOPROXY": "off"}}
+    if PROVIDER.is_file():
+        more["env"]["CONIKS_PROVIDER"] = str(PROVIDER)
+    else:
+        skip("the provider in Go", "the program `provider`")
+    ran = run("go", "vet", ".", cwd=here / "go", env=more["env"] | {"CGO_ENABLED": "0"})
+    tell("go vet, without cgo", ran.returncode == 0, ran.stderr.decode()[-2000:])
     for words in [["go", "vet", "./..."], ["go", "test", "./..."], ["go", "build", "-o", here / "in_go", "./internal/answers"], ["go", "build", "-o", here / "go_example", "./example"]]:
         ran = run(*words, **more)
         tell(" ".join(str(it) for it in words[:2]), ran.returncode == 0, (ran.stdout + ran.stderr).decode()[-2000:])

@@ -35,7 +35,16 @@ def packaging_python():
     return None
 
 
+def signing_python():
+    """A Python that has PyNaCl, or this one. The first on the path may not see Debian's packages."""
+    for python in [sys.executable, "/usr/bin/python3"]:
+        if os.path.exists(python) and subprocess.run([python, "-c", "import nacl.signing"], capture_output=True).returncode == 0:
+            return python
+    return None
+
+
 PYTHON = packaging_python()
+SIGNING_PYTHON = signing_python()
 
 # A tool, whether it is there, its packages in Debian, and what is skipped without it.
 TOOLS = {
@@ -47,6 +56,7 @@ TOOLS = {
     "cargo": (lambda: has_program("cargo"), "cargo-web", "the side in Rust"),
     "go": (lambda: has_program("go"), "golang-go", "the side in Go"),
     "pip": (lambda: PYTHON is not None, "python3-venv python3-setuptools python3-wheel", "pip install"),
+    "PyNaCl": (lambda: SIGNING_PYTHON is not None, "python3-nacl", "signatures by Ed25519"),
     "mypy": (lambda: has_program("mypy"), "mypy", "the types of the side in Python"),
     "node": (lambda: has_program("node"), "nodejs", "the page's own tests"),
     "tsc": (lambda: has_program("tsc"), "node-typescript", "the types of the module for web projects"),

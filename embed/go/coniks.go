@@ -1,8 +1,8 @@
 // Package coniks is the client's side of a CONIKS key directory: it checks proofs, audits a chain of signed entries and
-// monitors names.
+// monitors names. Its Provider is the other side: it runs a directory by the program `provider`.
 //
-// It calls the proved C library and decides nothing itself. It verifies no signatures: verify each one and pass the result.
-// Build the library first with embed/build.
+// The client's side calls the proved C library and decides nothing itself. It verifies no signatures: verify each one and pass
+// the result. Build the library first with embed/build. A Provider needs neither the library nor cgo.
 package coniks
 
 /*

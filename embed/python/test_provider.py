@@ -31,7 +31,7 @@ def main(words):
     tally = Tally()
     program = Path(words[0] if words else PROGRAM).resolve()
     if not program.is_file():
-        tally.skip("coniks.provider", f"{program.name}, which `rt ci` builds")
+        tally.skip("coniks.provider", "the program `provider`")
     else:
         if not stand_ins.nacl:
             tally.skip("signatures by Ed25519", "PyNaCl")

@@ -78,6 +78,7 @@ def drive(room, program, kind, seed):
                 break
             except (SignerFailed, ProgramFailed):
                 pass
+        print("ready", flush=True)
         threading.Thread(target=look, args=(room, provider, seed), daemon=True).start()
         while True:
             try:
@@ -128,10 +129,12 @@ def check(tell, what, room, program, kind, library):
 
 
 def one_kill(chance, room, program, kind):
-    """Starts the process, and kills it or its child, and then it."""
+    """Starts the process, and kills it or its child, and then it: some time after its start, or after it has replayed the log."""
     words = [sys.executable, str(HERE / "kills.py"), str(room), program, kind, str(chance.randrange(1 << 30))]
-    with open(room / "said", "ab") as said, subprocess.Popen(words, stdout=said, stderr=said) as process:
-        time.sleep(chance.uniform(0, 0.6))
+    with open(room / "said", "ab") as said, subprocess.Popen(words, stdout=subprocess.PIPE, stderr=said) as process:
+        if chance.randrange(3):
+            process.stdout.readline()
+        time.sleep(chance.uniform(0, 0.5))
         turn = chance.choice(["process", "child", "both", "child first"])
         if turn == "child":
             for it in children_of(process.pid):
@@ -158,6 +161,7 @@ def try_kills(tell, program, count, seed=20261126):
                 there = check(tell, what, Path(room), program, kind, library)
             acknowledged, seen = acknowledged + there[0], seen + there[1]
     told = ", ".join(f"{it} {counts[it]}" for it in sorted(counts))
+    tell("kills: epochs were acknowledged and shown", acknowledged and seen)
     print(f"{count} kills ({told}): {acknowledged} epochs acknowledged, {seen} entries shown", flush=True)
 
 
