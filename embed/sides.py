@@ -292,6 +292,8 @@ def try_python(tell, skip, here, coniks, requests):
     shutil.rmtree(here / "out")
     kept = {it: value for it, value in os.environ.items() if it != "CONIKS_LIBRARY"}
     try_requests(tell, "Python, installed", [venv / "bin/python3", room / "answers.py"], requests, env=kept, cwd=room)
+    ran = run(venv / "bin/python3", "-c", "import coniks.provider", env=kept, cwd=room)
+    tell("coniks.provider, installed", ran.returncode == 0, ran.stderr.decode())
     if tools.has("mypy"):
         ran = run("mypy", "--strict", here / "python/coniks", cwd=room)
         tell("mypy --strict", ran.returncode == 0, ran.stdout.decode())

@@ -272,12 +272,12 @@ class Provider:
     #   4. the child accepts `install`       As after 2. No lookup has shown the entry, because `_asking` is held up to 5.
     #   5. the log appends it                A start finds the epoch installed, with this signature.
     #
-    # A line that was cut by a crash is dropped with the log's start. After an append that failed, the line may be in the log
-    # or not, which is one of the two neighbouring rows. So after an error in 1 to 2 or 4 to 5 the child isn't asked again:
-    # `_broken` is set before the first step, and reset after the last. An error in 3 leaves child and log as after 2.
+    # The log drops a line that a crash has cut. A line whose append failed may be in the log or not: both are rows of this list.
+    # So after an error from 1 to 2, or from 4 to 5, the child isn't asked again before a restart. `_broken` is set before the
+    # first of these steps, and reset after the last. An error in 3 leaves the child and the log as after 2.
     #
-    # Epoch numbers of `prepare` lines only rise: the child refuses those up to the latest installed one, and `_prepare` those
-    # up to the pending one. So of one number there is one `prepare` line in the log, and one body that was asked for.
+    # The epoch numbers of `prepare` lines only rise. The child refuses those up to the latest installed one, and `_prepare`
+    # those up to the pending one. So the log has one `prepare` line for a number, and the signer is asked for one body.
 
     @contextmanager
     def _steps(self) -> Iterator[_Child]:
@@ -495,8 +495,8 @@ class Provider:
         return found
 
     def _lookup_line(self, name: str, epoch: int) -> bytes:
-        index = self._index_of(name).hex()
-        return _line({"cmd": "lookup", "epoch": _number(epoch, 64, "the epoch"), "index": index, "name": name}) + b"\n"
+        index, number = self._index_of(name).hex(), _number(epoch, 64, "the epoch")
+        return f'{{"cmd":"lookup","epoch":{number},"index":"{index}","name":{json.dumps(name)}}}\n'.encode()
 
     def _index_of(self, name: str) -> bytes:
         return _sized(self._index(_text(name)), 32, "an index")
@@ -591,6 +591,7 @@ def _sized(value: Any, size: int, what: str) -> bytes:
 def _text(name: Any) -> str:
     if not isinstance(name, str):
         raise TypeError(f"a name is text, not {type(name).__name__}")
+    name.encode()
     return name
 
 
