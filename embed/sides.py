@@ -221,13 +221,28 @@ def clone(room):
     return room / "embed"
 
 
+def log_of_python(program, file):
+    """A log with one epoch and an update that is pending, for the provider in Go."""
+    from coniks import provider
+
+    index = lambda name: digest(b"index of ", name.encode())
+    signatures = iter([bytes(64)])
+    policy = bytes([7]) + bytes(31)
+    with provider.FileLog(file) as log, provider.Provider(program, index, lambda body: next(signatures), log, policy=policy) as own:
+        own.commit(1, [provider.Register("alice", b"key")])
+        try:
+            own.commit(2, [provider.Register("bob \u00e9", b"key")])
+        except provider.SignerFailed:
+            return file
+
+
 def try_go(tell, skip, here, example, requests):
     if not (tools.has("go") and tools.has("a C compiler")):
         return skip("the side in Go", "go")
     kept = {it: value for it, value in os.environ.items() if not it.startswith("CGO_")}
     more = {"cwd": here / "go", "env": kept | {"GOCACHE": str(here / "cache"), "GOFLAGS": "", "GOPROXY": "off"}}
     if PROVIDER.is_file():
-        more["env"]["CONIKS_PROVIDER"] = str(PROVIDER)
+        more["env"] |= {"CONIKS_PROVIDER": str(PROVIDER), "CONIKS_LOG": str(log_of_python(PROVIDER, here / "log"))}
     else:
         skip("the provider in Go", "the program `provider`")
     ran = run("go", "vet", ".", cwd=here / "go", env=more["env"] | {"CGO_ENABLED": "0"})

@@ -296,6 +296,25 @@ func TestLogOfAnotherDirectory(t *testing.T) {
 	it.wants(err, ErrReplayDiffers)
 }
 
+// CONIKS_LOG names a log of the package for Python, with one epoch and an update that is pending.
+func TestLogOfPython(t *testing.T) {
+	path := os.Getenv("CONIKS_LOG")
+	if path == "" {
+		t.Skip("CONIKS_LOG names no log")
+	}
+	it := newRoom(t)
+	it.provider.Close()
+	it.log.Close()
+	it.open(path)
+	latest, err := it.provider.Latest()
+	if err != nil || latest.Epoch != 2 || latest.Names != 2 || len(it.asked) != 1 {
+		t.Error(latest, err)
+	}
+	if found, err := it.provider.Lookup("bob é", 2); err != nil || found.Epoch != 2 {
+		t.Error(found, err)
+	}
+}
+
 func TestCutLines(t *testing.T) {
 	whole := "first\n\nlast line\n"
 	for size := 0; size <= len(whole); size++ {
