@@ -145,8 +145,9 @@ def check(tell, what, stage, is_logged, library):
     tell(f"{what}: the chain is audited", audited(entries(stage.log), stage.signer.keys, library))
 
 
-def commit_stopped(stage, error):
-    """Commits epoch 2, which must raise the error, or return if it is None; and whether the provider is as it must be after."""
+def commit_stopped(stage, error, needs_restart=True):
+    """Commits epoch 2, which must raise the error, or return if it is None. Then a lookup must go on, or need a restart. Returns
+    what is wrong, or None."""
     try:
         stage.provider.commit(2, [Register("second", b"key")])
     except (ProviderError, Stop) as raised:
@@ -158,9 +159,8 @@ def commit_stopped(stage, error):
     try:
         stage.provider.lookup("first")
     except (RestartNeeded, ProgramFailed) as raised:
-        # A signer that fails leaves the child as it was.
-        return f"raised {raised!r}" if error is SignerFailed else None
-    return None if error in (SignerFailed, Stop) else "a lookup went on"
+        return None if needs_restart else f"a lookup raised {raised!r}"
+    return "a lookup went on" if needs_restart else None
 
 
 def try_steps(tell, program):
@@ -170,7 +170,8 @@ def try_steps(tell, program):
             with tempfile.TemporaryDirectory() as room:
                 stage = Stage(room, program)
                 set_up(stage)
-                told = commit_stopped(stage, error)
+                # A signer that stops leaves the child and the log as they were.
+                told = commit_stopped(stage, error, "signer" not in what or "child" in what)
                 tell(f"{what}: commit", told is None, told)
                 stage.start_again(is_new)
                 check(tell, f"{what}, {'new' if is_new else 'restart'}", stage, is_logged, library)
