@@ -9,6 +9,7 @@ import (
 	"os"
 	"path/filepath"
 	"strings"
+	"sync"
 	"testing"
 )
 
@@ -271,6 +272,41 @@ func TestChildEnds(t *testing.T) {
 	it.provider.Close()
 	_, err = it.provider.Latest()
 	it.wants(err, ErrClosed)
+}
+
+func TestLookupsGoOnWhileTheSignerIsAsked(t *testing.T) {
+	it := newRoom(t)
+	it.commit(1, Register("alice", []byte("key")))
+	sign := it.settings.Sign
+	entries := make(chan []byte, 64)
+	it.provider.settings.Sign = func(body []byte) ([]byte, error) {
+		found, err := it.provider.Lookup("alice", 0)
+		if err != nil {
+			return nil, err
+		}
+		entries <- found.Entry
+		return sign(body)
+	}
+	var group sync.WaitGroup
+	for range [3]int{} {
+		group.Add(1)
+		go func() {
+			defer group.Done()
+			for range [50]int{} {
+				if _, err := it.provider.Lookup("alice", 0); err != nil {
+					t.Error(err)
+				}
+			}
+		}()
+	}
+	for epoch := uint64(2); epoch < 6; epoch++ {
+		it.commit(epoch, Change("alice", []byte("other")))
+		if entry := <-entries; uint64(entry[8]) != epoch-1 {
+			t.Error("an entry that isn't installed was shown")
+		}
+	}
+	group.Wait()
+	it.check(1, 2, 3, 4, 5)
 }
 
 func TestLogOfAnotherDirectory(t *testing.T) {
