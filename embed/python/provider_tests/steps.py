@@ -219,25 +219,35 @@ def try_full_disk(tell, skip, program, rounds=8):
 
 
 def fill(tell, room, program, rounds, library):
-    signer, there = Signer(tempfile.gettempdir(), Salted()), {}
-    signer.file = Path(tempfile.mkdtemp()) / "asked"
-    ballast = room / "ballast"
-    ballast.write_bytes(bytes(160 << 10))
-    with FileLog(room / "log") as log, opened(program, log, signer) as provider:
+    signer, there, ballast = Signer(room, Salted()), {}, room / "ballast"
+    with tempfile.TemporaryDirectory() as elsewhere:
+        signer.file = Path(elsewhere) / "asked"
+        ballast.write_bytes(bytes(160 << 10))
         for turn in range(rounds):
-            epoch = provider.latest().epoch
-            try:
-                while True:
-                    epoch += 1
-                    # Of several sizes, so that the disk is full at another step each time.
-                    made = provider.commit(epoch, [Register(f"user-{epoch}-{it}", b"k" * (700 * (turn + 1))) for it in range(1 + turn % 3)])
-                    there[epoch] = made.entry
-            except LogFailed:
-                pass
-            os.truncate(ballast, ballast.stat().st_size - (16 << 10))
-            provider.restart()
-            by_epoch = {int.from_bytes(it[1:9], "big"): it for it in entries(log)}
-            tell(f"full disk {turn}: each acknowledged epoch is there", all(by_epoch.get(it) == entry for it, entry in there.items()))
-            tell(f"full disk {turn}: one body for each epoch", signer.is_asked_once())
-            tell(f"full disk {turn}: the chain is audited", audited(entries(log), signer.keys, library))
-    tell("full disk: epochs were acknowledged", len(there) > rounds, len(there))
+            with FileLog(room / "log") as log, opened(program, log, signer) as provider:
+                fill_once(turn, provider, there)
+                if turn % 2 == 0:
+                    os.truncate(ballast, ballast.stat().st_size - (16 << 10))
+                    provider.restart()
+            if turn % 2:
+                with FileLog(room / "log") as log:
+                    tell(f"full disk {turn}: the log opens while the disk is full", list(log.read(0)))
+                os.truncate(ballast, ballast.stat().st_size - (16 << 10))
+            with FileLog(room / "log") as log, opened(program, log, signer) as provider:
+                by_epoch = {int.from_bytes(it[1:9], "big"): it for it in entries(log)}
+                tell(f"full disk {turn}: each acknowledged epoch is there", all(by_epoch.get(it) == entry for it, entry in there.items()))
+                tell(f"full disk {turn}: one body for each epoch", signer.is_asked_once())
+                tell(f"full disk {turn}: the chain is audited", audited(entries(log), signer.keys, library))
+        tell("full disk: epochs were acknowledged", len(there) > rounds, len(there))
+
+
+def fill_once(turn, provider, there):
+    """Commits batches, whose size differs from turn to turn, until the disk is full."""
+    epoch = provider.latest().epoch
+    try:
+        while True:
+            epoch += 1
+            made = provider.commit(epoch, [Register(f"user-{epoch}-{it}", b"k" * (700 * (turn + 1))) for it in range(1 + turn % 3)])
+            there[epoch] = made.entry
+    except LogFailed:
+        pass
