@@ -211,7 +211,7 @@ def try_program(tell, program):
 
             def start():
                 nonlocal own
-                own = Provider(faked(room, answers), index, lambda body: bytes(64), OneLine(), policy=POLICY, **more)
+                own = Provider(faked(room, answers), index, lambda body: bytes(64), OneLine(), policy=POLICY, **{"timeout": 20, **more})
                 return own.commit(1, [])
 
             begun = time.monotonic()
