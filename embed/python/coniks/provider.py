@@ -140,7 +140,8 @@ class _Child:
 
     def __init__(self, words: Sequence[str], timeout: Optional[float]):
         try:
-            self._process = subprocess.Popen(words, stdin=subprocess.PIPE, stdout=subprocess.PIPE, bufsize=0, start_new_session=True)
+            pipe = subprocess.PIPE
+            self._process = subprocess.Popen(words, stdin=pipe, stdout=pipe, bufsize=0, start_new_session=True)
         except OSError as error:
             raise ProgramFailed(f"the program can't be started: {error}") from error
         assert self._process.stdin and self._process.stdout
@@ -396,6 +397,8 @@ class Provider:
         fails: the update stays pending, and `commit` with the same arguments, or `retry`, asks for the same body again.
         Operations have a random opening: pass the same objects. Raises `EpochSpent` for other operations under the epoch of
         the pending update or an earlier one.
+
+        After `ProgramFailed` or `LogFailed`, call `restart`. The batch is installed if `latest().epoch` is its epoch then.
         """
         line = self._prepare_line(epoch, operations, nonce)
         with self._changing:
@@ -407,10 +410,9 @@ class Provider:
         for it in operations:
             if not isinstance(it, (Register, Change)):
                 raise TypeError(f"an operation is Register or Change, not {type(it).__name__}")
-            kind, key, opening = type(it).__name__.lower(), _bytes(it.key, "a key"), _sized(it.opening, 32, "an opening")
-            listed.append(
-                {"op": kind, "name": _text(it.name), "index": self._index_of(it.name).hex(), "key": base64.b64encode(key).decode(), "opening": opening.hex()}
-            )
+            kind, index = type(it).__name__.lower(), self._index_of(it.name).hex()
+            key, opening = base64.b64encode(_bytes(it.key, "a key")).decode(), _sized(it.opening, 32, "an opening").hex()
+            listed.append({"op": kind, "name": it.name, "index": index, "key": key, "opening": opening})
         brought = {} if nonce is None else {"nonce": _sized(nonce, 32, "the nonce").hex()}
         return _line({"cmd": "prepare", "epoch": _number(epoch, 64, "the epoch"), **brought, "ops": listed})
 
@@ -613,8 +615,11 @@ def _ask(child: _Child, line: bytes) -> Mapping[str, Any]:
 
 def _lookup(line: bytes) -> Lookup:
     it = _answer(line)
-    index, nonce, root = (_digits(it, name, 32) for name in ("index", "nonce", "root"))
-    return Lookup(it["name"], it["epoch"], index, nonce, root, _digits(it, "entry", ENTRY_LENGTH), it["proof"], line)
+    name, proof = it.get("name"), it.get("proof")
+    if not isinstance(name, str) or not isinstance(proof, dict):
+        raise ProgramFailed(f"the program printed {line[:80]!r}")
+    index, nonce, root = (_digits(it, member, 32) for member in ("index", "nonce", "root"))
+    return Lookup(name, _number_in(it, "epoch"), index, nonce, root, _digits(it, "entry", ENTRY_LENGTH), proof, line)
 
 
 def _grouped(lines: Iterable[bytes], size: int) -> Iterator[list[bytes]]:
