@@ -204,7 +204,7 @@ def try_program(tell, program):
         ("prints another epoch", [OPEN, PREPARED, installed.replace('epoch":1', 'epoch":2') % (entry, "00" * 32, "aa" * 32)], {}),
         ("prints another root", [OPEN, PREPARED, installed % (entry, "00" * 32, "ab" * 32)], {}),
         ("prints a text for the epoch", [OPEN, PREPARED, installed.replace('epoch":1', 'epoch":"1"') % (entry, "00" * 32, "aa" * 32)], {}),
-        ("is too slow", [OPEN, "wait 5"], {"timeout": 0.3}),
+        ("is too slow", [OPEN, "wait 60"], {"timeout": 2}),
     ]:
         with tempfile.TemporaryDirectory() as room:
             own = None
@@ -216,7 +216,7 @@ def try_program(tell, program):
 
             begun = time.monotonic()
             raises(tell, f"the program {what}", provider.ProgramFailed, start)
-            tell(f"the program {what}: in time", time.monotonic() - begun < 4)
+            tell(f"the program {what}: in time", time.monotonic() - begun < 15)
             if own:
                 raises(tell, f"the program {what}: the next call", provider.RestartNeeded, own.latest)
                 own.close()
