@@ -5,6 +5,7 @@ import { Coniks } from "./coniks.js";
 import { element, pathOf } from "./draw.js";
 import { LONGEST, linesOf } from "./lines.js";
 import { Reading, isOtherEpoch } from "./reading.js";
+import { NOT_VERIFIED, ProviderKey } from "./signatures.js";
 import { counting, keyText, nameText } from "./words.js";
 
 /**
@@ -88,7 +89,7 @@ const STATES = { authentic: "authentic: ", consistent: "consistent, not authenti
 
 /** @param {Reading} reading @param {LookupRow} row @returns {string} */
 function standingWords(reading, row) {
-  const index = reading.key === null ? "; at the index in this line" : "";
+  const index = reading.key === null ? `; at the index in this line${reading.verifier === null ? "" : ", whose VRF proof this page does not verify"}` : "";
   return STATES[reading.stateOf(row)] + STANDINGS[reading.standing(row)] + index + otherEpoch(row);
 }
 
@@ -214,25 +215,48 @@ function counted(counts, isKeyed) {
   return [lookups, entriesWords(counts, isKeyed), ...others].join(" ");
 }
 
-/** @returns {Uint8Array | null | undefined} the key of the demonstration, null where none is given, undefined where it isn't one */
-function demonstrationKey() {
-  const text = part("key").value.trim();
-  if (text === "") return null;
-  const bytes = fromHex(text);
-  return bytes !== null && bytes.length === 32 ? bytes : undefined;
+/** The fields of the keys, with the places of what is wrong with them. */
+const NOTES = { key: "keyed-as", provided: "provided-as" };
+const TWO_KEYS = "two keys: give the demonstration's key or a provider's. No signature is verified.";
+
+/** @param {"key" | "provided"} field @returns {string} */
+function fieldText(field) {
+  return part(field).value.trim();
 }
 
-/** @param {string} words  what is wrong with the key */
-function tellKey(words) {
-  part("key").setAttribute("aria-invalid", String(words !== ""));
-  part("keyed-as").textContent = words;
+/** @param {"key" | "provided"} field @returns {Uint8Array | null} the key in a field, null if there is none */
+function keyIn(field) {
+  const bytes = fromHex(fieldText(field));
+  return bytes !== null && bytes.length === 32 ? bytes : null;
 }
 
-/** @returns {string} what is wrong with a text that isn't a key */
-function keyWords() {
-  const text = part("key").value.trim();
+/** @param {"key" | "provided"} field @param {string} words  what is wrong with the key, or why it can't be used */
+function tellKey(field, words) {
+  part(field).setAttribute("aria-invalid", String(words !== "" && !words.startsWith(NOT_VERIFIED)));
+  part(NOTES[field]).textContent = words;
+}
+
+/** @param {"key" | "provided"} field @returns {string} what is wrong with a text that isn't a key */
+function keyWords(field) {
+  const text = fieldText(field);
+  if (text === "" || keyIn(field) !== null) return "";
   const what = /^[0-9a-fA-F]*$/.test(text) ? `this text has ${counting(text.length, "digit")}` : "this text has other characters";
   return `not a key: a key has 64 hexadecimal digits, and ${what}. No signature is verified.`;
+}
+
+/**
+ * The key of the demonstration or of a provider, if there is one that signatures can be verified with, and what is wrong.
+ * @typedef {{key: Uint8Array | null, provider: ProviderKey | null, wrong: {key: string, provided: string}}} Keys
+ */
+
+/** @returns {Promise<Keys>} */
+async function givenKeys() {
+  const wrong = { key: keyWords("key"), provided: keyWords("provided") };
+  if (fieldText("key") !== "" && fieldText("provided") !== "") return { key: null, provider: null, wrong: { ...wrong, provided: TWO_KEYS } };
+  const bytes = keyIn("provided");
+  const provider = bytes && (await ProviderKey.of(bytes));
+  if (typeof provider === "string") return { key: null, provider: null, wrong: { ...wrong, provided: provider } };
+  return { key: keyIn("key"), provider, wrong };
 }
 
 /** Lets the browser draw and answer, where it hasn't for a while. */
@@ -257,7 +281,9 @@ async function readLines(reading, mine) {
   const [pause, progress] = [new Pause(), part("progress")];
   progress.max = given.reduce((size, it) => size + it.length, 0);
   for (const line of linesOf(given)) {
-    reading.read(line);
+    const verified = reading.read(line);
+    if (verified) await verified;
+    if (mine !== turn) return true;
     if (!pause.isDue()) continue;
     progress.value = line.end;
     part("reading").hidden = false;
@@ -284,9 +310,11 @@ async function countRows(reading, mine) {
 /** Reads what is given, and shows it. */
 async function readAll() {
   const mine = ++turn;
-  const key = demonstrationKey();
-  tellKey(key === undefined ? keyWords() : "");
-  const reading = new Reading(coniks, key ?? null);
+  const { key, provider, wrong } = await givenKeys();
+  if (mine !== turn) return;
+  tellKey("key", wrong.key);
+  tellKey("provided", wrong.provided);
+  const reading = new Reading(coniks, key, provider);
   for (const id of ["more", "watch", "reading"]) part(id).hidden = true;
   part("results").replaceChildren();
   if (await readLines(reading, mine)) return;
@@ -305,8 +333,9 @@ function showRows(reading, counts, isCancelled) {
   part("reading").hidden = true;
   part("folded").textContent = lines ? `${counting(lines, "line")}: show them, or paste others` : "Paste lines";
   const cut = isCancelled ? `Cancelled after ${counting(lines, "line")}; the rest is not read. ` : "";
-  part("summary").textContent = cut + (lines ? counted(counts, reading.key !== null) : "Nothing is pasted.");
-  if (counts.unsigned && !counts.signed) tellKey(`wrong key: no signature of ${counting(counts.unsigned, "entry", "entries")} is one under it`);
+  part("summary").textContent = cut + (lines ? counted(counts, reading.verifier !== null) : "Nothing is pasted.");
+  const field = reading.key === null ? "provided" : "key";
+  if (counts.unsigned && !counts.signed) tellKey(field, `wrong key: no signature of ${counting(counts.unsigned, "entry", "entries")} is one under it`);
   show(reading, 0);
   const first = /** @type {HTMLDetailsElement | null} */ (document.querySelector("details.lookup"));
   if (first && lines <= MANY) first.open = true;
@@ -355,7 +384,7 @@ function listenToLines() {
     part("pasted").open = event.inputType !== "insertFromPaste";
     soon();
   });
-  part("key").addEventListener("input", soon);
+  for (const field of ["key", "provided"]) part(field).addEventListener("input", soon);
   files.addEventListener("change", async () => {
     const parts = await bytesOf(files.files);
     // The same file can be opened again.
@@ -367,6 +396,7 @@ function listenToLines() {
 /** @param {string} key */
 function takeExample(key) {
   part("key").value = key;
+  part("provided").value = "";
   return take([part("tour").textContent ?? ""]);
 }
 

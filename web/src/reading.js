@@ -3,7 +3,7 @@
 import { toHex } from "./bytes.js";
 import { Coniks } from "./coniks.js";
 import { entryOf, lookupIn, lookupOf, nameBytes, numberOf, objectOf, proofBytes } from "./lines.js";
-import { indexOf, isSealed } from "./seal.js";
+import { Seal, indexOf } from "./seal.js";
 import { FAULTS } from "./words.js";
 
 /**
@@ -21,6 +21,9 @@ import { FAULTS } from "./words.js";
  * @typedef {LookupRow | EntryRow | UnprovedRow | RefusalRow | PlainRow} Row
  * @typedef {{state: Uint8Array, isGood: boolean}} Before
  *
+ * An entry with its link, and whether its signature is good: null if no signature is verified.
+ * @typedef {{entry: Uint8Array, link: string, isGood: boolean | null}} Signed
+ *
  * What is seen of a name at an epoch: its first key, a key after none, the same one, another one, none any more, or none yet.
  * @typedef {{seen: "first" | "registered" | "same", key: Uint8Array}
  *   | {seen: "changed", from: Uint8Array, key: Uint8Array}
@@ -37,11 +40,14 @@ const PLAIN = { broken: { what: "broken" }, other: { what: "other" }, Json: { wh
 export class Reading {
   /**
    * @param {Coniks} coniks
-   * @param {Uint8Array | null} key  of the demonstration; without it no signature is verified, and no index computed
+   * @param {Uint8Array | null} key  of the demonstration, with which signatures are verified and indices computed
+   * @param {import("./signatures.js").ProviderKey | null} provider  with which signatures are verified if there is no other key
    */
-  constructor(coniks, key) {
+  constructor(coniks, key, provider = null) {
     this.coniks = coniks;
     this.key = key;
+    /** Null if no signature is verified. @type {import("./signatures.js").Verifier | null} */
+    this.verifier = key === null ? provider : new Seal(key);
     this.state = coniks.begin();
     /** What stood before each accepted entry, by its link. @type {Map<string, Before>} */
     this.before = new Map();
@@ -53,21 +59,35 @@ export class Reading {
     this.byName = new Map();
   }
 
-  /** @param {import("./lines.js").Line} line */
+  /**
+   * Reads a line. Returns a promise if the browser verifies the signature of its entry first: the next line is read after it.
+   * @param {import("./lines.js").Line} line
+   * @returns {Promise<void> | void}
+   */
   read(line) {
-    const row = "fault" in line ? PLAIN[line.fault] : this.rowOf(line.text);
-    this.rows.push(row);
-    if (row.what === "lookup") this.keep(row);
+    const object = "fault" in line ? null : objectOf(line.text);
+    if (object === null) return this.add("fault" in line ? PLAIN[line.fault] : PLAIN.Json);
+    const { text } = /** @type {{text: string}} */ (line);
+    const entry = entryOf(object);
+    if (entry === null) return this.add(this.rowOf(text, object, null));
+    const link = this.coniks.link(entry);
+    const isGood = this.verifier && this.verifier.verify(entry, link);
+    if (isGood instanceof Promise) return isGood.then((it) => this.add(this.rowOf(text, object, { entry, link, isGood: it })));
+    this.add(this.rowOf(text, object, { entry, link, isGood }));
   }
 
-  /** @param {string} line @returns {Row} */
-  rowOf(line) {
-    const object = objectOf(line);
-    if (object === null) return PLAIN.Json;
-    if ("proof" in object) return this.checked(line, object);
+  /** @param {string} line @param {Record<string, any>} object @param {Signed | null} signed @returns {Row} */
+  rowOf(line, object, signed) {
+    if ("proof" in object) return this.checked(line, object, signed);
     if (object.ok === "lookup" || "index" in object) return { what: "unproved", name: textOf(object.name), said: numberOf(line, "epoch") };
-    if ("entry" in object) return this.audited(line, object);
+    if ("entry" in object) return signed === null ? PLAIN.broken : this.audited(line, signed);
     return typeof object.fault === "string" ? { what: "refusal", fault: object.fault } : PLAIN.other;
+  }
+
+  /** @param {Row} row */
+  add(row) {
+    this.rows.push(row);
+    if (row.what === "lookup") this.keep(row);
   }
 
   /** @param {LookupRow} row */
@@ -79,29 +99,25 @@ export class Reading {
     else this.byName.set(row.name, [row]);
   }
 
-  /** @param {string} line @param {Record<string, any>} object @returns {Row} */
-  audited(line, object) {
-    const entry = entryOf(object);
-    if (entry === null) return PLAIN.broken;
-    const signature = this.key === null ? null : isSealed(this.key, entry);
+  /** @param {string} line @param {Signed} signed @returns {EntryRow} */
+  audited(line, { entry, link, isGood: signature }) {
     const [state, isGood] = [this.state.slice(), signature !== false];
     const status = this.coniks.feed(this.state, entry, isGood);
-    if (status === 0) this.before.set(this.coniks.link(entry), { state, isGood });
+    if (status === 0) this.before.set(link, { state, isGood });
     return { what: "entry", epoch: this.epochOf(entry), said: numberOf(line, "epoch"), status, signature };
   }
 
-  /** @param {string} line @param {Record<string, any> | null} object @returns {LookupRow} */
-  checked(line, object) {
-    const lookup = object === null ? { fault: /** @type {const} */ ("Json") } : lookupIn(object);
-    const entry = object === null ? null : entryOf(object);
+  /** @param {string} line @param {Record<string, any>} object @param {Signed | null} signed @returns {LookupRow} */
+  checked(line, object, signed) {
+    const lookup = lookupIn(object);
     const rest = {
       what: /** @type {const} */ ("lookup"),
       text: line,
-      name: object && textOf(object.name),
-      epoch: entry && this.epochOf(entry),
-      said: object && numberOf(line, "epoch"),
-      entry: entry === null ? /** @type {const} */ (object && "entry" in object ? "broken" : "none") : this.tie(entry, lookup),
-      link: entry === null ? "" : this.coniks.link(entry),
+      name: textOf(object.name),
+      epoch: signed && this.epochOf(signed.entry),
+      said: numberOf(line, "epoch"),
+      entry: signed === null ? /** @type {const} */ ("entry" in object ? "broken" : "none") : this.tie(signed, lookup),
+      link: signed === null ? "" : signed.link,
     };
     if ("fault" in lookup) return { ...rest, verdict: lookup };
     const name = nameBytes(lookup.name);
@@ -109,12 +125,12 @@ export class Reading {
     return { ...rest, verdict: verdictOf(this.coniks.check(lookup.nonce, lookup.root, index, name, proofBytes(lookup))) };
   }
 
-  /** Whether an entry is a lookup's own. @param {Uint8Array} entry @param {Lookup | {fault: string}} lookup @returns {"own" | "other" | "unsigned"} */
-  tie(entry, lookup) {
+  /** Whether an entry is a lookup's own. @param {Signed} signed @param {Lookup | {fault: string}} lookup @returns {"own" | "other" | "unsigned"} */
+  tie({ entry, isGood }, lookup) {
     const body = this.coniks.body(entry);
     const isOwn = "fault" in lookup || (body !== null && body.root === toHex(lookup.root) && body.nonce === toHex(lookup.nonce));
     if (!isOwn) return "other";
-    return this.key === null || isSealed(this.key, entry) ? "own" : "unsigned";
+    return isGood === false ? "unsigned" : "own";
   }
 
   /**
@@ -125,7 +141,7 @@ export class Reading {
   standing(row) {
     if (row.entry !== "own") return row.entry;
     if (!this.before.has(row.link)) return "missing";
-    return this.key === null ? "consistent" : "authentic";
+    return this.verifier === null ? "consistent" : "authentic";
   }
 
   /** Whether a lookup is authentic, consistent or refused. @param {LookupRow} row @returns {"authentic" | "consistent" | "refused"} */

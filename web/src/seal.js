@@ -7,7 +7,9 @@ import { sha256 } from "./sha256.js";
 const LOW_TAG = 0x41;
 const HIGH_TAG = 0x42;
 const INDEX_TAG = 0x56;
-const BODY = 145;
+
+/** Bytes of an entry that are signed. */
+export const BODY = 145;
 
 /**
  * Whether an entry's signature is the seal of its body under a key.
@@ -27,4 +29,17 @@ export function isSealed(key, entry) {
  */
 export function indexOf(key, name) {
   return sha256(joined(Uint8Array.of(INDEX_TAG), key, name));
+}
+
+/** Verifies seals under a key. */
+export class Seal {
+  /** @param {Uint8Array} key */
+  constructor(key) {
+    this.key = key;
+  }
+
+  /** @param {Uint8Array} entry @returns {boolean} */
+  verify(entry) {
+    return isSealed(this.key, entry);
+  }
 }
