@@ -26,25 +26,20 @@ def compiles(text, *words):
     return ran.returncode == 0
 
 
-def packaging_python():
-    """A Python that makes environments and builds packages in them without a registry."""
+def python_with(*modules):
+    """A Python that imports some modules, or None. Debian's packages are those of Debian's Python alone."""
     for python in [sys.executable, "/usr/bin/python3"]:
-        ran = subprocess.run([python, "-c", "import ensurepip, setuptools, venv, wheel"], capture_output=True)
+        if not has_program(python):
+            continue
+        ran = subprocess.run([python, "-c", f"import {', '.join(modules)}"], capture_output=True)
         if ran.returncode == 0:
             return python
     return None
 
 
-def signing_python():
-    """A Python that has PyNaCl, or this one. The first on the path may not see Debian's packages."""
-    for python in [sys.executable, "/usr/bin/python3"]:
-        if os.path.exists(python) and subprocess.run([python, "-c", "import nacl.signing"], capture_output=True).returncode == 0:
-            return python
-    return None
-
-
-PYTHON = packaging_python()
-SIGNING_PYTHON = signing_python()
+# A Python that makes environments and builds packages in them without a registry, and one with PyNaCl.
+PYTHON = python_with("ensurepip", "setuptools", "venv", "wheel")
+SIGNING_PYTHON = python_with("nacl.bindings", "nacl.signing")
 
 # A tool, whether it is there, its packages in Debian, and what is skipped without it.
 TOOLS = {
@@ -56,7 +51,7 @@ TOOLS = {
     "cargo": (lambda: has_program("cargo"), "cargo-web", "the side in Rust"),
     "go": (lambda: has_program("go"), "golang-go", "the side in Go"),
     "pip": (lambda: PYTHON is not None, "python3-venv python3-setuptools python3-wheel", "pip install"),
-    "PyNaCl": (lambda: SIGNING_PYTHON is not None, "python3-nacl", "signatures by Ed25519"),
+    "PyNaCl": (lambda: SIGNING_PYTHON is not None, "python3-nacl", "signatures by Ed25519 and examples/provider"),
     "mypy": (lambda: has_program("mypy"), "mypy", "the types of the side in Python"),
     "node": (lambda: has_program("node"), "nodejs", "the page's own tests"),
     "tsc": (lambda: has_program("tsc"), "node-typescript", "the types of the module for web projects"),

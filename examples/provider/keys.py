@@ -1,0 +1,45 @@
+"""The public keys of a provider, and what is verified with them."""
+
+from __future__ import annotations
+
+import hashlib
+from dataclasses import dataclass
+
+import coniks
+import ecvrf
+from nacl.exceptions import BadSignatureError
+from nacl.signing import VerifyKey
+
+
+@dataclass(frozen=True)
+class PublicKeys:
+    """The key that verifies signatures (Ed25519), and the key of the VRF. Clients and auditors have both from the start.
+
+    The policy digest in each entry is the SHA-256 of these keys. So each signature also covers the key of the VRF.
+    """
+
+    signing: bytes
+    vrf: bytes
+
+    @property
+    def policy(self) -> bytes:
+        return hashlib.sha256(b"Ed25519, ECVRF-EDWARDS25519-SHA512-TAI" + self.signing + self.vrf).digest()
+
+    def is_signed(self, entry: bytes) -> bool:
+        """Whether the signature of an entry is valid and its policy is that of these keys."""
+        return is_signed(self.signing, entry) and coniks.Body.of_entry(entry).policy == self.policy
+
+    def index(self, name: str, proof: bytes) -> bytes:
+        """The index of a name. Raises `ecvrf.InvalidProof` if the proof is not one of this name."""
+        return ecvrf.verify(self.vrf, name.encode(), proof)[:32]
+
+
+def is_signed(signing: bytes, entry: bytes) -> bool:
+    """Whether the 209 bytes of an entry end with a valid signature of the 145 before."""
+    if len(entry) != coniks.ENTRY_LENGTH:
+        return False
+    try:
+        VerifyKey(signing).verify(entry[: coniks.BODY_LENGTH], entry[coniks.BODY_LENGTH :])
+    except BadSignatureError:
+        return False
+    return True

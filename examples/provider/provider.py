@@ -1,0 +1,55 @@
+"""A provider: a directory run by the program `provider`, a signing key, and the secret key of a VRF."""
+
+from __future__ import annotations
+
+from contextlib import ExitStack
+from dataclasses import dataclass
+from pathlib import Path
+from typing import Iterable
+
+import ecvrf
+from coniks.provider import Epoch, FileLog, Latest, Operation, Provider
+from keys import PublicKeys
+from nacl.signing import SigningKey
+
+
+@dataclass(frozen=True)
+class Answer:
+    """What a client gets for a name: the line that the program printed, and the proof that the index in it is the name's."""
+
+    line: bytes
+    proof: bytes
+
+
+class KeyServer:
+    """Registers names and looks them up. The log is its store: a provider that starts goes on where the log ends."""
+
+    def __init__(self, program: Path, log: Path, signing: bytes, vrf: bytes, nonce: bytes):
+        self._signer, self._vrf = SigningKey(signing), vrf
+        self.keys = PublicKeys(bytes(self._signer.verify_key), ecvrf.public_key(vrf))
+        with ExitStack() as opened:
+            file = opened.enter_context(FileLog(log))
+            provider = Provider(program, self.index, self.sign, file, policy=self.keys.policy, nonce=nonce)
+            self._directory = opened.enter_context(provider)
+            self._opened = opened.pop_all()
+
+    def proof(self, name: str) -> bytes:
+        return ecvrf.prove(self._vrf, name.encode())
+
+    def index(self, name: str) -> bytes:
+        return ecvrf.output(self.proof(name))[:32]
+
+    def sign(self, body: bytes) -> bytes:
+        return self._signer.sign(body).signature
+
+    def commit(self, epoch: int, operations: Iterable[Operation]) -> Epoch:
+        return self._directory.commit(epoch, operations)
+
+    def look_up(self, name: str, epoch: int) -> Answer:
+        return Answer(self._directory.lookup(name, epoch).line, self.proof(name))
+
+    def latest(self) -> Latest:
+        return self._directory.latest()
+
+    def close(self) -> None:
+        self._opened.close()

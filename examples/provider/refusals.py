@@ -1,0 +1,124 @@
+#!/usr/bin/env python3
+"""Tests what the client and the auditor refuse, and what is no evidence of equivocation, on the lines of lines.jsonl.
+
+The last line is `N passed, M failed`.
+"""
+
+from __future__ import annotations
+
+import hashlib
+import json
+import sys
+from pathlib import Path
+from typing import Any, Callable
+
+HERE = Path(__file__).resolve().parent
+sys.dont_write_bytecode = True
+sys.path.append(str(HERE.parent.parent / "embed/python"))
+
+import coniks
+import ecvrf
+from auditor import audit
+from client import OtherEpoch, look_up
+from equivocation import convicts, first_difference
+from keys import PublicKeys
+from nacl.signing import SigningKey
+from provider import Answer
+from vectors import Count, flipped
+
+SIGNER, VRF = (hashlib.sha256(it).digest() for it in (b"signing key", b"key of the VRF"))
+KEYS = PublicKeys(bytes(SigningKey(SIGNER).verify_key), ecvrf.public_key(VRF))
+LINES: list[dict[str, Any]] = [json.loads(it) for it in (HERE / "lines.jsonl").read_text("utf-8").splitlines()]
+ENTRIES = [bytes.fromhex(it["entry"]) for it in LINES if it["ok"] == "install"]
+LOOKUP = next(it for it in LINES if it["ok"] == "lookup" and it["name"] == "alice")
+ABSENT = next(it for it in LINES if it["ok"] == "lookup" and it["name"] == "dave")
+
+
+def answer(name: str = "alice", line: dict[str, Any] = LOOKUP, **changed: Any) -> Answer:
+    return Answer(json.dumps(line | changed).encode(), ecvrf.prove(VRF, name.encode()))
+
+
+def signed(body: bytes, key: bytes = SIGNER) -> bytes:
+    return body + SigningKey(key).sign(body).signature
+
+
+def raised(call: Callable[..., object], *arguments: object) -> object:
+    """The exception of a call, for `coniks.Refused` its status; None if there is none."""
+    try:
+        call(*arguments)
+    except coniks.Refused as error:
+        return error.status
+    except Exception as error:
+        return type(error)
+    return None
+
+
+def try_client(count: Count) -> None:
+    entry = bytes.fromhex(LOOKUP["entry"])
+    other_keys = PublicKeys(KEYS.signing, ecvrf.public_key(SIGNER))
+    count.tell("alice has a key", look_up(KEYS, "alice", 1, answer()) == b"key of alice")
+    count.tell("dave has none", look_up(KEYS, "dave", 2, answer("dave", ABSENT)) is None)
+    proof = {"end": {"kind": "empty"}, "siblings": LOOKUP["proof"]["siblings"]}
+    refused: list[tuple[str, object, PublicKeys, str, int, Answer]] = [
+        ("another epoch", OtherEpoch, KEYS, "alice", 2, answer()),
+        ("the proof of another name", ecvrf.InvalidProof, KEYS, "alice", 1, answer("bob")),
+        ("another name", coniks.Status.WRONG_NAME, KEYS, "dave", 1, answer("dave")),
+        ("an absence", coniks.Status.ROOT_MISMATCH, KEYS, "alice", 1, answer(proof=proof)),
+        ("another signing key", coniks.Status.SIGNATURE, PublicKeys(KEYS.vrf, KEYS.vrf), "alice", 1, answer()),
+        ("another VRF key, so another policy", coniks.Status.SIGNATURE, other_keys, "alice", 1, answer()),
+        ("no entry", coniks.Status.SIGNATURE, KEYS, "alice", 1, answer(entry="")),
+    ]
+    for place in range(len(entry)):
+        changed = answer(entry=flipped(entry, place).hex())
+        refused.append((f"byte {place} of the entry changed", coniks.Status.SIGNATURE, KEYS, "alice", 1, changed))
+    for what, wanted, *arguments in refused:
+        found = raised(look_up, *arguments)
+        count.tell(f"client, {what}: {found}", found == wanted)
+
+
+def try_auditor(count: Count) -> None:
+    count.tell("the chain is accepted", [it.epoch for it in audit(KEYS, ENTRIES)] == [1, 2, 3])
+    forged = signed(ENTRIES[1][:145], VRF)
+    for what, wanted, entries in [
+        ("a signature under another key", coniks.Status.SIGNATURE, [ENTRIES[0], forged]),
+        ("an entry twice", coniks.Status.NOT_LATER, [ENTRIES[0], ENTRIES[0]]),
+        ("an entry left out", coniks.Status.PREVIOUS_EPOCH, [ENTRIES[0], ENTRIES[2]]),
+        ("an entry that is not the first", coniks.Status.PREVIOUS_EPOCH, [ENTRIES[1]]),
+    ]:
+        found = raised(audit, KEYS, entries)
+        count.tell(f"auditor, {what}: {found}", found == wanted)
+
+
+def try_evidence(count: Count) -> None:
+    body, third = ENTRIES[2][:145], ENTRIES[2]
+    other = signed(flipped(body, 20))
+    count.tell("two bodies of one epoch", convicts(KEYS.signing, third, other) and convicts(KEYS.signing, other, third))
+    for what, one, another in [
+        ("one entry twice", third, third),
+        ("two epochs", ENTRIES[1], third),
+        ("two epochs after one entry", third, signed(body[:8] + b"\4" + body[9:])),
+        ("another signer", third, signed(flipped(body, 20), VRF)),
+        ("a changed signature of one body", third, flipped(third, 150)),
+        ("a changed body", third, flipped(third, 20)),
+        ("a cut entry", third, other[:208]),
+        ("a longer entry", third, other + b"\0"),
+    ]:
+        count.tell(f"no evidence: {what}", not convicts(KEYS.signing, one, another) and not convicts(KEYS.signing, another, one))
+    count.tell("no evidence under another key", not convicts(KEYS.vrf, third, other))
+    links = {1: b"a", 2: b"b", 4: b"c"}
+    compared: list[tuple[dict[int, bytes], object]] = [({}, None), (links, None), ({1: b"a", 3: b"x"}, None), ({1: b"a", 2: b"x", 4: b"x"}, 2)]
+    for theirs, wanted in compared:
+        count.tell(f"links {theirs}", first_difference(links, theirs) == wanted)
+
+
+def main() -> int:
+    count = Count()
+    try_client(count)
+    try_auditor(count)
+    try_evidence(count)
+    print(f"{count.passed} passed, {count.failed} failed")
+    return 1 if count.failed else 0
+
+
+if __name__ == "__main__":
+    sys.exit(main())
