@@ -1,10 +1,12 @@
 // Tests of the script's modules that need no browser: `node web/units.mjs`. The last line is `N passed, M failed`.
 
 import { createHash } from "node:crypto";
+import { readFileSync } from "node:fs";
 
 import { bigEndian, bitAt, fromBase64, fromHex, joined, toBase64, toHex } from "./src/bytes.js";
 import { LONGEST, entryOf, linesOf, lookupOf, numberOf, objectOf, proofBytes } from "./src/lines.js";
 import { sha256 } from "./src/sha256.js";
+import { NOT_VERIFIED, ProviderKey } from "./src/signatures.js";
 import { counting, keyText, nameText, short } from "./src/words.js";
 
 let [passed, failed] = [0, 0];
@@ -109,6 +111,36 @@ same("a name that turns what follows", nameText("gro.live\u202e\u2066\u200b\u202
 same("a name that no directory registers", nameText("a".repeat(256)), `"${"a".repeat(255)}"… (256 characters)`);
 same("one and several", [counting(1, "line"), counting(0, "line"), counting(2, "entry", "entries")], ["1 line", "0 lines", "2 entries"]);
 same("a short hash", short(ones), "11111111…1111");
+
+// A provider's entries, under its key and under another one.
+const stored = (/** @type {string} */ name) => readFileSync(new URL(`../examples/provider/${name}`, import.meta.url), "utf-8");
+const provided = /** @type {RegExpMatchArray} */ (stored("transcript.txt").match(/Ed25519 +([0-9a-f]{64})/))[1];
+const entries = stored("lines.jsonl").trim().split("\n").map((it) => /** @type {Uint8Array} */ (entryOf(JSON.parse(it))));
+const keyOf = async (/** @type {string} */ digits) => /** @type {ProviderKey} */ (await ProviderKey.of(/** @type {Uint8Array} */ (fromHex(digits)), crypto.subtle));
+const [own, another] = [await keyOf(provided), await keyOf("d75a980182b10ab7d54bfed3c964073a0ee172f3daa62325af021a68f707511a")];
+for (const [i, entry] of entries.entries()) {
+  same(`entry ${i} under the provider's key`, await own.verify(entry, `own ${i}`), true);
+  same(`entry ${i} under another key`, await another.verify(entry, `own ${i}`), false);
+}
+same("a result is known then", [own.verify(entries[0], "own 0"), another.verify(entries[0], "own 0")], [true, false]);
+for (let at = 0; at < 209; at++) {
+  const changed = entries[0].slice();
+  changed[at] ^= 1 << at % 8;
+  same(`byte ${at} of an entry changed`, await own.verify(changed, `changed ${at}`), false);
+}
+const failing = (/** @type {string} */ name) => /** @type {any} */ ({ importKey: () => Promise.reject(Object.assign(new Error("refused"), { name })) });
+for (const [what, subtle, isBrowsers] of [["no WebCrypto", undefined, true], ["no Ed25519", failing("NotSupportedError"), true], ["no key", failing("DataError"), false]]) {
+  const made = await ProviderKey.of(index, subtle);
+  same(what, typeof made === "string" && made.startsWith(NOT_VERIFIED) === isBrowsers && made.length > 40, true);
+}
+const orders = ["00", "01", "ec", "ed", "ee"].map((it) => it + (it[0] === "0" ? "00" : "ff").repeat(30) + (it[0] === "0" ? "00" : "7f"));
+orders.push("26e8958fc2b227b045c3f489f2ef98f0d5dfac05d3c63339b13802886d53fc05", "c7176a703d4dd84fba3c0b760d10670f2a2053fa2c39ccc64ec7fd7792ac037a");
+for (const digits of orders.flatMap((it) => [it, it.slice(0, 62) + (parseInt(it.slice(62), 16) | 128).toString(16)])) {
+  const made = await ProviderKey.of(/** @type {Uint8Array} */ (fromHex(digits)), crypto.subtle);
+  same(`a point of small order: ${digits}`, typeof made === "string" && made.startsWith("not a key"), true);
+}
+const broken = new ProviderKey(/** @type {any} */ ({ verify: () => Promise.reject(new Error("refused")) }), /** @type {any} */ ({}));
+same("a browser's error is no valid signature", await broken.verify(entries[0], ""), false);
 
 console.log(`${passed} passed, ${failed} failed`);
 process.exit(failed ? 1 : 0);

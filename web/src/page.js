@@ -254,7 +254,7 @@ async function givenKeys() {
   const wrong = { key: keyWords("key"), provided: keyWords("provided") };
   if (fieldText("key") !== "" && fieldText("provided") !== "") return { key: null, provider: null, wrong: { ...wrong, provided: TWO_KEYS } };
   const bytes = keyIn("provided");
-  const provider = bytes && (await ProviderKey.of(bytes));
+  const provider = bytes && (await ProviderKey.of(bytes, window.crypto?.subtle));
   if (typeof provider === "string") return { key: null, provider: null, wrong: { ...wrong, provided: provider } };
   return { key: keyIn("key"), provider, wrong };
 }
