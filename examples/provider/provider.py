@@ -9,7 +9,7 @@ from typing import Iterable
 
 import ecvrf
 from coniks.provider import Epoch, FileLog, Latest, Operation, Provider
-from keys import PublicKeys
+from keys import PublicKeys, is_signed
 from nacl.signing import SigningKey
 
 
@@ -29,7 +29,7 @@ class KeyServer:
         self.keys = PublicKeys(bytes(self._signer.verify_key), ecvrf.public_key(vrf))
         with ExitStack() as opened:
             file = opened.enter_context(FileLog(log))
-            provider = Provider(program, self.index, self.sign, file, policy=self.keys.policy, nonce=nonce)
+            provider = Provider(program, self.index, self.sign, file, policy=self.keys.policy, nonce=nonce, verify=self.verify)
             self._directory = opened.enter_context(provider)
             self._opened = opened.pop_all()
 
@@ -41,6 +41,10 @@ class KeyServer:
 
     def sign(self, body: bytes) -> bytes:
         return self._signer.sign(body).signature
+
+    def verify(self, body: bytes, signature: bytes) -> bool:
+        """Whether a signature is valid. `provider` stores signatures without verifying them."""
+        return is_signed(self.keys.signing, body + signature)
 
     def commit(self, epoch: int, operations: Iterable[Operation]) -> Epoch:
         return self._directory.commit(epoch, operations)
