@@ -472,3 +472,7 @@ on_ok-map (Err e) P Q more is = is
 pub of_ok : {T E : Type 0} (r : Result T E) (P : Type 0) → false ≡ is_err r → OnOk r P → P
 of_ok (Ok x) P off is = is
 of_ok (Err e) P off is = absurd (let never = off in cc)
+
+pub all_ok : {T E : Type 0} (r : Result T E) (P : Type 0) → P → OnOk r P
+all_ok (Ok x) P is = is
+all_ok (Err e) P is = tt

@@ -476,9 +476,9 @@ impl<H: Hash32> Directory<H, SuppliedIndices> {
     ghost use Rattle.std.specs.Prelude.{length};
     ghost use Rattle.coniks_chain.specs.Chain.{before_at};
     ghost use Rattle.coniks_directory.specs.Chain.{body_of};
-    ghost use Rattle.coniks_directory.specs.Supplied.{supplied_index};
+    ghost use Rattle.coniks_directory.specs.Supplied.{AgreeOn, supplied_index};
     ghost use Rattle.coniks_directory.specs.SuppliedBatches.{IsSuppliedUpdate, indices_of, put_indices};
-    ghost use Rattle.coniks_directory.specs.Updates.{Grows, IsRefused, MayInstall, base_of, nodes_added, refusals, shown_after};
+    ghost use Rattle.coniks_directory.specs.Updates.{Grows, IsRefused, MayInstall, base_of, nodes_added, refusals, registry_after, shown_after};
 
     /// Supplies the indices of an update's names, which the update holds, and installs it as `install` does. A name is
     /// registered from then on, and keeps its index.
@@ -503,6 +503,9 @@ impl<H: Hash32> Directory<H, SuppliedIndices> {
         ensures chain { IfOk result (λ entry. self.new.state.chain ≡ self.old.state.chain ++ entry ∷ []) }
         ensures nodes { OnOk result (length self.new.state.nodes ≡ length self.old.state.nodes + nodes_added update) }
         ensures indices { OnOk result (self.new.index ≡ put_indices self.old.index (indices_of update)) }
+        ensures kept { AgreeOn (supplied_index self.old.index) (supplied_index self.new.index) (registry self.old) }
+        ensures given { OnOk result ((index : List ℕ → List ℕ) → IsSuppliedUpdate (H.digest_of self.old.hash) (supplied_index self.old.index) (registry self.old) self.old.state update index
+            → AgreeOn index (supplied_index self.new.index) (registry_after self.old.state update)) }
         ensures body { IfOk result (λ entry. (index : List ℕ → List ℕ) → IsSuppliedUpdate (H.digest_of self.old.hash) (supplied_index self.old.index) (registry self.old) self.old.state update index
             → entry.body ≡ body_of (H.digest_of self.old.hash) index self.old.state.policy (before_at (H.digest_of self.old.hash) None self.old.state.chain (length self.old.state.chain)) (shown_after self.old.state update t)) }
         ensures may { OnOk result (MayInstall self.old.state (base_of update) t (length publisher.old.heads) board.now.capacity) }
@@ -619,6 +622,7 @@ impl<H: Hash32, X: IndexSource> Directory<H, X> {
 }
 
 impl<H: Hash32 + Sync, X: IndexSource> Directory<H, X> {
+    ghost use Rattle.coniks_directory.specs.Batches.{IsAccepted};
     ghost use Rattle.coniks_directory.specs.Nodes.{epoch_nodes};
     ghost use Rattle.coniks_directory.specs.SuppliedBatches.{IsSuppliedFault, IsSuppliedUpdate, IsWithin, index_in, indexed, indices_by, indices_of, supplied_fault};
     ghost use Rattle.coniks_directory.specs.Updates.{IsUpdate, nodes_added, registry_after};
@@ -644,6 +648,7 @@ impl<H: Hash32 + Sync, X: IndexSource> Directory<H, X> {
         ensures registry { IfOk result (λ p. registry_after self.now.state p ≡ after (registry self.now) (operations batch.now.ops.now)) }
         ensures indices { IfOk result (λ p. indices_of p ≡ indices_by (index_in (X.index_of self.now.index) (registry self.now) (indexed batch.now.ops.now batch.now.indices.now)) (operations batch.now.ops.now)) }
         ensures nodes { IfOk result (λ p. nodes_added p ≡ epoch_nodes (index_in (X.index_of self.now.index) (registry self.now) (indexed batch.now.ops.now batch.now.indices.now)) (history self.now) (option_map (λ (n : Nonce). n.0) batch.now.nonce) (operations batch.now.ops.now)) }
+        ensures accepted { OnOk result (IsAccepted (index_in (X.index_of self.now.index) (registry self.now) (indexed batch.now.ops.now batch.now.indices.now)) (registry self.now) (operations batch.now.ops.now) depth workers) }
         ensures within { OnOk result (IsWithin (indexed batch.now.ops.now batch.now.indices.now) depth workers) }
         ensures faultless { OnOk result (supplied_fault (X.index_of self.now.index) (registry self.now) (indexed batch.now.ops.now batch.now.indices.now) ≡ None) }
         ensures refused { IfErr result (IsSuppliedFault (X.index_of self.now.index) (registry self.now) (indexed batch.now.ops.now batch.now.indices.now) depth workers) }

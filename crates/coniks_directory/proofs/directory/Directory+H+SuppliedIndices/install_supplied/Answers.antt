@@ -4,25 +4,28 @@ use Rattle.coniks_directory.proofs.Words.{Record, Whole, before_at, history_of, 
 use Rattle.coniks_directory.specs.Supplied.{AgreeOn, Supplied, supplied_index}
 use Rattle.coniks_directory.specs.SuppliedBatches.{IsSuppliedUpdate, indices_in, put_indices}
 use Rattle.coniks_directory.proofs.AgreementLemmas.{body_agree, update_of_agree, whole_agree}
-use Rattle.coniks_directory.proofs.SuppliedBatchLemmas.{held_take, if_ok-map, kept_agree, of_ok, supplied_all}
-use Rattle.coniks_directory.proofs.directory.Directory+H+SuppliedIndices.install_supplied.Goals.{After-supply_all, Else-is_err}
+use Rattle.coniks_directory.proofs.SuppliedBatchLemmas.{all_ok, held_take, if_ok-map, kept_agree, of_ok, supplied_all}
+use Rattle.coniks_directory.proofs.directory.Directory+H+SuppliedIndices.install_supplied.Goals.{After-install, After-supply_all, Else-is_err}
 use Rattle.coniks_directory.proofs.directory.Directory+H+SuppliedIndices.install_supplied.Given as given
 use Rattle.coniks_directory.proofs.directory.Directory+H+SuppliedIndices.install_supplied.Goals as goal
 
--- the directory stays one, as far as the indices were supplied
-whole_in : (g : given.Over) (c : After-supply_all g) → Whole (g.H.Hash32.digest_of c.self.inside.h) (supplied_index c.supply_all.new.source) (state_of c.self.inside.held)
-whole_in g c =
+-- the registered names keep their indices, as far as the update's were supplied
+kept_in : (g : given.Over) (c : After-supply_all g) → (let d = c.self.inside in AgreeOn (supplied_index d.source) (supplied_index c.supply_all.new.source) (latest_registry (history_of (state_of d.held))))
+kept_in g c =
     let d = c.self.inside in
-    let s = state_of d.held in
-    let hash = g.H.Hash32.digest_of d.h in
-    let registry = latest_registry (history_of s) in
+    let registry = latest_registry (history_of (state_of d.held)) in
     let records = c.args.update.records.items in
     let index = c.requires.update.0 in
     let u = rw (← c.self.view_is) at c.requires.update.1 in
     let some = rw c.deref.ensures.value at c.supply_all.ensures.some.1 in
     let n = c.supply_all.ensures.some.0 in
-    let agree = kept_agree index d.source (indices_in (take n records)) registry u.agree (held_take index records n u.held) in
-    whole_agree hash (supplied_index d.source) (supplied_index c.supply_all.new.source) s (subst (λ (xs : List Supplied). AgreeOn (supplied_index d.source) (supplied_index xs) registry) (sym some) agree) c.self.invariant
+    subst (λ (xs : List Supplied). AgreeOn (supplied_index d.source) (supplied_index xs) registry) (sym some) (kept_agree index d.source (indices_in (take n records)) registry u.agree (held_take index records n u.held))
+
+-- so the directory stays one
+whole_in : (g : given.Over) (c : After-supply_all g) → Whole (g.H.Hash32.digest_of c.self.inside.h) (supplied_index c.supply_all.new.source) (state_of c.self.inside.held)
+whole_in g c =
+    let d = c.self.inside in
+    whole_agree (g.H.Hash32.digest_of d.h) (supplied_index d.source) (supplied_index c.supply_all.new.source) (state_of d.held) (kept_in g c) c.self.invariant
 
 -- once all are, the source gives each name that the update leaves its index
 agree_in : (g : given.Over) (c : Else-is_err g) (index : List ℕ → List ℕ) → (let d = c.self.inside in let s = state_of d.held in
@@ -35,6 +38,10 @@ agree_in g c index u =
     let read : c.supply_all.new.source ≡ put_indices d.source (indices_in c.deref.result.now) = of_ok {T = Unit {0}} {E = AllocError} c.supply_all.result _ c.if-is_err.ensures.value c.supply_all.ensures.put in
     let put = read ∙ ap (λ (rs : List Record). put_indices d.source (indices_in rs)) c.deref.ensures.value in
     subst (λ (xs : List Supplied). AgreeOn index (supplied_index xs) (registry_after s c.args.update)) (sym put) (supplied_all hash index d.source s c.args.update c.self.invariant u.agree u.held)
+
+-- an install leaves the source as it is
+index_in : (g : given.Over) (c : After-install g) → c.supply_all.new.source ≡ c.install.new.self.index
+index_in g c = sym c.install.ensures.same.index
 
 pub invariant_of-self : goal.invariant_of-self
 invariant_of-self g c = whole_in g (goal.at.invariant_of-self g c).After-supply_all
@@ -58,3 +65,19 @@ returns-clause-body g c =
     (if_ok-map c.install.result _ _ (λ entry is index u.
     let agree = agree_in g (goal.at.returns-clause-body g c).Else-is_err index u in
     is ∙ sym (body_agree hash index (supplied_index c.supply_all.new.source) s.policy (before_at hash None s.chain (length s.chain)) (shown_after s c.args.update c.args.t) agree)) c.install.ensures.body)
+
+pub returns-then-is_err-clause-kept : goal.returns-then-is_err-clause-kept
+returns-then-is_err-clause-kept g c = rw (← c.self.view_is) (kept_in g (goal.at.returns-then-is_err-clause-kept g c).After-supply_all)
+
+pub returns-clause-kept : goal.returns-clause-kept
+returns-clause-kept g c =
+    rw (← c.self.view_is)
+    (subst (λ (xs : List Supplied). AgreeOn (supplied_index c.self.inside.source) (supplied_index xs) (latest_registry (history_of (state_of c.self.inside.held)))) (index_in g (goal.at.returns-clause-kept g c).After-install)
+    (kept_in g (goal.at.returns-clause-kept g c).After-supply_all))
+
+pub returns-clause-given : goal.returns-clause-given
+returns-clause-given g c =
+    rw (← c.self.view_is)
+    (all_ok c.install.result _ (λ index u.
+    subst (λ (xs : List Supplied). AgreeOn index (supplied_index xs) (registry_after (state_of c.self.inside.held) c.args.update)) (index_in g (goal.at.returns-clause-given g c).After-install)
+    (agree_in g (goal.at.returns-clause-given g c).Else-is_err index u)))

@@ -1,5 +1,5 @@
 use Rattle.std.proofs.Common.{◌≡◌, List, ℕ, Option, ap, subst, sym, ◌∙◌}
-use Rattle.coniks_directory.proofs.Words.{IsJudgedFault, IsUpdateBy, Nonce, Registry, View, Whole, history_of, latest_registry, operations, option_map, state_of}
+use Rattle.coniks_directory.proofs.Words.{IsJudgedFault, IsUpdateBy, Nonce, Registry, View, Whole, history_of, latest_registry, length-map, operation_of, operations, option_map, state_of}
 use Rattle.coniks_directory.specs.SuppliedBatches.{given_index, index_in, indexed}
 use Rattle.coniks_directory.proofs.AgreementLemmas.{whole_agree}
 use Rattle.coniks_directory.proofs.FreshLemmas.{prepared_of}
@@ -118,3 +118,13 @@ returns-clause-refused g c =
     judged_fault of registry' ops indices c.requires c.args.depth c.args.workers fault within other
     (subst (λ (r : Registry). IsJudgedFault (index_in of registry' (indexed ops indices)) r (operations ops) fault) same
     (subst (λ (f : List ℕ → List ℕ). IsJudgedFault f registry (operations ops) fault) c.in-Ok.ensures c.in-Err-update_on.ensures.fault))
+
+pub returns-in-Ok-update_on-clause-accepted : goal.returns-in-Ok-update_on-clause-accepted
+returns-in-Ok-update_on-clause-accepted g c =
+    rw (← c.self.view_is)
+    (record {
+      crew = c.in_default.ensures.workers;
+      shallow = c.in_default.ensures.depth;
+      few = rw (length-map c.args.batch.now.ops.now operation_of) c.in_default.ensures.few;
+      faultless = rw (rw (← c.self.view_is) at c.in-Ok.ensures) at c.in-Ok-update_on.ensures.faultless;
+    })
