@@ -5,12 +5,14 @@ import json
 import os
 import pickle
 import signal
+import stat
 import subprocess
 import sys
 import tempfile
 import threading
 import time
 from pathlib import Path
+from unittest import mock
 
 import stand_ins
 from stand_ins import HERE, POLICY, Salted, Signer, audited, index, opened, shown
@@ -361,6 +363,12 @@ def try_file(tell):
                 log.append(len(there), b"next")
             wanted = whole[:size].split(b"\n")[:-1]
             tell(f"a log cut at {size}", there == wanted and file.read_bytes() == b"".join(it + b"\n" for it in [*wanted, b"next"]), there)
+        synced, written, sync, write = [], [], os.fsync, os.pwrite
+        file.write_bytes(b"first\nlast line\ncut")
+        with mock.patch.object(os, "fsync", lambda place: (synced.append(stat.S_ISDIR(os.fstat(place).st_mode)), sync(place))):
+            with mock.patch.object(os, "pwrite", lambda *it: (written.append(it[1:]), write(*it))[1]):
+                FileLog(file).close()
+        tell("a log that opens: the last line and the folder are synced", synced == [False, True] and written == [(b"last line\n", 6)])
         for what, text, wanted in [("zeros at the end", b"first\nsecond" + bytes(5000), [b"first"]), ("a line with zeros", b"first\nse" + bytes(5000) + b"d\n", [b"first"]),
                                    ("zeros alone", bytes(9), []), ("a long cut line", b"first\n" + b"x" * (3 << 20), [b"first"])]:  # fmt: skip
             file.write_bytes(text)
