@@ -151,6 +151,9 @@ class _Child:
         # Lines of this size in all are written before their answers are read. The pipe has room for them, so that the child
         # and its parent never both wait for the other to read.
         self.at_once = fcntl.fcntl(self._in, _GET_PIPE_SIZE) // 2
+        self._can_write, self._can_read = select.poll(), select.poll()
+        self._can_write.register(self._in, select.POLLOUT)
+        self._can_read.register(self._out, select.POLLIN)
         if timeout is not None:
             os.set_blocking(self._in, False)
 
@@ -158,13 +161,10 @@ class _Child:
     def pid(self) -> int:
         return self._process.pid
 
-    def _wait(self, place: int, event: int, until: float) -> None:
+    def _wait(self, pipe: select.poll, until: float) -> None:
         """Waits for a pipe to be ready, if there is a timeout."""
-        if self._timeout is not None:
-            poll = select.poll()
-            poll.register(place, event)
-            if not poll.poll(max(0, until - time.monotonic()) * 1000):
-                raise ProgramFailed(f"the program didn't answer in {self._timeout} seconds")
+        if self._timeout is not None and not pipe.poll(max(0, until - time.monotonic()) * 1000):
+            raise ProgramFailed(f"the program didn't answer in {self._timeout} seconds")
 
     def send(self, data: bytes) -> None:
         """Writes whole lines."""
@@ -173,7 +173,7 @@ class _Child:
             try:
                 rest = rest[os.write(self._in, rest) :]
             except BlockingIOError:
-                self._wait(self._in, select.POLLOUT, until)
+                self._wait(self._can_write, until)
             except OSError:
                 raise self._ended() from None
 
@@ -183,7 +183,7 @@ class _Child:
         if end < 0:
             until = time.monotonic() + (self._timeout or 0)
             while end < 0:
-                self._wait(self._out, select.POLLIN, until)
+                self._wait(self._can_read, until)
                 more = os.read(self._out, 65536)
                 if not more:
                     raise self._ended()
