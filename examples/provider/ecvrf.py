@@ -37,7 +37,7 @@ def _times_base(scalar: int) -> bytes:
     return sodium.crypto_scalarmult_ed25519_base_noclamp((scalar % ORDER).to_bytes(32, "little"))
 
 
-def _hashed_point(text: bytes) -> Optional[bytes]:
+def hashed_point(text: bytes) -> Optional[bytes]:
     """Eight times the point that 32 bytes encode (RFC 8032, section 5.1.3). None if they encode none or it is the identity."""
     if int.from_bytes(text, "little") % 2**255 >= PRIME:
         return None
@@ -52,7 +52,7 @@ def _encode_to_curve(public: bytes, alpha: bytes) -> bytes:
     """Try and increment, section 5.4.1.1."""
     for counter in range(256):
         digest = hashlib.sha512(SUITE + b"\x01" + public + alpha + bytes([counter]) + b"\x00").digest()
-        point = _hashed_point(digest[:32])
+        point = hashed_point(digest[:32])
         if point is not None:
             return point
     raise InvalidProof("no counter gives a point")

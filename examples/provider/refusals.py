@@ -19,9 +19,10 @@ sys.path.append(str(HERE.parent.parent / "embed/python"))
 import coniks
 import ecvrf
 from auditor import audit
-from client import OtherEpoch, look_up
+from client import OtherEpoch, Watch, look_up
 from equivocation import convicts, first_difference
-from keys import PublicKeys
+from keys import PublicKeys, is_signed
+from nacl import bindings as sodium
 from nacl.signing import SigningKey
 from provider import Answer
 from vectors import Count, flipped
@@ -42,6 +43,15 @@ def signed(body: bytes, key: bytes = SIGNER) -> bytes:
     return body + SigningKey(key).sign(body).signature
 
 
+def signed_again(body: bytes) -> bytes:
+    """The body with another valid signature of its signer, who took another nonce (RFC 8032, section 5.1.6)."""
+    r = int.from_bytes(hashlib.sha512(b"another nonce" + body).digest(), "little") % ecvrf.ORDER
+    point = sodium.crypto_scalarmult_ed25519_base_noclamp(r.to_bytes(32, "little"))
+    k = int.from_bytes(hashlib.sha512(point + KEYS.signing + body).digest(), "little")
+    clamped = int.from_bytes(hashlib.sha512(SIGNER).digest()[:32], "little") % 2**254 & ~7 | 2**254
+    return body + point + ((r + k * clamped) % ecvrf.ORDER).to_bytes(32, "little")
+
+
 def raised(call: Callable[..., object], *arguments: object) -> object:
     """The exception of a call, for `coniks.Refused` its status; None if there is none."""
     try:
@@ -58,6 +68,9 @@ def try_client(count: Count) -> None:
     other_keys = PublicKeys(KEYS.signing, ecvrf.public_key(SIGNER))
     count.tell("alice has a key", look_up(KEYS, "alice", 1, answer()) == b"key of alice")
     count.tell("dave has none", look_up(KEYS, "dave", 2, answer("dave", ABSENT)) is None)
+    for member in ["root", "nonce", "index", "name", "epoch"]:
+        it = answer(line=LOOKUP | {member: 7 if member == "epoch" else "00" * 32})
+        count.tell(f"the line's {member} is not used", look_up(KEYS, "alice", 1, it) == b"key of alice")
     proof = {"end": {"kind": "empty"}, "siblings": LOOKUP["proof"]["siblings"]}
     refused: list[tuple[str, object, PublicKeys, str, int, Answer]] = [
         ("another epoch", OtherEpoch, KEYS, "alice", 2, answer()),
@@ -74,6 +87,29 @@ def try_client(count: Count) -> None:
     for what, wanted, *arguments in refused:
         found = raised(look_up, *arguments)
         count.tell(f"client, {what}: {found}", found == wanted)
+
+
+def try_watch(count: Count) -> None:
+    lines = {it["epoch"]: it for it in LINES if it["ok"] == "lookup" and it["name"] == "alice"}
+    first = answer()
+    for key, seen in [(b"key of alice", ["SAME", "SAME", "CHANGED"]), (b"key of mallory", ["CHANGED", "CHANGED", "SAME"])]:
+        watch = Watch(KEYS, "alice", key, first.proof)
+        count.tell(f"watch, {key.decode()}", [watch.step(answer(line=lines[it])).name for it in (1, 2, 3)] == seen)
+    entry = lines[1]["entry"]
+    for what, wanted, line in [
+        ("a changed signature", coniks.Status.SIGNATURE, lines[1] | {"entry": flipped(bytes.fromhex(entry), 160).hex()}),
+        ("an entry left out", coniks.Status.PREVIOUS_EPOCH, lines[2]),
+        ("the proof of another epoch", coniks.Status.ROOT_MISMATCH, lines[3] | {"entry": entry}),
+        ("the proof of another name", coniks.Status.WRONG_NAME, lines[1] | {"proof": named(lines[1]["proof"], "bob")}),
+    ]:
+        found = raised(Watch(KEYS, "alice", b"key of alice", first.proof).step, answer(line=line))
+        count.tell(f"watch, {what}: {found}", found == wanted)
+    found = raised(Watch, KEYS, "alice", b"key of alice", answer("bob").proof)
+    count.tell(f"watch, the VRF proof of another name: {found}", found is ecvrf.InvalidProof)
+
+
+def named(proof: dict[str, Any], name: str) -> dict[str, Any]:
+    return proof | {"end": proof["end"] | {"name": name}}
 
 
 def try_auditor(count: Count) -> None:
@@ -93,8 +129,11 @@ def try_evidence(count: Count) -> None:
     body, third = ENTRIES[2][:145], ENTRIES[2]
     other = signed(flipped(body, 20))
     count.tell("two bodies of one epoch", convicts(KEYS.signing, third, other) and convicts(KEYS.signing, other, third))
+    again = signed_again(body)
+    count.tell("one body has two signatures", again != third and is_signed(KEYS.signing, again))
     for what, one, another in [
         ("one entry twice", third, third),
+        ("two signatures of one body", third, again),
         ("two epochs", ENTRIES[1], third),
         ("two epochs after one entry", third, signed(body[:8] + b"\4" + body[9:])),
         ("another signer", third, signed(flipped(body, 20), VRF)),
@@ -107,6 +146,7 @@ def try_evidence(count: Count) -> None:
     count.tell("no evidence under another key", not convicts(KEYS.vrf, third, other))
     links = {1: b"a", 2: b"b", 4: b"c"}
     compared: list[tuple[dict[int, bytes], object]] = [({}, None), (links, None), ({1: b"a", 3: b"x"}, None), ({1: b"a", 2: b"x", 4: b"x"}, 2)]
+    count.tell("the first difference", first_difference({8: b"a", 1: b"a"}, {8: b"b", 1: b"b"}) == 1)
     for theirs, wanted in compared:
         count.tell(f"links {theirs}", first_difference(links, theirs) == wanted)
 
@@ -114,6 +154,7 @@ def try_evidence(count: Count) -> None:
 def main() -> int:
     count = Count()
     try_client(count)
+    try_watch(count)
     try_auditor(count)
     try_evidence(count)
     print(f"{count.passed} passed, {count.failed} failed")

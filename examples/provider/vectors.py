@@ -69,6 +69,15 @@ def try_vrf(count: Count, of: str, secret: bytes, public: bytes, alpha: bytes, p
         count.tell(f"{of}: {point.hex()} as the key", is_refused(point, alpha, proof))
 
 
+def try_points(count: Count) -> None:
+    """The points of small order give the identity, and the y of the last 19 encodings are not reduced."""
+    for point in OTHER_POINTS:
+        count.tell(f"{point.hex()} is no hashed point", ecvrf.hashed_point(point) is None)
+    for y in range(19):
+        count.tell(f"{y} + p is no hashed point", ecvrf.hashed_point((ecvrf.PRIME + y).to_bytes(32, "little")) is None)
+    count.tell("some y of these, reduced, are points", any(ecvrf.hashed_point(y.to_bytes(32, "little")) for y in range(19)))
+
+
 def is_signed(public: bytes, message: bytes, signature: bytes) -> bool:
     try:
         VerifyKey(public).verify(message, signature)
@@ -91,6 +100,7 @@ def main() -> int:
     vectors = json.loads(VECTORS.read_text("utf-8"))
     for row in vectors["vrf"]:
         try_vrf(count, row.pop("of"), *map(bytes.fromhex, row.values()))
+    try_points(count)
     for row in vectors["signatures"]:
         try_signature(count, row.pop("of"), *map(bytes.fromhex, row.values()))
     print(f"{count.passed} passed, {count.failed} failed")
