@@ -6,6 +6,7 @@ mod CommandLemmas
 mod CommitLemmas
 mod FirstLemmas
 mod FoundLemmas
+pub mod Lemmas
 mod LimitLemmas
 mod MonitorLemmas
 mod OperationsLemmas

@@ -76,6 +76,7 @@ member_name named.Index = codes "index"
 member_name named.Root = codes "root"
 member_name named.Proof = codes "proof"
 member_name named.Entry = codes "entry"
+member_name named.Signature = codes "signature"
 
 -- the name of an operation's fault
 abbrev pub fault_name : Fault → List ℕ

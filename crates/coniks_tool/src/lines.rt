@@ -1,9 +1,10 @@
 //! Reading and printing of lines: their members, and the entries and proofs in them.
 
-pub(crate) mod entries;
-pub(crate) mod members;
-pub(crate) mod objects;
-pub(crate) mod printable;
-pub(crate) mod printing;
-pub(crate) mod proof_object;
-pub(crate) mod proof_text;
+pub mod entries;
+pub mod members;
+pub mod objects;
+pub mod printable;
+pub mod printing;
+pub mod proof_object;
+pub mod proof_text;
+pub mod replies;

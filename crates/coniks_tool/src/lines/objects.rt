@@ -15,7 +15,7 @@ use std::alloc::{AllocError, Global};
 
 /// The value of a member.
 #[derive(Clone, Copy)]
-pub(crate) enum Shown<'a> {
+pub enum Shown<'a> {
     /// Bytes, in lower case hexadecimal digits.
     Digits(&'a [u8]),
     /// An entry's bytes, in lower case hexadecimal digits.
@@ -32,10 +32,10 @@ pub(crate) enum Shown<'a> {
 
 /// A member: its name and its value.
 #[derive(Clone, Copy)]
-pub(crate) struct Field<'a>(pub(crate) &'a str, pub(crate) Shown<'a>);
+pub struct Field<'a>(pub &'a str, pub Shown<'a>);
 
 /// The value of a member as JSON has it.
-pub(crate) fn value_of(alloc: Global, shown: Shown<'_>) -> Result<Value, AllocError>
+pub fn value_of(alloc: Global, shown: Shown<'_>) -> Result<Value, AllocError>
     ensures { IfOk result (λ value. view value ≡ data_of shown.entry) }
 {
     match shown {
@@ -61,7 +61,7 @@ fn members(alloc: Global, fields: &[Field<'_>]) -> Result<Map<String, Value>, Al
 }
 
 /// The object of these members.
-pub(crate) fn object(alloc: Global, fields: &[Field<'_>]) -> Result<Printable, AllocError>
+pub fn object(alloc: Global, fields: &[Field<'_>]) -> Result<Printable, AllocError>
     ensures { IfOk result (λ object. view object.value ≡ object_of (with_all fields.now no_members)) }
 {
     Ok(Printable {

@@ -9,14 +9,14 @@ use std::alloc::{AllocError, Global};
 
 /// An object that is printed. It has no float, so its text is known.
 #[derive(Drop)]
-pub(crate) struct Printable {
-    pub(crate) value: Value,
-    pub(crate) ghost plain: { has_float (view value) ≡ false },
+pub struct Printable {
+    pub value: Value,
+    pub ghost plain: { has_float (view value) ≡ false },
 }
 
 impl Printable {
     /// Adds the object's text, with no newline: its members in the order of their names' bytes, and no white space.
-    pub(crate) fn print(&self, alloc: Global, out: &mut Vec<u8>) -> Result<(), AllocError>
+    pub fn print(&self, alloc: Global, out: &mut Vec<u8>) -> Result<(), AllocError>
         ensures ok { OnOk result (out.new.items ≡ out.old.items ++ compact_text (view self.now.value)) }
         ensures err { OnErr result (out.new.items ≡ out.old.items) }
     {

@@ -23,10 +23,11 @@ pub enum Member {
     Root,
     Proof,
     Entry,
+    Signature,
 }
 
 /// The name of a member.
-pub(crate) fn member_text(member: Member) -> &'static str
+pub fn member_text(member: Member) -> &'static str
     ensures { result.now ≡ member_name member }
 {
     match member {
@@ -40,29 +41,26 @@ pub(crate) fn member_text(member: Member) -> &'static str
         Member::Root => "root",
         Member::Proof => "proof",
         Member::Entry => "entry",
+        Member::Signature => "signature",
     }
 }
 
 /// A refusal by its fault alone.
-pub(crate) fn fault(alloc: Global, name: &str) -> Result<Printable, AllocError>
+pub fn fault(alloc: Global, name: &str) -> Result<Printable, AllocError>
     ensures { IfOk result (λ object. view object.value ≡ fault_data name.now) }
 {
     object(alloc, &[Field("fault", Shown::Text(name))])
 }
 
 /// The refusal of a line for one of its members.
-pub(crate) fn bad_member(alloc: Global, name: &str) -> Result<Printable, AllocError>
+pub fn bad_member(alloc: Global, name: &str) -> Result<Printable, AllocError>
     ensures { IfOk result (λ object. view object.value ≡ bad_member_data name.now) }
 {
     fault_with(alloc, "Member", Field("member", Shown::Text(name)))
 }
 
 /// A refusal by its fault and one more member.
-pub(crate) fn fault_with(
-    alloc: Global,
-    name: &str,
-    more: Field<'_>,
-) -> Result<Printable, AllocError>
+pub fn fault_with(alloc: Global, name: &str, more: Field<'_>) -> Result<Printable, AllocError>
     ensures { IfOk result (λ object. view object.value ≡ object_of (put more.entry.0.now (data_of more.entry.1) (member (codes "fault") (string name.now) no_members))) }
 {
     object(alloc, &[Field("fault", Shown::Text(name)), more])

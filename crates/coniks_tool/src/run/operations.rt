@@ -26,7 +26,9 @@ pub fn read_ops(alloc: Global, list: &[Value]) -> Result<Result<Vec<Op>, usize>,
     Ok(Ok(found))
 }
 
-fn read_op(alloc: Global, element: &Value) -> Result<Option<Op>, AllocError>
+/// Reads the operation of an element: `key` in base64, `name`, `op`, and `opening` in 64 digits. `None`: it isn't an object, or
+/// one of these is missing, of another kind or of a wrong text.
+pub fn read_op(alloc: Global, element: &Value) -> Result<Option<Op>, AllocError>
     ensures { IfOk result (λ op. option_map operation_of op ≡ operation_in (view element.now)) }
 {
     let Some(key) = base64(alloc, element, "key")? else {

@@ -2,13 +2,14 @@
 
 ghost use Rattle.std.specs.Prelude.{◌≡◌, IfOk};
 ghost use Rattle.serde_json.specs.View.{view};
-ghost use Rattle.coniks_directory.specs.Batches.{fault_is};
-ghost use Rattle.coniks_tool.specs.Paths.{path_of};
-ghost use Rattle.coniks_tool.specs.Replies.{outcome_of, reply_data, member_name, fault_name, fault_data, placed_fault_data, looked_up_data, bad_member_data, bad_operation_data, epoch_not_later_data, opened_data, installed_data};
+ghost use Rattle.coniks_tool.specs.Replies.{outcome_of, reply_data, installed_data};
 
 use crate::lines::objects::{Field, Shown, object};
 use crate::lines::printable::Printable;
-use crate::lines::printing::{Member, bad_member, fault, fault_with, member_text};
+use crate::lines::printing::{Member, bad_member, fault, member_text};
+use crate::lines::replies::{
+    bad_operation, epoch_not_later, fault_text, looked_up, opened, placed_fault,
+};
 use coniks_chain::Entry;
 use coniks_directory::{OpFault, SignedProof};
 use coniks_proof::Digest;
@@ -101,25 +102,6 @@ impl Reply {
     }
 }
 
-fn fault_text(fault: OpFault) -> &'static str
-    ensures { result.now ≡ fault_name (fault_is fault) }
-{
-    match fault {
-        OpFault::NameLength => "NameLength",
-        OpFault::KeyLength => "KeyLength",
-        OpFault::NameTwice => "NameTwice",
-        OpFault::NameTaken => "NameTaken",
-        OpFault::NameUnknown => "NameUnknown",
-        OpFault::IndexClash => "IndexClash",
-    }
-}
-
-fn opened(alloc: Global) -> Result<Printable, AllocError>
-    ensures { IfOk result (λ object. view object.value ≡ opened_data) }
-{
-    object(alloc, &[Field("ok", Shown::Text("open"))])
-}
-
 fn installed<'a>(alloc: Global, entry: &'a Entry, link: &'a Digest) -> Result<Printable, AllocError>
     ensures { IfOk result (λ object. view object.value ≡ installed_data entry.now link.now.0) }
 {
@@ -132,61 +114,5 @@ fn installed<'a>(alloc: Global, entry: &'a Entry, link: &'a Digest) -> Result<Pr
             Field("ok", Shown::Text("batch")),
             Field("root", Shown::Digits(&entry.body.root.0)),
         ],
-    )
-}
-
-fn looked_up<'a>(
-    alloc: Global,
-    name: &'a str,
-    found: &'a SignedProof,
-) -> Result<Printable, AllocError>
-    ensures { IfOk result (λ object. view object.value ≡ looked_up_data found.now.entry found.now.index.0 name.now (path_of found.now.proof)) }
-{
-    let body = &found.entry.body;
-    object(
-        alloc,
-        &[
-            Field("entry", Shown::Entry(&found.entry)),
-            Field("epoch", Shown::Number(body.t)),
-            Field("index", Shown::Digits(&found.index.0)),
-            Field("name", Shown::Text(name)),
-            Field("nonce", Shown::Digits(&body.nonce.0)),
-            Field("ok", Shown::Text("lookup")),
-            Field("proof", Shown::Proof(&found.proof)),
-            Field("root", Shown::Digits(&body.root.0)),
-        ],
-    )
-}
-
-fn placed_fault(alloc: Global, name: &str, position: usize) -> Result<Printable, AllocError>
-    ensures { IfOk result (λ object. view object.value ≡ placed_fault_data name.now position) }
-{
-    fault_with(
-        alloc,
-        name,
-        Field("position", Shown::Number(position as u64)),
-    )
-}
-
-fn bad_operation(alloc: Global, position: usize) -> Result<Printable, AllocError>
-    ensures { IfOk result (λ object. view object.value ≡ bad_operation_data position) }
-{
-    object(
-        alloc,
-        &[
-            Field("fault", Shown::Text("Member")),
-            Field("member", Shown::Text("ops")),
-            Field("position", Shown::Number(position as u64)),
-        ],
-    )
-}
-
-fn epoch_not_later(alloc: Global, latest: u64) -> Result<Printable, AllocError>
-    ensures { IfOk result (λ object. view object.value ≡ epoch_not_later_data latest) }
-{
-    fault_with(
-        alloc,
-        "EpochNotLater",
-        Field("latest", Shown::Number(latest)),
     )
 }
