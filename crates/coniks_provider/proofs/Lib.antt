@@ -1,0 +1,3 @@
+mod OperationsLemmas
+mod RefusedLemmas
+mod ServiceLemmas

@@ -1,0 +1,6 @@
+pub mod Answers
+pub mod Lines
+pub mod Limits
+pub mod Signing
+pub mod Stores
+pub mod Turns

@@ -1,0 +1,37 @@
+-- The operations of a `prepare` line, each with the index of its name.
+use Rattle.std.specs.Prelude.{ℕ, ◌+◌, List, [], ◌∷◌, codes, Option, Some, None, Result, Ok, Err}
+use Rattle.serde_json.specs.Data.{Data, Items, no_items, item}
+use Rattle.coniks_proof.specs.declared.values.Index.{Index}
+use Rattle.coniks_directory.specs.SuppliedBatches.{Indexed, indexed}
+use Rattle.coniks_directory.specs.declared.batch.Op.{Op}
+use Rattle.coniks_tool.specs.Members.{digits_in, given}
+use Rattle.coniks_tool.specs.Operations.{operation_in}
+use Rattle.coniks_provider.specs.declared.batch.Operations.{Operations}
+
+-- the operation that an element is, and `index`, 64 digits
+abbrev pub indexed_in : Data → Option Indexed
+indexed_in element = given (operation_in element) (λ op. given (digits_in 32 (codes "index") element) (λ index. Some (record { op = op; index = index })))
+
+-- an operation before others
+abbrev pub with_first : Indexed → Result (List Indexed) ℕ → Result (List Indexed) ℕ
+with_first x (Ok xs) = Ok (x ∷ xs)
+with_first x (Err place) = Err place
+
+-- what stands at a place and after it; a place with no operation is at fault
+abbrev pub at_place : ℕ → Option Indexed → Result (List Indexed) ℕ → Result (List Indexed) ℕ
+at_place place None others = Err place
+at_place place (Some x) others = with_first x others
+
+-- the operations of elements that stand from a place on, or the first place with none
+abbrev pub batch_from : ℕ → Items → Result (List Indexed) ℕ
+batch_from place no_items = Ok []
+batch_from place (item element others) = at_place place (indexed_in element) (batch_from (place + 1) others)
+
+-- the operations of an array, or the place of the first element that is none
+abbrev pub batch_in : Items → Result (List Indexed) ℕ
+batch_in elements = batch_from 0 elements
+
+-- what was read, as the definitions see it
+abbrev pub batch_read : Result Operations ℕ → Result (List Indexed) ℕ
+batch_read (Ok read) = Ok (indexed read.ops.items read.indices.items)
+batch_read (Err place) = Err place

@@ -1,0 +1,91 @@
+-- What a store holds, as a state, and what is true of it.
+use Rattle.std.specs.Prelude.{◌≡◌, ◌<◌, ◌≤◌, ℕ, List, [], length, IfSome, Option, Some, None, option_map}
+use Rattle.coniks_proof.specs.Sha256.{sha256}
+use Rattle.coniks_chain.specs.Chain.{before_at}
+use Rattle.coniks_directory.specs.Chain.{body_of, heads_of}
+use Rattle.coniks_directory.specs.History.{latest_epoch, latest_registry}
+use Rattle.coniks_directory.specs.State.{View, history_of}
+use Rattle.coniks_directory.specs.Supplied.{Supplied, supplied_index}
+use Rattle.coniks_directory.specs.Batches.{fault_is}
+use Rattle.coniks_directory.specs.SuppliedBatches.{IsSuppliedUpdate, indices_of, indexed, of_operation, other_index}
+use Rattle.coniks_directory.specs.declared.batch.BatchFault.TheVariants as batch
+use Rattle.coniks_directory.specs.declared.supplied_batch.SuppliedBatchFault.{SuppliedBatchFault}
+use Rattle.coniks_directory.specs.declared.supplied_batch.SuppliedBatchFault.TheVariants.{Batch as OfBatch, OtherIndex}
+use Rattle.coniks_directory.specs.Updates.{base_of, nodes_added, shown_after}
+use Rattle.coniks_shared.specs.Boards.{Boarded, BoardEnd}
+use Rattle.coniks_provider.specs.Limits.{most_epochs}
+use Rattle.coniks_provider.specs.Answers.{Outcome, bad_batch, batch_too_long}
+use Rattle.coniks_provider.specs.Turns.{Batch, Opened, Pending, State}
+use Rattle.coniks_provider.specs.declared.batch.BatchRead.{BatchRead}
+use Rattle.coniks_provider.specs.declared.service.Pending.{Pending as Update}
+use Rattle.coniks_provider.specs.declared.service.Service.{Service}
+
+-- a directory as its contracts see it, over the indices that were supplied
+abbrev pub Held : Type 0 → Type 0
+Held H = View H (List Supplied)
+
+-- a batch that was read
+abbrev pub batch_of : BatchRead → Batch
+batch_of b = record { epoch = b.epoch; brought = b.brought; ops = indexed b.ops.now b.indices.now }
+
+-- an update of a directory
+abbrev pub pending_of : {H : Type 0} → Held H → Update → Pending
+pending_of {H} d p = record { body = p.body; shown = shown_after d.state p.update p.body.t; indices = indices_of p.update; nodes = nodes_added p.update }
+
+-- what an opened directory holds
+abbrev pub opened_by : {H : Type 0} → Held H → Option Update → Opened
+opened_by {H} d pending = record {
+  nonce = d.state.nonce;
+  policy = d.state.policy;
+  indices = d.index;
+  history = history_of d.state;
+  chain = d.state.chain;
+  nodes = length d.state.nodes;
+  pending = option_map (pending_of d) pending;
+}
+
+abbrev pub opened_of : Service → Opened
+opened_of s = opened_by s.directory s.pending
+
+abbrev pub state_of : Option Service → State
+state_of None = None
+state_of (Some s) = Some (opened_of s)
+
+-- the update can be installed, under the number that its body has
+pub record IsPending {H : Type 0} (d : Held H) (p : Update) : Type 0 where
+  pub index : List ℕ → List ℕ
+  pub supplied : IsSuppliedUpdate sha256 (supplied_index d.index) (latest_registry (history_of d.state)) d.state p.update index
+  pub fresh : base_of p.update ≡ length d.state.epochs
+  pub later : latest_epoch (history_of d.state) < p.body.t
+  pub room : length d.state.chain < most_epochs
+  pub body : p.body ≡ body_of sha256 index d.state.policy (before_at sha256 None d.state.chain (length d.state.chain)) (shown_after d.state p.update p.body.t)
+
+-- the heads of the chain are those that are published, and what is pending can be installed
+pub record IsServed {H : Type 0} (published : BoardEnd) (d : Held H) (update : Option Update) : Type 0 where
+  pub heads : published.heads ≡ heads_of sha256 d.state.chain
+  pub room : length d.state.chain ≤ most_epochs
+  pub pending : IfSome update (IsPending d)
+
+-- before a directory is opened no head is published
+abbrev pub IsServedIf : BoardEnd → Option Service → Type 0
+IsServedIf published None = published.heads ≡ []
+IsServedIf published (Some s) = IsServed published s.directory s.pending
+
+-- the board is the publisher's, and what is opened is served
+pub record IsKept (board : Boarded) (published : BoardEnd) (opened : Option Service) : Type 0 where
+  pub table : published.table ≡ board.table
+  pub capacity : board.capacity ≡ most_epochs
+  pub served : IsServedIf published opened
+
+-- an error of a batch, as a reply; none where an allocation failed
+abbrev pub refused_as : SuppliedBatchFault → Option Outcome
+refused_as (OfBatch batch.BatchTooLong) = Some batch_too_long
+refused_as (OfBatch (batch.At position fault)) = Some (bad_batch position (of_operation (fault_is fault)))
+refused_as (OtherIndex position) = Some (bad_batch position other_index)
+refused_as _ = None
+
+-- it isn't the number of workers or the depth
+abbrev pub IsRefusable : SuppliedBatchFault → Type 0
+IsRefusable (OfBatch batch.Workers) = ⊥
+IsRefusable (OfBatch batch.Depth) = ⊥
+IsRefusable _ = Unit {0}

@@ -1,0 +1,22 @@
+//! The engine of `provider`: a directory whose indices and signatures come from outside, driven by lines.
+//!
+//! A service computes the index of each name by its own verifiable random function (RFC 9381), and signs each epoch's body by
+//! its own key. Lines over memory are answered as the program `provider` answers standard input:
+//!
+//! ```rust
+//! let mut reader = MemoryIn::new(Vec::from_slice(alloc, LINES)?);
+//! let mut writer = MemoryOut::new(alloc);
+//! let all = run_provider(rt, alloc, &mut reader, &mut writer, 2, 1)?;
+//! ```
+#![tactic(auto)]
+
+mod batch;
+pub mod laws;
+mod machine;
+mod operations;
+mod reply;
+mod service;
+mod signature;
+mod store;
+
+pub use machine::run_provider;

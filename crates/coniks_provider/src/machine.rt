@@ -1,0 +1,208 @@
+//! The machine of `provider`, and its engine.
+
+ghost use Rattle.std.specs.Prelude.{◌≡◌, ◌<◌, ◌≤◌, ◌+◌, ◌^◌, ℕ, List, None, Some, IfOk, IfErr, OnOk, OnErr, codes};
+ghost use Rattle.serde_json.specs.View.{view};
+ghost use Rattle.coniks_directory.specs.Batches.{AreWorkers};
+ghost use Rattle.coniks_lines.specs.Machine.{output};
+ghost use Rattle.coniks_lines.specs.Runs.{AnswersAll, EndsWell, WritesPart};
+ghost use Rattle.coniks_work.specs.declared.jobs.TheConstants.{MAX_DEPTH};
+ghost use Rattle.coniks_tool.specs.Members.{array_in, digits_in, if_there, number_in, text_in};
+ghost use Rattle.coniks_provider.specs.Answers.{outcome_of};
+ghost use Rattle.coniks_provider.specs.Turns.{ProviderFails, State, command_turn, install_turn, lookup_outcome, open_turn, prepare_turn, provider_answer, turn};
+
+use crate::batch::BatchRead;
+use crate::operations::read_operations;
+use crate::reply::Reply;
+use crate::store::Store;
+use coniks_lines::{ByteIn, ByteOut, LineMachine, RunFault, run_lines};
+use coniks_tool::Crew;
+use coniks_tool::lines::members::{
+    array, bytes_of_digits, digits32, digits32_if_there, number, read_object, text,
+};
+use coniks_tool::lines::printing::Member;
+use serde_json::Value;
+use std::alloc::{AllocError, Global};
+use std::thread::Threads;
+
+/// Answers the lines of a provider, with the crew that builds its epochs.
+#[derive(Drop)]
+pub(crate) struct Providing<'r, T: Threads + Sync> {
+    alloc: Global,
+    crew: Crew<'r, T>,
+    store: Store,
+}
+
+/// The 64 bytes of the member `signature`, in 128 hexadecimal digits of either case.
+fn signature_in(object: &Value) -> Option<[u8; 64]>
+    ensures { result ≡ digits_in 64 (codes "signature") (view object.now) }
+{
+    let digits = text(object, "signature")?;
+    bytes_of_digits(digits)
+}
+
+impl<'r, T: Threads + Sync> Providing<'r, T> {
+    fn open(&mut self, object: &Value) -> Reply
+        ensures reply { outcome_of result ≡ (open_turn self.old.store (digits_in 32 (codes "nonce") (view object.now)) (digits_in 32 (codes "policy") (view object.now))).outcome }
+        ensures state { self.new.store ≡ (open_turn self.old.store (digits_in 32 (codes "nonce") (view object.now)) (digits_in 32 (codes "policy") (view object.now))).state }
+    {
+        let Some(nonce) = digits32(object, "nonce") else {
+            return Reply::BadMember(Member::Nonce);
+        };
+        let Some(policy) = digits32(object, "policy") else {
+            return Reply::BadMember(Member::Policy);
+        };
+        self.store.open_with(nonce, policy)
+    }
+
+    fn prepare(&mut self, object: &Value) -> Result<Reply, AllocError>
+        ensures reply { IfOk result (λ reply. outcome_of reply ≡ (prepare_turn self.old.store (number_in (codes "epoch") (view object.now))
+            (if_there (codes "nonce") (view object.now) (digits_in 32 (codes "nonce") (view object.now))) (array_in (codes "ops") (view object.now))).outcome) }
+        ensures state { OnOk result (self.new.store ≡ (prepare_turn self.old.store (number_in (codes "epoch") (view object.now))
+            (if_there (codes "nonce") (view object.now) (digits_in 32 (codes "nonce") (view object.now))) (array_in (codes "ops") (view object.now))).state) }
+    {
+        let Some(epoch) = number(object, "epoch") else {
+            return Ok(Reply::BadMember(Member::Epoch));
+        };
+        let Some(brought) = digits32_if_there(object, "nonce") else {
+            return Ok(Reply::BadMember(Member::Nonce));
+        };
+        let Some(elements) = array(object, "ops") else {
+            return Ok(Reply::BadMember(Member::Ops));
+        };
+        match read_operations(self.alloc, elements)? {
+            Ok(read) => {
+                let batch = BatchRead {
+                    epoch,
+                    brought,
+                    ops: &read.ops,
+                    indices: &read.indices,
+                };
+                self.store.prepare(&self.crew, &batch)
+            }
+            Err(place) => Ok(Reply::BadOperation(place)),
+        }
+    }
+
+    fn install(&mut self, object: &Value) -> Result<Reply, AllocError>
+        ensures reply { IfOk result (λ reply. outcome_of reply ≡ (install_turn self.old.store (digits_in 64 (codes "signature") (view object.now))).outcome) }
+        ensures state { OnOk result (self.new.store ≡ (install_turn self.old.store (digits_in 64 (codes "signature") (view object.now))).state) }
+    {
+        match signature_in(object) {
+            Some(signature) => self.store.install(signature),
+            None => Ok(Reply::BadMember(Member::Signature)),
+        }
+    }
+
+    fn lookup(&self, object: &Value) -> Result<Reply, AllocError>
+        ensures { IfOk result (λ reply. outcome_of reply ≡ lookup_outcome self.now.store (number_in (codes "epoch") (view object.now)) (text_in (codes "name") (view object.now)) (digits_in 32 (codes "index") (view object.now))) }
+    {
+        let Some(epoch) = number(object, "epoch") else {
+            return Ok(Reply::BadMember(Member::Epoch));
+        };
+        let Some(name) = text(object, "name") else {
+            return Ok(Reply::BadMember(Member::Name));
+        };
+        let Some(index) = digits32(object, "index") else {
+            return Ok(Reply::BadMember(Member::Index));
+        };
+        self.store.look_up(epoch, name, index)
+    }
+
+    fn command(&mut self, object: &Value) -> Result<Reply, AllocError>
+        ensures reply { IfOk result (λ reply. outcome_of reply ≡ (command_turn self.old.store (view object.now) (text_in (codes "cmd") (view object.now))).outcome) }
+        ensures state { OnOk result (self.new.store ≡ (command_turn self.old.store (view object.now) (text_in (codes "cmd") (view object.now))).state) }
+    {
+        let Some(name) = text(object, "cmd") else {
+            return Ok(Reply::NoCommand);
+        };
+        if name == "open" {
+            return Ok(self.open(object));
+        }
+        if name == "prepare" {
+            return self.prepare(object);
+        }
+        if name == "install" {
+            return self.install(object);
+        }
+        if name == "lookup" {
+            return self.lookup(object);
+        }
+        if name == "latest" {
+            return Ok(self.store.latest());
+        }
+        Ok(Reply::NoCommand)
+    }
+
+    fn reply(&mut self, line: &[u8]) -> Result<Reply, AllocError>
+        ensures reply { IfOk result (λ reply. outcome_of reply ≡ (turn self.old.store line.now).outcome) }
+        ensures state { OnOk result (self.new.store ≡ (turn self.old.store line.now).state) }
+    {
+        match read_object(self.alloc, line)? {
+            Some(object) => self.command(&object),
+            None => Ok(Reply::NotJson),
+        }
+    }
+}
+
+impl<'r, T: Threads + Sync> LineMachine for Providing<'r, T> {
+    ghost use Rattle.std.specs.Thread.{IsSync};
+    ghost use Rattle.coniks_provider.specs.Turns.{State, provider_answer};
+
+    ghost State = { State };
+
+    ghost state = { λ s. s.store };
+
+    ghost answer = { provider_answer };
+
+    ghost Needs = { IsSync T.row };
+
+    fn step(&mut self, line: &[u8], out: &mut Vec<u8>) -> Result<bool, AllocError> {
+        let reply = self.reply(line)?;
+        reply.object(self.alloc)?.print(self.alloc, out)?;
+        Ok(reply.is_accepted())
+    }
+}
+
+/// Answers each line of the reader by one line and one flush, until a read returns 0: `open`, `prepare`, `install`, `lookup`
+/// and `latest` over one directory, whose epochs are built by `workers` worker threads over prefixes of `depth` bits, both
+/// within the limits of `coniks_work::build`. No answer depends on either. Returns whether each line was accepted. It may
+/// wait, as it joins its workers.
+///
+/// # Errors
+///
+/// Those of `run_lines`, and `NoBoard` if the board for the directory's heads cannot be allocated; nothing was read then.
+pub fn run_provider<T: Threads + Sync, R: ByteIn, W: ByteOut>(
+    rt: &T,
+    alloc: Global,
+    reader: &mut R,
+    writer: &mut W,
+    workers: usize,
+    depth: usize,
+) -> Result<bool, RunFault>
+    requires workers { AreWorkers workers }
+    requires depth { depth ≤ MAX_DEPTH }
+    requires reads { (R.source reader.old).failed + 1 < 2 ^ 64 }
+    requires writes { (W.sink writer.old).failed + 1 < 2 ^ 64 }
+    ensures ok { IfOk result (λ all. (state : State) × EndsWell provider_answer None
+        (R.source reader.old) (R.source reader.new)
+        (W.sink writer.old) (W.sink writer.new)
+        state all) }
+    ensures err { IfErr result (ProviderFails
+        (R.source reader.old) (R.source reader.new)
+        (W.sink writer.old) (W.sink writer.new)) }
+
+    // If the reader's bytes are known: after Ok each of them is answered, and after an error a beginning of their answers was
+    // written.
+    ensures all_of { (input : List ℕ) → (R.source reader.old).left ≡ Some input
+        → IfOk result (λ all. (state : State) × AnswersAll provider_answer None input
+        (W.sink writer.old) (W.sink writer.new)
+        state all) }
+    ensures part_of { (input : List ℕ) → (R.source reader.old).left ≡ Some input
+        → OnErr result (WritesPart (output provider_answer None input)
+        (W.sink writer.old) (W.sink writer.new)) }
+{
+    let store = Store::new(alloc)?;
+    let crew = Crew { rt, workers, depth };
+    let mut providing = Providing { alloc, crew, store };
+    run_lines(alloc, &mut providing, reader, writer)
+}

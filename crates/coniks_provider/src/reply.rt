@@ -1,0 +1,214 @@
+//! What a line is answered by, and its text.
+
+ghost use Rattle.std.specs.Prelude.{◌≡◌, IfOk};
+ghost use Rattle.serde_json.specs.View.{view};
+ghost use Rattle.coniks_chain.specs.Entries.{body_bytes};
+ghost use Rattle.coniks_provider.specs.Answers.{installed_data, latest_data, outcome_of, prepared_data, reply_data};
+
+use coniks_chain::{Body, Entry};
+use coniks_directory::{OpFault, SignedProof};
+use coniks_proof::Digest;
+use coniks_tool::lines::objects::{Field, Shown, object};
+use coniks_tool::lines::printable::Printable;
+use coniks_tool::lines::printing::{Member, bad_member, fault, member_text};
+use coniks_tool::lines::replies::{
+    bad_operation, epoch_not_later, fault_text, looked_up, opened, placed_fault,
+};
+use std::alloc::{AllocError, Global};
+
+/// What a line is answered by.
+#[derive(Drop)]
+pub(crate) enum Reply {
+    /// The directory is open.
+    Opened,
+    /// An update was prepared: the body to sign, and how many nodes the epoch adds.
+    Prepared {
+        body: Body,
+        nodes: usize,
+    },
+    /// The pending update was installed: the entry that it added to the chain, and the entry's link.
+    Installed {
+        entry: Entry,
+        link: Digest,
+    },
+    /// A lookup found the path to the name's index in the tree of the epoch with this entry.
+    LookedUp {
+        name: String,
+        found: SignedProof,
+    },
+    /// The latest epoch, its entry's link, and how many names and nodes there are.
+    Latest {
+        epoch: u64,
+        link: Digest,
+        names: usize,
+        nodes: usize,
+    },
+    /// The line isn't a JSON object.
+    NotJson,
+    /// The line has no known command.
+    NoCommand,
+    /// A member is missing, of another kind or of a wrong text.
+    BadMember(Member),
+    /// The element of `ops` at this place is no operation.
+    BadOperation(usize),
+    /// The directory isn't open yet.
+    NotOpen,
+    /// The directory is open already.
+    AlreadyOpen,
+    /// A batch has too many operations.
+    BatchTooLong,
+    /// The operation at this place is at fault.
+    BadBatch {
+        position: usize,
+        fault: OpFault,
+    },
+    /// The name of the operation at this place is registered with another index.
+    OtherIndex(usize),
+    /// The epoch isn't later than the latest one.
+    EpochNotLater {
+        latest: u64,
+    },
+    /// The board has no room for a further head.
+    BoardFull,
+    /// No update is pending.
+    NotPrepared,
+    /// No epoch has exactly the number asked.
+    UnknownEpoch,
+    /// The name asked is empty or too long.
+    NameLength,
+    /// The name asked is registered with another index.
+    BadIndex,
+}
+
+impl Reply {
+    ghost use Rattle.coniks_provider.specs.Answers.{is_accepted};
+
+    /// Whether the line was accepted.
+    pub(crate) fn is_accepted(&self) -> bool
+        ensures { result ≡ is_accepted (outcome_of self.now) }
+    {
+        match self {
+            Reply::Opened
+            | Reply::Prepared { .. }
+            | Reply::Installed { .. }
+            | Reply::LookedUp { .. }
+            | Reply::Latest { .. } => true,
+            Reply::NotJson
+            | Reply::NoCommand
+            | Reply::BadMember(_)
+            | Reply::BadOperation(_)
+            | Reply::NotOpen
+            | Reply::AlreadyOpen
+            | Reply::BatchTooLong
+            | Reply::BadBatch { .. }
+            | Reply::OtherIndex(_)
+            | Reply::EpochNotLater { .. }
+            | Reply::BoardFull
+            | Reply::NotPrepared
+            | Reply::UnknownEpoch
+            | Reply::NameLength
+            | Reply::BadIndex => false,
+        }
+    }
+
+    /// The object that is printed.
+    pub(crate) fn object(&self, alloc: Global) -> Result<Printable, AllocError>
+        ensures { IfOk result (λ object. view object.value ≡ reply_data (outcome_of self.now)) }
+    {
+        match self {
+            Reply::Opened => opened(alloc),
+            Reply::Prepared { body, nodes } => prepared(alloc, body, *nodes),
+            Reply::Installed { entry, link } => installed(alloc, entry, link),
+            Reply::LookedUp { name, found } => looked_up(alloc, name.as_str(), found),
+            Reply::Latest {
+                epoch,
+                link,
+                names,
+                nodes,
+            } => latest(alloc, *epoch, link, *names, *nodes),
+            Reply::NotJson => fault(alloc, "Json"),
+            Reply::NoCommand => fault(alloc, "Command"),
+            Reply::BadMember(member) => bad_member(alloc, member_text(*member)),
+            Reply::BadOperation(place) => bad_operation(alloc, *place),
+            Reply::NotOpen => fault(alloc, "NotOpen"),
+            Reply::AlreadyOpen => fault(alloc, "AlreadyOpen"),
+            Reply::BatchTooLong => fault(alloc, "BatchTooLong"),
+            Reply::BadBatch { position, fault } => placed_fault(
+                alloc,
+                fault_text(*fault),
+                *position,
+            ),
+            Reply::OtherIndex(position) => placed_fault(alloc, "OtherIndex", *position),
+            Reply::EpochNotLater { latest } => epoch_not_later(alloc, *latest),
+            Reply::BoardFull => fault(alloc, "BoardFull"),
+            Reply::NotPrepared => fault(alloc, "NotPrepared"),
+            Reply::UnknownEpoch => fault(alloc, "UnknownEpoch"),
+            Reply::NameLength => fault(alloc, "NameLength"),
+            Reply::BadIndex => fault(alloc, "OtherIndex"),
+        }
+    }
+}
+
+fn prepared(alloc: Global, body: &Body, nodes: usize) -> Result<Printable, AllocError>
+    ensures { IfOk result (λ object. view object.value ≡ prepared_data body.now nodes) }
+{
+    prepared_of(alloc, body, &body.bytes(), nodes)
+}
+
+/// The same, with the body's bytes.
+fn prepared_of<'a>(
+    alloc: Global,
+    body: &'a Body,
+    bytes: &'a [u8],
+    nodes: usize,
+) -> Result<Printable, AllocError>
+    requires { bytes.now ≡ body_bytes body.now }
+    ensures { IfOk result (λ object. view object.value ≡ prepared_data body.now nodes) }
+{
+    object(
+        alloc,
+        &[
+            Field("body", Shown::Digits(bytes)),
+            Field("epoch", Shown::Number(body.t)),
+            Field("nodes", Shown::Number(nodes as u64)),
+            Field("ok", Shown::Text("prepare")),
+            Field("root", Shown::Digits(&body.root.0)),
+        ],
+    )
+}
+
+fn installed<'a>(alloc: Global, entry: &'a Entry, link: &'a Digest) -> Result<Printable, AllocError>
+    ensures { IfOk result (λ object. view object.value ≡ installed_data entry.now link.now.0) }
+{
+    object(
+        alloc,
+        &[
+            Field("entry", Shown::Entry(entry)),
+            Field("epoch", Shown::Number(entry.body.t)),
+            Field("link", Shown::Digits(&link.0)),
+            Field("ok", Shown::Text("install")),
+            Field("root", Shown::Digits(&entry.body.root.0)),
+        ],
+    )
+}
+
+fn latest<'a>(
+    alloc: Global,
+    epoch: u64,
+    link: &'a Digest,
+    names: usize,
+    nodes: usize,
+) -> Result<Printable, AllocError>
+    ensures { IfOk result (λ object. view object.value ≡ latest_data epoch link.now.0 names nodes) }
+{
+    object(
+        alloc,
+        &[
+            Field("epoch", Shown::Number(epoch)),
+            Field("link", Shown::Digits(&link.0)),
+            Field("names", Shown::Number(names as u64)),
+            Field("nodes", Shown::Number(nodes as u64)),
+            Field("ok", Shown::Text("latest")),
+        ],
+    )
+}

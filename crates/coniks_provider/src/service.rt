@@ -1,0 +1,216 @@
+//! The directory that a line opens, and the update that is pending.
+
+ghost use Rattle.std.specs.Prelude.{◌≡◌, [], length, None, Some, IfOk, OnOk, option_map};
+ghost use Rattle.coniks_chain.specs.Entries.{link_preimage};
+ghost use Rattle.coniks_directory.specs.Chain.{head_at};
+ghost use Rattle.coniks_proof.specs.Sha256.{sha256};
+ghost use Rattle.coniks_shared.specs.Boards.{BoardEnd};
+ghost use Rattle.coniks_shared.specs.Lists.{last_of};
+ghost use Rattle.coniks_provider.specs.Answers.{installed, outcome_of};
+ghost use Rattle.coniks_provider.specs.Limits.{most_epochs};
+ghost use Rattle.coniks_provider.specs.Stores.{IsRefusable, IsServed, batch_of, opened_of, refused_as};
+ghost use Rattle.coniks_provider.specs.Turns.{install_on, latest_outcome, lookup_with, nothing_yet, number_refusal, prepare_on, refusal};
+
+use crate::batch::BatchRead;
+use crate::reply::Reply;
+use crate::signature::GivenSignature;
+use coniks_chain::{Body, Entry, Signature};
+use coniks_directory::{
+    BatchFault, Directory, InstallFault, LookupAtFault, Prepared, SuppliedBatch,
+    SuppliedBatchFault, SuppliedIndices,
+};
+use coniks_proof::{Index, Nonce, Sha256Hash};
+use coniks_shared::{Board, Publisher};
+use coniks_tool::Crew;
+use coniks_work::Open;
+use std::alloc::{AllocError, Global};
+use std::thread::Threads;
+
+/// How many heads the board of a provider takes, and so how many epochs it may have.
+pub(crate) const BOARD_HEADS: usize = 65536;
+
+/// The nonce of these bytes.
+fn nonce_of(bytes: Option<[u8; 32]>) -> Option<Nonce>
+    ensures { option_map (λ (n : Nonce). n.0) result ≡ bytes }
+{
+    match bytes {
+        Some(bytes) => Some(Nonce(bytes)),
+        None => None,
+    }
+}
+
+/// The reply to a batch that isn't accepted.
+fn batch_refusal(fault: SuppliedBatchFault) -> Result<Reply, AllocError>
+    requires { IsRefusable fault }
+    ensures { IfOk result (λ reply. refused_as fault ≡ Some (outcome_of reply)) }
+{
+    match fault {
+        SuppliedBatchFault::Batch(BatchFault::BatchTooLong) => Ok(Reply::BatchTooLong),
+        SuppliedBatchFault::Batch(BatchFault::At { position, fault }) => {
+            Ok(Reply::BadBatch { position, fault })
+        }
+        SuppliedBatchFault::OtherIndex { position } => Ok(Reply::OtherIndex(position)),
+        SuppliedBatchFault::Batch(BatchFault::OutOfMemory) => Err(AllocError),
+        SuppliedBatchFault::Batch(BatchFault::Workers | BatchFault::Depth) => unreachable!(),
+    }
+}
+
+/// The reply to an installed update, whose head is the last that is published.
+fn installed_by(entry: Entry, publisher: &Publisher) -> Reply
+    requires { last_of publisher.now.heads ≡ Some (head_at sha256 entry) }
+    ensures { outcome_of result ≡ installed entry (sha256 (link_preimage entry)) }
+{
+    let Some(head) = publisher.last() else {
+        unreachable!()
+    };
+    Reply::Installed {
+        entry,
+        link: head.link,
+    }
+}
+
+/// An update that can be installed, and the body to sign.
+#[derive(Drop)]
+pub(crate) struct Pending {
+    pub(crate) update: Prepared,
+    pub(crate) body: Body,
+}
+
+/// A directory that was opened, and the update that is pending.
+#[derive(Drop)]
+pub(crate) struct Service {
+    directory: Directory<Sha256Hash, SuppliedIndices>,
+    pending: Option<Pending>,
+}
+
+impl Service {
+    /// A directory with no epochs.
+    pub(crate) fn open(alloc: Global, nonce: [u8; 32], policy: [u8; 32]) -> Service
+        ensures state { opened_of result ≡ nothing_yet nonce policy }
+        ensures served { (published : BoardEnd) → published.heads ≡ [] → IsServed published result.directory result.pending }
+    {
+        let indices = SuppliedIndices::new(alloc);
+        Service {
+            directory: Directory::open(alloc, Sha256Hash, indices, Nonce(nonce), policy),
+            pending: None,
+        }
+    }
+
+    /// Prepares the update of a batch, in place of the pending one.
+    pub(crate) fn prepare<T: Threads + Sync>(
+        &mut self,
+        crew: &Crew<'_, T>,
+        batch: &BatchRead<'_>,
+        publisher: &Publisher,
+    ) -> Result<Reply, AllocError>
+        requires paired { length batch.now.ops.now ≡ length batch.now.indices.now }
+        requires served { IsServed publisher.now self.old.directory self.old.pending }
+        ensures served { IsServed publisher.now self.new.directory self.new.pending }
+        ensures reply { IfOk result (λ reply. outcome_of reply ≡ (prepare_on (opened_of self.old) (batch_of batch.now) (refusal (opened_of self.old) (batch_of batch.now))).outcome) }
+        ensures state { OnOk result (Some (opened_of self.new) ≡ (prepare_on (opened_of self.old) (batch_of batch.now) (refusal (opened_of self.old) (batch_of batch.now))).state) }
+    {
+        let supplied = SuppliedBatch {
+            nonce: nonce_of(batch.brought),
+            ops: batch.ops,
+            indices: batch.indices,
+        };
+        let update = match self
+            .directory
+            .prepare_supplied(crew.rt, &supplied, crew.depth, crew.workers, &Open)
+        {
+            Ok(update) => update,
+            Err(fault) => return batch_refusal(fault),
+        };
+        if let Some(refused) = self.number_refusal(batch.epoch, publisher) {
+            return Ok(refused);
+        }
+        let body = self.directory.next_body(&update, batch.epoch, publisher);
+        let nodes = update.new_nodes();
+        self.pending = Some(Pending { update, body });
+        Ok(Reply::Prepared { body, nodes })
+    }
+
+    /// Why no update is prepared under a number.
+    fn number_refusal(&self, epoch: u64, publisher: &Publisher) -> Option<Reply>
+        requires { IsServed publisher.now self.now.directory self.now.pending }
+        ensures { option_map outcome_of result ≡ number_refusal (opened_of self.now) epoch }
+    {
+        let latest = self.directory.latest_epoch();
+        if epoch <= latest {
+            return Some(Reply::EpochNotLater { latest });
+        }
+        if publisher.published() >= BOARD_HEADS {
+            return Some(Reply::BoardFull);
+        }
+        None
+    }
+
+    /// Installs the pending update with a signature.
+    pub(crate) fn install(
+        &mut self,
+        signature: [u8; 64],
+        publisher: &mut Publisher,
+        board: &Board,
+    ) -> Result<Reply, AllocError>
+        requires table { publisher.old.table ≡ board.now.table }
+        requires capacity { board.now.capacity ≡ most_epochs }
+        requires served { IsServed publisher.old self.old.directory self.old.pending }
+        ensures table { publisher.new.table ≡ publisher.old.table }
+        ensures served { IsServed publisher.new self.new.directory self.new.pending }
+        ensures reply { IfOk result (λ reply. outcome_of reply ≡ (install_on (opened_of self.old) signature (opened_of self.old).pending).outcome) }
+        ensures state { OnOk result (Some (opened_of self.new) ≡ (install_on (opened_of self.old) signature (opened_of self.old).pending).state) }
+    {
+        let Some(Pending { update, body }) = self.pending.take() else {
+            return Ok(Reply::NotPrepared);
+        };
+        let mut signer = GivenSignature::new(Signature(signature));
+        let installed = self
+            .directory
+            .install_supplied(update, body.t, &mut signer, publisher, board);
+        let entry = match installed {
+            Ok(entry) => entry,
+            Err((InstallFault::OutOfMemory, _)) => return Err(AllocError),
+            Err(_) => unreachable!(),
+        };
+        Ok(installed_by(entry, publisher))
+    }
+
+    /// Looks a name up at an epoch and an index.
+    pub(crate) fn look_up(
+        &self,
+        alloc: Global,
+        epoch: u64,
+        name: &str,
+        index: [u8; 32],
+    ) -> Result<Reply, AllocError>
+        ensures { IfOk result (λ reply. outcome_of reply ≡ lookup_with (Some (opened_of self.now)) epoch name.now index) }
+    {
+        let found = match self
+            .directory
+            .signed_lookup_at(epoch, name.as_bytes(), Index(index))
+        {
+            Ok(found) => found,
+            Err(LookupAtFault::UnknownEpoch) => return Ok(Reply::UnknownEpoch),
+            Err(LookupAtFault::NameLength) => return Ok(Reply::NameLength),
+            Err(LookupAtFault::OtherIndex) => return Ok(Reply::BadIndex),
+            Err(LookupAtFault::OutOfMemory) => return Err(AllocError),
+        };
+        // The directory tells what its chain is.
+        let _chain = self.directory.chain();
+        let name = String::from_str(alloc, name)?;
+        Ok(Reply::LookedUp { name, found })
+    }
+
+    /// What there is at the latest epoch.
+    pub(crate) fn latest(&self, publisher: &Publisher) -> Reply
+        requires { IsServed publisher.now self.now.directory self.now.pending }
+        ensures { outcome_of result ≡ latest_outcome (Some (opened_of self.now)) }
+    {
+        Reply::Latest {
+            epoch: self.directory.latest_epoch(),
+            link: self.directory.latest_link(publisher),
+            names: self.directory.source().count(),
+            nodes: self.directory.nodes(),
+        }
+    }
+}
