@@ -34,16 +34,21 @@
 //! };
 //! ```
 //!
-//! A provider's indices can come from another process (a VRF, RFC 9381). They are supplied before a batch registers their
-//! names, and a lookup takes the index of its name along:
+//! A provider's indices can come from another process (a VRF, RFC 9381). A batch then comes with the index of each
+//! operation's name, and a lookup takes the index of its name along:
 //!
 //! ```rust
-//! // An index comes from the process that holds the key, before the batch that registers its name.
-//! let indices = SuppliedIndices::new(alloc);
-//! let mut directory = Directory::open(alloc, TaggedHash, indices, NONCE, POLICY);
-//! directory.supply(b"alice", alice)?;
-//! directory.supply(b"bob", bob)?;
-//! let ops = first_batch(alloc)?;
+//! let source = SuppliedIndices::new(alloc);
+//! let mut directory = Directory::open(alloc, TaggedHash, source, NONCE, POLICY);
+//!
+//! // Each operation comes with the index of its name. The install stores these indices.
+//! let batch = SuppliedBatch {
+//!     nonce: None,
+//!     ops: &ops,
+//!     indices: &indices,
+//! };
+//! let update = directory.prepare_supplied(rt, &batch, 1, 2, &Open)?;
+//! let installed = directory.install_supplied(update, 1, &mut signer, &mut publisher, &board);
 //! ```
 //!
 //! ```rust

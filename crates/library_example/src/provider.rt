@@ -1,5 +1,7 @@
 //! A provider: a directory with two epochs, and the board on which its watchers look.
 
+ghost use Rattle.std.specs.Prelude.{◌≡◌, IfOk, length};
+
 use crate::own::{DemoKey, KeyedIndex, TaggedHash};
 use anyhow::{Result, bail};
 use coniks_chain::Signer;
@@ -36,8 +38,10 @@ fn operation(alloc: Global, kind: OpKind, name: &str, key: &str) -> Result<Op, A
     })
 }
 
-/// The batch of the first epoch.
-pub fn first_batch(alloc: Global) -> Result<Vec<Op>, AllocError> {
+/// The batch of the first epoch, of two operations.
+pub fn first_batch(alloc: Global) -> Result<Vec<Op>, AllocError>
+    ensures { IfOk result (λ ops. length ops.items ≡ 2) }
+{
     let alice = operation(alloc, OpKind::Register, "alice", "alice's key")?;
     let bob = operation(alloc, OpKind::Register, "bob", "bob's key")?;
     Ok(vec![in alloc; alice, bob]?)

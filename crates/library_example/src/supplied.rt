@@ -1,39 +1,37 @@
-//! A provider whose indices another process computes: they are supplied to the directory.
+//! A provider whose indices another process computes: they come with the batches.
 
 use crate::own::{DemoKey, TaggedHash};
 use crate::provider::{INDEX, NONCE, POLICY, first_batch};
 use anyhow::{Result, bail};
 use coniks_chain::Signer;
-use coniks_directory::{Directory, IndexSource, SuppliedIndices};
+use coniks_directory::{Directory, IndexSource, SuppliedBatch, SuppliedIndices};
 use coniks_proof::{Answer, check};
 use coniks_shared::Board;
 use coniks_work::Open;
 use std::thread::Threads;
 
-/// Supplies the indices of two names, registers both, and looks up a third one, whose index isn't stored.
+/// Registers two names at the indices that come with their batch, and looks up a third one, whose index isn't stored.
 pub fn supplied_indices<R: Threads + Sync + Print + AllocGlobal>(rt: &R) -> Result<()> {
     let alloc = rt.alloc();
     let (board, mut publisher) = Board::new(alloc, 8)?;
     let mut signer = Signer::new(DemoKey { key: [8; 32] });
-    let (alice, bob) = (INDEX.index(b"alice"), INDEX.index(b"bob"));
-
-    // An index comes from the process that holds the key, before the batch that registers its name.
-    let indices = SuppliedIndices::new(alloc);
-    let mut directory = Directory::open(alloc, TaggedHash, indices, NONCE, POLICY);
-    directory.supply(b"alice", alice)?;
-    directory.supply(b"bob", bob)?;
+    let indices = [INDEX.index(b"alice"), INDEX.index(b"bob")];
     let ops = first_batch(alloc)?;
-    directory.commit(
-        rt,
-        &ops,
-        1,
-        2,
-        &Open,
-        1,
-        &mut signer,
-        &mut publisher,
-        &board,
-    )?;
+
+    let source = SuppliedIndices::new(alloc);
+    let mut directory = Directory::open(alloc, TaggedHash, source, NONCE, POLICY);
+
+    // Each operation comes with the index of its name. The install stores these indices.
+    let batch = SuppliedBatch {
+        nonce: None,
+        ops: &ops,
+        indices: &indices,
+    };
+    let update = directory.prepare_supplied(rt, &batch, 1, 2, &Open)?;
+    let installed = directory.install_supplied(update, 1, &mut signer, &mut publisher, &board);
+    if let Err((fault, _)) = installed {
+        bail!("epoch 1: {fault}");
+    }
 
     // A lookup takes the index along and stores nothing.
     let index = INDEX.index(b"mallory");
