@@ -1,9 +1,10 @@
-//! Lines that a machine of one's own answers, and a script for the program's engine.
+//! Lines that a machine of one's own answers, and lines for the engines of the two programs.
 
 ghost use Rattle.std.specs.Prelude.{length, nat_lt, ℕ};
 
 use anyhow::Result;
 use coniks_lines::{LineMachine, MemoryIn, MemoryOut, run_lines};
+use coniks_provider::run_provider;
 use coniks_tool::run_script;
 use std::alloc::AllocError;
 use std::thread::Threads;
@@ -52,5 +53,17 @@ pub fn answer_script<R: Threads + Sync + Print + AllocGlobal>(rt: &R) -> Result<
     let mut reader = MemoryIn::new(Vec::from_slice(alloc, SCRIPT)?);
     let mut writer = MemoryOut::new(alloc);
     let all = run_script(rt, alloc, &mut reader, &mut writer, 2, 1)?;
+    print_run(rt, &writer, all)
+}
+
+/// A line that asks for the latest epoch before a directory is open.
+const LINES: &[u8] = b"{\"cmd\":\"latest\"}\n";
+
+/// Answers a line as `provider` does, with the same workers.
+pub fn answer_provider<R: Threads + Sync + Print + AllocGlobal>(rt: &R) -> Result<()> {
+    let alloc = rt.alloc();
+    let mut reader = MemoryIn::new(Vec::from_slice(alloc, LINES)?);
+    let mut writer = MemoryOut::new(alloc);
+    let all = run_provider(rt, alloc, &mut reader, &mut writer, 2, 1)?;
     print_run(rt, &writer, all)
 }

@@ -24,5 +24,6 @@ fn main(rt: HostRuntime) -> Result<()> {
     tree::small_tree(&rt)?;
     lines::echo_lines(&rt)?;
     lines::answer_script(&rt)?;
+    lines::answer_provider(&rt)?;
     Ok(())
 }
