@@ -21,8 +21,9 @@ pub trait SupplyIndex: IndexSource {
 /// An index source that holds the indices that were supplied to it. Contracts see it as a list of names with their indices,
 /// in the order of the names.
 ///
-/// A name without an index counts as having 32 zero bytes, and a batch that registers it leaves it at that index for good.
-/// Supply the index of each name before a batch registers it; `has` says whether that was done.
+/// `prepare_supplied` takes batches that come with the indices of their names. For `prepare`, supply the index of each name
+/// before a batch registers it; `has` says whether that was done. A name without an index counts as having 32 zero bytes, and
+/// is registered at that index for good.
 #[derive(Drop)]
 pub struct SuppliedIndices {
     alloc: Global,
