@@ -9,6 +9,7 @@ mod clients;
 mod epochs;
 mod gates;
 mod groups;
+mod indexed;
 mod installs;
 mod largest;
 mod outside;

@@ -21,7 +21,7 @@ use std::process::Abort;
 use std::thread::Threads;
 
 /// An index that begins with a byte, with zero bytes after it.
-fn index_from(first: u8) -> Index {
+pub fn index_from(first: u8) -> Index {
     let mut bytes = [0; 32];
     bytes[0] = first;
     Index(bytes)
