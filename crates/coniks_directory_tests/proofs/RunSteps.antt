@@ -6,7 +6,8 @@ use Rattle.coniks_directory.specs.Directories.{IsAlike}
 use Rattle.coniks_directory.specs.History.{latest_registry}
 use Rattle.coniks_directory.specs.Runs.{Batch, IsPreparedOf, Run, committed, installed, supplied}
 use Rattle.coniks_directory.specs.State.{State, View, history_of}
-use Rattle.coniks_directory.specs.Supplied.{AgreeOn}
+use Rattle.coniks_directory.specs.Supplied.{AgreeOn, Supplied, supplied_index}
+use Rattle.coniks_directory.specs.SuppliedBatches.{IsSuppliedUpdate}
 use Rattle.coniks_directory.specs.Updates.{Grows, MayInstall, base_of, registry_after, shown_after, shown_next}
 use Rattle.coniks_directory.specs.declared.update.Prepared.{Prepared}
 
@@ -49,3 +50,21 @@ supply_step {H} digest index v v' same_state same_hash agree nonce policy batche
     subst (λ (s : State). Run (digest v'.hash) (index v'.index) nonce policy batches s) (sym same_state)
     (subst (λ (h : H). Run (digest h) (index v'.index) nonce policy batches v.state) (sym same_hash)
     (supplied (index v.index) (index v'.index) nonce policy batches v.state run agree))
+
+-- an `install_supplied` of an update that was prepared from the directory as it is
+pub install_supplied_step : {H A E : Type 0} (digest : H → List ℕ → List ℕ) (result : Result A E) (v v' : View H (List Supplied)) (update : Prepared) (t published capacity : ℕ)
+    → OnOk result (history_of v'.state ≡ history_of v.state ++ shown_after v.state update t ∷ []) → OnOk result (MayInstall v.state (base_of update) t published capacity)
+    → v'.hash ≡ v.hash → Grows v.state v.state → Grows v.state v'.state → AgreeOn (supplied_index v.index) (supplied_index v'.index) (latest_registry (history_of v.state))
+    → OnOk result ((index : List ℕ → List ℕ) → IsSuppliedUpdate (digest v.hash) (supplied_index v.index) (latest_registry (history_of v.state)) v.state update index
+    → AgreeOn index (supplied_index v'.index) (registry_after v.state update))
+    → OnOk result ((index : List ℕ → List ℕ) (nonce policy : List ℕ) (batches : List Batch) (brought : Option (List ℕ)) (ops : List Operation) (depth workers : ℕ)
+    → Run (digest v.hash) (supplied_index v.index) nonce policy batches v.state
+    → IsSuppliedUpdate (digest v.hash) (supplied_index v.index) (latest_registry (history_of v.state)) v.state update index
+    → IsPreparedOf (digest v.hash) index v.state brought ops depth workers update
+    → Run (digest v'.hash) (supplied_index v'.index) nonce policy (batches ++ record { t = t; brought = brought; ops = ops } ∷ []) v'.state)
+install_supplied_step digest (Err e) v v' update t published capacity history may same still grows kept given = history
+install_supplied_step {H} digest (Ok a) v v' update t published capacity history may same still grows kept given = λ index nonce policy batches brought ops depth workers run update_is prepared.
+    let then = supplied_index v'.index in
+    subst (λ (h : H). Run (digest h) then nonce policy (batches ++ record { t = t; brought = brought; ops = ops } ∷ []) v'.state) (sym same)
+    (installed then index nonce policy batches (record { t = t; brought = brought; ops = ops }) v.state v.state v'.state update depth workers published capacity
+    (supplied (supplied_index v.index) then nonce policy batches v.state run kept) prepared (given index update_is) still may history grows)

@@ -1,6 +1,6 @@
 //! Batches whose operations come with the indices of their names.
 
-ghost use Rattle.std.specs.Prelude.{◌≡◌, ◌×◌, List, ℕ, IfOk};
+ghost use Rattle.std.specs.Prelude.{◌≡◌, List, ℕ, IfOk};
 ghost use Rattle.coniks_directory.specs.Directories.{registry};
 ghost use Rattle.coniks_directory.specs.Supplied.{supplied_index};
 ghost use Rattle.coniks_directory.specs.SuppliedBatches.{IsSuppliedUpdate};
@@ -8,6 +8,7 @@ ghost use Rattle.coniks_directory.specs.Updates.{IsUpdate};
 
 use crate::tests::answers::digest;
 use crate::tests::clerk::{NONCE, POLICY, Written, ops_of, refusing};
+use crate::tests::runs::{install_supplied_next, prepare_supplied_next};
 use crate::tests::supplying::index_from;
 use coniks_directory::OpKind::{Change, Register};
 use coniks_directory::{
@@ -15,7 +16,6 @@ use coniks_directory::{
 };
 use coniks_proof::{Hash32, Index, Sha256Hash};
 use coniks_shared::Board;
-use coniks_work::Open;
 use std::alloc::Global;
 use std::process::Abort;
 use std::thread::Threads;
@@ -28,8 +28,8 @@ fn prepare<R: Threads + Sync + Abort>(
     written: &[Written],
     indices: &[Index],
 ) -> Result<Prepared, SuppliedBatchFault>
-    ensures update { IfOk result (λ p. (index : List ℕ → List ℕ) × IsUpdate (⟦<Sha256Hash as Hash32>⟧.digest_of directory.now.hash) index directory.now.state p
-        × IsSuppliedUpdate (⟦<Sha256Hash as Hash32>⟧.digest_of directory.now.hash) (supplied_index directory.now.index) (registry directory.now) directory.now.state p index) }
+    ensures update { IfOk result (λ p. (index : List ℕ → List ℕ) × IsUpdate (⟦<Sha256Hash as Hash32>⟧.digest_of directory.now.hash) index directory.now.state p) }
+    ensures installable { IfOk result (λ p. (index : List ℕ → List ℕ) × IsSuppliedUpdate (⟦<Sha256Hash as Hash32>⟧.digest_of directory.now.hash) (supplied_index directory.now.index) (registry directory.now) directory.now.state p index) }
 {
     let ops = ops_of(alloc, written).expect(rt, "operations");
     assert!(rt; ops.len() == indices.len());
@@ -38,7 +38,7 @@ fn prepare<R: Threads + Sync + Abort>(
         ops: &ops,
         indices,
     };
-    directory.prepare_supplied(rt, &batch, 1, 2, &Open)
+    prepare_supplied_next(rt, directory, &batch)
 }
 
 /// Why operations with the indices of their names are refused.
@@ -67,7 +67,11 @@ fn refuse<R: Threads + Sync + Abort>(
 ) {
     let other = SuppliedBatchFault::OtherIndex { position: 1 };
     let (b, d) = (index_from(0x81), index_from(0x20));
-    let changed = [(Register, b'd', b'k'), (Change, b'b', b'l'), (Register, b'a', b'k')];
+    let changed = [
+        (Register, b'd', b'k'),
+        (Change, b'b', b'l'),
+        (Register, b'a', b'k'),
+    ];
     assert!(rt; refused(rt, alloc, directory, &changed, &[d, b, d]) == other);
     let held = index_from(0x40);
     let clashing = [(Register, b'd', b'k'), (Change, b'b', b'l')];
@@ -100,10 +104,16 @@ fn batches_with_their_indices(rt: HostRuntime) {
     let three = "9f0f0e3455b88ce5747710c5195756230f5f5a6810b4f76899e2d7d1293fd6ac";
     assert!(rt; body.root == digest(&rt, three));
     assert!(rt; directory.source().count() == 0);
-    let entry = directory
-        .install_supplied(update, 3, &mut signer, &mut publisher, &board)
-        .ok()
-        .expect(&rt, "an entry");
+    let entry = install_supplied_next(
+        &mut directory,
+        update,
+        3,
+        &mut signer,
+        &mut publisher,
+        &board,
+    )
+    .ok()
+    .expect(&rt, "an entry");
     assert!(rt; entry.body == body);
     assert!(rt; directory.root_at(3) == Some(digest(&rt, three)));
     assert!(rt; directory.source().count() == 3);

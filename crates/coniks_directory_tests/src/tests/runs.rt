@@ -1,13 +1,15 @@
 //! Calls on a directory as steps of a run, each from its public clauses alone, and what the directory theorem says of them.
 
-ghost use Rattle.std.specs.Prelude.{◌≡◌, ◌<◌, ◌-◌, ◌^◌, ◌++◌, [], ◌∷◌, ℕ, List, Option, None, Some, IfOk, OnOk, option_map};
+ghost use Rattle.std.specs.Prelude.{◌≡◌, ◌<◌, ◌-◌, ◌^◌, ◌++◌, [], ◌∷◌, ℕ, List, Option, None, Some, IfOk, OnOk, length, option_map};
 ghost use Rattle.coniks_directory.specs.Batches.{operations};
 ghost use Rattle.coniks_directory.specs.Chain.{heads_of};
 ghost use Rattle.coniks_directory.specs.History.{root_at, shown_at};
 ghost use Rattle.coniks_directory.specs.Lookups.{IsAcceptedAt};
 ghost use Rattle.coniks_directory.specs.Runs.{Batch, IsPreparedOf, Run, defined};
 ghost use Rattle.coniks_directory.specs.State.{State};
-ghost use Rattle.coniks_directory.specs.Supplied.{AgreeOn};
+ghost use Rattle.coniks_directory.specs.Directories.{registry};
+ghost use Rattle.coniks_directory.specs.Supplied.{AgreeOn, supplied_index};
+ghost use Rattle.coniks_directory.specs.SuppliedBatches.{IsSuppliedUpdate, index_in, indexed};
 ghost use Rattle.coniks_directory.specs.Updates.{Grows, IsUpdateOf, registry_after};
 ghost use Rattle.coniks_proof.specs.Batches.{Operation};
 
@@ -15,10 +17,10 @@ use crate::tests::answers::digest;
 use crate::tests::clerk::{Clerk, ops_of, with_clerk};
 use coniks_chain::{Entry, Sign};
 use coniks_directory::OpKind::{Change, Register};
-use coniks_directory::laws::{directory_theorem, updates_stay};
+use coniks_directory::laws::{directories_grow, directory_theorem, updates_stay};
 use coniks_directory::{
     BatchFault, CommitFault, Directory, IndexSource, InstallFault, LookupFault, Op, Prepared,
-    SupplyFault, SupplyIndex,
+    SuppliedBatch, SuppliedBatchFault, SuppliedIndices, SupplyFault, SupplyIndex,
 };
 use coniks_proof::{Digest, Hash32, Index, Nonce, Proof, Sha256Hash};
 use coniks_shared::{Board, Publisher};
@@ -72,6 +74,47 @@ pub fn install_next<H: Hash32, X: IndexSource, S: Sign>(
     ensures table { publisher.new.table ≡ publisher.old.table }
 {
     directory.install(update, t, signer, publisher, board)
+}
+
+/// `prepare_supplied`, whose update any run may install later.
+pub fn prepare_supplied_next<H: Hash32 + Sync, X: IndexSource, R: Threads + Sync>(
+    rt: &R,
+    directory: &Directory<H, X>,
+    batch: &SuppliedBatch<'_>,
+) -> Result<Prepared, SuppliedBatchFault>
+    requires { length batch.now.ops.now ≡ length batch.now.indices.now }
+    ensures prepared { IfOk result (IsPreparedOf (H.digest_of directory.now.hash) (index_in (X.index_of directory.now.index) (registry directory.now) (indexed batch.now.ops.now batch.now.indices.now))
+        directory.now.state (option_map (λ (n : Nonce). n.0) batch.now.nonce) (operations batch.now.ops.now) 1 2) }
+    ensures installable { IfOk result (λ p. IsSuppliedUpdate (H.digest_of directory.now.hash) (X.index_of directory.now.index) (registry directory.now) directory.now.state p
+        (index_in (X.index_of directory.now.index) (registry directory.now) (indexed batch.now.ops.now batch.now.indices.now))) }
+{
+    directory.prepare_supplied(rt, batch, 1, 2, &Open)
+}
+
+/// `install_supplied`, which makes a run one batch longer, by the indices that the directory holds then.
+pub fn install_supplied_next<H: Hash32, S: Sign>(
+    directory: &mut Directory<H, SuppliedIndices>,
+    update: Prepared,
+    t: u64,
+    signer: &mut S,
+    publisher: &mut Publisher,
+    board: &Board,
+) -> Result<Entry, (InstallFault, Prepared)>
+    requires update { (index : List ℕ → List ℕ) × IsSuppliedUpdate (H.digest_of directory.old.hash) (supplied_index directory.old.index) (registry directory.old) directory.old.state update index }
+    requires made { S.made_of signer.old < 2 ^ 64 - 1 }
+    requires refused { S.refused_of signer.old < 2 ^ 64 - 1 }
+    requires table { publisher.old.table ≡ board.now.table }
+    requires published { publisher.old.heads ≡ heads_of (H.digest_of directory.old.hash) directory.old.state.chain }
+    ensures run { OnOk result ((index : List ℕ → List ℕ) (nonce policy : List ℕ) (batches : List Batch) (brought : Option (List ℕ)) (ops : List Operation) (depth workers : ℕ)
+        → Run (H.digest_of directory.old.hash) (supplied_index directory.old.index) nonce policy batches directory.old.state
+        → IsSuppliedUpdate (H.digest_of directory.old.hash) (supplied_index directory.old.index) (registry directory.old) directory.old.state update index
+        → IsPreparedOf (H.digest_of directory.old.hash) index directory.old.state brought ops depth workers update
+        → Run (H.digest_of directory.new.hash) (supplied_index directory.new.index) nonce policy (batches ++ record { t = t; brought = brought; ops = ops } ∷ []) directory.new.state) }
+    ensures heads { publisher.new.heads ≡ heads_of (H.digest_of directory.new.hash) directory.new.state.chain }
+    ensures table { publisher.new.table ≡ publisher.old.table }
+{
+    directories_grow();
+    directory.install_supplied(update, t, signer, publisher, board)
 }
 
 /// `supply`, after which a run is one by the indices that the directory holds then.
