@@ -1,6 +1,8 @@
 -- Batches whose operations come with indices: the indices that they are judged by, their first fault, and what an install supplies.
-use Rattle.std.proofs.Common.{◌≡◌, ◌≤◌, ◌<◌, ◌⊎◌, get_or, ℕ, zero, suc, ◌+◌, List, [], ◌∷◌, ◌++◌, length, map, take, drop, Bool, true, false, not, ◌&&◌, ◌||◌, refl, sym, ap, ◌∙◌, arith, inl, inr, Option, Some, None, Result, Ok, Err, if◌then◌else◌, slice_get, nat_lt, nat_le}
-use Rattle.std.specs.Prelude.{IfOk, OnOk}
+use Rattle.std.proofs.Common.{◌≡◌, ◌≤◌, ◌<◌, ◌⊎◌, get_or, ℕ, zero, suc, ◌+◌, List, [], ◌∷◌, ◌++◌, length, map, take, drop, Bool, true, false, ◌||◌, refl, sym, ap, ◌∙◌, arith, inl, inr, Option, Some, None, Result, Ok, Err, if◌then◌else◌, slice_get, nat_lt, nat_le}
+use Rattle.std.specs.Prelude.{IfErr, IfOk, OnOk}
+use Rattle.std.specs.Bool.{then_some}
+use Rattle.std.specs.Option.{option_or}
 use Rattle.std.specs.Result.{is_err}
 use Rattle.std.proofs.lemmas.Bool.Decides.{nat_tests}
 use Rattle.std.specs.BTreeMap.{insert_entry}
@@ -21,7 +23,7 @@ use Rattle.coniks_proof.specs.Batches.{name_length, key_length, name_twice, name
 use Rattle.coniks_proof.specs.declared.values.Index.{Index}
 use Rattle.coniks_directory.proofs.Words.{Fault, Op, Operation, Prepared, Record, Registered, Registry, State, Whole, at_drop_all, at_drop_more, bound_by, bytes_eq, bytes_eq-Decides, fault_from, fault_of, first_fault}
 use Rattle.coniks_directory.proofs.Words.{get_or_from_slice_get, has_name, history_of, index_clash, is_eq, is_eq-slice_cmp, latest_registry, map-append, nat_cmp, operation_of, operations, or_cases, placed, registered_of, registry_after, slice_cmp, slice_get-get_or, slice_get_read, slice_get_within, zeros}
-use Rattle.coniks_directory.specs.Supplied.{AgreeOn, HasOtherIndex, Supplied, is_supplied, supplied_index}
+use Rattle.coniks_directory.specs.Supplied.{AgreeOn, Supplied, is_supplied, supplied_index}
 use Rattle.coniks_directory.specs.SuppliedBatches.{AreOf, Indexed, IsEarliest, IsFresh, IsSuppliedFault, IsWithin, SuppliedFault, earlier_of, earliest, given_index, has_other, index_in, indexed, indices_by, indices_in, named_in, of_operation, operations_of, or_other, other_from, other_index, placed_fault}
 use Rattle.coniks_directory.specs.SuppliedBatches.{put_index, put_indices, supplied_fault, supplied_fault_from, supplied_fault_is}
 use Rattle.coniks_directory.proofs.AgreementLemmas.{leaves_name}
@@ -216,29 +218,26 @@ indexed_operations (x ∷ ops) (y ∷ indices) same = ap (λ xs. operation_of x 
 pub named_next : (xs : List Indexed) (i : ℕ) (x : Indexed) → slice_get xs i ≡ Some x → named_in (take (i + 1) xs) ≡ named_in (take i xs) ++ (x.op.name, x.index) ∷ []
 named_next xs i x at = ap named_in (take_next xs i x at) ∙ map-append (λ (y : Indexed). (y.op.name, y.index)) (take i xs) (x ∷ [])
 
--- up to a place no name is registered with another index
-abbrev pub IsClear : (List ℕ → List ℕ) → Registry → List Indexed → ℕ → Type 0
-IsClear of registry xs i = other_from of registry 0 xs ≡ other_from of registry i (drop i xs)
+-- up to a place, the place of the first operation whose name is registered with another index
+abbrev pub IsFirstOther : (List ℕ → List ℕ) → Registry → List Indexed → ℕ → Option ℕ → Type 0
+IsFirstOther of registry xs i other = other_from of registry 0 xs ≡ option_or other (other_from of registry i (drop i xs))
 
-pub other-next : (of : List ℕ → List ℕ) (registry : Registry) (xs : List Indexed) (i : ℕ) (x : Indexed) → slice_get xs i ≡ Some x → IsClear of registry xs i
-    → other_from of registry 0 xs ≡ (if has_other of registry x then Some i else other_from of registry (i + 1) (drop (i + 1) xs))
-other-next of registry xs i x at clear =
-    clear ∙ at_drop_more (other_from of registry i) xs i x (slice_get_within xs i x at) ∙ ap (λ y. other_from of registry i (y ∷ drop (i + 1) xs)) (get_or_from_slice_get xs i x x at)
+or_assoc : (x y z : Option ℕ) → option_or x (option_or y z) ≡ option_or (option_or x y) z
+or_assoc None y z = refl
+or_assoc (Some x) y z = refl
 
-pub other-all : (of : List ℕ → List ℕ) (registry : Registry) (xs : List Indexed) (i : ℕ) → length xs ≤ i → IsClear of registry xs i → other_from of registry 0 xs ≡ None
-other-all of registry xs i past clear = clear ∙ at_drop_all (other_from of registry i) xs i past
+pub other-next : (of : List ℕ → List ℕ) (registry : Registry) (xs : List Indexed) (i : ℕ) (x : Indexed) (other : Option ℕ) → slice_get xs i ≡ Some x → IsFirstOther of registry xs i other
+    → IsFirstOther of registry xs (i + 1) (option_or other (then_some (has_other of registry x) i))
+other-next of registry xs i x other at first =
+    let rest = other_from of registry (i + 1) (drop (i + 1) xs) in
+    first
+    ∙ ap (option_or other) (at_drop_more (other_from of registry i) xs i x (slice_get_within xs i x at) ∙ ap (λ y. other_from of registry i (y ∷ drop (i + 1) xs)) (get_or_from_slice_get xs i x x at)
+    ∙ elim (has_other of registry x) as (λ b. (if b then Some i else rest) ≡ option_or (then_some b i) rest) [ true ↦ refl | false ↦ refl ])
+    ∙ or_assoc other (then_some (has_other of registry x) i) rest
 
--- what the tests of a name's index say of an operation
-pub other_on : (of : List ℕ → List ℕ) (registry : Registry) (x : Indexed) → HasOtherIndex of registry x.op.name x.index → has_other of registry x ≡ true
-other_on of registry x other =
-    let off : bytes_eq (of x.op.name) x.index ≡ false = eq_apart (of x.op.name) x.index other.1 in
-    rw (other.0, off) refl
-
-pub other_off : (of : List ℕ → List ℕ) (registry : Registry) (x : Indexed) → (has_name registry x.op.name ≡ true → of x.op.name ≡ x.index) → has_other of registry x ≡ false
-other_off of registry x kept = (elim (has_name registry x.op.name) as (λ b. has_name registry x.op.name ≡ b → b && not (bytes_eq (of x.op.name) x.index) ≡ false) [
-  | true ↦ λ has. let on = eq_same (of x.op.name) x.index (kept has) in rw on refl
-  | false ↦ λ _. refl
-]) refl
+pub other-all : (of : List ℕ → List ℕ) (registry : Registry) (xs : List Indexed) (i : ℕ) (other : Option ℕ) → length xs ≤ i → IsFirstOther of registry xs i other → other ≡ other_from of registry 0 xs
+other-all of registry xs i other past first =
+    sym (first ∙ ap (option_or other) (at_drop_all (other_from of registry i) xs i past) ∙ elim other as (λ o. option_or o None ≡ o) [ None ↦ refl | Some p ↦ refl ])
 
 -- ---- the first fault
 
@@ -369,7 +368,7 @@ module _ (of : List ℕ → List ℕ) (registry : Registry) (ops : List Op) (ind
   judged_fault batch_fault.OutOfMemory within other f = within
   judged_fault (batch_fault.At position fault) within other f = (within, faults None other ∙ ap (λ g. earliest g None) f)
 
--- what is told is the earliest
+-- the error that names the earliest fault
 pub told_earliest : (index : List ℕ → List ℕ) (registry : Registry) (ops : List Operation) (place : ℕ) (fault : SuppliedBatchFault) (at : ℕ × SuppliedFault) → supplied_fault_is fault ≡ Some at
     → earliest (first_fault index registry ops) (Some place) ≡ Some at → IsEarliest index registry ops place fault
 told_earliest index registry ops place (InBatch batch_fault.Workers) at told first = absurd (let never = told in cc)
@@ -464,6 +463,10 @@ held_take index (r ∷ rs) (suc n) held = (held.0, held_take index rs n held.1)
 pub if_ok-map : {T E : Type 0} (r : Result T E) (P Q : T → Type 0) → ((x : T) → P x → Q x) → IfOk r P → IfOk r Q
 if_ok-map (Ok x) P Q more is = more x is
 if_ok-map (Err e) P Q more is = is
+
+pub if_err-map : {T E : Type 0} (r : Result T E) (P Q : E → Type 0) → ((e : E) → P e → Q e) → IfErr r P → IfErr r Q
+if_err-map (Ok x) P Q more is = is
+if_err-map (Err e) P Q more is = more e is
 
 pub on_ok-map : {T E : Type 0} (r : Result T E) (P Q : Type 0) → (P → Q) → OnOk r P → OnOk r Q
 on_ok-map (Ok x) P Q more is = more is

@@ -1,11 +1,12 @@
 -- The index that a map of supplied indices holds for a name.
-use Rattle.std.proofs.Common.{◌≡◌, ℕ, List, [], ◌∷◌, map, Bool, true, false, refl, sym, ap, ◌∙◌, Some, None, if◌then◌else◌, is_some}
+use Rattle.std.proofs.Common.{◌≡◌, ℕ, List, [], ◌∷◌, map, Bool, true, false, refl, sym, ap, ◌∙◌, Option, Some, None, if◌then◌else◌, is_some}
+use Rattle.std.specs.Option.{IfSome, option_copied}
 use Rattle.std.specs.BTreeMap.{insert_entry}
 use Rattle.std.specs.Ordering.{match_ordering}
 use Rattle.std.specs.declared.cmp.Ordering.{Ordering}
 use Rattle.std.specs.declared.cmp.Ordering.TheVariants.{Equal, Greater, Less}
 use Rattle.coniks_proof.specs.declared.values.Index.{Index}
-use Rattle.coniks_directory.proofs.Words.{bytes_eq, bytes_eq-Decides, is_eq, lookup, zeros}
+use Rattle.coniks_directory.proofs.Words.{Bor, bytes_eq, bytes_eq-Decides, is_eq, lookup, zeros}
 use Rattle.coniks_directory.specs.Supplied.{IsSupplied, Supplied, is_supplied, supplied_index}
 use Rattle.coniks_proof.proofs.Lemmas.{eq_apart, eq_same}
 
@@ -36,6 +37,15 @@ module _ {K : Type 0} (key : K → List ℕ) where
       | true ↦ λ on. let same = sym (is e.0) ∙ on in rw (on, same) refl
       | false ↦ λ off. let differ = sym (is e.0) ∙ off in rw (off, differ) (supplied_has es)
     ]) refl
+
+    -- as it is borrowed
+    pub found_some : (es : List (K × Index)) (r : Option (Bor Index)) → option_copied r ≡ lookup test es
+        → IfSome r (λ i. (is_supplied (map seen es) name ≡ true) × (i.now.0 ≡ supplied_index (map seen es) name))
+    found_some es None at = tt
+    found_some es (Some i) at = (sym (supplied_has es) ∙ ap is_some (sym at), sym (supplied_some es i.now (sym at)))
+
+    pub found_none : (es : List (K × Index)) (r : Option (Bor Index)) → option_copied r ≡ lookup test es → r ≡ None → is_supplied (map seen es) name ≡ false
+    found_none es r at none = sym (supplied_has es) ∙ ap is_some (sym at ∙ ap option_copied none)
 
   -- one more name, or another index of one
   module _ (cmp : K → K → Ordering) (is : (x y : K) → is_eq (cmp x y) ≡ bytes_eq (key x) (key y)) (k : K) (v : Index) where

@@ -57,7 +57,7 @@ pub record AreDrafts (hash of : List ℕ → List ℕ) (bound : List Registered)
 abbrev pub IsJudged : (List ℕ → List ℕ) → Registry → List Operation → ℕ → Type 0
 IsJudged of registry ops i = first_fault of registry ops ≡ fault_from of registry (map bound_by (take i ops)) i (drop i ops)
 
--- the entries are those of the records, which are to stand from a place on, each once and in increasing order of index
+-- the entries are those of the records, which are to be stored from a place on, each once and in increasing order of index
 pub record AreChangesOf (base : ℕ) (records : List Record) (entries : List Numbered) : Type 0 where
   pub increasing : AreIncreasing entries
   pub each : (n : ℕ) (r : Record) → slice_get records n ≡ Some r → IsIn (entry_of_record (base + n) r) entries

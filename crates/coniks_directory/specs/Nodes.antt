@@ -7,7 +7,7 @@ use Rattle.coniks_tree.specs.Table.{Numbered}
 use Rattle.coniks_directory.specs.Batches.{most_nodes}
 use Rattle.coniks_directory.specs.History.{Shown, latest_registry}
 
--- where a name stands in the map; no count depends on what stands there
+-- a name's index, in an entry; no count depends on the entry's commitment or record
 abbrev pub place_of : (List ℕ → List ℕ) → Registered → Numbered
 place_of of b = record { index = of b.name; commitment = []; behind = 0 }
 

@@ -103,7 +103,7 @@ earliest (Some at) None = Some (at.0, of_operation at.1)
 earliest None (Some other) = Some (other, other_index)
 earliest (Some at) (Some other) = Some (earlier_of at.0 at.1 other)
 
--- the place and the fault of an operation that an error tells
+-- the place and the fault of the operation that an error names
 abbrev pub supplied_fault_is : SuppliedBatchFault → Option (ℕ × SuppliedFault)
 supplied_fault_is (Batch (At position fault)) = Some (position, of_operation (fault_is fault))
 supplied_fault_is (Batch Workers) = None

@@ -22,7 +22,7 @@ fn change_to(place: usize, new: &Record) -> Change
     }
 }
 
-/// The changes that put the records into the tree, which are to stand from a place on, in increasing order of index.
+/// The changes that put the records into the tree, in increasing order of index. The records are to be stored from `base` on.
 pub(crate) fn changes_of(
     alloc: Global,
     base: usize,

@@ -170,10 +170,16 @@ impl<H: Hash32, X: IndexSource> Directory<H, X> {
         ensures { result ≡ has_name (registry self.now) name.now }
     {
         let index = self.source.index(name);
-        is_of(
-            holder_at(&self.held.tree, self.held.latest_root(), &index),
-            name,
-        )
+        self.is_registered_at(&index, name)
+    }
+
+    /// Returns whether the name, which has this index, is registered at the latest epoch.
+    fn is_registered_at(&self, index: &Index, name: &[u8]) -> bool
+        requires { index.now.0 ≡ X.index_of self.now.index name.now }
+        ensures { result ≡ has_name (registry self.now) name.now }
+    {
+        let root = self.held.latest_root();
+        is_of(holder_at(&self.held.tree, root, index), name)
     }
 
     /// Returns whether the name is registered once the update is installed.
@@ -189,7 +195,8 @@ impl<H: Hash32, X: IndexSource> Directory<H, X> {
         ensures yes { result ≡ true → HasOtherIndex (X.index_of self.now.index) (registry self.now) name.now index.now.0 }
         ensures no { result ≡ false → has_name (registry self.now) name.now ≡ true → X.index_of self.now.index name.now ≡ index.now.0 }
     {
-        self.source.index(name).0 != index.0 && self.is_registered(name)
+        let own = self.source.index(name);
+        own.0 != index.0 && self.is_registered_at(&own, name)
     }
 
     /// Looks up a name at an index that comes with the call, and stores nothing. The proof is the one that `lookup` returns
@@ -272,8 +279,9 @@ impl<H: Hash32, X: SupplyIndex> Directory<H, X> {
 impl<H: Hash32, X: IndexSource> Directory<H, X> {
     ghost use Rattle.coniks_directory.specs.Updates.{Grows, IsRefused, LeavesSigner, MayInstall, base_of, nodes_added, refusals, shown_after};
 
-    /// Installs an update under a later epoch: its tree is attached, its entry is signed and stands in the chain, and the
-    /// head is published. All growth comes before the signature, and after it nothing can fail. It waits for nobody.
+    /// Installs an update under a later epoch: attaches its tree, has its entry signed, stores the entry in the chain and
+    /// publishes the head. All memory is allocated before the signer is asked, and after that nothing can fail. It waits for
+    /// nobody.
     ///
     /// The update was prepared from this directory, the publisher is the board's and has published just the heads of this
     /// directory's chain, and the signer's counts are below 2^64 - 1. A refusal changes neither the directory nor the
@@ -298,7 +306,7 @@ impl<H: Hash32, X: IndexSource> Directory<H, X> {
         ensures body { IfOk result (λ entry. entry.body ≡ NextBody H.digest_of X.index_of self.old (shown_after self.old.state update t)) }
         ensures may { OnOk result (MayInstall self.old.state (base_of update) t (length publisher.old.heads) board.now.capacity) }
 
-        // The one signature that the signer made is the one that stands in the chain.
+        // The one signature that the signer made is the one that is stored in the chain.
         ensures made { OnOk result ((S.made_of signer.new ≡ S.made_of signer.old + 1) × (S.refused_of signer.new ≡ S.refused_of signer.old)) }
         ensures signed { IfOk result (λ entry. S.last_of signer.new ≡ Some entry) }
         ensures asked { IfOk result (λ entry. S.signs signer.old (body_bytes entry.body) (Some entry.signature) signer.new) }
@@ -442,7 +450,7 @@ impl<H: Hash32 + Sync, X: IndexSource> Directory<H, X> {
         ensures accepted { OnOk result (Accepts X.index_of self.old (operations ops.now) depth workers) }
         ensures may { OnOk result (MayInstall self.old.state (length self.old.state.epochs) t (length publisher.old.heads) board.now.capacity) }
 
-        // The one signature that the signer made is the one that stands in the chain.
+        // The one signature that the signer made is the one that is stored in the chain.
         ensures made { OnOk result ((S.made_of signer.new ≡ S.made_of signer.old + 1) × (S.refused_of signer.new ≡ S.refused_of signer.old)) }
         ensures signed { IfOk result (λ entry. S.last_of signer.new ≡ Some entry) }
         ensures asked { IfOk result (λ entry. S.signs signer.old (body_bytes entry.body) (Some entry.signature) signer.new) }
@@ -478,7 +486,7 @@ impl<H: Hash32> Directory<H, SuppliedIndices> {
     ghost use Rattle.coniks_directory.specs.Chain.{body_of};
     ghost use Rattle.coniks_directory.specs.Supplied.{AgreeOn, supplied_index};
     ghost use Rattle.coniks_directory.specs.SuppliedBatches.{IsSuppliedUpdate, indices_of, put_indices};
-    ghost use Rattle.coniks_directory.specs.Updates.{Grows, IsRefused, MayInstall, base_of, nodes_added, refusals, registry_after, shown_after};
+    ghost use Rattle.coniks_directory.specs.Updates.{Grows, IsRefused, LeavesSigner, MayInstall, base_of, nodes_added, refusals, registry_after, shown_after};
 
     /// Supplies the indices of an update's names, which the update holds, and installs it as `install` does. A name is
     /// registered from then on, and keeps its index.
@@ -502,23 +510,36 @@ impl<H: Hash32> Directory<H, SuppliedIndices> {
         ensures history { OnOk result (history self.new ≡ history self.old ++ shown_after self.old.state update t ∷ []) }
         ensures chain { IfOk result (λ entry. self.new.state.chain ≡ self.old.state.chain ++ entry ∷ []) }
         ensures nodes { OnOk result (length self.new.state.nodes ≡ length self.old.state.nodes + nodes_added update) }
+        ensures body { IfOk result (λ entry. (index : List ℕ → List ℕ) → IsSuppliedUpdate (H.digest_of self.old.hash) (supplied_index self.old.index) (registry self.old) self.old.state update index
+            → entry.body ≡ body_of (H.digest_of self.old.hash) index self.old.state.policy (before_at (H.digest_of self.old.hash) None self.old.state.chain (length self.old.state.chain)) (shown_after self.old.state update t)) }
+        ensures may { OnOk result (MayInstall self.old.state (base_of update) t (length publisher.old.heads) board.now.capacity) }
+
+        // The update's names have their indices from then on, and the registered ones keep theirs.
         ensures indices { OnOk result (self.new.index ≡ put_indices self.old.index (indices_of update)) }
         ensures kept { AgreeOn (supplied_index self.old.index) (supplied_index self.new.index) (registry self.old) }
         ensures given { OnOk result ((index : List ℕ → List ℕ) → IsSuppliedUpdate (H.digest_of self.old.hash) (supplied_index self.old.index) (registry self.old) self.old.state update index
             → AgreeOn index (supplied_index self.new.index) (registry_after self.old.state update)) }
-        ensures body { IfOk result (λ entry. (index : List ℕ → List ℕ) → IsSuppliedUpdate (H.digest_of self.old.hash) (supplied_index self.old.index) (registry self.old) self.old.state update index
-            → entry.body ≡ body_of (H.digest_of self.old.hash) index self.old.state.policy (before_at (H.digest_of self.old.hash) None self.old.state.chain (length self.old.state.chain)) (shown_after self.old.state update t)) }
-        ensures may { OnOk result (MayInstall self.old.state (base_of update) t (length publisher.old.heads) board.now.capacity) }
+
+        // The one signature that the signer made is the one that is stored in the chain.
+        ensures made { OnOk result ((S.made_of signer.new ≡ S.made_of signer.old + 1) × (S.refused_of signer.new ≡ S.refused_of signer.old)) }
         ensures signed { IfOk result (λ entry. S.last_of signer.new ≡ Some entry) }
         ensures asked { IfOk result (λ entry. S.signs signer.old (body_bytes entry.body) (Some entry.signature) signer.new) }
+        ensures verdict { IfOk result (λ entry. S.verdict_of signer.new (body_bytes entry.body) entry.signature.0 ≡ true) }
+        ensures good { HasGoodChain H.digest_of (S.verdict_of signer.old) self.old → HasGoodChain H.digest_of (S.verdict_of signer.new) self.new }
+        ensures verdicts_kept { (bytes signature : List ℕ) → S.verdict_of signer.new bytes signature ≡ S.verdict_of signer.old bytes signature }
+
         ensures heads { publisher.new.heads ≡ heads H.digest_of self.new }
         ensures table { publisher.new.table ≡ publisher.old.table }
         ensures hash { self.new.hash ≡ self.old.hash }
         ensures grows { Grows self.old.state self.new.state }
+
         ensures refused { IfErr result (λ r. IsRefused self.old.state (base_of update) t (length publisher.old.heads) board.now.capacity r.0) }
-        ensures unsigned { IfErr result (λ r. (S.made_of signer.new ≡ S.made_of signer.old) × (S.refused_of signer.new ≡ S.refused_of signer.old + refusals r.0)) }
         ensures unchanged { OnErr result ((self.new.state ≡ self.old.state) × (publisher.new ≡ publisher.old)) }
         ensures handed_back { IfErr result (λ r. r.1 ≡ update) }
+        ensures unsigned { IfErr result (λ r. (S.made_of signer.new ≡ S.made_of signer.old) × (S.refused_of signer.new ≡ S.refused_of signer.old + refusals r.0)
+            × (S.last_of signer.new ≡ S.last_of signer.old)) }
+        ensures unasked { IfErr result (λ r. (index : List ℕ → List ℕ) → IsSuppliedUpdate (H.digest_of self.old.hash) (supplied_index self.old.index) (registry self.old) self.old.state update index
+            → LeavesSigner S.signs (body_of (H.digest_of self.old.hash) index self.old.state.policy (before_at (H.digest_of self.old.hash) None self.old.state.chain (length self.old.state.chain)) (shown_after self.old.state update t)) signer.old signer.new r.0) }
     {
         let (published, capacity) = (publisher.published(), board.capacity());
         if let Err(fault) = may_install(&self.held, update.base, t, published, capacity) {
@@ -532,6 +553,8 @@ impl<H: Hash32> Directory<H, SuppliedIndices> {
 }
 
 impl<H: Hash32, X: IndexSource> Directory<H, X> {
+    ghost use Rattle.std.specs.Prelude.{not, ◌&&◌};
+    ghost use Rattle.std.specs.Str.{bytes_eq};
     ghost use Rattle.coniks_chain.specs.Chain.{before_at};
     ghost use Rattle.coniks_directory.specs.Chain.{body_of};
     ghost use Rattle.coniks_directory.specs.State.{Whole};
@@ -550,53 +573,48 @@ impl<H: Hash32, X: IndexSource> Directory<H, X> {
         make_body(&self.held, &self.h, update, t, last_link(publisher))
     }
 
-    /// Adds the index that comes with an operation, unless its name is registered or an earlier operation has the name.
+    /// Adds the index that comes with an operation, unless its name is registered or an earlier operation has the name. Returns
+    /// whether the name is registered with another index.
     fn add_fresh(
         &self,
         fresh: &mut SuppliedIndices,
         name: &[u8],
         index: Index,
-    ) -> Result<(), AllocError>
-        ensures { OnOk result ((named : List Supplied) → IsFresh (registry self.now) fresh.old named → IsFresh (registry self.now) fresh.new (named ++ (name.now, index.0) ∷ [])) }
+    ) -> Result<bool, AllocError>
+        ensures fresh { OnOk result ((named : List Supplied) → IsFresh (registry self.now) fresh.old named → IsFresh (registry self.now) fresh.new (named ++ (name.now, index.0) ∷ [])) }
+        ensures other { IfOk result (λ is_other. is_other ≡ has_name (registry self.now) name.now && not (bytes_eq (X.index_of self.now.index name.now) index.0)) }
     {
-        if self.is_registered(name) {
-            return Ok(());
+        let own = self.source.index(name);
+        if self.is_registered_at(&own, name) {
+            return Ok(own.0 != index.0);
         }
-        if fresh.has(name) {
-            return Ok(());
-        }
-        fresh.supply(name, index)
+        fresh.supply_first(name, index)?;
+        Ok(false)
     }
 
-    /// The indices that a batch is checked by: a registered name keeps its index, and another name has the one that comes with
-    /// it. If the batch has a name twice, its first index counts.
-    fn indices_with(&self, batch: &SuppliedBatch<'_>) -> Result<BatchIndices<'_, X>, AllocError>
+    /// The indices that a batch is checked by, and the place of the first operation whose name is registered with another
+    /// index, if there is one. A registered name keeps its index, and another name has the one that comes with it. If the
+    /// batch has a name twice, its first index counts.
+    fn indices_with(
+        &self,
+        batch: &SuppliedBatch<'_>,
+    ) -> Result<(BatchIndices<'_, X>, Option<usize>), AllocError>
         requires { length batch.now.ops.now ≡ length batch.now.indices.now }
-        ensures { IfOk result (λ it. given_index it.fresh (X.index_of it.source.now) ≡ index_in (X.index_of self.now.index) (registry self.now) (indexed batch.now.ops.now batch.now.indices.now)) }
+        ensures indices { IfOk result (λ it. given_index it.0.fresh (X.index_of it.0.source.now) ≡ index_in (X.index_of self.now.index) (registry self.now) (indexed batch.now.ops.now batch.now.indices.now)) }
+        ensures other { IfOk result (λ it. it.1 ≡ other_from (X.index_of self.now.index) (registry self.now) 0 (indexed batch.now.ops.now batch.now.indices.now)) }
     {
         let mut fresh = SuppliedIndices::new(self.alloc);
+        let mut other = None;
         for place in 0..batch.ops.len() {
             let index = batch.indices[place];
-            self.add_fresh(&mut fresh, batch.ops[place].name.as_slice(), index)?;
+            let is_other = self.add_fresh(&mut fresh, batch.ops[place].name.as_slice(), index)?;
+            other = other.or(is_other.then_some(place));
         }
-        Ok(BatchIndices {
+        let indices = BatchIndices {
             source: &self.source,
             fresh,
-        })
-    }
-
-    /// The place of the first operation whose name is registered with another index, if there is one.
-    fn first_other(&self, batch: &SuppliedBatch<'_>) -> Option<usize>
-        requires { length batch.now.ops.now ≡ length batch.now.indices.now }
-        ensures { result ≡ other_from (X.index_of self.now.index) (registry self.now) 0 (indexed batch.now.ops.now batch.now.indices.now) }
-    {
-        for place in 0..batch.ops.len() {
-            let index = batch.indices[place];
-            if self.has_other_index(batch.ops[place].name.as_slice(), &index) {
-                return Some(place);
-            }
-        }
-        None
+        };
+        Ok((indices, other))
     }
 
     /// Why a batch isn't accepted if this place is the first with another index: the first error of the operations, unless
@@ -657,10 +675,10 @@ impl<H: Hash32 + Sync, X: IndexSource> Directory<H, X> {
         if let Err(fault) = within_limits(batch.ops, depth, workers) {
             return Err(SuppliedBatchFault::Batch(fault));
         }
-        let Ok(indices) = self.indices_with(batch) else {
+        let Ok((indices, other)) = self.indices_with(batch) else {
             return Err(SuppliedBatchFault::Batch(BatchFault::OutOfMemory));
         };
-        if let Some(position) = self.first_other(batch) {
+        if let Some(position) = other {
             return Err(self.fault_or_other(&indices, batch.ops, position));
         }
         match update_on(

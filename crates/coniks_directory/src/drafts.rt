@@ -15,7 +15,7 @@ use coniks_tree::Record;
 use std::alloc::{AllocError, Global};
 use std::collections::BTreeMap;
 
-/// What stands in a record for its commitment until all operations of the batch were judged.
+/// The commitment of a record until all operations of the batch are judged.
 const UNSEALED: Digest = Digest([0; 32]);
 
 /// The records of the operations that were judged, in their order, and the number of the record at each index.
@@ -26,7 +26,7 @@ pub(crate) struct Drafts {
 }
 
 impl Drafts {
-    /// No operations, with room for the records of so many.
+    /// No operations, with room for this number of records.
     pub(crate) fn new(alloc: Global, operations: usize) -> Result<Drafts, AllocError>
         ensures { IfOk result (λ drafts. (hash of : List ℕ → List ℕ) → AreDrafts hash of [] drafts.records.items drafts.numbers) }
     {

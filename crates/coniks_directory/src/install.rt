@@ -19,8 +19,8 @@ use coniks_proof::{Digest, Hash32, Head};
 use coniks_shared::{Board, Publisher};
 use coniks_tree::OutOfMemory;
 
-/// Why an update that was prepared when there were `base` epochs isn't installed under a number, where so many heads are
-/// published on a board of this capacity.
+/// Why an update that was prepared when there were `base` epochs isn't installed under a number, if `published` heads are on a
+/// board of this capacity.
 pub(crate) fn may_install(
     held: &Held,
     base: usize,

@@ -68,7 +68,7 @@ fn seal_four<H: Hash32>(h: &H, records: &mut [Record], place: usize)
     put(records, place + 3, d);
 }
 
-/// Seals the first so many groups of four.
+/// Seals the first `groups` groups of four.
 fn seal_groups<H: Hash32>(h: &H, records: &mut [Record], groups: usize)
     requires there { 4 * groups ≤ length records.old }
     requires within { AreWithin (map registered_of records.old) }

@@ -11,7 +11,7 @@ use coniks_proof::Index;
 /// bytes under that key, and `index` computes them. If another process computes them, `SuppliedIndices` holds those that
 /// were supplied to it.
 ///
-/// The function's own proof, that an index is the name's, isn't asked for here and stands in no path. The provider gives it
+/// The function's own proof, that an index is the name's, isn't asked for here and is contained in no path. The provider gives it
 /// beside the directory's proof, by a method of its own, and the client hands the index that it has verified to `check` or
 /// `Monitor::new`. One source serves a directory for good: under another key its names would have other indices.
 pub trait IndexSource {

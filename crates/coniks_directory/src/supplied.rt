@@ -1,7 +1,8 @@
 //! Indices that another process computes, and the caller supplies after `open`.
 
-ghost use Rattle.std.specs.Prelude.{◌≡◌, OnErr, OnOk, []};
-ghost use Rattle.coniks_directory.specs.Supplied.{IsSupplied, supplied_index};
+ghost use Rattle.std.specs.Prelude.{◌≡◌, IfSome, None, OnErr, OnOk, [], false, true};
+ghost use Rattle.coniks_directory.specs.Supplied.{IsSupplied, is_supplied, supplied_index};
+ghost use Rattle.coniks_directory.specs.SuppliedBatches.{put_index};
 
 use crate::source::IndexSource;
 use coniks_proof::{Index, MAX_NAME};
@@ -40,9 +41,8 @@ impl Model for SuppliedIndices {
 }
 
 impl SuppliedIndices {
-    ghost use Rattle.std.specs.Prelude.{◌≡◌, ◌&&◌, [], length, not};
+    ghost use Rattle.std.specs.Prelude.{◌&&◌, length, not};
     ghost use Rattle.std.specs.Str.{bytes_eq};
-    ghost use Rattle.coniks_directory.specs.Supplied.{is_supplied, supplied_index};
 
     /// Returns a source without indices. Allocates nothing.
     pub fn new(alloc: Global) -> SuppliedIndices
@@ -61,11 +61,22 @@ impl SuppliedIndices {
         self.indices.contains_key(name)
     }
 
+    /// Returns the index that was supplied for the name, if one was.
+    pub fn get(&self, name: &[u8]) -> Option<&Index>
+        ensures some { IfSome result (λ index. (is_supplied self.now name.now ≡ true) × (index.now.0 ≡ supplied_index self.now name.now)) }
+        ensures none { result ≡ None → is_supplied self.now name.now ≡ false }
+    {
+        self.indices.get(name)
+    }
+
     /// Returns whether an index other than this one was supplied for the name.
     pub fn has_other(&self, name: &[u8], index: &Index) -> bool
         ensures { result ≡ is_supplied self.now name.now && not (bytes_eq (supplied_index self.now name.now) index.now.0) }
     {
-        self.has(name) && self.index(name).0 != index.0
+        match self.get(name) {
+            Some(own) => own.0 != index.0,
+            None => false,
+        }
     }
 
     /// Returns for how many names an index was supplied.
@@ -73,6 +84,17 @@ impl SuppliedIndices {
         ensures { result ≡ length self.now }
     {
         self.indices.len()
+    }
+
+    /// Stores the index of a name that has none. A name that has one keeps it.
+    pub(crate) fn supply_first(&mut self, name: &[u8], index: Index) -> Result<(), AllocError>
+        ensures kept { OnOk result (is_supplied self.old name.now ≡ true → self.new ≡ self.old) }
+        ensures put { OnOk result (is_supplied self.old name.now ≡ false → self.new ≡ put_index self.old name.now index.0) }
+    {
+        if self.has(name) {
+            return Ok(());
+        }
+        self.supply(name, index)
     }
 }
 
@@ -91,8 +113,6 @@ impl IndexSource for SuppliedIndices {
 }
 
 impl SupplyIndex for SuppliedIndices {
-    ghost use Rattle.coniks_directory.specs.SuppliedBatches.{put_index};
-
     fn supply(&mut self, name: &[u8], index: Index) -> Result<(), AllocError>
         ensures supplied { OnOk result (IsSupplied (supplied_index self.old) name.now index.0 (supplied_index self.new)) }
         ensures put { OnOk result (self.new ≡ put_index self.old name.now index.0) }

@@ -48,10 +48,9 @@ impl<'a, X: IndexSource> IndexSource for BatchIndices<'a, X> {
     ghost index_of = { λ it name. given_index it.fresh (X.index_of it.source.now) name };
 
     fn index(&self, name: &[u8]) -> Index {
-        if self.fresh.has(name) {
-            self.fresh.index(name)
-        } else {
-            self.source.index(name)
+        match self.fresh.get(name) {
+            Some(index) => *index,
+            None => self.source.index(name),
         }
     }
 }

@@ -1,10 +1,11 @@
 use Rattle.std.proofs.Common.{◌≡◌, List, ℕ, None, ap, length, subst, sym, take, ◌∙◌}
 use Rattle.std.specs.declared.alloc.AllocError.{AllocError}
-use Rattle.coniks_directory.proofs.Words.{Record, Whole, before_at, history_of, latest_registry, registry_after, shown_after, state_of}
+use Rattle.coniks_directory.proofs.Words.{Body, Record, Whole, before_at, history_of, latest_registry, registry_after, shown_after, state_of}
 use Rattle.coniks_directory.specs.Supplied.{AgreeOn, Supplied, supplied_index}
 use Rattle.coniks_directory.specs.SuppliedBatches.{IsSuppliedUpdate, indices_in, put_indices}
+use Rattle.coniks_directory.specs.Updates.{LeavesSigner}
 use Rattle.coniks_directory.proofs.AgreementLemmas.{body_agree, update_of_agree, whole_agree}
-use Rattle.coniks_directory.proofs.SuppliedBatchLemmas.{all_ok, held_take, if_ok-map, kept_agree, of_ok, supplied_all}
+use Rattle.coniks_directory.proofs.SuppliedBatchLemmas.{all_ok, held_take, if_err-map, if_ok-map, kept_agree, of_ok, supplied_all}
 use Rattle.coniks_directory.proofs.directory.Directory+H+SuppliedIndices.install_supplied.Goals.{After-install, After-supply_all, Else-is_err}
 use Rattle.coniks_directory.proofs.directory.Directory+H+SuppliedIndices.install_supplied.Given as given
 use Rattle.coniks_directory.proofs.directory.Directory+H+SuppliedIndices.install_supplied.Goals as goal
@@ -27,7 +28,14 @@ whole_in g c =
     let d = c.self.inside in
     whole_agree (g.H.Hash32.digest_of d.h) (supplied_index d.source) (supplied_index c.supply_all.new.source) (state_of d.held) (kept_in g c) c.self.invariant
 
--- once all are, the source gives each name that the update leaves its index
+-- once all are supplied, the source has them
+put_in : (g : given.Over) (c : Else-is_err g) → c.supply_all.new.source ≡ put_indices c.self.inside.source (indices_in c.args.update.records.items)
+put_in g c =
+    let source = c.self.inside.source in
+    let read : c.supply_all.new.source ≡ put_indices source (indices_in c.deref.result.now) = of_ok {T = Unit {0}} {E = AllocError} c.supply_all.result _ c.if-is_err.ensures.value c.supply_all.ensures.put in
+    read ∙ ap (λ (rs : List Record). put_indices source (indices_in rs)) c.deref.ensures.value
+
+-- and it gives each name that the update leaves its index
 agree_in : (g : given.Over) (c : Else-is_err g) (index : List ℕ → List ℕ) → (let d = c.self.inside in let s = state_of d.held in
     IsSuppliedUpdate (g.H.Hash32.digest_of d.h) (supplied_index d.source) (latest_registry (history_of s)) s c.args.update index
     → AgreeOn index (supplied_index c.supply_all.new.source) (registry_after s c.args.update))
@@ -35,9 +43,7 @@ agree_in g c index u =
     let d = c.self.inside in
     let s = state_of d.held in
     let hash = g.H.Hash32.digest_of d.h in
-    let read : c.supply_all.new.source ≡ put_indices d.source (indices_in c.deref.result.now) = of_ok {T = Unit {0}} {E = AllocError} c.supply_all.result _ c.if-is_err.ensures.value c.supply_all.ensures.put in
-    let put = read ∙ ap (λ (rs : List Record). put_indices d.source (indices_in rs)) c.deref.ensures.value in
-    subst (λ (xs : List Supplied). AgreeOn index (supplied_index xs) (registry_after s c.args.update)) (sym put) (supplied_all hash index d.source s c.args.update c.self.invariant u.agree u.held)
+    subst (λ (xs : List Supplied). AgreeOn index (supplied_index xs) (registry_after s c.args.update)) (sym (put_in g c)) (supplied_all hash index d.source s c.args.update c.self.invariant u.agree u.held)
 
 -- an install leaves the source as it is
 index_in : (g : given.Over) (c : After-install g) → c.supply_all.new.source ≡ c.install.new.self.index
@@ -81,3 +87,22 @@ returns-clause-given g c =
     (all_ok c.install.result _ (λ index u.
     subst (λ (xs : List Supplied). AgreeOn index (supplied_index xs) (registry_after (state_of c.self.inside.held) c.args.update)) (index_in g (goal.at.returns-clause-given g c).After-install)
     (agree_in g (goal.at.returns-clause-given g c).Else-is_err index u)))
+
+pub returns-then-is_err-clause-good : goal.returns-then-is_err-clause-good
+returns-then-is_err-clause-good g c = λ good. rw (← c.self.view_is) at good
+
+pub returns-clause-good : goal.returns-clause-good
+returns-clause-good g c = λ good. c.install.ensures.good (rw (← c.self.view_is) at good)
+
+-- the body that the signer was asked for is that of the function by which the update was prepared
+pub returns-clause-unasked : goal.returns-clause-unasked
+returns-clause-unasked g c =
+    let d = c.self.inside in
+    let s = state_of d.held in
+    let hash = g.H.Hash32.digest_of d.h in
+    let signer = c.args.signer.now in
+    rw (← c.self.view_is)
+    (if_err-map c.install.result _ _ (λ r leaves index u.
+    let agree = agree_in g (goal.at.returns-clause-unasked g c).Else-is_err index u in
+    subst (λ (b : Body). LeavesSigner g.S.Sign.signs b signer c.install.new.signer r.0)
+    (sym (body_agree hash index (supplied_index c.supply_all.new.source) s.policy (before_at hash None s.chain (length s.chain)) (shown_after s c.args.update c.args.t) agree)) leaves) c.install.ensures.unasked)

@@ -1,23 +1,24 @@
-use Rattle.std.proofs.Common.{List, [], subst, sym, ◌++◌, ◌∷◌, ◌∙◌}
+use Rattle.std.proofs.Common.{◌≡◌, List, [], false, refl, subst, sym, true, ◌++◌, ◌∷◌, ◌∙◌}
 use Rattle.coniks_directory.proofs.Words.{history_of, latest_registry}
-use Rattle.coniks_directory.specs.Supplied.{Supplied}
+use Rattle.coniks_directory.specs.Supplied.{Supplied, is_supplied}
 use Rattle.coniks_directory.specs.SuppliedBatches.{IsFresh}
-use Rattle.coniks_directory.proofs.SuppliedBatchLemmas.{fresh_kept, fresh_put, fresh_skip, on_ok-map}
+use Rattle.coniks_directory.proofs.SuppliedBatchLemmas.{fresh_kept, fresh_put, fresh_skip}
 use Rattle.coniks_directory.proofs.directory.Directory.add_fresh.Goals as goal
 
-pub returns-then-is_registered : goal.returns-then-is_registered
-returns-then-is_registered g c = λ named f.
+pub returns-then-is_registered_at-clause-fresh : goal.returns-then-is_registered_at-clause-fresh
+returns-then-is_registered_at-clause-fresh g c = λ named f.
     let registry = latest_registry (history_of c.args.self.now.state) in
-    fresh_skip registry c.args.fresh.now named c.args.name.now c.args.index.0 (sym c.is_registered.ensures ∙ c.if-is_registered.true) f
+    fresh_skip registry c.args.fresh.now named c.args.name.now c.args.index.0 (sym c.is_registered_at.ensures ∙ c.if-is_registered_at.true) f
 
-pub returns-then-has : goal.returns-then-has
-returns-then-has g c = λ named f.
+pub returns-clause-fresh : goal.returns-clause-fresh
+returns-clause-fresh g c = λ named f.
     let registry = latest_registry (history_of c.args.self.now.state) in
-    fresh_kept registry c.args.fresh.now named c.args.name.now c.args.index.0 (sym c.is_registered.ensures ∙ c.if-is_registered.false) (sym c.has.ensures ∙ c.if-has.true) f
-
-pub returns : goal.returns
-returns g c =
-    let registry = latest_registry (history_of c.args.self.now.state) in
-    on_ok-map c.supply.result _ _ (λ put named f.
-    subst (λ (xs : List Supplied). IsFresh registry xs (named ++ (c.args.name.now, c.args.index.0) ∷ [])) (sym put)
-    (fresh_put registry c.args.fresh.now named c.args.name.now c.args.index.0 (sym c.is_registered.ensures ∙ c.if-is_registered.false) (sym c.has.ensures ∙ c.if-has.false) f)) c.supply.ensures.put
+    let fresh = c.args.fresh.now in
+    let name = c.args.name.now in
+    let index = c.args.index.0 in
+    let gone = sym c.is_registered_at.ensures ∙ c.if-is_registered_at.false in
+    let all : List Supplied = named ++ (name, index) ∷ [] in
+    (elim (is_supplied fresh name) as (λ b. is_supplied fresh name ≡ b → IsFresh registry c.supply_first.new.self all) [
+      | true ↦ λ there. subst (λ (xs : List Supplied). IsFresh registry xs all) (sym (c.in_ok-supply_first.ensures.kept there)) (fresh_kept registry fresh named name index gone there f)
+      | false ↦ λ free. subst (λ (xs : List Supplied). IsFresh registry xs all) (sym (c.in_ok-supply_first.ensures.put free)) (fresh_put registry fresh named name index gone free f)
+    ]) refl

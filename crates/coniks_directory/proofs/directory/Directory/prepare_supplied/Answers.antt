@@ -34,7 +34,7 @@ whole_in g c =
     let of = g.X.IndexSource.index_of d.source in
     let registry = latest_registry (history_of s) in
     let batch = indexed c.args.batch.now.ops.now c.args.batch.now.indices.now in
-    subst (λ (f : List ℕ → List ℕ). Whole hash f s) (sym (rw (← c.self.view_is) at c.in-Ok.ensures)) (whole_agree hash of (index_in of registry batch) s (given_agree registry of batch) c.self.invariant)
+    subst (λ (f : List ℕ → List ℕ). Whole hash f s) (sym (rw (← c.self.view_is) at c.in-Ok.ensures.indices)) (whole_agree hash of (index_in of registry batch) s (given_agree registry of batch) c.self.invariant)
 
 pub fault_or_other-requires : goal.fault_or_other-requires
 fault_or_other-requires g c = rw (← c.self.view_is) (whole_in g (goal.at.fault_or_other-requires g c).In-Ok)
@@ -46,7 +46,7 @@ returns-in-Some-clause-refused g c =
     let ops = c.args.batch.now.ops.now in
     let indices = c.args.batch.now.indices.now in
     let within = within_is of registry ops indices c.requires c.args.depth c.args.workers c.in_default.ensures.workers c.in_default.ensures.depth c.in_default.ensures.few in
-    other_fault of registry ops indices c.requires c.args.depth c.args.workers c.in-Some.position c.fault_or_other.result within (other_is c.first_other.ensures c.in-Some.is) (rw c.in-Ok.ensures at c.fault_or_other.ensures)
+    other_fault of registry ops indices c.requires c.args.depth c.args.workers c.in-Some.position c.fault_or_other.result within (other_is c.in-Ok.ensures.other c.in-Some.is) (rw c.in-Ok.ensures.indices at c.fault_or_other.ensures)
 
 pub update_on-requires-clause-whole : goal.update_on-requires-clause-whole
 update_on-requires-clause-whole g c κs within = whole_in g (goal.at.update_on-requires-clause-whole g c).In-Ok
@@ -59,7 +59,7 @@ made_in g c =
     let d = c.self.inside in
     let s = state_of d.held in
     subst (λ (f : List ℕ → List ℕ). IsUpdateBy (g.H.Hash32.digest_of d.h) f s (option_map (λ (n : Nonce). n.0) c.args.batch.now.nonce) c.args.batch.now.ops.now c.in-Ok-update_on.update)
-    (rw (← c.self.view_is) at c.in-Ok.ensures) c.in-Ok-update_on.ensures.update
+    (rw (← c.self.view_is) at c.in-Ok.ensures.indices) c.in-Ok-update_on.ensures.update
 
 pub returns-in-Ok-update_on-clause-update : goal.returns-in-Ok-update_on-clause-update
 returns-in-Ok-update_on-clause-update g c = rw (← c.self.view_is) (made_in g (goal.at.returns-in-Ok-update_on-clause-update g c).In-Ok-update_on).update
@@ -98,10 +98,10 @@ returns-in-Ok-update_on-clause-faultless g c =
     let d = c.self.inside in
     let s = state_of d.held in
     let of = g.X.IndexSource.index_of d.source in
-    let other = other_is c.first_other.ensures c.in_default-first_other.is in
+    let other = other_is c.in-Ok.ensures.other c.in_default-other.is in
     rw (← c.self.view_is)
     (no_fault of (latest_registry (history_of s)) c.args.batch.now.ops.now c.args.batch.now.indices.now c.requires c.args.depth c.args.workers (rw (← c.self.view_is) at other)
-    (rw (rw (← c.self.view_is) at c.in-Ok.ensures) at c.in-Ok-update_on.ensures.faultless))
+    (rw (rw (← c.self.view_is) at c.in-Ok.ensures.indices) at c.in-Ok-update_on.ensures.faultless))
 
 pub returns-clause-refused : goal.returns-clause-refused
 returns-clause-refused g c =
@@ -113,11 +113,11 @@ returns-clause-refused g c =
     let ops = c.args.batch.now.ops.now in
     let indices = c.args.batch.now.indices.now in
     let fault = c.in-Err-update_on.fault in
-    let other = other_is c.first_other.ensures c.in_default-first_other.is in
+    let other = other_is c.in-Ok.ensures.other c.in_default-other.is in
     let within = within_is of registry' ops indices c.requires c.args.depth c.args.workers c.in_default.ensures.workers c.in_default.ensures.depth c.in_default.ensures.few in
     judged_fault of registry' ops indices c.requires c.args.depth c.args.workers fault within other
     (subst (λ (r : Registry). IsJudgedFault (index_in of registry' (indexed ops indices)) r (operations ops) fault) same
-    (subst (λ (f : List ℕ → List ℕ). IsJudgedFault f registry (operations ops) fault) c.in-Ok.ensures c.in-Err-update_on.ensures.fault))
+    (subst (λ (f : List ℕ → List ℕ). IsJudgedFault f registry (operations ops) fault) c.in-Ok.ensures.indices c.in-Err-update_on.ensures.fault))
 
 pub returns-in-Ok-update_on-clause-accepted : goal.returns-in-Ok-update_on-clause-accepted
 returns-in-Ok-update_on-clause-accepted g c =
@@ -126,5 +126,5 @@ returns-in-Ok-update_on-clause-accepted g c =
       crew = c.in_default.ensures.workers;
       shallow = c.in_default.ensures.depth;
       few = rw (length-map c.args.batch.now.ops.now operation_of) c.in_default.ensures.few;
-      faultless = rw (rw (← c.self.view_is) at c.in-Ok.ensures) at c.in-Ok-update_on.ensures.faultless;
+      faultless = rw (rw (← c.self.view_is) at c.in-Ok.ensures.indices) at c.in-Ok-update_on.ensures.faultless;
     })

@@ -1,8 +1,8 @@
-use Rattle.std.proofs.Common.{refl, sym, ◌∙◌}
+use Rattle.std.proofs.Common.{refl, ◌∙◌}
 use Rattle.coniks_directory.proofs.supplied_batch.BatchIndicesIndexSource.index.Goals as goal
 
-pub returns-then-has : goal.returns-then-has
-returns-then-has g c = let there = sym c.has.ensures ∙ c.if-has.true in c.index.ensures ∙ rw there refl
+pub returns-in-Some : goal.returns-in-Some
+returns-in-Some g c = let e = c.in-Some.ensures.some in e.1 ∙ rw e.0 refl
 
-pub returns-else-has : goal.returns-else-has
-returns-else-has g c = let gone = sym c.has.ensures ∙ c.if-has.false in c.index-else-has.ensures ∙ rw gone refl
+pub returns-in-None : goal.returns-in-None
+returns-in-None g c = let gone = c.in-None.ensures.none refl in c.index.ensures ∙ rw gone refl
