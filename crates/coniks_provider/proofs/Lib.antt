@@ -1,3 +1,4 @@
 mod OperationsLemmas
 mod RefusedLemmas
+mod CountLemmas
 mod ServiceLemmas

@@ -13,7 +13,7 @@ use Rattle.coniks_provider.specs.Lines.{batch_in}
 use Rattle.coniks_provider.specs.Turns.{Batch, Opened, Pending, ProviderTurn, State, batch_read_turn, command_turn, install_on, install_turn, install_with, open_turn, open_with, prepare_on, prepare_turn, prepare_with, refusal, turn}
 
 -- what holds of both
-either : {T : Type 0} → (P : T → Type 0) (b : Bool) (t u : T) → P t → P u → P (if b then t else u)
+pub either : {T : Type 0} → (P : T → Type 0) (b : Bool) (t u : T) → P t → P u → P (if b then t else u)
 either P true t u first second = first
 either P false t u first second = second
 

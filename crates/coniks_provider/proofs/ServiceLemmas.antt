@@ -1,30 +1,28 @@
 -- What an opened directory answers, in the terms of its definitions.
-use Rattle.std.proofs.Common.{◌≡◌, ◌≢◌, ◌⊎◌, ◌<◌, ◌≤◌, ◌+◌, ℕ, suc, List, [], ◌∷◌, ◌++◌, length, length-append, map, Bool, true, false, refl, sym, ap, subst, ◌∙◌, arith, inl, inr, Option, Some, None, if◌then◌else◌}
-use Rattle.std.specs.Prelude.{◌==◌, find, is_some, nat_le, nat_lt, not, ◌&&◌, option_map}
+use Rattle.std.proofs.Common.{◌≡◌, ◌⊎◌, ◌<◌, ◌≤◌, ◌+◌, ℕ, List, [], ◌∷◌, ◌++◌, length, true, false, refl, ap, subst, ◌∙◌, arith, inl, inr, Option, Some, None, if◌then◌else◌}
+use Rattle.std.specs.Prelude.{is_some, nat_le, nat_lt, not, ◌&&◌, option_map}
 use Rattle.std.specs.Str.{bytes_eq}
 use Rattle.std.proofs.lemmas.Bool.{false≢true}
 use Rattle.std.proofs.lemmas.Bool.Decides.{nat_tests}
 use Rattle.std.proofs.lemmas.List.{length-map}
 use Rattle.std.proofs.lemmas.Slice.Eq.{bytes_eq-Decides}
 use Rattle.coniks_proof.specs.Batches.{after, fits}
-use Rattle.coniks_proof.specs.Registry.{Registry, entries_of, has_name}
+use Rattle.coniks_proof.specs.Registry.{entries_of, has_name}
 use Rattle.coniks_proof.specs.Sha256.{sha256}
 use Rattle.coniks_proof.specs.declared.paths.Proof.{Proof}
 use Rattle.coniks_proof.specs.declared.values.Head.{Head}
 use Rattle.coniks_proof.specs.declared.values.Index.{Index}
 use Rattle.coniks_proof.specs.declared.values.TheConstants.{MAX_NAME, MAX_OPERATIONS}
-use Rattle.coniks_chain.specs.Chain.{before_at}
 use Rattle.coniks_chain.specs.Entries.{link_preimage, signed}
 use Rattle.coniks_chain.specs.declared.entry.Body.{Body}
 use Rattle.coniks_chain.specs.declared.entry.Entry.{Entry}
-use Rattle.coniks_chain.specs.declared.entry.Signature.{Signature}
-use Rattle.coniks_directory.specs.Batches.{AreWorkers, fault_is, operation_of, operations}
-use Rattle.coniks_directory.specs.Chain.{body_of, head_at, heads_of}
-use Rattle.coniks_directory.specs.History.{Shown, latest_epoch, latest_nonce, latest_registry, latest_version, nonce_after, shown_at, version_after}
+use Rattle.coniks_directory.specs.Batches.{AreWorkers, operation_of, operations}
+use Rattle.coniks_directory.specs.Chain.{head_at, heads_of}
+use Rattle.coniks_directory.specs.History.{Shown, latest_epoch, latest_registry, shown_at}
 use Rattle.coniks_directory.specs.Lookups.{IsFound}
-use Rattle.coniks_directory.specs.State.{State as Directory, history_of}
-use Rattle.coniks_directory.specs.Supplied.{AgreeOn, HasOtherIndex, MaySupply, Supplied, supplied_index}
-use Rattle.coniks_directory.specs.SuppliedBatches.{Indexed, IsSuppliedFault, IsWithin, SuppliedFault, index_in, indexed, indices_by, indices_of, of_operation, operations_of, other_index, put_indices, supplied_fault}
+use Rattle.coniks_directory.specs.State.{history_of}
+use Rattle.coniks_directory.specs.Supplied.{AgreeOn, HasOtherIndex, MaySupply, supplied_index}
+use Rattle.coniks_directory.specs.SuppliedBatches.{Indexed, IsSuppliedFault, IsWithin, indexed, indices_of, operations_of, put_indices, supplied_fault}
 use Rattle.coniks_directory.specs.Updates.{Brings, nodes_added, registry_after, shown_after}
 use Rattle.coniks_directory.specs.declared.batch.BatchFault.TheVariants as batch
 use Rattle.coniks_directory.specs.declared.batch.Op.{Op}
@@ -34,10 +32,10 @@ use Rattle.coniks_directory.specs.declared.update.Prepared.{Prepared}
 use Rattle.coniks_shared.specs.Lists.{last_of}
 use Rattle.coniks_tool.specs.Paths.{path_of, path_to}
 use Rattle.coniks_tool.proofs.Lemmas.{path_is}
-use Rattle.coniks_provider.specs.Answers.{Outcome, bad_batch, bad_index, bad_name_length, batch_too_long, board_full, epoch_not_later, installed, looked_up, prepared, unknown_epoch}
+use Rattle.coniks_provider.specs.Answers.{Outcome, bad_index, bad_name_length, board_full, epoch_not_later, installed, looked_up, prepared, unknown_epoch}
 use Rattle.coniks_provider.specs.Limits.{most_epochs}
 use Rattle.coniks_provider.specs.Stores.{Held, IsRefusable, opened_by, pending_of, refused_as}
-use Rattle.coniks_provider.specs.Turns.{Batch, Opened, Pending, State, install_on, prepare_on, entry_at, found_at, has_other_index, index_with, lookup_at, lookup_with, number_refusal, pending_by, refusal, refusal_from, shown_next}
+use Rattle.coniks_provider.specs.Turns.{Batch, Opened, Pending, State, install_on, prepare_on, entry_at, has_other_index, index_with, lookup_at, lookup_with, number_refusal, pending_by, refusal, shown_next}
 use Rattle.coniks_provider.specs.declared.service.Pending.{Pending as Update}
 
 -- ---- lists

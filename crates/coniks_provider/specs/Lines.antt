@@ -1,9 +1,7 @@
 -- The operations of a `prepare` line, each with the index of its name.
 use Rattle.std.specs.Prelude.{ℕ, ◌+◌, List, [], ◌∷◌, codes, Option, Some, None, Result, Ok, Err}
 use Rattle.serde_json.specs.Data.{Data, Items, no_items, item}
-use Rattle.coniks_proof.specs.declared.values.Index.{Index}
 use Rattle.coniks_directory.specs.SuppliedBatches.{Indexed, indexed}
-use Rattle.coniks_directory.specs.declared.batch.Op.{Op}
 use Rattle.coniks_tool.specs.Members.{digits_in, given}
 use Rattle.coniks_tool.specs.Operations.{operation_in}
 use Rattle.coniks_provider.specs.declared.batch.Operations.{Operations}
@@ -17,12 +15,12 @@ abbrev pub with_first : Indexed → Result (List Indexed) ℕ → Result (List I
 with_first x (Ok xs) = Ok (x ∷ xs)
 with_first x (Err place) = Err place
 
--- what stands at a place and after it; a place with no operation is at fault
+-- the operation at a place, and those after it; a place without one is at fault
 abbrev pub at_place : ℕ → Option Indexed → Result (List Indexed) ℕ → Result (List Indexed) ℕ
 at_place place None others = Err place
 at_place place (Some x) others = with_first x others
 
--- the operations of elements that stand from a place on, or the first place with none
+-- the operations of elements, the first of which is at this place, or the first place without one
 abbrev pub batch_from : ℕ → Items → Result (List Indexed) ℕ
 batch_from place no_items = Ok []
 batch_from place (item element others) = at_place place (indexed_in element) (batch_from (place + 1) others)

@@ -1,4 +1,4 @@
-use Rattle.std.proofs.Common.{◌≡◌, List, ℕ, ap, ◌∙◌}
+use Rattle.std.proofs.Common.{List, ℕ, ap, ◌∙◌}
 use Rattle.std.specs.String.{string_bytes}
 use Rattle.coniks_proof.specs.declared.values.Index.{Index}
 use Rattle.coniks_tool.specs.Paths.{path_of}

@@ -1,4 +1,4 @@
-use Rattle.std.proofs.Common.{◌≡◌, List, ℕ, None, Some, ap, length, subst, sym, ◌∙◌}
+use Rattle.std.proofs.Common.{◌≡◌, List, ℕ, None, ap, length, sym, ◌∙◌}
 use Rattle.std.specs.Prelude.{option_map}
 use Rattle.coniks_chain.specs.Chain.{before_at}
 use Rattle.coniks_chain.specs.declared.entry.Body.{Body}
