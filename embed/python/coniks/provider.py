@@ -623,7 +623,7 @@ def _lookup(line: bytes) -> Lookup:
 
 
 def _grouped(lines: Iterable[bytes], size: int) -> Iterator[list[bytes]]:
-    """The lines in groups of at most so many bytes, or of one line."""
+    """The lines in groups of at most `size` bytes, or of one line."""
     group: list[bytes] = []
     room = size
     for line in lines:

@@ -20,7 +20,7 @@ from stand_ins import HERE, Ed25519, Salted, Signer, append, audited, has_librar
 from coniks.provider import Change, Fault, FileLog, ProgramFailed, ProviderError, Register, RestartNeeded, SignerFailed, entries
 
 KINDS = {"salted": Salted, "ed25519": Ed25519}
-# A room is left for a new one after so many kills, so that replays stay short.
+# After this number of kills a log ends and a new one begins, so that replays stay short.
 KILLS_OF_ROOM = 20
 
 
