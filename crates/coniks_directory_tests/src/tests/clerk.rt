@@ -338,8 +338,21 @@ pub fn prepared<H: Hash32 + Sync, R: Threads + Sync>(
     }
 }
 
-/// Takes steps with the clerk of a new directory, whose board takes so many heads, at least 1, and whose signer refuses the
-/// call of this number. The board is asked for once more where memory is refused.
+/// Returns a board that takes `heads` heads, at least 1, with its publisher. If an allocation fails, it is made again.
+pub fn new_board(rt: &impl Abort, alloc: Global, heads: usize) -> (Board, Publisher)
+    ensures tabled { result.1.table ≡ result.0.table }
+    ensures headed { result.1.heads ≡ [] }
+{
+    assert!(rt; 1 <= heads && heads <= MAX_HEADS);
+    let made = match Board::new(alloc, heads) {
+        Err(_) => Board::new(alloc, heads),
+        made => made,
+    };
+    made.expect(rt, "a board")
+}
+
+/// Takes steps with the clerk of a new directory, whose board takes `heads` heads, at least 1, and whose signer refuses the
+/// call of this number.
 pub fn with_clerk<T, F: FnOnce(&mut Clerk<Sha256Hash>) -> T>(
     rt: &impl Abort,
     alloc: Global,
@@ -349,12 +362,7 @@ pub fn with_clerk<T, F: FnOnce(&mut Clerk<Sha256Hash>) -> T>(
 ) -> T
     requires { F.IsAlwaysCallable steps }
 {
-    assert!(rt; 1 <= heads && heads <= MAX_HEADS);
-    let made = match Board::new(alloc, heads) {
-        Err(_) => Board::new(alloc, heads),
-        made => made,
-    };
-    let (board, publisher) = made.expect(rt, "a board");
+    let (board, publisher) = new_board(rt, alloc, heads);
     let mut clerk = Clerk::new(alloc, Sha256Hash, &board, publisher, refused_call);
     steps(&mut clerk)
 }

@@ -1,21 +1,30 @@
 //! Memory that is refused. `faults/run` refuses each request for memory in turn: what comes before the call is asked for
 //! until it is had, and the call answers what it does with ample memory, or its own `OutOfMemory`. Then all is as it was,
-//! and the same call answers as if nothing had been. Each test writes whether its call was refused.
+//! but for indices that `install_supplied` supplied, and the same call answers as if nothing had been. Each test writes
+//! whether its call was refused.
 
-ghost use Rattle.std.specs.Prelude.{◌≡◌};
+ghost use Rattle.std.specs.Prelude.{◌≡◌, List, ℕ, IfErr, IfOk, length};
 ghost use Rattle.coniks_directory_tests.specs.Letters.{index_of_letter};
+ghost use Rattle.coniks_directory.specs.Chain.{heads_of};
+ghost use Rattle.coniks_directory.specs.Directories.{registry};
+ghost use Rattle.coniks_directory.specs.Supplied.{supplied_index};
+ghost use Rattle.coniks_directory.specs.SuppliedBatches.{IsSuppliedUpdate};
 ghost use Rattle.coniks_directory.specs.Updates.{IsUpdateOf};
 
 use crate::tests::answers::{Told, asked, digest};
-use crate::tests::clerk::{Clerk, Letters, NONCE, POLICY, RENEWED, Written, ops_of, with_clerk};
-use coniks_chain::{Entry, Sign};
+use crate::tests::clerk::{
+    Clerk, Letters, NONCE, POLICY, RENEWED, Stamp, Written, new_board, ops_of, refusing, with_clerk,
+};
+use coniks_chain::{Entry, Sign, Signer};
 use coniks_directory::OpKind::{Change, Register};
 use coniks_directory::{
     BatchFault, CommitFault, Directory, IndexSource, InstallFault, LookupAtFault, LookupFault, Op,
-    Prepared, SuppliedIndices, SupplyFault,
+    Prepared, SuppliedBatch, SuppliedBatchFault, SuppliedIndices, SupplyFault,
 };
-use coniks_proof::{Digest, Hash32, Head, Nonce, Sha256Hash};
+use coniks_proof::{Digest, Hash32, Head, Index, Nonce, Sha256Hash};
+use coniks_shared::{Board, Publisher};
 use coniks_work::Open;
+use std::alloc::Global;
 use std::process::Abort;
 use std::thread::Threads;
 
@@ -45,24 +54,32 @@ struct Snapshot {
     signed: (u64, u64),
 }
 
-fn seen(clerk: &Clerk<Sha256Hash>) -> Snapshot {
-    let chain = clerk.directory.chain();
+fn seen_of<X: IndexSource>(
+    directory: &Directory<Sha256Hash, X>,
+    publisher: &Publisher,
+    signer: &Signer<Stamp>,
+) -> Snapshot {
+    let chain = directory.chain();
     Snapshot {
-        nodes: clerk.directory.nodes(),
+        nodes: directory.nodes(),
         entries: chain.len(),
         last: chain.last().copied(),
-        root: clerk.directory.root_at(1),
-        published: clerk.publisher.published(),
-        head: clerk.publisher.last(),
-        signed: (clerk.signer.made(), clerk.signer.refused()),
+        root: directory.root_at(1),
+        published: publisher.published(),
+        head: publisher.last(),
+        signed: (signer.made(), signer.refused()),
     }
 }
 
+fn seen(clerk: &Clerk<Sha256Hash>) -> Snapshot {
+    seen_of(&clerk.directory, &clerk.publisher, &clerk.signer)
+}
+
 /// The operations of a batch, asked for once more where memory is refused.
-fn batch(rt: &impl Abort, clerk: &Clerk<Sha256Hash>, written: &[Written]) -> Vec<Op> {
-    match ops_of(clerk.alloc, written) {
+fn batch(rt: &impl Abort, alloc: Global, written: &[Written]) -> Vec<Op> {
+    match ops_of(alloc, written) {
         Ok(ops) => ops,
-        Err(_) => ops_of(clerk.alloc, written).expect(rt, "memory"),
+        Err(_) => ops_of(alloc, written).expect(rt, "memory"),
     }
 }
 
@@ -104,17 +121,17 @@ fn install_at_last(rt: &impl Abort, clerk: &mut Clerk<Sha256Hash>, update: Prepa
 }
 
 /// Whether the last head is that of an epoch with this link.
-fn ends_with(rt: &impl Abort, clerk: &Clerk<Sha256Hash>, epoch: u64, link: &str) -> bool {
+fn ends_with(rt: &impl Abort, publisher: &Publisher, epoch: u64, link: &str) -> bool {
     let link = digest(rt, link);
-    clerk.publisher.last() == Some(Head { epoch, link })
+    publisher.last() == Some(Head { epoch, link })
 }
 
 /// Prepares and installs the first batch, and says whether the install was refused memory.
 fn first_epoch<R: Threads + Sync + Abort>(rt: &R, clerk: &mut Clerk<Sha256Hash>) -> bool {
-    let ops = batch(rt, clerk, &FIRST);
+    let ops = batch(rt, clerk.alloc, &FIRST);
     let (update, _) = prepare_at_last(rt, clerk, None, &ops, 1);
     let refused = install_at_last(rt, clerk, update, 1);
-    assert!(rt; ends_with(rt, clerk, 1, LINKS[0]));
+    assert!(rt; ends_with(rt, &clerk.publisher, 1, LINKS[0]));
     refused
 }
 
@@ -128,11 +145,11 @@ fn second_by<R: Threads + Sync + Abort>(
     link: &str,
 ) -> bool {
     first_epoch(rt, clerk);
-    let ops = batch(rt, clerk, &SECOND);
+    let ops = batch(rt, clerk.alloc, &SECOND);
     let (update, refused) = prepare_at_last(rt, clerk, brought, &ops, workers);
     assert!(rt; update.new_nodes() == 5);
     install_at_last(rt, clerk, update, 2);
-    assert!(rt; ends_with(rt, clerk, 2, link));
+    assert!(rt; ends_with(rt, &clerk.publisher, 2, link));
     refused
 }
 
@@ -154,12 +171,16 @@ fn renewed_epoch<R: Threads + Sync + Abort>(
     second_by(rt, clerk, Some(RENEWED), workers, RENEWED_LINK)
 }
 
+/// Writes whether the call was refused memory.
+fn write(rt: &impl Print, is_refused: bool) {
+    let _ = println!(rt; "{}", if is_refused { "refused" } else { "answered" });
+}
+
 /// Takes steps with the clerk of a new directory, and writes whether the call was refused memory.
 fn tell<F: FnOnce(&mut Clerk<Sha256Hash>) -> bool, R: Abort + AllocGlobal + Print>(rt: &R, steps: F)
     requires { F.IsAlwaysCallable steps }
 {
-    let is_refused = with_clerk(rt, rt.alloc(), 4, u64::MAX, steps);
-    let _ = println!(rt; "{}", if is_refused { "refused" } else { "answered" });
+    write(rt, with_clerk(rt, rt.alloc(), 4, u64::MAX, steps));
 }
 
 /// Where a lone worker builds the epoch, each refusal is the call's.
@@ -202,7 +223,7 @@ fn commit_at_last<R: Threads + Sync + Abort>(
     rt: &R,
     clerk: &mut Clerk<Sha256Hash>,
 ) -> Option<CommitFault> {
-    let ops = batch(rt, clerk, &FIRST);
+    let ops = batch(rt, clerk.alloc, &FIRST);
     let before = seen(clerk);
     let refused = clerk.commit_ops(rt, 1, &ops, 1, 1, &Open).err();
     if let Some(fault) = refused {
@@ -210,7 +231,7 @@ fn commit_at_last<R: Threads + Sync + Abort>(
         assert!(rt; seen(clerk) == before);
         assert!(rt; clerk.commit_ops(rt, 1, &ops, 1, 1, &Open).is_ok());
     }
-    assert!(rt; ends_with(rt, clerk, 1, LINKS[0]));
+    assert!(rt; ends_with(rt, &clerk.publisher, 1, LINKS[0]));
     refused
 }
 
@@ -294,5 +315,173 @@ fn supply(rt: HostRuntime) {
         assert!(rt; directory.supply(b"b", index).is_ok());
     }
     assert!(rt; directory.source().index(b"b") == index);
-    let _ = println!(&rt; "{}", if is_refused { "refused" } else { "answered" });
+    write(&rt, is_refused);
+}
+
+/// Two new names and a change between them.
+const MIXED: [Written; 3] = [
+    (Register, b'd', b'k'),
+    (Change, b'b', b'l'),
+    (Register, b'c', b'k'),
+];
+
+/// The link of the second entry if its batch is `MIXED`.
+const MIXED_LINK: &str = "a7b5bd21f961c2e087a6322529435f19eab6b2d4fc2dffa91274140414493b38";
+
+/// A directory whose indices come with the batches, with its signer and its board's publisher.
+#[derive(Drop)]
+struct SuppliedClerk<'a> {
+    alloc: Global,
+    directory: Directory<Sha256Hash, SuppliedIndices>,
+    signer: Signer<Stamp>,
+    publisher: Publisher,
+    board: &'a Board,
+    ghost tabled: { publisher.table ≡ board.now.table },
+    ghost headed: { publisher.heads ≡ heads_of (⟦<Sha256Hash as Hash32>⟧.digest_of directory.hash) directory.state.chain },
+}
+
+impl<'a> SuppliedClerk<'a> {
+    fn seen(&self) -> Snapshot {
+        seen_of(&self.directory, &self.publisher, &self.signer)
+    }
+
+    /// Returns how many of the batches' names have an index. Each of these is the name's own, and no other name has one.
+    fn supplied(&self, rt: &impl Abort) -> usize {
+        let source = self.directory.source();
+        let names = [b"a", b"b", b"c", b"d"];
+        for name in names {
+            assert!(rt; !source.has_other(name, &Letters.index(name)));
+        }
+        let count = names
+            .iter()
+            .filter(|name| source.has(name.as_slice()))
+            .count();
+        assert!(rt; source.count() == count);
+        count
+    }
+
+    /// Prepares a batch with its indices by one worker.
+    fn prepare<R: Threads + Sync>(
+        &self,
+        rt: &R,
+        ops: &[Op],
+        indices: &[Index],
+    ) -> Result<Prepared, SuppliedBatchFault>
+        requires { length ops.now ≡ length indices.now }
+        ensures { IfOk result (λ p. (index : List ℕ → List ℕ) × IsSuppliedUpdate (⟦<Sha256Hash as Hash32>⟧.digest_of self.now.directory.hash) (supplied_index self.now.directory.index) (registry self.now.directory) self.now.directory.state p index) }
+    {
+        let batch = SuppliedBatch {
+            nonce: None,
+            ops,
+            indices,
+        };
+        self.directory.prepare_supplied(rt, &batch, 1, 1, &Open)
+    }
+
+    /// Installs an update with its indices.
+    fn install(
+        &mut self,
+        rt: &impl Abort,
+        update: Prepared,
+        t: u64,
+    ) -> Result<Entry, (InstallFault, Prepared)>
+        requires { (index : List ℕ → List ℕ) × IsSuppliedUpdate (⟦<Sha256Hash as Hash32>⟧.digest_of self.old.directory.hash) (supplied_index self.old.directory.index) (registry self.old.directory) self.old.directory.state update index }
+        ensures { IfErr result (λ r. (index : List ℕ → List ℕ) × IsSuppliedUpdate (⟦<Sha256Hash as Hash32>⟧.digest_of self.new.directory.hash) (supplied_index self.new.directory.index) (registry self.new.directory) self.new.directory.state r.1 index) }
+    {
+        assert!(rt; self.signer.made() < u64::MAX && self.signer.refused() < u64::MAX);
+        self.directory.install_supplied(
+            update,
+            t,
+            &mut self.signer,
+            &mut self.publisher,
+            self.board,
+        )
+    }
+}
+
+/// Prepares a batch with its indices, and prepares it again if an allocation fails. Returns the update, and whether one
+/// failed.
+fn prepare_supplied_at_last<R: Threads + Sync + Abort>(
+    rt: &R,
+    clerk: &SuppliedClerk<'_>,
+    written: &[Written],
+    indices: &[Index],
+) -> (Prepared, bool)
+    ensures { (index : List ℕ → List ℕ) × IsSuppliedUpdate (⟦<Sha256Hash as Hash32>⟧.digest_of clerk.now.directory.hash) (supplied_index clerk.now.directory.index) (registry clerk.now.directory) clerk.now.directory.state result.0 index }
+{
+    let ops = batch(rt, clerk.alloc, written);
+    assert!(rt; ops.len() == indices.len());
+    let before = (clerk.seen(), clerk.supplied(rt));
+    let prepared = clerk.prepare(rt, &ops, indices);
+    assert!(rt; (clerk.seen(), clerk.supplied(rt)) == before);
+    match prepared {
+        Ok(update) => (update, false),
+        Err(fault) => {
+            let memory = SuppliedBatchFault::Batch(BatchFault::OutOfMemory);
+            assert!(rt; fault == memory, "{fault}");
+            let again = clerk.prepare(rt, &ops, indices);
+            (again.expect(rt, "an update"), true)
+        }
+    }
+}
+
+/// Installs an update with its indices, and installs it again if an allocation fails. Returns whether one failed. Some of
+/// the indices may be supplied by then.
+fn install_supplied_at_last(
+    rt: &impl Abort,
+    clerk: &mut SuppliedClerk<'_>,
+    update: Prepared,
+    t: u64,
+) -> bool
+    requires { (index : List ℕ → List ℕ) × IsSuppliedUpdate (⟦<Sha256Hash as Hash32>⟧.digest_of clerk.old.directory.hash) (supplied_index clerk.old.directory.index) (registry clerk.old.directory) clerk.old.directory.state update index }
+{
+    let before = clerk.seen();
+    let supplied = clerk.supplied(rt);
+    let Err((fault, update)) = clerk.install(rt, update, t) else {
+        return false;
+    };
+    assert!(rt; fault == InstallFault::OutOfMemory, "{fault}");
+    assert!(rt; clerk.seen() == before);
+    assert!(rt; clerk.supplied(rt) >= supplied);
+    assert!(rt; clerk.install(rt, update, t).is_ok());
+    true
+}
+
+/// Prepares and installs two batches with their indices. Returns whether an allocation fails while the second is prepared,
+/// and whether one fails while it is installed.
+fn supplied_epochs<R: Threads + Sync + Abort>(rt: &R, alloc: Global) -> (bool, bool) {
+    let (board, publisher) = new_board(rt, alloc, 4);
+    let source = SuppliedIndices::new(alloc);
+    let mut clerk = SuppliedClerk {
+        alloc,
+        directory: Directory::open(alloc, Sha256Hash, source, NONCE, POLICY),
+        signer: refusing(u64::MAX),
+        publisher,
+        board: &board,
+    };
+    let [a, b, c, d] = [b"a", b"b", b"c", b"d"].map(|name| Letters.index(name));
+    let (first, _) = prepare_supplied_at_last(rt, &clerk, &FIRST, &[a, b]);
+    install_supplied_at_last(rt, &mut clerk, first, 1);
+    assert!(rt; ends_with(rt, &clerk.publisher, 1, LINKS[0]));
+    assert!(rt; clerk.supplied(rt) == 2);
+    let (second, in_prepare) = prepare_supplied_at_last(rt, &clerk, &MIXED, &[d, b, c]);
+    assert!(rt; second.new_nodes() == 7);
+    let in_install = install_supplied_at_last(rt, &mut clerk, second, 2);
+    assert!(rt; ends_with(rt, &clerk.publisher, 2, MIXED_LINK));
+    assert!(rt; clerk.supplied(rt) == 4);
+    (in_prepare, in_install)
+}
+
+/// If a batch is out of memory, none of its indices are supplied, and it can be prepared again.
+#[test]
+fn prepare_supplied(rt: HostRuntime) {
+    let (is_refused, _) = supplied_epochs(&rt, rt.alloc());
+    write(&rt, is_refused);
+}
+
+/// If an install is out of memory, the update comes back, and can be installed again, whichever indices are supplied.
+#[test]
+fn install_supplied(rt: HostRuntime) {
+    let (_, is_refused) = supplied_epochs(&rt, rt.alloc());
+    write(&rt, is_refused);
 }
