@@ -15,9 +15,10 @@ import { counting, keyText, nameText } from "./words.js";
  * @typedef {import("./reading.js").Seen} Seen
  */
 
-/** Milliseconds after which the page is drawn again while lines are read, and rows that are shown at first. */
+/** Milliseconds after which the page is drawn again while lines are read, rows that are shown at first, and rows drawn at a time. */
 const TURN = 20;
 const SHOWN = 200;
+const DRAWN = 20;
 
 /** Epochs of a name that are shown at first, and names that the menu lists. */
 const EPOCHS = 100;
@@ -129,16 +130,26 @@ function plainItem(row) {
   return element("p", words.startsWith("refused") ? "plain refused" : "plain", element("bdi", row.what === "entry" ? "entry" : "", words));
 }
 
-/** @param {Reading} reading @param {number} from */
-function show(reading, from) {
-  const list = part("results");
-  reading.rows.slice(from, from + SHOWN).forEach((row, i) => {
+/** @param {Reading} reading @param {number} from @param {number} to */
+function drawRows(reading, from, to) {
+  const items = reading.rows.slice(from, to).map((row, i) => {
     const shown = row.what === "lookup" ? lookupItem(reading, row) : plainItem(row);
-    list.append(element("li", "", element("span", "number", `line ${from + i + 1}`), shown));
+    return element("li", "", element("span", "number", `line ${from + i + 1}`), shown);
   });
-  const more = part("more");
-  more.hidden = reading.rows.length <= from + SHOWN;
-  more.onclick = () => show(reading, from + SHOWN);
+  part("results").append(...items);
+}
+
+/** Shows the next rows, some at a time. @param {Reading} reading @param {number} from @param {number} mine */
+async function show(reading, from, mine) {
+  const [more, to] = [part("more"), Math.min(from + SHOWN, reading.rows.length)];
+  more.hidden = true;
+  for (let next = from; next < to; next += DRAWN) {
+    drawRows(reading, next, Math.min(next + DRAWN, to));
+    await drawn();
+    if (mine !== turn) return;
+  }
+  more.hidden = reading.rows.length <= to;
+  more.onclick = () => show(reading, to, mine);
 }
 
 /** @param {Seen} it @returns {string} */
@@ -276,6 +287,11 @@ class Pause {
   }
 }
 
+/** Waits until the browser has drawn what was added. In a page that isn't shown it does not wait for that. */
+function drawn() {
+  return new Promise((go) => (document.hidden ? setTimeout(go) : requestAnimationFrame(() => setTimeout(go))));
+}
+
 /** Reads lines until all are read or reading is cancelled. @param {Reading} reading @param {number} mine @returns {Promise<boolean>} whether another reading took over */
 async function readLines(reading, mine) {
   const [pause, progress] = [new Pause(), part("progress")];
@@ -320,25 +336,24 @@ async function readAll() {
   if (await readLines(reading, mine)) return;
   const counts = await countRows(reading, mine);
   if (counts === null) return;
-  showRows(reading, counts, cancelled === mine);
-  await new Pause().take();
+  await showRows(reading, counts, mine);
   if (mine !== turn) return;
   showWatched(reading);
   part("summary").dataset.done = String(reading.rows.length);
 }
 
-/** @param {Reading} reading @param {Counts} counts @param {boolean} isCancelled */
-function showRows(reading, counts, isCancelled) {
+/** @param {Reading} reading @param {Counts} counts @param {number} mine */
+async function showRows(reading, counts, mine) {
   const lines = reading.rows.length;
   part("reading").hidden = true;
   part("folded").textContent = lines ? `${counting(lines, "line")}: show them, or paste others` : "Paste lines";
-  const cut = isCancelled ? `Cancelled after ${counting(lines, "line")}; the rest is not read. ` : "";
+  const cut = cancelled === mine ? `Cancelled after ${counting(lines, "line")}; the rest is not read. ` : "";
   part("summary").textContent = cut + (lines ? counted(counts, reading.verifier !== null) : "Nothing is pasted.");
   const field = reading.key === null ? "provided" : "key";
   if (counts.unsigned && !counts.signed) tellKey(field, `wrong key: no signature of ${counting(counts.unsigned, "entry", "entries")} is one under it`);
-  show(reading, 0);
+  await show(reading, 0, mine);
   const first = /** @type {HTMLDetailsElement | null} */ (document.querySelector("details.lookup"));
-  if (first && lines <= MANY) first.open = true;
+  if (mine === turn && first && lines <= MANY) first.open = true;
 }
 
 /** The bytes of files, one after another. @param {Iterable<File>} files @returns {Promise<Uint8Array[]>} */
