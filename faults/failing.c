@@ -4,11 +4,14 @@
  *     read N       the Nth read of standard input fails
  *     write N      the Nth write of standard output fails
  *     stall N      the Nth write of standard output takes 0 bytes
+ *     thread N     the Nth thread can't be started
  *     bytes 0      each read of standard input gives one byte at most, each write of standard output takes one
  *
  * Once that call has come a byte is written to the descriptor FAULT_TOLD. */
 #define _GNU_SOURCE
+#include <dlfcn.h>
 #include <errno.h>
+#include <pthread.h>
 #include <stdlib.h>
 #include <string.h>
 #include <sys/syscall.h>
@@ -37,6 +40,11 @@ static int is_met(char of) {
     if (told != NULL)
         syscall(SYS_write, atoi(told), "!", 1);
     return 1;
+}
+
+int pthread_create(pthread_t *thread, const pthread_attr_t *attributes, void *(*start)(void *), void *argument) {
+    int (*create)(pthread_t *, const pthread_attr_t *, void *(*)(void *), void *) = dlsym(RTLD_NEXT, "pthread_create");
+    return is_met('t') ? EAGAIN : create(thread, attributes, start, argument);
 }
 
 static ssize_t failed(int error) {
