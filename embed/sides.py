@@ -168,7 +168,15 @@ def of_monitor(chance, program):
                 if told["proof"] is not None:
                     given.append(told if status is None else {"entry": entry.hex()})
                     requests.append((f"step {word(entry)} {verdict(entry)} {word(proof)}", status))
-        said = run(program, "monitor", "--key", KEY.hex(), "--name", mine[0]["name"], input="".join(json.dumps(it) + "\n" for it in given).encode())
+        said = run(
+            program,
+            "monitor",
+            "--key",
+            KEY.hex(),
+            "--name",
+            mine[0]["name"],
+            input="".join(json.dumps(it) + "\n" for it in given).encode(),
+        )
         for (request, status), answer in zip(requests, map(json.loads, said.stdout.splitlines()), strict=True):
             if answer.get("ok") == "expect":
                 yield request, "expected"
@@ -247,7 +255,12 @@ def try_go(tell, skip, here, example, requests):
         skip("the provider in Go", "the program `provider`")
     ran = run("go", "vet", ".", cwd=here / "go", env=more["env"] | {"CGO_ENABLED": "0"})
     tell("go vet, without cgo", ran.returncode == 0, ran.stderr.decode()[-2000:])
-    for words in [["go", "vet", "./..."], ["go", "test", "./..."], ["go", "build", "-o", here / "in_go", "./internal/answers"], ["go", "build", "-o", here / "go_example", "./example"]]:
+    for words in [
+        ["go", "vet", "./..."],
+        ["go", "test", "./..."],
+        ["go", "build", "-o", here / "in_go", "./internal/answers"],
+        ["go", "build", "-o", here / "go_example", "./example"],
+    ]:
         ran = run(*words, **more)
         tell(" ".join(str(it) for it in words[:2]), ran.returncode == 0, (ran.stdout + ran.stderr).decode()[-2000:])
     try_requests(tell, "Go", [here / "in_go"], requests)
@@ -261,7 +274,16 @@ def try_rust(tell, skip, here, example, requests):
     as_it_is = manifest.read_text("utf-8")
     for edition, needed in [("2024", "1.85"), ("2021", "1.82")]:
         manifest.write_text(as_it_is.replace('"2021"', f'"{edition}"').replace('"1.82"', f'"{needed}"'))
-        ran = run("cargo", "test", "--offline", "--examples", "--lib", "--tests", cwd=here / "rust", env=os.environ | {"RUSTFLAGS": "-Dwarnings"})
+        ran = run(
+            "cargo",
+            "test",
+            "--offline",
+            "--examples",
+            "--lib",
+            "--tests",
+            cwd=here / "rust",
+            env=os.environ | {"RUSTFLAGS": "-Dwarnings"},
+        )
         tell(f"cargo test, edition {edition}", ran.returncode == 0, ran.stderr.decode()[-2000:])
     ran = run("cargo", "build", "--offline", "--examples", cwd=here / "rust", env=os.environ | {"RUSTFLAGS": "-Dwarnings"})
     tell("cargo build", ran.returncode == 0, ran.stderr.decode()[-2000:])
@@ -276,7 +298,11 @@ def try_example(tell, side, program, words, wanted):
 
 def example_of(coniks, lines):
     """The words of the examples in Go and Rust, over one lookup with its entry, and what they must print."""
-    line = next(it for it in lines if it["proof"]["end"]["kind"] == "here" and coniks.Body.of_entry(bytes.fromhex(it["entry"])).previous_epoch == 0)
+    line = next(
+        it
+        for it in lines
+        if it["proof"]["end"]["kind"] == "here" and coniks.Body.of_entry(bytes.fromhex(it["entry"])).previous_epoch == 0
+    )
     words = [line[it] for it in ("nonce", "root", "index", "name")] + [proofs.bytes_of(line["proof"]).hex(), line["entry"]]
     return words, [
         base64.b64decode(line["proof"]["end"]["key"]).decode(),
@@ -385,7 +411,14 @@ def try_python_copies(tell, coniks, lines):
         other.feed(entry, True)
         seen = watching.step(entry, True, proof)
         tell(f"{what} of an auditor", auditor.head is None and other.head is not None and type(other) is coniks.Auditor)
-        tell(f"{what} of a monitor", monitor.head is None and watching.head == other.head and watching.expected == b"another key" and seen is not coniks.Seen.SAME, seen)
+        tell(
+            f"{what} of a monitor",
+            monitor.head is None
+            and watching.head == other.head
+            and watching.expected == b"another key"
+            and seen is not coniks.Seen.SAME,
+            seen,
+        )
         fault = copied(coniks.Refused(40))
         tell(f"{what} of a refusal", fault.status == 40 and str(fault) == coniks.text(40), fault)
 
@@ -429,7 +462,18 @@ def try_javascript(tell, skip, requests):
     tell("the version of the module", named["version"] == header_version(), named)
     tell("the files of the module", all((TOP / "web/out" / it).is_file() for it in named["files"]), named)
     if tools.has("tsc"):
-        ran = run("tsc", "--noEmit", "--strict", "--target", "es2020", "--module", "es2020", "--moduleResolution", "node", TOP / "web/example.ts")
+        ran = run(
+            "tsc",
+            "--noEmit",
+            "--strict",
+            "--target",
+            "es2020",
+            "--module",
+            "es2020",
+            "--moduleResolution",
+            "node",
+            TOP / "web/example.ts",
+        )
         tell("the types of the module", ran.returncode == 0, ran.stdout.decode())
     else:
         skip("the types of the module", "tsc")

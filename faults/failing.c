@@ -20,7 +20,8 @@ extern void *__libc_realloc(void *block, size_t size);
 static char kind;
 static unsigned long wanted, calls;
 
-__attribute__((constructor)) static void begin(void) {
+__attribute__((constructor)) static void begin(void)
+{
     const char *fault = getenv("FAULT");
     const char *number = fault == NULL ? NULL : strchr(fault, ' ');
     if (number != NULL) {
@@ -30,7 +31,8 @@ __attribute__((constructor)) static void begin(void) {
 }
 
 /* Whether this is the call that the fault meets. Threads may come at once. */
-static int is_met(char of) {
+static int is_met(char of)
+{
     if (kind != of || __atomic_add_fetch(&calls, 1, __ATOMIC_SEQ_CST) != wanted)
         return 0;
     const char *told = getenv("FAULT_TOLD");
@@ -39,12 +41,14 @@ static int is_met(char of) {
     return 1;
 }
 
-static ssize_t failed(int error) {
+static ssize_t failed(int error)
+{
     errno = error;
     return -1;
 }
 
-void *malloc(size_t size) {
+void *malloc(size_t size)
+{
     if (is_met('m')) {
         errno = ENOMEM;
         return NULL;
@@ -52,7 +56,8 @@ void *malloc(size_t size) {
     return __libc_malloc(size);
 }
 
-void *realloc(void *block, size_t size) {
+void *realloc(void *block, size_t size)
+{
     if (is_met('m')) {
         errno = ENOMEM;
         return NULL;
@@ -60,7 +65,8 @@ void *realloc(void *block, size_t size) {
     return __libc_realloc(block, size);
 }
 
-ssize_t read(int stream, void *buffer, size_t size) {
+ssize_t read(int stream, void *buffer, size_t size)
+{
     if (stream == STDIN_FILENO && is_met('r'))
         return failed(EIO);
     if (stream == STDIN_FILENO && kind == 'b' && size > 1)
@@ -68,7 +74,8 @@ ssize_t read(int stream, void *buffer, size_t size) {
     return syscall(SYS_read, stream, buffer, size);
 }
 
-ssize_t write(int stream, const void *buffer, size_t size) {
+ssize_t write(int stream, const void *buffer, size_t size)
+{
     if (stream == STDOUT_FILENO && is_met('w'))
         return failed(EIO);
     if (stream == STDOUT_FILENO && is_met('s'))
@@ -78,6 +85,7 @@ ssize_t write(int stream, const void *buffer, size_t size) {
     return syscall(SYS_write, stream, buffer, size);
 }
 
-ssize_t __write(int stream, const void *buffer, size_t size) {
+ssize_t __write(int stream, const void *buffer, size_t size)
+{
     return write(stream, buffer, size);
 }

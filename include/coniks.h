@@ -64,55 +64,55 @@ extern "C" {
 #endif
 
 enum {
-    CONIKS_BODY_BYTES = 145,      /* of an entry's body, which is signed */
-    CONIKS_SIGNATURE_BYTES = 64,  /* of its signature, for example Ed25519 (RFC 8032) */
-    CONIKS_ENTRY_BYTES = 209,     /* both */
-    CONIKS_MAX_NAME = 255,        /* bytes of a name; at least 1 */
-    CONIKS_MAX_KEY = 16384,       /* bytes of a key; at least 1 */
-    CONIKS_MAX_PROOF = 24872,     /* bytes of the longest proof that can be accepted */
-    CONIKS_TEXT_BYTES = 128       /* bytes of the longest text of coniks_text, with its zero byte */
+    CONIKS_BODY_BYTES = 145,     /* of an entry's body, which is signed */
+    CONIKS_SIGNATURE_BYTES = 64, /* of its signature, for example Ed25519 (RFC 8032) */
+    CONIKS_ENTRY_BYTES = 209,    /* both */
+    CONIKS_MAX_NAME = 255,       /* bytes of a name; at least 1 */
+    CONIKS_MAX_KEY = 16384,      /* bytes of a key; at least 1 */
+    CONIKS_MAX_PROOF = 24872,    /* bytes of the longest proof that can be accepted */
+    CONIKS_TEXT_BYTES = 128      /* bytes of the longest text of coniks_text, with its zero byte */
 };
 
 enum coniks_status {
     CONIKS_GOOD = 0,
-    CONIKS_ABSENT = 1,  /* the proof is accepted; the name is bound to no key */
+    CONIKS_ABSENT = 1, /* the proof is accepted; the name is bound to no key */
 
     /* of coniks_check and coniks_monitor_step: the proof is not accepted */
-    CONIKS_E_TOO_DEEP = 2,        /* more than 256 siblings */
-    CONIKS_E_NAME_LENGTH = 3,     /* the name asked for is empty or longer than 255 bytes */
-    CONIKS_E_KEY_LENGTH = 4,      /* the proof's key is empty or longer than 16,384 bytes */
-    CONIKS_E_WRONG_NAME = 5,      /* the proof's leaf has another name */
-    CONIKS_E_OTHER_IS_SAME = 6,   /* the proof's other index is the one asked for */
-    CONIKS_E_OTHER_OFF_PATH = 7,  /* the proof's other index is not on the path to the one asked for */
-    CONIKS_E_ROOT_MISMATCH = 8,   /* the proof's path does not lead to the root */
+    CONIKS_E_TOO_DEEP = 2,       /* more than 256 siblings */
+    CONIKS_E_NAME_LENGTH = 3,    /* the name asked for is empty or longer than 255 bytes */
+    CONIKS_E_KEY_LENGTH = 4,     /* the proof's key is empty or longer than 16,384 bytes */
+    CONIKS_E_WRONG_NAME = 5,     /* the proof's leaf has another name */
+    CONIKS_E_OTHER_IS_SAME = 6,  /* the proof's other index is the one asked for */
+    CONIKS_E_OTHER_OFF_PATH = 7, /* the proof's other index is not on the path to the one asked for */
+    CONIKS_E_ROOT_MISMATCH = 8,  /* the proof's path does not lead to the root */
 
     /* of coniks_monitor_step: the proof is accepted */
-    CONIKS_CHANGED = 9,  /* it shows another key than the expected one, or a key if none is expected */
+    CONIKS_CHANGED = 9, /* it shows another key than the expected one, or a key if none is expected */
 
     /* of coniks_check and coniks_monitor_step: the bytes are not a proof */
     CONIKS_E_NO_BYTES = 17,
-    CONIKS_E_UNKNOWN_KIND = 18,     /* the first byte is not 0, 1 or 2 */
-    CONIKS_E_CUT_IN_COUNT = 19,     /* the bytes end within the number of siblings */
-    CONIKS_E_CUT_IN_SIBLINGS = 20,  /* within the siblings */
-    CONIKS_E_CUT_IN_OTHER = 21,     /* within the other index or its commitment */
-    CONIKS_E_CUT_IN_OPENING = 22,   /* within the opening */
-    CONIKS_E_CUT_IN_NAME = 23,      /* within the name or its length */
-    CONIKS_E_CUT_IN_KEY = 24,       /* within the key or its length */
-    CONIKS_E_BYTES_FOLLOW = 25,     /* bytes follow the proof */
+    CONIKS_E_UNKNOWN_KIND = 18,    /* the first byte is not 0, 1 or 2 */
+    CONIKS_E_CUT_IN_COUNT = 19,    /* the bytes end within the number of siblings */
+    CONIKS_E_CUT_IN_SIBLINGS = 20, /* within the siblings */
+    CONIKS_E_CUT_IN_OTHER = 21,    /* within the other index or its commitment */
+    CONIKS_E_CUT_IN_OPENING = 22,  /* within the opening */
+    CONIKS_E_CUT_IN_NAME = 23,     /* within the name or its length */
+    CONIKS_E_CUT_IN_KEY = 24,      /* within the key or its length */
+    CONIKS_E_BYTES_FOLLOW = 25,    /* bytes follow the proof */
 
     /* of coniks_auditor_feed and coniks_monitor_step: the entry does not follow the last accepted one */
-    CONIKS_E_VERSION_UNKNOWN = 33,  /* the version is neither 1 nor 2 */
-    CONIKS_E_VERSION_BACK = 34,     /* it goes back to 1 */
-    CONIKS_E_FIRST_EPOCH = 35,      /* the first epoch is 0 */
-    CONIKS_E_NOT_LATER = 36,        /* the epoch is not later than the one before */
-    CONIKS_E_PREVIOUS_EPOCH = 37,   /* the previous epoch is not that of the entry before */
-    CONIKS_E_PREVIOUS_LINK = 38,    /* the previous link is not that of the entry before */
-    CONIKS_E_NONCE_CHANGED = 39,    /* the nonce of a version 1 entry is not the one before */
-    CONIKS_E_SIGNATURE = 40,        /* the caller's verification result is not 1 */
+    CONIKS_E_VERSION_UNKNOWN = 33, /* the version is neither 1 nor 2 */
+    CONIKS_E_VERSION_BACK = 34,    /* it goes back to 1 */
+    CONIKS_E_FIRST_EPOCH = 35,     /* the first epoch is 0 */
+    CONIKS_E_NOT_LATER = 36,       /* the epoch is not later than the one before */
+    CONIKS_E_PREVIOUS_EPOCH = 37,  /* the previous epoch is not that of the entry before */
+    CONIKS_E_PREVIOUS_LINK = 38,   /* the previous link is not that of the entry before */
+    CONIKS_E_NONCE_CHANGED = 39,   /* the nonce of a version 1 entry is not the one before */
+    CONIKS_E_SIGNATURE = 40,       /* the caller's verification result is not 1 */
 
     /* of calls that take an entry, and of coniks_auditor_head */
-    CONIKS_E_ENTRY_LENGTH = 48,  /* the entry does not have 209 bytes */
-    CONIKS_E_NO_ENTRY = 49       /* no entry was accepted yet */
+    CONIKS_E_ENTRY_LENGTH = 48, /* the entry does not have 209 bytes */
+    CONIKS_E_NO_ENTRY = 49      /* no entry was accepted yet */
 };
 
 /* A nonce, a root, an index or a link. */
@@ -131,23 +131,23 @@ typedef struct coniks_bytes145 {
  * Anyone who can change it decides what is accepted next: protect it as you protect keys.
  */
 typedef struct coniks_auditor {
-    uint64_t epoch;       /* of the last accepted entry, at least 1; 0 before the first */
-    coniks_bytes32 link;  /* of that entry */
+    uint64_t epoch;      /* of the last accepted entry, at least 1; 0 before the first */
+    coniks_bytes32 link; /* of that entry */
     coniks_bytes32 nonce;
     uint8_t version;
-    uint8_t unused[7];  /* written as 0, and not read */
+    uint8_t unused[7]; /* written as 0, and not read */
 } coniks_auditor;
 
 /* An entry without its signature: the tree root of one epoch, with what is signed beside it. */
 typedef struct coniks_body {
-    uint64_t epoch;                /* from 1 on */
-    uint64_t previous_epoch;       /* 0 for the first */
-    coniks_bytes32 root;           /* of the tree at this epoch */
-    coniks_bytes32 previous_link;  /* 32 zero bytes for the first */
-    coniks_bytes32 nonce;          /* under which the tree is hashed */
-    coniks_bytes32 policy;         /* the digest of the directory's policy */
-    uint8_t version;               /* 1 or 2 */
-    uint8_t unused[7];             /* written as 0, and not read */
+    uint64_t epoch;               /* from 1 on */
+    uint64_t previous_epoch;      /* 0 for the first */
+    coniks_bytes32 root;          /* of the tree at this epoch */
+    coniks_bytes32 previous_link; /* 32 zero bytes for the first */
+    coniks_bytes32 nonce;         /* under which the tree is hashed */
+    coniks_bytes32 policy;        /* the digest of the directory's policy */
+    uint8_t version;              /* 1 or 2 */
+    uint8_t unused[7];            /* written as 0, and not read */
 } coniks_body;
 
 /*
@@ -161,9 +161,8 @@ typedef struct coniks_body {
  * verifiable unpredictable function): a proof for another index is a proof for another name.
  */
 CONIKS_NODISCARD CONIKS_NONNULL(1, 2, 3, 8, 9)
-uint32_t coniks_check(const coniks_bytes32 *nonce, const coniks_bytes32 *root, const coniks_bytes32 *index,
-                      const uint8_t *name, size_t name_length, const uint8_t *proof, size_t proof_length,
-                      size_t *key_start, size_t *key_length);
+uint32_t coniks_check(const coniks_bytes32 *nonce, const coniks_bytes32 *root, const coniks_bytes32 *index, const uint8_t *name,
+                      size_t name_length, const uint8_t *proof, size_t proof_length, size_t *key_start, size_t *key_length);
 
 /* Writes the state of an auditor that has seen no entry: all bytes 0. */
 CONIKS_NONNULL(1)
@@ -180,8 +179,7 @@ void coniks_auditor_begin(coniks_auditor *state);
  * the first of 33 to 40, and the state is unchanged.
  */
 CONIKS_NODISCARD CONIKS_NONNULL(1)
-uint32_t coniks_auditor_feed(coniks_auditor *state, const uint8_t *entry, size_t entry_length,
-                             uint32_t signature_verdict);
+uint32_t coniks_auditor_feed(coniks_auditor *state, const uint8_t *entry, size_t entry_length, uint32_t signature_verdict);
 
 /*
  * Writes the head: epoch and link of the last accepted entry. Two auditors with the same head have seen the same chain, or

@@ -82,7 +82,9 @@ def told(tools):
 def install(tools):
     """Installs what lacks, and prints the last line of what failed."""
     for words in [["update"], ["install", "-y", "--no-install-recommends", *packages(tools)]]:
-        ran = subprocess.run(["apt-get", *words], capture_output=True, text=True, env=os.environ | {"DEBIAN_FRONTEND": "noninteractive"})
+        ran = subprocess.run(
+            ["apt-get", *words], capture_output=True, text=True, env=os.environ | {"DEBIAN_FRONTEND": "noninteractive"}
+        )
         if ran.returncode:
             last = (ran.stderr or ran.stdout).strip().splitlines()[-1:]
             print(f"apt-get {words[0]} failed: {' '.join(last)}", flush=True)

@@ -195,8 +195,7 @@ class Directory(Lines):
     def entries(self, registry):
         """The entries of a registry's tree, sorted by their indices."""
         return sorted(
-            (demonstration_index(self.key, name), commitment(opening, name, key))
-            for name, (key, opening) in registry.items()
+            (demonstration_index(self.key, name), commitment(opening, name, key)) for name, (key, opening) in registry.items()
         )
 
     def look_up(self, members):

@@ -164,7 +164,11 @@ impl fmt::Display for Error {
 impl core::error::Error for Error {}
 
 fn accepted(status: u32) -> Result<(), Error> {
-    if status == GOOD { Ok(()) } else { Err(Error::of(status)) }
+    if status == GOOD {
+        Ok(())
+    } else {
+        Err(Error::of(status))
+    }
 }
 
 /// Writes what a status of `coniks.h` says, and returns it: the empty text for a number that is no error's.
@@ -361,7 +365,15 @@ impl Body {
     ///
     /// [`Error::EntryLength`].
     pub fn of_entry(entry: &[u8]) -> Result<Self, Error> {
-        let none = Self { version: 0, epoch: 0, previous_epoch: 0, root: [0; 32], previous_link: [0; 32], nonce: [0; 32], policy: [0; 32] };
+        let none = Self {
+            version: 0,
+            epoch: 0,
+            previous_epoch: 0,
+            root: [0; 32],
+            previous_link: [0; 32],
+            nonce: [0; 32],
+            policy: [0; 32],
+        };
         let mut it = none.in_c();
         // SAFETY: the slice is there for the call, and the body is written by it alone.
         accepted(unsafe { c::coniks_entry_body(entry.as_ptr(), entry.len(), &mut it) })?;
