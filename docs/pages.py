@@ -1,7 +1,10 @@
 """The generated pages of this folder: LEMMAS.md and DEFINITIONS.md."""
 
+from __future__ import annotations
+
 import re
 from pathlib import Path
+from typing import Sequence
 
 TOP = Path(__file__).resolve().parent.parent
 CRATES = TOP / "crates"
@@ -24,21 +27,24 @@ contract is one of these; [PROMISES.md](PROMISES.md) has the contracts.
 """
 
 
-def crate_names():
+def crate_names() -> list[str]:
     lines = (TOP / "crates.txt").read_text("utf-8").splitlines()
     return [it.partition(":")[0].split()[0] for it in lines if ":" in it and not it.startswith("#")]
 
 
-def function_of(file, home):
+def function_of(file: Path, home: Path) -> str:
     """The function whose proof this file is of: `Type::name` or `name`."""
     parts = [it.removeprefix("+") for it in file.relative_to(home).parts[:-1]]
     return "::".join(parts[-2:]) if len(parts) > 1 and parts[-2][0].isupper() else parts[-1]
 
 
-def served(crate):
+def served(crate: str) -> dict[str, tuple[set[str], set[str]]]:
     """The lemma files of a crate, each with the functions and the other lemma files whose proofs cite it."""
     home = CRATES / crate / "proofs"
-    files = {it.stem: (set(), set()) for it in home.glob("*.antt") if it.stem not in ["Lib", "Lemmas", "Words"]}
+    files: dict[str, tuple[set[str], set[str]]] = {}
+    for file in home.glob("*.antt"):
+        if file.stem not in ["Lib", "Lemmas", "Words"]:
+            files[file.stem] = set(), set()
     for file in home.rglob("*.antt"):
         cited = {name for of, name in USED.findall(file.read_text("utf-8")) if of == crate}
         for name in cited.intersection(files):
@@ -54,12 +60,12 @@ def served(crate):
     return files
 
 
-def is_passed_on(crate, name):
+def is_passed_on(crate: str, name: str) -> bool:
     shown = CRATES / crate / "proofs/Lemmas.antt"
     return shown.is_file() and f".proofs.{name}." in shown.read_text("utf-8")
 
 
-def lemmas_page():
+def lemmas_page() -> str:
     lines = [LEMMAS.rstrip("\n")]
     for crate in crate_names():
         files = served(crate)
@@ -73,7 +79,7 @@ def lemmas_page():
     return "\n".join(lines) + "\n"
 
 
-def modules(crate):
+def modules(crate: str) -> list[Path]:
     """The modules of a crate's definitions, in the order in which it lists them."""
     home = CRATES / crate / "specs"
     if not home.is_dir() or crate.endswith("_tests"):
@@ -82,7 +88,7 @@ def modules(crate):
     return [home / f"{it}.antt" for it in listed]
 
 
-def comment_from(lines, at):
+def comment_from(lines: Sequence[str], at: int) -> tuple[str, int]:
     """The text of the comment that begins at a line, and the line after it."""
     words = []
     while at < len(lines) and lines[at].lstrip().startswith("--"):
@@ -91,9 +97,10 @@ def comment_from(lines, at):
     return " ".join(words), at
 
 
-def definitions_in(lines):
+def definitions_in(lines: Sequence[str]) -> list[tuple[str, list[str]]]:
     """The public definitions of a module: for each comment its text and the names that it is about."""
-    found, at = [], 0
+    found: list[tuple[str, list[str]]] = []
+    at = 0
     while at < len(lines):
         comment, after = comment_from(lines, at)
         following = lines[after] if after < len(lines) else ""
@@ -108,7 +115,7 @@ def definitions_in(lines):
     return [it for it in found if it[1]]
 
 
-def definitions_page():
+def definitions_page() -> str:
     lines = [DEFINITIONS.rstrip("\n")]
     for crate in crate_names():
         files = modules(crate)
@@ -124,11 +131,11 @@ def definitions_page():
     return "\n".join(lines) + "\n"
 
 
-def words_of(file):
+def words_of(file: Path) -> set[str]:
     return set(re.findall(r"\w+", file.read_text("utf-8")))
 
 
-def unknown_names(page):
+def unknown_names(page: Path) -> list[str]:
     """The names in code spans of a page that occur neither in the crates nor as a file or a part of one's name."""
     known = {part for it in TOP.rglob("*") if ".git" not in it.parts for part in re.findall(r"\w+", it.name)}
     for file in [*CRATES.rglob("*.rt"), *CRATES.rglob("*.antt"), TOP / "include/coniks.h"]:

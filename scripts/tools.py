@@ -56,10 +56,15 @@ TOOLS = {
     "node": (lambda: has_program("node"), "nodejs", "the page's own tests"),
     "tsc": (lambda: has_program("tsc"), "node-typescript", "the types of the module for web projects"),
     "chromium": (lambda: has_program(CHROMIUM), "chromium", "the page in a browser"),
+    "shellcheck": (lambda: has_program("shellcheck"), "shellcheck", "shellcheck in scripts/lint"),
+    "black": (lambda: has_program("black"), "black", "black in scripts/lint"),
+    "gofmt": (lambda: has_program("gofmt"), "golang-go", "gofmt in scripts/lint"),
+    "rustfmt": (lambda: has_program("rustfmt"), "rustfmt", "rustfmt in scripts/lint"),
+    "clang-format": (lambda: has_program("clang-format"), "clang-format", "clang-format in scripts/lint"),
 }
 
 
-def has(tool):
+def has(tool: str) -> bool:
     return TOOLS[tool][0]()
 
 

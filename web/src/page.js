@@ -188,7 +188,10 @@ function showWatched(reading) {
   if (names.length) showTimeline(reading, choice.value);
 }
 
-/** How many rows there are of each kind. @typedef {Record<string, number>} Counts */
+/**
+ * How many rows there are of each kind.
+ * @typedef {Record<string, number>} Counts
+ */
 
 /** What a row counts as. @param {Row} row @param {Reading} reading @returns {string} */
 function kindOf(row, reading) {

@@ -17,7 +17,7 @@ import { FAULTS } from "./words.js";
  * @typedef {{what: "entry", epoch: bigint | null, said: bigint | null, status: number, signature: boolean | null}} EntryRow
  * @typedef {{what: "unproved", name: string | null, said: bigint | null}} UnprovedRow
  * @typedef {{what: "refusal", fault: string}} RefusalRow
- * @typedef {{what: "broken" | "other"} | {what: "unread", fault: "Json" | "Long"}} PlainRow
+ * @typedef {{what: "broken"} | {what: "other"} | {what: "unread", fault: "Json" | "Long"}} PlainRow
  * @typedef {LookupRow | EntryRow | UnprovedRow | RefusalRow | PlainRow} Row
  * @typedef {{state: Uint8Array, isGood: boolean}} Before
  *
@@ -25,7 +25,9 @@ import { FAULTS } from "./words.js";
  * @typedef {{entry: Uint8Array, link: string, isGood: boolean | null}} Signed
  *
  * What is seen of a name at an epoch: its first key, a key after none, the same one, another one, none any more, or none yet.
- * @typedef {{seen: "first" | "registered" | "same", key: Uint8Array}
+ * @typedef {{seen: "first", key: Uint8Array}
+ *   | {seen: "registered", key: Uint8Array}
+ *   | {seen: "same", key: Uint8Array}
  *   | {seen: "changed", from: Uint8Array, key: Uint8Array}
  *   | {seen: "absent", from: Uint8Array}
  *   | {seen: "unregistered"}
@@ -34,7 +36,10 @@ import { FAULTS } from "./words.js";
 
 const [SAME, ABSENT, CHANGED] = [0, 1, 9];
 
-/** Rows that hold nothing of their lines. @type {Record<string, PlainRow>} */
+/**
+ * Rows without content of their lines.
+ * @type {Record<string, PlainRow>}
+ */
 const PLAIN = { broken: { what: "broken" }, other: { what: "other" }, Json: { what: "unread", fault: "Json" }, Long: { what: "unread", fault: "Long" } };
 
 export class Reading {
@@ -110,13 +115,14 @@ export class Reading {
   /** @param {string} line @param {Record<string, any>} object @param {Signed | null} signed @returns {LookupRow} */
   checked(line, object, signed) {
     const lookup = lookupIn(object);
+    /** @type {Omit<LookupRow, "verdict">} */
     const rest = {
-      what: /** @type {const} */ ("lookup"),
+      what: "lookup",
       text: line,
       name: textOf(object.name),
       epoch: signed && this.epochOf(signed.entry),
       said: numberOf(line, "epoch"),
-      entry: signed === null ? /** @type {const} */ ("entry" in object ? "broken" : "none") : this.tie(signed, lookup),
+      entry: signed === null ? ("entry" in object ? "broken" : "none") : this.tie(signed, lookup),
       link: signed === null ? "" : signed.link,
     };
     if ("fault" in lookup) return { ...rest, verdict: lookup };
