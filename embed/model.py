@@ -1,4 +1,4 @@
-"""Calls of every export of the library for C with their answers, by cases/second, which shares nothing with the library."""
+"""Calls of every export of the C library with their results, by cases/second, which shares nothing with the library."""
 
 import json
 import struct

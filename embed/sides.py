@@ -1,6 +1,6 @@
-"""Tries the sides of the library for C in Python, Go and Rust, for embed/test: as packages, and what they answer.
+"""Tries the sides of the library for C in Python, Go and Rust, for embed/test: as packages, and their results.
 
-Each side has a program that answers requests, one a line. What it must answer is what `keydir check`, `keydir audit` and
+Each side has a program that replies to requests, one on each line. The expected reply is what `keydir check`, `keydir audit` and
 `keydir monitor` print, what hashlib computes, and what the header and texts.json say.
 """
 
@@ -63,7 +63,7 @@ def word(value):
 
 
 def changed(chance, entry):
-    """An entry that is changed in one field or bit; mostly with its seal, so that the fields are what is judged."""
+    """An entry that is changed in one field or bit; mostly with its seal, so that the fields are checked."""
     at, size = chance.choice([(0, 1), (1, 8), (9, 8), (17, 32), (49, 32), (81, 32), (113, 32)])
     value = chance.choice([bytes(size), bytes([0] * (size - 1) + [2]), bytes([255] * size), chance.randbytes(size)])
     body = entry[:at] + value + entry[at + size : 145]
@@ -93,7 +93,7 @@ def number_of(answer):
 
 
 def of_check(chance, program, lines):
-    """Requests to check proofs, with what the program says of them, or of bytes that are none docs/FORMATS.md."""
+    """Requests to check proofs, with the program's result, or that of docs/FORMATS.md for other bytes."""
     questions = [proofs.mutated(chance, chance.choice(lines)) for _ in range(COUNT)]
     for question, theirs in zip(questions, proofs.said_by_program(program, questions), strict=True):
         given, name, proof = question
@@ -132,7 +132,7 @@ def of_audit(chance, program):
 
 
 def watched_lines(program):
-    """Lookups of two names at 12 epochs of which one is bound later, and the other changes its key."""
+    """Lookups of two names at 12 epochs. One is bound later, and the other changes its key."""
     op = lambda kind, name, key: {"op": kind, "name": name, "key": base64.b64encode(key).decode(), "opening": "ab" * 32}
     script = [{"cmd": "open", "key": KEY.hex(), "nonce": "11" * 32, "policy": "33" * 32}]
     for epoch in range(1, 13):
@@ -213,7 +213,7 @@ def requests_of(program, lines):
 
 
 def try_requests(tell, side, words, requests, **more):
-    """One side's answers to all requests."""
+    """One side's replies to all requests."""
     if not shutil.which(words[0]):
         return tell(f"{side}: {words[0]} is missing", False)
     ran = run(*words, input="".join(f"{it}\n" for it, _ in requests).encode(), **more)
@@ -297,7 +297,7 @@ def try_example(tell, side, program, words, wanted):
 
 
 def example_of(coniks, lines):
-    """The words of the examples in Go and Rust, over one lookup with its entry, and what they must print."""
+    """The arguments of the examples in Go and Rust, over one lookup with its entry, and what they must print."""
     line = next(
         it
         for it in lines
@@ -343,7 +343,7 @@ def try_python(tell, skip, here, coniks, requests):
 
 
 def try_watch(tell, program):
-    """The example in Python over the tour: what it audits, checks and sees is what the program says of the same lines."""
+    """The example in Python over the tour: its results are those of the program for the same lines."""
     tour = run(program, "run", stdin=open(TOP / "examples/tour.jsonl", "rb")).stdout
     ran = run(sys.executable, HERE / "python/watch.py", "--expect", "YWxpY2UtMQ==", "alice", input=tour)
     said = ran.stdout.decode().splitlines()
@@ -402,7 +402,7 @@ def try_python_faults(tell, coniks, lines):
 
 
 def try_python_copies(tell, coniks, lines):
-    """Copies, and what was pickled, go on from where the first one was, which they leave as it is."""
+    """Copies, and unpickled ones, continue from the state of the first one, and do not change it."""
     line = next(it for it in lines if coniks.Body.of_entry(bytes.fromhex(it["entry"])).previous_epoch == 0)
     entry, proof, index = bytes.fromhex(line["entry"]), coniks.proof_bytes(line["proof"]), bytes.fromhex(line["index"])
     for what, copied in [("copy", copy.copy), ("deepcopy", copy.deepcopy), ("pickle", lambda it: pickle.loads(pickle.dumps(it)))]:
@@ -439,7 +439,7 @@ def answer_by_python(coniks, members):
 
 
 def try_python_lines(tell, coniks):
-    """Each line of the cases of `check` that is read up to its proof has its answer."""
+    """Each line of the cases of `check` that is read up to its proof has its result."""
     tried, wrong = 0, []
     for case in case_files.chosen(["check"])[0]:
         for line, answer in zip(case.given().split(b"\n"), case.read(".out").splitlines()):
@@ -481,7 +481,7 @@ def try_javascript(tell, skip, requests):
 
 
 def try_all(tell, skip, program, coniks, lines):
-    """All sides, over the program's answers."""
+    """All sides, compared with the program."""
     try_watch(tell, program)
     try_python_faults(tell, coniks, lines)
     try_python_copies(tell, coniks, lines)

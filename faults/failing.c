@@ -1,12 +1,12 @@
-/* Lets calls of a program fail, as the variable FAULT says; it is loaded before the C library.
+/* Makes calls of a program fail, as the variable FAULT selects. It is loaded before the C library.
  *
- *     memory N     the Nth request for memory is refused
+ *     memory N     the Nth allocation fails
  *     read N       the Nth read of standard input fails
  *     write N      the Nth write of standard output fails
  *     stall N      the Nth write of standard output takes 0 bytes
- *     bytes 0      each read of standard input gives one byte at most, each write of standard output takes one
+ *     bytes 0      each read of standard input returns at most one byte, each write of standard output takes one
  *
- * Once that call has come a byte is written to the descriptor FAULT_TOLD. */
+ * At that call it writes a byte to the descriptor FAULT_TOLD. */
 #define _GNU_SOURCE
 #include <errno.h>
 #include <stdlib.h>
@@ -30,7 +30,7 @@ __attribute__((constructor)) static void begin(void)
     }
 }
 
-/* Whether this is the call that the fault meets. Threads may come at once. */
+/* Returns whether this call is the one to fail. Threads may call at once. */
 static int is_met(char of)
 {
     if (kind != of || __atomic_add_fetch(&calls, 1, __ATOMIC_SEQ_CST) != wanted)

@@ -10,7 +10,7 @@
  * Threads. There is no global state. Calls may run at once, also in signal handlers, if no two of them write to the same
  * place.
  *
- * Pointers. A pointer may be NULL only if the length beside it is 0. The library checks every length: no combination of
+ * Pointers. A pointer may be NULL only if its length is 0. The library checks every length: no combination of
  * lengths and bytes is undefined.
  *
  * Statuses. A call that can fail returns a number of `enum coniks_status`; 0 means success. If several errors apply, the
@@ -138,7 +138,7 @@ typedef struct coniks_auditor {
     uint8_t unused[7]; /* written as 0, and not read */
 } coniks_auditor;
 
-/* An entry without its signature: the tree root of one epoch, with what is signed beside it. */
+/* An entry without its signature: the tree root of one epoch, and what is signed with it. */
 typedef struct coniks_body {
     uint64_t epoch;               /* from 1 on */
     uint64_t previous_epoch;      /* 0 for the first */

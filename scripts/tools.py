@@ -1,8 +1,8 @@
 #!/usr/bin/env python3
-"""The tools that only some of the gate's tests need: which lack here, what is skipped without them, and what installs them.
+"""The tools that only some of the gate's tests need: which are missing, what is skipped without them, and what installs them.
 
-    scripts/tools.py             prints those that lack, and the command that installs them on Debian
-    scripts/tools.py --install   runs this command, as root, where `apt-get` is there; the status is 0 whatever comes of it
+    scripts/tools.py             prints the missing ones, and the command that installs them on Debian
+    scripts/tools.py --install   runs this command, as root, if there is `apt-get`; the status is always 0
 """
 
 import os
@@ -77,7 +77,7 @@ def packages(tools):
 
 
 def told(tools):
-    """The lines that say what lacks, what is skipped for it, and how it is installed; none where nothing lacks."""
+    """The lines with the missing tools, what is skipped for each, and how to install them; none if nothing is missing."""
     if not tools:
         return []
     lines = [f"not here: {it}, so {TOOLS[it][2]} will be skipped" for it in tools]
@@ -85,7 +85,7 @@ def told(tools):
 
 
 def install(tools):
-    """Installs what lacks, and prints the last line of what failed."""
+    """Installs what is missing, and prints the last line of what failed."""
     for words in [["update"], ["install", "-y", "--no-install-recommends", *packages(tools)]]:
         ran = subprocess.run(
             ["apt-get", *words], capture_output=True, text=True, env=os.environ | {"DEBIAN_FRONTEND": "noninteractive"}
