@@ -1,4 +1,4 @@
-// All that was pasted, line by line: lookups are checked, entries are audited, a name is watched. The library judges.
+// Reads what was pasted, line by line: lookups are checked, entries audited, names monitored. The library decides.
 
 import { toHex } from "./bytes.js";
 import { Coniks } from "./coniks.js";
@@ -54,7 +54,7 @@ export class Reading {
     /** Null if no signature is verified. @type {import("./signatures.js").Verifier | null} */
     this.verifier = key === null ? provider : new Seal(key);
     this.state = coniks.begin();
-    /** What stood before each accepted entry, by its link. @type {Map<string, Before>} */
+    /** The state before each accepted entry, by its link. @type {Map<string, Before>} */
     this.before = new Map();
     /** One for each line. @type {Row[]} */
     this.rows = [];
@@ -140,7 +140,7 @@ export class Reading {
   }
 
   /**
-   * Where a lookup's entry is, once all lines are read.
+   * Returns where a lookup's entry is, after all lines are read.
    * @param {LookupRow} row
    * @returns {Standing}
    */
@@ -157,7 +157,7 @@ export class Reading {
     return standing === "authentic" && !isOtherEpoch(row) ? "authentic" : "consistent";
   }
 
-  /** The names of which there are lookups with entries, in their order. @returns {string[]} */
+  /** Returns the names of lookups with entries, in their order. @returns {string[]} */
   names() {
     return [...this.byName.keys()];
   }
@@ -205,7 +205,7 @@ export class Reading {
   }
 }
 
-/** Whether a line says another epoch than its entry. @param {{epoch: bigint | null, said: bigint | null}} row */
+/** Returns whether a line has another epoch than its entry. @param {{epoch: bigint | null, said: bigint | null}} row */
 export function isOtherEpoch(row) {
   return row.epoch !== null && row.said !== null && row.said !== row.epoch;
 }
