@@ -3,6 +3,7 @@
 from __future__ import annotations
 
 import re
+import subprocess
 from pathlib import Path
 from typing import Sequence
 
@@ -12,6 +13,9 @@ CRATES = TOP / "crates"
 USED = re.compile(r"^(?:pub )?use Rattle\.(\w+)\.proofs\.(\w+)\.\{", re.M)
 GIVEN = re.compile(r"#\[tactic\(auto, using\((.*?)\)\)\](.*?)fn (\w+)", re.S)
 DEFINED = re.compile(r"\s*(?:(?:abbrev|unfoldable) pub|pub (?:data|record)) (\S+)")
+
+# What pages have in code spans beside names: commands, and parts of the names of files and crates.
+NO_NAMES = {"ci", "memcpy", "memmove", "memset", "FUNCTION", "METHOD", "MODULE", "TYPE", "_tests", "coniks_"}
 
 LEMMAS = """\
 # Lemmas
@@ -135,10 +139,21 @@ def words_of(file: Path) -> set[str]:
     return set(re.findall(r"\w+", file.read_text("utf-8")))
 
 
-def unknown_names(page: Path) -> list[str]:
-    """The names in code spans of a page that occur neither in the crates nor as a file or a part of one's name."""
-    known = {part for it in TOP.rglob("*") if ".git" not in it.parts for part in re.findall(r"\w+", it.name)}
-    for file in [*CRATES.rglob("*.rt"), *CRATES.rglob("*.antt"), TOP / "include/coniks.h"]:
-        known |= words_of(file)
-    cited = {name for it in re.findall(r"`([^`]+)`", page.read_text("utf-8")) for name in re.findall(r"[A-Za-z_]\w*", it)}
-    return sorted(cited - known - {"ci", "memcpy", "memmove", "memset"})
+def known_names() -> set[str]:
+    """The names in the sources, and the parts of the names of all files."""
+    listed = subprocess.run(["git", "ls-files", "-z"], cwd=TOP, capture_output=True, check=True).stdout.decode().split("\0")
+    known = {part for it in listed for part in re.findall(r"\w+", it)}
+    for it in listed:
+        if it.endswith((".rt", ".antt", ".h", ".py", ".go")) and (TOP / it).is_file():
+            known |= words_of(TOP / it)
+    return known
+
+
+def unknown_names(pages: Sequence[str]) -> list[str]:
+    """The names in code spans of these pages that no source contains, each with its page."""
+    known, found = known_names() | NO_NAMES, []
+    for page in pages:
+        text = (TOP / "docs" / page).read_text("utf-8")
+        cited = {name for it in re.findall(r"`([^`]+)`", text) for name in re.findall(r"[A-Za-z_]\w*", it)}
+        found += [f"docs/{page}: {it}" for it in sorted(cited - known)]
+    return found
