@@ -1,4 +1,4 @@
-"""The files of the cases: which there are, and what a case says of a run."""
+"""The files of the cases: which ones exist, and what a case expects of a run."""
 
 import json
 from pathlib import Path
@@ -34,7 +34,7 @@ class Case:
         return Path(f"{self.stem}{kind}").read_bytes()
 
     def given(self):
-        """The bytes of standard input: those of `.in`, or those that `.make` says."""
+        """The bytes of standard input: those of `.in`, or those that `.make` describes."""
         return self.read(".in") if self.has(".in") else made(json.loads(self.read(".make")))
 
     def words(self):
@@ -49,7 +49,7 @@ class Case:
 
 
 def made(part):
-    """The bytes of a part of a `.make`: a text's, those of parts in their order, or those of a part so many times."""
+    """The bytes of a part of a `.make`: a text's, those of parts in their order, or those of a repeated part."""
     if isinstance(part, str):
         return part.encode("utf-8")
     if isinstance(part, list):
@@ -58,7 +58,7 @@ def made(part):
 
 
 def usual_status(output):
-    """1 where a line was refused, or the monitor saw something else than what is expected."""
+    """1 if a line was refused, or the monitor saw another key than the expected one."""
     seen = (b'"seen":"changed"', b'"seen":"absent"')
     lines = output.split(b"\n")
     refused = any(line.startswith(b'{"fault":') for line in lines)

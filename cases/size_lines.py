@@ -29,12 +29,12 @@ def operation(kind, number, turn):
 
 
 def changes(size, count, step, turn):
-    """Changes of names that lie apart: the step has no divisor in common with the number of names."""
+    """Changes of names at a distance: the step has no divisor in common with the number of names."""
     return [operation("change", it * step % size.names, turn) for it in range(count)]
 
 
 def batches(size):
-    """The members of each batch but its epoch: all names, then changes, one change, a renewed nonce and one change more."""
+    """The members of each batch but its epoch: all names, then changes, one change, a rotated nonce and one change more."""
     for first in range(0, size.names, size.batch):
         yield {"ops": [operation("register", it, 0) for it in range(first, min(first + size.batch, size.names))]}
     yield {"ops": changes(size, size.batch, 23, 1)}
@@ -46,7 +46,7 @@ def batches(size):
 
 
 def lookups(size, epoch, present):
-    """Lookups at an epoch: of names among the first ones, as many as are present there, and of names that are nowhere."""
+    """Lookups at an epoch: of present names among the first ones, and of names that are absent."""
     step = max(1, present // size.lookups)
     names = [it * step for it in range(size.lookups)] + [10 * size.names + it for it in range(size.lookups)]
     for it in names:
@@ -73,7 +73,7 @@ def signature(epoch):
 
 
 def board_lines():
-    """The lines of `cases/full-board`: empty epochs as many as the board takes but one, one that registers a name, and more."""
+    """The lines of `cases/full-board`: empty epochs up to one less than the board's capacity, one that registers a name, and more."""
     register = {**operation("register", 0, 0), "index": INDEX}
     change = {**operation("change", 0, 1), "index": INDEX}
     yield text_of({"cmd": "open", "nonce": NONCE, "policy": POLICY})
@@ -84,7 +84,7 @@ def board_lines():
 
 
 def lines_on_full_board(change):
-    """Lines after the last epoch: updates that the board refuses, or an error that is told before; lookups, and the latest."""
+    """Lines after the last epoch: updates that the board refuses, or an error that comes first; lookups, and the latest."""
     yield {"cmd": "prepare", "epoch": BOARD + 1, "ops": [change]}
     yield {"cmd": "prepare", "epoch": BOARD + 1, "nonce": LATER_NONCE, "ops": []}
     yield {"cmd": "install", "signature": signature(0)}

@@ -1,4 +1,4 @@
-"""Calls of every export of the library for C with their answers, by cases/second, which shares nothing with the library."""
+"""Calls of every export of the C library with their results, by cases/second, which shares nothing with the library."""
 
 import json
 import struct
@@ -113,7 +113,9 @@ def entry_body(_, entry, body):
     if len(entry) != 209:
         return 48, body
     it = chain.Entry(entry)
-    return 0, struct.pack(BODY, it.epoch, it.epoch_before, it.root, it.previous_link, it.nonce, entry[113:145], it.version, bytes(7))
+    return 0, struct.pack(
+        BODY, it.epoch, it.epoch_before, it.root, it.previous_link, it.nonce, entry[113:145], it.version, bytes(7)
+    )
 
 
 def body_bytes(_, body, __):
@@ -139,7 +141,9 @@ CALLS = [check, begin, feed, head, step, entry_body, body_bytes, link, text, ver
 
 def some_state(chance):
     epoch = chance.choice([0, 0, 1, 7, 2**32, 2**64 - 2, 2**64 - 1])
-    return struct.pack(STATE, epoch, chance.randbytes(32), chance.randbytes(32), chance.choice([0, 1, 1, 2, 2, 3]), chance.randbytes(7))
+    return struct.pack(
+        STATE, epoch, chance.randbytes(32), chance.randbytes(32), chance.choice([0, 1, 1, 2, 2, 3]), chance.randbytes(7)
+    )
 
 
 def some_entry(chance, state, root, nonce):
@@ -165,21 +169,29 @@ def some_call(chance, lines):
     state, verdict = some_state(chance), chance.choice([1, 1, 1, 1, 1, 1, 0, 2, 2**32 - 1])
     if chance.randrange(2):
         state = state[:40] + given["nonce"] + state[72:]
-    entry = some_entry(chance, state, given["root"], chance.choice([given["nonce"], given["nonce"], given["nonce"], chance.randbytes(32)]))
+    entry = some_entry(
+        chance, state, given["root"], chance.choice([given["nonce"], given["nonce"], given["nonce"], chance.randbytes(32)])
+    )
     key = Shown(proof).key if samples.wire_status(proof) is None and proof[0] == 2 else b""
     expected = chance.choice([b"", key, key, b"another key"])
-    return call, *[
-        (0, given["nonce"], given["root"], given["index"], name, proof, FILL * 8, FILL * 8),
-        (0, chance.randbytes(80)),
-        (verdict, state, entry),
-        (0, state, FILL * 8, FILL * 32),
-        (verdict, state, given["index"], name, expected, entry, proof),
-        (0, entry, FILL * 152),
-        (0, chance.randbytes(152), FILL * 145),
-        (0, entry, FILL * 32),
-        (chance.choice([chance.randrange(60), chance.getrandbits(32)]), FILL * chance.choice([0, 1, 2, chance.randrange(80), 128])),
-        (0,),
-    ][call]
+    return (
+        call,
+        *[
+            (0, given["nonce"], given["root"], given["index"], name, proof, FILL * 8, FILL * 8),
+            (0, chance.randbytes(80)),
+            (verdict, state, entry),
+            (0, state, FILL * 8, FILL * 32),
+            (verdict, state, given["index"], name, expected, entry, proof),
+            (0, entry, FILL * 152),
+            (0, chance.randbytes(152), FILL * 145),
+            (0, entry, FILL * 32),
+            (
+                chance.choice([chance.randrange(60), chance.getrandbits(32)]),
+                FILL * chance.choice([0, 1, 2, chance.randrange(80), 128]),
+            ),
+            (0,),
+        ][call],
+    )
 
 
 def record(call, number, *arguments):

@@ -28,7 +28,7 @@ def lines_of(program, script):
 
 
 def lookups(program):
-    """Lookups with their lines: of the examples, and of a directory of 300 names, of which some ask for no name of it."""
+    """Lookups with their lines: of the examples, and of a directory of 300 names, some for absent names."""
     found = [it for script in ["lookups", "tour", "renewed"] for it in lines_of(program, TOP / f"examples/{script}.jsonl")]
     with tempfile.NamedTemporaryFile("w", suffix=".jsonl") as script:
         print(json.dumps({"cmd": "open", "key": "5a" * 32, "nonce": "11" * 32, "policy": "33" * 32}), file=script)
@@ -82,7 +82,7 @@ def bytes_of(proof):
 
 
 def object_of(proof):
-    """The object of a proof's bytes; None where the name is no text, which no line can hold."""
+    """The object of a proof's bytes; None if the name is not text, which no line can contain."""
     count = int.from_bytes(proof[1:3], "big")
     siblings = [proof[3 + 32 * it : 35 + 32 * it].hex() for it in range(count)]
     rest = proof[3 + 32 * count :]
@@ -139,7 +139,7 @@ def mutated(chance, line):
 
 
 def said_by_program(program, questions):
-    """What `keydir check` says of those whose proofs are proofs, as (status, key); None of the others."""
+    """The result of `keydir check` for those whose bytes are proofs, as (status, key); None for the others."""
     lines, places = [], []
     for place, (given, name, proof) in enumerate(questions):
         if wire_status(proof) is None:

@@ -1,6 +1,6 @@
-"""Tries the sides of the library for C in Python, Go and Rust, for embed/test: as packages, and what they answer.
+"""Tries the sides of the library for C in Python, Go and Rust, for embed/test: as packages, and their results.
 
-Each side has a program that answers requests, one a line. What it must answer is what `keydir check`, `keydir audit` and
+Each side has a program that replies to requests, one on each line. The expected reply is what `keydir check`, `keydir audit` and
 `keydir monitor` print, what hashlib computes, and what the header and texts.json say.
 """
 
@@ -63,7 +63,7 @@ def word(value):
 
 
 def changed(chance, entry):
-    """An entry that is changed in one field or bit; mostly with its seal, so that the fields are what is judged."""
+    """An entry that is changed in one field or bit; mostly with its seal, so that the fields are checked."""
     at, size = chance.choice([(0, 1), (1, 8), (9, 8), (17, 32), (49, 32), (81, 32), (113, 32)])
     value = chance.choice([bytes(size), bytes([0] * (size - 1) + [2]), bytes([255] * size), chance.randbytes(size)])
     body = entry[:at] + value + entry[at + size : 145]
@@ -93,7 +93,7 @@ def number_of(answer):
 
 
 def of_check(chance, program, lines):
-    """Requests to check proofs, with what the program says of them, or of bytes that are none docs/FORMATS.md."""
+    """Requests to check proofs, with the program's result, or that of docs/FORMATS.md for other bytes."""
     questions = [proofs.mutated(chance, chance.choice(lines)) for _ in range(COUNT)]
     for question, theirs in zip(questions, proofs.said_by_program(program, questions), strict=True):
         given, name, proof = question
@@ -132,7 +132,7 @@ def of_audit(chance, program):
 
 
 def watched_lines(program):
-    """Lookups of two names at 12 epochs of which one is bound later, and the other changes its key."""
+    """Lookups of two names at 12 epochs. One is bound later, and the other changes its key."""
     op = lambda kind, name, key: {"op": kind, "name": name, "key": base64.b64encode(key).decode(), "opening": "ab" * 32}
     script = [{"cmd": "open", "key": KEY.hex(), "nonce": "11" * 32, "policy": "33" * 32}]
     for epoch in range(1, 13):
@@ -168,7 +168,15 @@ def of_monitor(chance, program):
                 if told["proof"] is not None:
                     given.append(told if status is None else {"entry": entry.hex()})
                     requests.append((f"step {word(entry)} {verdict(entry)} {word(proof)}", status))
-        said = run(program, "monitor", "--key", KEY.hex(), "--name", mine[0]["name"], input="".join(json.dumps(it) + "\n" for it in given).encode())
+        said = run(
+            program,
+            "monitor",
+            "--key",
+            KEY.hex(),
+            "--name",
+            mine[0]["name"],
+            input="".join(json.dumps(it) + "\n" for it in given).encode(),
+        )
         for (request, status), answer in zip(requests, map(json.loads, said.stdout.splitlines()), strict=True):
             if answer.get("ok") == "expect":
                 yield request, "expected"
@@ -205,7 +213,7 @@ def requests_of(program, lines):
 
 
 def try_requests(tell, side, words, requests, **more):
-    """One side's answers to all requests."""
+    """One side's replies to all requests."""
     if not shutil.which(words[0]):
         return tell(f"{side}: {words[0]} is missing", False)
     ran = run(*words, input="".join(f"{it}\n" for it, _ in requests).encode(), **more)
@@ -247,7 +255,12 @@ def try_go(tell, skip, here, example, requests):
         skip("the provider in Go", "the program `provider`")
     ran = run("go", "vet", ".", cwd=here / "go", env=more["env"] | {"CGO_ENABLED": "0"})
     tell("go vet, without cgo", ran.returncode == 0, ran.stderr.decode()[-2000:])
-    for words in [["go", "vet", "./..."], ["go", "test", "./..."], ["go", "build", "-o", here / "in_go", "./internal/answers"], ["go", "build", "-o", here / "go_example", "./example"]]:
+    for words in [
+        ["go", "vet", "./..."],
+        ["go", "test", "./..."],
+        ["go", "build", "-o", here / "in_go", "./internal/answers"],
+        ["go", "build", "-o", here / "go_example", "./example"],
+    ]:
         ran = run(*words, **more)
         tell(" ".join(str(it) for it in words[:2]), ran.returncode == 0, (ran.stdout + ran.stderr).decode()[-2000:])
     try_requests(tell, "Go", [here / "in_go"], requests)
@@ -261,7 +274,16 @@ def try_rust(tell, skip, here, example, requests):
     as_it_is = manifest.read_text("utf-8")
     for edition, needed in [("2024", "1.85"), ("2021", "1.82")]:
         manifest.write_text(as_it_is.replace('"2021"', f'"{edition}"').replace('"1.82"', f'"{needed}"'))
-        ran = run("cargo", "test", "--offline", "--examples", "--lib", "--tests", cwd=here / "rust", env=os.environ | {"RUSTFLAGS": "-Dwarnings"})
+        ran = run(
+            "cargo",
+            "test",
+            "--offline",
+            "--examples",
+            "--lib",
+            "--tests",
+            cwd=here / "rust",
+            env=os.environ | {"RUSTFLAGS": "-Dwarnings"},
+        )
         tell(f"cargo test, edition {edition}", ran.returncode == 0, ran.stderr.decode()[-2000:])
     ran = run("cargo", "build", "--offline", "--examples", cwd=here / "rust", env=os.environ | {"RUSTFLAGS": "-Dwarnings"})
     tell("cargo build", ran.returncode == 0, ran.stderr.decode()[-2000:])
@@ -275,8 +297,12 @@ def try_example(tell, side, program, words, wanted):
 
 
 def example_of(coniks, lines):
-    """The words of the examples in Go and Rust, over one lookup with its entry, and what they must print."""
-    line = next(it for it in lines if it["proof"]["end"]["kind"] == "here" and coniks.Body.of_entry(bytes.fromhex(it["entry"])).previous_epoch == 0)
+    """The arguments of the examples in Go and Rust, over one lookup with its entry, and what they must print."""
+    line = next(
+        it
+        for it in lines
+        if it["proof"]["end"]["kind"] == "here" and coniks.Body.of_entry(bytes.fromhex(it["entry"])).previous_epoch == 0
+    )
     words = [line[it] for it in ("nonce", "root", "index", "name")] + [proofs.bytes_of(line["proof"]).hex(), line["entry"]]
     return words, [
         base64.b64decode(line["proof"]["end"]["key"]).decode(),
@@ -317,7 +343,7 @@ def try_python(tell, skip, here, coniks, requests):
 
 
 def try_watch(tell, program):
-    """The example in Python over the tour: what it audits, checks and sees is what the program says of the same lines."""
+    """The example in Python over the tour: its results are those of the program for the same lines."""
     tour = run(program, "run", stdin=open(TOP / "examples/tour.jsonl", "rb")).stdout
     ran = run(sys.executable, HERE / "python/watch.py", "--expect", "YWxpY2UtMQ==", "alice", input=tour)
     said = ran.stdout.decode().splitlines()
@@ -376,7 +402,7 @@ def try_python_faults(tell, coniks, lines):
 
 
 def try_python_copies(tell, coniks, lines):
-    """Copies, and what was pickled, go on from where the first one was, which they leave as it is."""
+    """Copies, and unpickled ones, continue from the state of the first one, and do not change it."""
     line = next(it for it in lines if coniks.Body.of_entry(bytes.fromhex(it["entry"])).previous_epoch == 0)
     entry, proof, index = bytes.fromhex(line["entry"]), coniks.proof_bytes(line["proof"]), bytes.fromhex(line["index"])
     for what, copied in [("copy", copy.copy), ("deepcopy", copy.deepcopy), ("pickle", lambda it: pickle.loads(pickle.dumps(it)))]:
@@ -385,7 +411,14 @@ def try_python_copies(tell, coniks, lines):
         other.feed(entry, True)
         seen = watching.step(entry, True, proof)
         tell(f"{what} of an auditor", auditor.head is None and other.head is not None and type(other) is coniks.Auditor)
-        tell(f"{what} of a monitor", monitor.head is None and watching.head == other.head and watching.expected == b"another key" and seen is not coniks.Seen.SAME, seen)
+        tell(
+            f"{what} of a monitor",
+            monitor.head is None
+            and watching.head == other.head
+            and watching.expected == b"another key"
+            and seen is not coniks.Seen.SAME,
+            seen,
+        )
         fault = copied(coniks.Refused(40))
         tell(f"{what} of a refusal", fault.status == 40 and str(fault) == coniks.text(40), fault)
 
@@ -406,7 +439,7 @@ def answer_by_python(coniks, members):
 
 
 def try_python_lines(tell, coniks):
-    """Each line of the cases of `check` that is read up to its proof has its answer."""
+    """Each line of the cases of `check` that is read up to its proof has its result."""
     tried, wrong = 0, []
     for case in case_files.chosen(["check"])[0]:
         for line, answer in zip(case.given().split(b"\n"), case.read(".out").splitlines()):
@@ -429,7 +462,18 @@ def try_javascript(tell, skip, requests):
     tell("the version of the module", named["version"] == header_version(), named)
     tell("the files of the module", all((TOP / "web/out" / it).is_file() for it in named["files"]), named)
     if tools.has("tsc"):
-        ran = run("tsc", "--noEmit", "--strict", "--target", "es2020", "--module", "es2020", "--moduleResolution", "node", TOP / "web/example.ts")
+        ran = run(
+            "tsc",
+            "--noEmit",
+            "--strict",
+            "--target",
+            "es2020",
+            "--module",
+            "es2020",
+            "--moduleResolution",
+            "node",
+            TOP / "web/example.ts",
+        )
         tell("the types of the module", ran.returncode == 0, ran.stdout.decode())
     else:
         skip("the types of the module", "tsc")
@@ -437,7 +481,7 @@ def try_javascript(tell, skip, requests):
 
 
 def try_all(tell, skip, program, coniks, lines):
-    """All sides, over the program's answers."""
+    """All sides, compared with the program."""
     try_watch(tell, program)
     try_python_faults(tell, coniks, lines)
     try_python_copies(tell, coniks, lines)

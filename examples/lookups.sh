@@ -1,5 +1,5 @@
 #!/usr/bin/env bash
 # Looks names up at two epochs, and has each proof checked.
 set -u
-cd "$(dirname "${BASH_SOURCE[0]}")/.."
+cd "$(dirname "${BASH_SOURCE[0]}")/.." || exit
 ./keydir run < examples/lookups.jsonl | grep '"ok":"lookup"' | ./keydir check

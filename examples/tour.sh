@@ -2,7 +2,7 @@
 # Three epochs of a directory. Its lookups are checked, its entries are audited, and a name is watched for a client, whose key
 # the third epoch changes.
 set -u
-cd "$(dirname "${BASH_SOURCE[0]}")/.."
+cd "$(dirname "${BASH_SOURCE[0]}")/.." || exit
 key=0000000000000000000000000000000000000000000000000000000000000000
 run=$(./keydir run < examples/tour.jsonl)
 echo "run:"

@@ -1,8 +1,8 @@
 #!/usr/bin/env python3
-"""The tools that only some of the gate's tests need: which lack here, what is skipped without them, and what installs them.
+"""The tools that only some of the gate's tests need: which are missing, what is skipped without them, and what installs them.
 
-    scripts/tools.py             prints those that lack, and the command that installs them on Debian
-    scripts/tools.py --install   runs this command, as root, where `apt-get` is there; the status is 0 whatever comes of it
+    scripts/tools.py             prints the missing ones, and the command that installs them on Debian
+    scripts/tools.py --install   runs this command, as root, if there is `apt-get`; the status is always 0
 """
 
 import os
@@ -56,10 +56,15 @@ TOOLS = {
     "node": (lambda: has_program("node"), "nodejs", "the page's own tests"),
     "tsc": (lambda: has_program("tsc"), "node-typescript", "the types of the module for web projects"),
     "chromium": (lambda: has_program(CHROMIUM), "chromium", "the page in a browser"),
+    "shellcheck": (lambda: has_program("shellcheck"), "shellcheck", "shellcheck in scripts/lint"),
+    "black": (lambda: has_program("black"), "black", "black in scripts/lint"),
+    "gofmt": (lambda: has_program("gofmt"), "golang-go", "gofmt in scripts/lint"),
+    "rustfmt": (lambda: has_program("rustfmt"), "rustfmt", "rustfmt in scripts/lint"),
+    "clang-format": (lambda: has_program("clang-format"), "clang-format", "clang-format in scripts/lint"),
 }
 
 
-def has(tool):
+def has(tool: str) -> bool:
     return TOOLS[tool][0]()
 
 
@@ -72,7 +77,7 @@ def packages(tools):
 
 
 def told(tools):
-    """The lines that say what lacks, what is skipped for it, and how it is installed; none where nothing lacks."""
+    """The lines with the missing tools, what is skipped for each, and how to install them; none if nothing is missing."""
     if not tools:
         return []
     lines = [f"not here: {it}, so {TOOLS[it][2]} will be skipped" for it in tools]
@@ -80,9 +85,11 @@ def told(tools):
 
 
 def install(tools):
-    """Installs what lacks, and prints the last line of what failed."""
+    """Installs what is missing, and prints the last line of what failed."""
     for words in [["update"], ["install", "-y", "--no-install-recommends", *packages(tools)]]:
-        ran = subprocess.run(["apt-get", *words], capture_output=True, text=True, env=os.environ | {"DEBIAN_FRONTEND": "noninteractive"})
+        ran = subprocess.run(
+            ["apt-get", *words], capture_output=True, text=True, env=os.environ | {"DEBIAN_FRONTEND": "noninteractive"}
+        )
         if ran.returncode:
             last = (ran.stderr or ran.stdout).strip().splitlines()[-1:]
             print(f"apt-get {words[0]} failed: {' '.join(last)}", flush=True)

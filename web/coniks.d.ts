@@ -11,7 +11,7 @@ export interface Head {
   readonly link: Uint8Array;
 }
 
-/** What an entry says of an epoch, without its signature. */
+/** An entry without its signature. */
 export interface Body {
   version: number;
   epoch: bigint;
@@ -52,10 +52,10 @@ export interface Library {
   body(entry: Uint8Array): Body;
   /** Returns the bytes of a body that are signed. */
   bodyBytes(body: Body): Uint8Array;
-  /** Returns what a status of coniks.h says, "" for a number that is no error's. */
+  /** Returns the text of an error's status in coniks.h, "" for other numbers. */
   text(status: number): string;
   version(): string;
 }
 
-/** Makes the library of the bytes of coniks.wasm. Rejects where WebAssembly has no 64-bit memory. */
+/** Makes the library of the bytes of coniks.wasm. Rejects if WebAssembly has no 64-bit memory. */
 export function load(module: BufferSource): Promise<Library>;

@@ -47,7 +47,7 @@ def fault_of(operation, earlier, registered):
 
 
 class Lines:
-    """A directory that answers lines.
+    """A directory that replies to lines.
 
     Each kind of directory has COMMANDS, the name of its method for each command, and MOST_EPOCHS.
     """
@@ -119,7 +119,7 @@ class Lines:
 
 
 def answer_of_entry(entry, ok):
-    """The answer to a line that adds an entry to the chain."""
+    """The reply to a line that adds an entry to the chain."""
     return {"entry": entry.whole.hex(), "epoch": entry.epoch, "link": entry.link.hex(), "ok": ok, "root": entry.root.hex()}
 
 
@@ -195,8 +195,7 @@ class Directory(Lines):
     def entries(self, registry):
         """The entries of a registry's tree, sorted by their indices."""
         return sorted(
-            (demonstration_index(self.key, name), commitment(opening, name, key))
-            for name, (key, opening) in registry.items()
+            (demonstration_index(self.key, name), commitment(opening, name, key)) for name, (key, opening) in registry.items()
         )
 
     def look_up(self, members):

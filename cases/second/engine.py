@@ -1,4 +1,4 @@
-"""How both programs read their command line and answer the lines of standard input."""
+"""How both programs read their command line and reply to the lines of standard input."""
 
 import json
 import sys
@@ -7,7 +7,7 @@ from members import Fault
 
 
 class Refused(Exception):
-    """Words that are refused, with the reason."""
+    """Arguments that are refused, with the reason."""
 
 
 class Asked(Exception):
@@ -47,7 +47,7 @@ def check_text(words, reason):
 
 
 def answer_lines(engine):
-    """Answers each line of standard input at once. Whether all were accepted and showed what was expected."""
+    """Replies to each line of standard input at once. Returns whether all were accepted and showed the expected key."""
     all_well = True
     for line in sys.stdin.buffer:
         try:

@@ -51,7 +51,7 @@ def grown(node, nonce, prefix, changes):
 
 
 def path_to(node, index):
-    """The hashes beside the way to an index, from the root down, and the entries where it ends: one or none."""
+    """The siblings of the path to an index, from the root down, and the entries at its end: one or none."""
     siblings = []
     while node.children is not None:
         side = bit(index, len(siblings))
@@ -74,7 +74,7 @@ def nodes_under(changes, node, level):
 
 
 class GrownDirectory(Directory):
-    """As `Directory`, but an epoch's tree is grown from the one before, where the nonce stays."""
+    """As `Directory`, but an epoch's tree grows from the one before, if the nonce stays."""
 
     def tree_after(self, before, registry, changed, is_renewed):
         if before is None or is_renewed:

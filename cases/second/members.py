@@ -1,4 +1,4 @@
-"""What stands in the members of a line."""
+"""The contents of the members of a line."""
 
 import base64
 import re
@@ -11,7 +11,7 @@ WHOLE = re.compile("0|[1-9][0-9]*")
 
 
 class Fault(Exception):
-    """Why a line is refused: the members of its answer."""
+    """Why a line is refused: the members of the reply."""
 
     def __init__(self, name, **more):
         super().__init__(name)
@@ -82,7 +82,7 @@ def entry(value):
 
 
 def b64(value):
-    """Base64 with its padding, whose left-over bits are zero: what it says is written back as the same text."""
+    """Base64 with its padding, whose left-over bits are zero: encoding its bytes gives the same text."""
     if not BASE64.fullmatch(text(value)):
         raise Wrong
     found = base64.b64decode(value)

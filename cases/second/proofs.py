@@ -31,7 +31,7 @@ def agree(one, other, bits):
 
 
 def judge(proof, index, name, nonce, root):
-    """The key that an accepted proof shows, or None where it shows that there is none."""
+    """The key that an accepted proof shows, or None if it shows absence."""
     if len(proof.siblings) > 256:
         raise Fault("TooDeep")
     if not 1 <= len(name) <= LONGEST_NAME:

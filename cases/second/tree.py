@@ -10,7 +10,7 @@ def halves(entries, level):
 
 
 def node(nonce, prefix, entries):
-    """The hash of the node at a prefix, a tuple of bits, over the entries that lie under it."""
+    """The hash of the node at a prefix, a tuple of bits, over the entries under it."""
     if not entries:
         return empty_node(nonce, prefix)
     if len(entries) == 1:
@@ -21,7 +21,7 @@ def node(nonce, prefix, entries):
 
 
 def path(nonce, prefix, entries, index):
-    """The hashes beside the way to an index, from the root down, and the entries where it ends: one or none."""
+    """The siblings of the path to an index, from the root down, and the entries at its end: one or none."""
     if len(entries) <= 1:
         return [], entries
     parts = halves(entries, len(prefix))

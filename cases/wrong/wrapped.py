@@ -1,4 +1,4 @@
-"""Runs the program that KEYDIR names, the repository's `keydir` where it is unset, with the words and the input given."""
+"""Runs the program that KEYDIR names, by default the repository's `keydir`, with the given arguments and input."""
 
 import os
 import subprocess

@@ -1,8 +1,8 @@
 /*
- * Answers many proofs, for a comparison: of each record on standard input the status, and the key where there is one.
+ * Checks many proofs, for a comparison. Prints the status for each record on standard input, and the key if there is one.
  *
  * A record is the lengths of name and proof (4 bytes each, high byte first), nonce, root and index, the name and the proof.
- * Name and proof are copied to places of just their size, so that a tool which watches memory sees a byte read past them.
+ * Name and proof are copied to blocks of exactly their size, so that a sanitizer sees a byte read past them.
  */
 #include <stdio.h>
 #include <stdlib.h>

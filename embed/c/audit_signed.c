@@ -1,10 +1,10 @@
 /*
- * Audits a chain whose entries are signed by Ed25519 (RFC 8032), whose signatures have the entry's 64 bytes. Signing and
- * judging are OpenSSL's; that each entry follows the one before is judged by coniks.
+ * Audits a chain whose entries have Ed25519 signatures (RFC 8032). OpenSSL signs and verifies; coniks checks that each entry
+ * follows the one before.
  *
  *     audit_signed
  *
- * It makes three entries and audits them, then entries that are forged in one place each, and prints what came of it.
+ * Makes three entries and audits them, then entries that are forged in one place each, and prints the results.
  * Built with -lcrypto.
  */
 #include <openssl/evp.h>
@@ -15,7 +15,7 @@
 
 static const uint8_t SEED[32] = {7};
 
-/* 1 where the entry's signature is one for its body, under this key. */
+/* Returns 1 if the entry's signature is valid for its body, under this key. */
 static uint32_t verdict(EVP_PKEY *key, const uint8_t *entry)
 {
     EVP_MD_CTX *context = EVP_MD_CTX_new();

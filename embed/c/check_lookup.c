@@ -1,10 +1,10 @@
 /*
- * Checks the answer to a lookup: a proof in its bytes, under the nonce and the root of an entry.
+ * Checks the proof of a lookup, in its bytes, under the nonce and the root of an entry.
  *
  *     check_lookup NONCE ROOT INDEX NAME < PROOF
  *
  * NONCE, ROOT and INDEX are 64 hexadecimal digits each. Prints the key, in hexadecimal digits, or `absent`, or why the proof
- * is refused; the status is 0, or 1 where it is refused.
+ * is refused. The exit status is 0, or 1 if the proof is refused.
  */
 #include <stdio.h>
 #include <string.h>

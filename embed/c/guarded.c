@@ -1,5 +1,5 @@
 /*
- * Answers calls of every export, for a comparison. Each argument is placed twice: its last byte right before an inaccessible
+ * Makes calls of every export, for a comparison. Each argument is placed twice: its last byte right before an inaccessible
  * page, and its first byte right after one.
  *
  * A record on standard input is the number of the call in `calls`, a number (4 bytes, high byte first) and each argument: its

@@ -73,7 +73,7 @@ func (it Refused) Error() string {
 	return fmt.Sprintf("status %d", uint32(it))
 }
 
-// Text returns what a status of coniks.h says, and the empty text for a number that is no error's.
+// Text returns the text of an error's status in coniks.h, and the empty text for other numbers.
 func Text(status uint32) string {
 	var text [128]byte
 	size := int(C.coniks_text(C.uint32_t(status), start(text[:]), C.size_t(len(text))))
@@ -209,13 +209,13 @@ func (it *Monitor) Step(entry []byte, signatureIsGood bool, proof []byte) (Seen,
 	return 0, Refused(status)
 }
 
-// Link returns the link of an entry, by which the next entry names it.
+// Link returns the link of an entry, which the next entry contains.
 func Link(entry []byte) (link [32]byte, err error) {
 	err = refused(C.coniks_link(start(entry), size(entry), bytes32(&link)))
 	return link, err
 }
 
-// Body is what an entry says of an epoch, without its signature.
+// Body is an entry without its signature.
 type Body struct {
 	Version       uint8
 	Epoch         uint64

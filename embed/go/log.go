@@ -12,7 +12,7 @@ import (
 	"time"
 )
 
-// Log is where a provider's lines are stored. Lines have no newline and are counted from 0.
+// Log stores a provider's lines. Lines have no newline and are counted from 0.
 type Log interface {
 	// Append stores a line so that it outlives the machine's failure, and then returns. It returns an error that is
 	// ErrOvertaken if the log has a line at this position. After another error the line may be stored or not.

@@ -29,7 +29,7 @@ var (
 	ErrClosed        = errors.New("the provider is closed")
 )
 
-// FaultName is a name of docs/FORMATS.md: errors.Is(err, NameTaken) says whether an error is this fault.
+// FaultName is a name of docs/FORMATS.md: errors.Is(err, NameTaken) reports whether an error is this fault.
 type FaultName string
 
 // The faults of the program.
@@ -166,14 +166,14 @@ type Settings struct {
 // The log is the directory's store: each accepted line is appended to it, and a new child replays it. If the log keeps each
 // line whose Append returned, then an epoch that Commit returned is there after each restart with the same entry, the signer
 // is asked for one body per epoch number, and no lookup shows an entry before the log has it. The log's lines are those of the
-// package for Python, whose module coniks.provider says what a failure leaves behind after each step.
+// package for Python, whose module coniks.provider lists what a failure leaves after each step.
 //
 // After an error that is no *Fault and neither ErrSignerFailed, ErrEpochSpent nor one of an argument, each call returns
 // ErrRestartNeeded until Restart returns nil or ErrSignerFailed. All calls can be used from several goroutines.
 type Provider struct {
 	settings Settings
 	changing sync.Mutex // held by calls that change the directory, the signer's time included
-	asking   sync.Mutex // held while the child answers, until the log has what it must
+	asking   sync.Mutex // held from a line to its reply, until the log has what it must
 	child    *child
 	closed   bool
 	broken   error
@@ -256,7 +256,7 @@ func (it *Provider) begin() error {
 	return it.broken
 }
 
-// replayAll starts a child, brings it to where the log is, and opens a directory if the log has no line.
+// replayAll starts a child and replays the log, or opens a directory if the log has no line.
 func (it *Provider) replayAll() (err error) {
 	if it.child != nil {
 		it.child.stop()
@@ -289,7 +289,7 @@ func (it *Provider) replayAll() (err error) {
 	return it.append(line)
 }
 
-// replay asks for one line of the log, and compares the answer: of `prepare` the body, and of `install` the link.
+// replay sends one line of the log, and compares the reply: the body of `prepare`, the link of `install`.
 func (it *Provider) replay(line []byte) error {
 	line = append([]byte(nil), line...)
 	var said members
@@ -623,7 +623,7 @@ func startChild(program []string, timeout time.Duration) (*child, error) {
 	return &child{command, in, bufio.NewReaderSize(out, 65536), timeout}, nil
 }
 
-// ask writes a line and reads the answer. The error of a refused line is a *Fault, and any other is ErrProgramFailed.
+// ask writes a line and reads the reply. The error of a refused line is a *Fault, and any other is ErrProgramFailed.
 func (it *child) ask(line []byte) (*members, error) {
 	if it.timeout > 0 {
 		defer time.AfterFunc(it.timeout, func() { it.command.Process.Kill() }).Stop()

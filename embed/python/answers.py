@@ -1,4 +1,4 @@
-"""Answers the requests of embed/sides.py, one a line."""
+"""Replies to the requests of embed/sides.py, one on each line."""
 
 import sys
 

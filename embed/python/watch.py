@@ -4,8 +4,8 @@
     keydir run < script.jsonl | watch.py [--expect KEY] NAME
 
 Each lookup is checked, each batch's entry is audited, and the lookups of NAME are shown to a monitor that expects the key
-(base64), or none. The program has only its demonstration's seal, which this doesn't judge: it takes each signature as good,
-and says so. A provider's own would be judged by the library that made it.
+(base64), or none. It takes each signature as valid: `keydir` has only its demonstration's seal. Verify a provider's signatures
+with the library of its signature scheme.
 """
 
 import argparse
@@ -17,7 +17,7 @@ import coniks
 
 
 def answer(call, *arguments):
-    """What a call answers, or why it refuses."""
+    """The result of a call, or why it refuses."""
     try:
         return call(*arguments)
     except coniks.Refused as fault:

@@ -1,4 +1,4 @@
-//! Finds libconiks.a in the folder CONIKS_LIB_DIR, or where embed/build puts it.
+//! Finds libconiks.a in the folder CONIKS_LIB_DIR, or in embed/out.
 
 use std::env;
 use std::path::{Path, PathBuf};

@@ -11,7 +11,7 @@ from provider import Answer
 
 
 class OtherEpoch(Exception):
-    """The answer is one of another epoch than the epoch asked for."""
+    """The reply is for another epoch than the one asked for."""
 
 
 def look_up(keys: PublicKeys, name: str, epoch: int, answer: Answer) -> Optional[bytes]:

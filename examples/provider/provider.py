@@ -22,7 +22,7 @@ class Answer:
 
 
 class KeyServer:
-    """Registers names and looks them up. The log is its store: a provider that starts goes on where the log ends."""
+    """Registers names and looks them up. The log is its store: a provider that starts replays it."""
 
     def __init__(self, program: Path, log: Path, signing: bytes, vrf: bytes, nonce: bytes):
         self._signer, self._vrf = SigningKey(signing), vrf

@@ -145,7 +145,12 @@ def try_evidence(count: Count) -> None:
         count.tell(f"no evidence: {what}", not convicts(KEYS.signing, one, another) and not convicts(KEYS.signing, another, one))
     count.tell("no evidence under another key", not convicts(KEYS.vrf, third, other))
     links = {1: b"a", 2: b"b", 4: b"c"}
-    compared: list[tuple[dict[int, bytes], object]] = [({}, None), (links, None), ({1: b"a", 3: b"x"}, None), ({1: b"a", 2: b"x", 4: b"x"}, 2)]
+    compared: list[tuple[dict[int, bytes], object]] = [
+        ({}, None),
+        (links, None),
+        ({1: b"a", 3: b"x"}, None),
+        ({1: b"a", 2: b"x", 4: b"x"}, 2),
+    ]
     count.tell("the first difference", first_difference({8: b"a", 1: b"a"}, {8: b"b", 1: b"b"}) == 1)
     for theirs, wanted in compared:
         count.tell(f"links {theirs}", first_difference(links, theirs) == wanted)

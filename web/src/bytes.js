@@ -40,7 +40,7 @@ export function toBase64(bytes) {
 }
 
 /**
- * A number as so many bytes, the high one first.
+ * A number as a given number of bytes, big-endian.
  * @param {number} number
  * @param {number} size
  * @returns {Uint8Array}

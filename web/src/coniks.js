@@ -1,4 +1,4 @@
-// The proved library, as a module of the browser. What is accepted is what it accepts; nothing else in this page judges.
+// The proved library, as a module of the browser. It alone decides what is accepted.
 
 import { toHex } from "./bytes.js";
 
@@ -19,7 +19,7 @@ class Desk {
     this.at = this.base;
   }
 
-  /** @param {number} size @returns {number} where so many bytes have room */
+  /** @param {number} size @returns {number} the place of that many free bytes */
   room(size) {
     const here = this.at;
     this.at += (size + 15) & ~15;
@@ -84,7 +84,7 @@ export class Coniks {
   }
 
   /**
-   * Shows an entry to an auditor, whose state changes where it follows.
+   * Audits an entry. The state changes if the entry follows.
    * @param {Uint8Array} state @param {Uint8Array} entry @param {boolean} isGood
    * @returns {number}
    */
@@ -122,7 +122,7 @@ export class Coniks {
   }
 
   /**
-   * What an entry says; null of bytes that are none.
+   * Returns the body of an entry, or null if the bytes are no entry.
    * @param {Uint8Array} entry
    * @returns {{epoch: bigint, root: string, nonce: string, version: number} | null}
    */
@@ -135,7 +135,7 @@ export class Coniks {
     return { epoch, root: toHex(bytes.slice(16, 48)), nonce: toHex(bytes.slice(80, 112)), version: bytes[144] };
   }
 
-  /** What a fault's status says. @param {number} status @returns {string} */
+  /** Returns the text of a status. @param {number} status @returns {string} */
   text(status) {
     this.desk.clear();
     const room = this.desk.put(new Uint8Array(128));

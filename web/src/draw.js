@@ -1,5 +1,5 @@
-// Draws an authentication path: the root at the top, a step down for each bit of the index, the siblings beside it, and what
-// stands at the end. Everything that came from a line goes in as text.
+// Draws an authentication path: the root at the top, a step down for each bit of the index, the siblings beside it, and the
+// end. Everything from a line goes in as text.
 
 import { bitAt, toHex } from "./bytes.js";
 import { lookupOf } from "./lines.js";
@@ -11,7 +11,7 @@ import { MARKED, keyText, nameText, short } from "./words.js";
  */
 
 /**
- * An element with its words and its parts.
+ * Returns an element with its text and its parts.
  * @param {string} tag @param {string} kind @param {...(string | Node)} parts
  * @returns {HTMLElement}
  */
@@ -22,7 +22,7 @@ export function element(tag, kind, ...parts) {
   return made;
 }
 
-/** A hash, of which a press shows the whole, also to a screen reader. @param {string} digits @param {string} what @returns {HTMLElement} */
+/** Returns a hash, cut; a press shows the whole, also to a screen reader. @param {string} digits @param {string} what @returns {HTMLElement} */
 export function hashButton(digits, what) {
   const made = element("button", "hash", short(digits));
   made.setAttribute("type", "button");
@@ -68,7 +68,7 @@ function fact(word, what, isMarked = false) {
   return mark(isMarked, made);
 }
 
-/** What stands at the end. @param {LookupRow} row @param {Lookup} lookup */
+/** Returns the end of the path. @param {LookupRow} row @param {Lookup} lookup */
 function endOf(row, lookup) {
   const [end, wrong] = [lookup.end, marked(row)];
   if (end.kind === "empty") return element("div", "end empty", element("h3", "", "An empty node"), "No index in the tree begins with these bits.");

@@ -19,7 +19,7 @@ const NAME = 256;
 const utf8 = new TextEncoder();
 
 /**
- * A line, or why it isn't read, and where the next one begins.
+ * A line, or why it is not read, and the place of the next one.
  * @typedef {{text: string, end: number} | {fault: "Json" | "Long", end: number}} Line
  */
 
@@ -93,7 +93,7 @@ function isHalf(token) {
 }
 
 /**
- * A line's object; null where it is none.
+ * Returns a line's object, or null if it is none.
  * @param {string} line
  * @returns {Record<string, any> | null}
  */
@@ -190,7 +190,7 @@ export function lookupIn(object) {
 }
 
 /**
- * An entry's bytes, where a line has one.
+ * Returns an entry's bytes, if a line has one.
  * @param {Record<string, any>} object
  * @returns {Uint8Array | null}
  */

@@ -1,4 +1,4 @@
-// The page: takes lines, has them judged a few at a time, and shows what came of it.
+// The page: takes lines, has them checked a few at a time, and shows the results.
 
 import { fromHex } from "./bytes.js";
 import { Coniks } from "./coniks.js";
@@ -42,16 +42,16 @@ let coniks;
 let given = [];
 /** Counts readings, so that one that was started after another ends that one. */
 let turn = 0;
-/** The reading that is to stop where it is. */
+/** The reading that is to stop. */
 let cancelled = 0;
 
-/** The epoch of a line's entry, or what a line without one says. @param {{epoch?: bigint | null, said: bigint | null}} row @returns {string} */
+/** Returns the epoch of a line's entry, or of a line without one. @param {{epoch?: bigint | null, said: bigint | null}} row @returns {string} */
 function epochWords(row) {
   if (typeof row.epoch === "bigint") return ` at epoch ${row.epoch}`;
   return row.said === null ? "" : ` at an epoch that the line calls ${row.said}`;
 }
 
-/** @param {LookupRow | EntryRow} row @returns {string} what a line says of its epoch that its entry doesn't say */
+/** @param {LookupRow | EntryRow} row @returns {string} the epoch of the line, if it is not the entry's */
 function otherEpoch(row) {
   return isOtherEpoch(row) ? `; the line calls it epoch ${row.said}, which its entry does not` : "";
 }
@@ -188,7 +188,10 @@ function showWatched(reading) {
   if (names.length) showTimeline(reading, choice.value);
 }
 
-/** How many rows there are of each kind. @typedef {Record<string, number>} Counts */
+/**
+ * How many rows there are of each kind.
+ * @typedef {Record<string, number>} Counts
+ */
 
 /** What a row counts as. @param {Row} row @param {Reading} reading @returns {string} */
 function kindOf(row, reading) {
@@ -270,7 +273,7 @@ async function givenKeys() {
   return { key: keyIn("key"), provider, wrong };
 }
 
-/** Lets the browser draw and answer, where it hasn't for a while. */
+/** Lets the browser draw and respond, if it has not for a while. */
 class Pause {
   constructor() {
     this.last = performance.now();
@@ -310,7 +313,7 @@ async function readLines(reading, mine) {
   return false;
 }
 
-/** @param {Reading} reading @param {number} mine @returns {Promise<Counts | null>} null where another reading took over */
+/** @param {Reading} reading @param {number} mine @returns {Promise<Counts | null>} null if another reading took over */
 async function countRows(reading, mine) {
   const [pause, counts] = [new Pause(), /** @type {Counts} */ ({})];
   for (const row of reading.rows) {
@@ -363,7 +366,7 @@ async function bytesOf(files) {
   return all;
 }
 
-/** Takes texts or files, of which only a short text is put into the field. @param {(string | Uint8Array)[]} parts */
+/** Takes texts or files. Only a short text is put into the field. @param {(string | Uint8Array)[]} parts */
 function take(parts) {
   const [text] = parts;
   part("lines").value = typeof text === "string" && text.length <= LONG ? text : "";

@@ -1,4 +1,4 @@
-// All that was pasted, line by line: lookups are checked, entries are audited, a name is watched. The library judges.
+// Reads what was pasted, line by line: lookups are checked, entries audited, names monitored. The library decides.
 
 import { toHex } from "./bytes.js";
 import { Coniks } from "./coniks.js";
@@ -17,7 +17,7 @@ import { FAULTS } from "./words.js";
  * @typedef {{what: "entry", epoch: bigint | null, said: bigint | null, status: number, signature: boolean | null}} EntryRow
  * @typedef {{what: "unproved", name: string | null, said: bigint | null}} UnprovedRow
  * @typedef {{what: "refusal", fault: string}} RefusalRow
- * @typedef {{what: "broken" | "other"} | {what: "unread", fault: "Json" | "Long"}} PlainRow
+ * @typedef {{what: "broken"} | {what: "other"} | {what: "unread", fault: "Json" | "Long"}} PlainRow
  * @typedef {LookupRow | EntryRow | UnprovedRow | RefusalRow | PlainRow} Row
  * @typedef {{state: Uint8Array, isGood: boolean}} Before
  *
@@ -25,7 +25,9 @@ import { FAULTS } from "./words.js";
  * @typedef {{entry: Uint8Array, link: string, isGood: boolean | null}} Signed
  *
  * What is seen of a name at an epoch: its first key, a key after none, the same one, another one, none any more, or none yet.
- * @typedef {{seen: "first" | "registered" | "same", key: Uint8Array}
+ * @typedef {{seen: "first", key: Uint8Array}
+ *   | {seen: "registered", key: Uint8Array}
+ *   | {seen: "same", key: Uint8Array}
  *   | {seen: "changed", from: Uint8Array, key: Uint8Array}
  *   | {seen: "absent", from: Uint8Array}
  *   | {seen: "unregistered"}
@@ -34,7 +36,10 @@ import { FAULTS } from "./words.js";
 
 const [SAME, ABSENT, CHANGED] = [0, 1, 9];
 
-/** Rows that hold nothing of their lines. @type {Record<string, PlainRow>} */
+/**
+ * Rows without content of their lines.
+ * @type {Record<string, PlainRow>}
+ */
 const PLAIN = { broken: { what: "broken" }, other: { what: "other" }, Json: { what: "unread", fault: "Json" }, Long: { what: "unread", fault: "Long" } };
 
 export class Reading {
@@ -49,7 +54,7 @@ export class Reading {
     /** Null if no signature is verified. @type {import("./signatures.js").Verifier | null} */
     this.verifier = key === null ? provider : new Seal(key);
     this.state = coniks.begin();
-    /** What stood before each accepted entry, by its link. @type {Map<string, Before>} */
+    /** The state before each accepted entry, by its link. @type {Map<string, Before>} */
     this.before = new Map();
     /** One for each line. @type {Row[]} */
     this.rows = [];
@@ -110,13 +115,14 @@ export class Reading {
   /** @param {string} line @param {Record<string, any>} object @param {Signed | null} signed @returns {LookupRow} */
   checked(line, object, signed) {
     const lookup = lookupIn(object);
+    /** @type {Omit<LookupRow, "verdict">} */
     const rest = {
-      what: /** @type {const} */ ("lookup"),
+      what: "lookup",
       text: line,
       name: textOf(object.name),
       epoch: signed && this.epochOf(signed.entry),
       said: numberOf(line, "epoch"),
-      entry: signed === null ? /** @type {const} */ ("entry" in object ? "broken" : "none") : this.tie(signed, lookup),
+      entry: signed === null ? ("entry" in object ? "broken" : "none") : this.tie(signed, lookup),
       link: signed === null ? "" : signed.link,
     };
     if ("fault" in lookup) return { ...rest, verdict: lookup };
@@ -134,7 +140,7 @@ export class Reading {
   }
 
   /**
-   * Where a lookup's entry is, once all lines are read.
+   * Returns where a lookup's entry is, after all lines are read.
    * @param {LookupRow} row
    * @returns {Standing}
    */
@@ -151,7 +157,7 @@ export class Reading {
     return standing === "authentic" && !isOtherEpoch(row) ? "authentic" : "consistent";
   }
 
-  /** The names of which there are lookups with entries, in their order. @returns {string[]} */
+  /** Returns the names of lookups with entries, in their order. @returns {string[]} */
   names() {
     return [...this.byName.keys()];
   }
@@ -199,7 +205,7 @@ export class Reading {
   }
 }
 
-/** Whether a line says another epoch than its entry. @param {{epoch: bigint | null, said: bigint | null}} row */
+/** Returns whether a line has another epoch than its entry. @param {{epoch: bigint | null, said: bigint | null}} row */
 export function isOtherEpoch(row) {
   return row.epoch !== null && row.said !== null && row.said !== row.epoch;
 }

@@ -1,4 +1,4 @@
-// SHA-256 (FIPS 180-4) in the script: where the page is no secure context, the browser has none to offer.
+// SHA-256 (FIPS 180-4) in the script: the browser has none for a page that is no secure context.
 
 /** The first 32 bits of the fractional parts of the cube roots of the first 64 primes (section 4.2.2). */
 const K = Uint32Array.of(

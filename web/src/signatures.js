@@ -1,4 +1,4 @@
-// A provider's public key, by which the browser verifies the signatures of entries (Ed25519, RFC 8032, in WebCrypto).
+// A provider's public key, with which the browser verifies the signatures of entries (Ed25519, RFC 8032, in WebCrypto).
 
 import { toHex } from "./bytes.js";
 import { BODY } from "./seal.js";
@@ -11,7 +11,7 @@ const NO_ED25519 = `${NOT_VERIFIED}this browser's WebCrypto has no Ed25519. Chro
 const NO_KEY = "not a key: these 64 digits are no Ed25519 public key. No signature is verified.";
 const WEAK = "not a key: for a point of small order anyone can sign. No signature is verified.";
 
-/** The points of small order, of either sign, also where their y isn't reduced: WebCrypto takes them as keys. */
+/** The points of small order, of either sign, also with a y that is not reduced: WebCrypto accepts them as keys. */
 const SMALL = [
   /^0[01](00){31}$/,
   /^e[cde](ff){30}7f$/,

@@ -1,9 +1,9 @@
-// What is said of a status, a key and a name, in words.
+// The texts for a status, a key and a name.
 
 import { toHex } from "./bytes.js";
 import { sha256 } from "./sha256.js";
 
-/** The names of faults, as the program tells them. @type {Record<number, string>} */
+/** The names of faults, as the program prints them. @type {Record<number, string>} */
 export const FAULTS = {
   2: "TooDeep",
   3: "NameLength",
@@ -30,7 +30,7 @@ export const MARKED = { 2: "depth", 3: "asked", 4: "key", 5: "name", 6: "other",
 
 /**
  * A key as text in quotation marks if it is printable, else as 0x and hexadecimal digits, so that no two keys look the same.
- * Of a long key so many bytes, and then its length and its SHA-256.
+ * A long key is cut, and followed by its length and its SHA-256.
  * @param {Uint8Array} key @param {number} most
  * @returns {string}
  */

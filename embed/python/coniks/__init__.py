@@ -1,12 +1,12 @@
 """The client's side of a CONIKS key directory: a checker of proofs, an auditor of a chain, a monitor of one name.
 
-It calls libconiks.so by ctypes and judges nothing itself: what is accepted is what the proved library accepts. The library
-is looked for where the variable CONIKS_LIBRARY says, then in this package, then in embed/out of the checkout, then where the
-system has its libraries.
+It calls libconiks.so by ctypes and decides nothing itself: the proved library decides what is accepted. The library is the
+file that the variable CONIKS_LIBRARY names, else that of this package, of embed/out in the checkout, or of the system, in this
+order.
 
-    key = coniks.check(entry.nonce, entry.root, index, "alice", proof)     # bytes, or None where the name is bound to none
+    key = coniks.check(entry.nonce, entry.root, index, "alice", proof)     # bytes, or None if the name is bound to none
     auditor = coniks.Auditor()
-    auditor.feed(entry_bytes, signature_is_good=True)                      # raises coniks.Refused, and then is as it was
+    auditor.feed(entry_bytes, signature_is_good=True)                      # raises coniks.Refused, and is unchanged then
 
 Nonces, roots, indices, links and digests are 32 bytes, entries 209. A name is text or bytes, a proof its bytes (see
 `proof_bytes`). Wrong types raise TypeError, wrong sizes and numbers that don't fit ValueError, and what the library refuses
@@ -54,7 +54,7 @@ ENTRY_LENGTH = 209
 
 
 class Status(enum.IntEnum):
-    """Why something is refused, by the numbers of coniks.h."""
+    """Why a proof or an entry is refused, by the numbers of coniks.h."""
 
     TOO_DEEP = 2
     NAME_LENGTH = 3
@@ -85,7 +85,7 @@ class Status(enum.IntEnum):
 
 
 class Seen(enum.Enum):
-    """What a proof shows, against what the client expects."""
+    """What a proof shows, compared with the expected key."""
 
     SAME = 0
     ABSENT = 1
@@ -93,7 +93,7 @@ class Seen(enum.Enum):
 
 
 class Refused(Exception):
-    """The library refuses a proof or an entry. `status` says why, and the text in words."""
+    """The library refuses a proof or an entry. `status` is the reason, and the message its text."""
 
     def __init__(self, status: int):
         self.status = Status(status)
@@ -219,15 +219,15 @@ def library_version() -> str:
 
 
 def text(status: int) -> str:
-    """What a status says; the empty text for one that is no fault's."""
+    """Returns the text of an error's status, and the empty text for other numbers."""
     room = ctypes.create_string_buffer(128)
     size = _library.coniks_text(_number(status, 32, "a status"), room, len(room))
     return room.raw[:size].decode()
 
 
 def check(nonce: bytes, root: bytes, index: bytes, name: Name, proof: bytes) -> Optional[bytes]:
-    """The key that a proof shows for a name at its index, under a root and a nonce; None where it shows that the name is
-    bound to none. Raises `Refused` where the proof isn't accepted."""
+    """Returns the key that a proof shows for a name at its index, under a root and a nonce, or None if it shows that the name
+    is bound to none. Raises `Refused` if the proof is not accepted."""
     name, proof = _name(name), _bytes(proof, "the proof")
     start, length = ctypes.c_size_t(), ctypes.c_size_t()
     status = _library.coniks_check(
@@ -250,7 +250,7 @@ class Head:
 
 
 class Auditor:
-    """Follows a chain of entries. Whoever has the directory's public key judges each signature before."""
+    """Audits a chain of entries. Verify each signature first, with the directory's public key."""
 
     def __init__(self, state: Optional[bytes] = None):
         """An auditor that has seen no entry, or one that goes on from a `state` that another one had."""
@@ -282,7 +282,7 @@ class Auditor:
         return Head(epoch.value, bytes(link.bytes))
 
     def feed(self, entry: bytes, signature_is_good: bool) -> None:
-        """Takes an entry that follows the last one; else raises `Refused`, and the auditor is as it was."""
+        """Accepts an entry that follows the last one. Else raises `Refused`, and the auditor is unchanged."""
         entry = _bytes(entry, "the entry")
         status = _library.coniks_auditor_feed(ctypes.byref(self._state), entry, len(entry), _verdict(signature_is_good))
         if status:
@@ -303,7 +303,7 @@ class Monitor(Auditor):
 
     @property
     def expected(self) -> Optional[bytes]:
-        """The key that is expected, None where none is."""
+        """The expected key, None if none is expected."""
         return self._expected
 
     @expected.setter
@@ -313,8 +313,8 @@ class Monitor(Auditor):
         self._expected = None if key is None else bytes(key)
 
     def step(self, entry: bytes, signature_is_good: bool, proof: bytes) -> Seen:
-        """What the proof shows at the entry's epoch, where both are accepted; else raises `Refused`, and the monitor is
-        as it was."""
+        """Returns what the proof shows at the entry's epoch, if both are accepted. Else raises `Refused`, and the monitor is
+        unchanged."""
         entry, proof = _bytes(entry, "the entry"), _bytes(proof, "the proof")
         expected = self.expected or b""
         status = _library.coniks_monitor_step(
@@ -329,7 +329,7 @@ class Monitor(Auditor):
 
 @dataclass(frozen=True)
 class Body:
-    """What an entry says of an epoch, without its signature."""
+    """An entry without its signature: the signed tree root (STR) of an epoch."""
 
     version: int
     epoch: int
@@ -341,7 +341,7 @@ class Body:
 
     @classmethod
     def of_entry(cls, entry: bytes) -> Body:
-        """The body of an entry's 209 bytes. Nothing is judged."""
+        """Returns the body of an entry's 209 bytes. Nothing is verified."""
         entry, body = _bytes(entry, "the entry"), _Body()
         status = _library.coniks_entry_body(entry, len(entry), ctypes.byref(body))
         if status:
@@ -360,7 +360,7 @@ class Body:
 
 
 def link(entry: bytes) -> bytes:
-    """The link of an entry, by which the next one names it."""
+    """Returns the link of an entry, which the next one contains."""
     entry, out = _bytes(entry, "the entry"), _Bytes32()
     status = _library.coniks_link(entry, len(entry), ctypes.byref(out))
     if status:

@@ -1,7 +1,7 @@
 //! The client's side of a CONIKS key directory: a checker of proofs, an auditor of a chain and a monitor of names.
 //!
 //! It calls the proved C library and decides nothing itself. It verifies no signatures: verify each one and pass the result.
-//! The types carry what `coniks.h` asks for in words: no pointer is null, and nothing is written while it is read.
+//! The types ensure the preconditions of `coniks.h`: no pointer is null, and nothing is written while it is read.
 #![no_std]
 #![warn(missing_docs)]
 
@@ -79,7 +79,7 @@ const CHANGED: u32 = 9;
 
 macro_rules! errors {
     ($($(#[$doc:meta])* $name:ident = $number:literal,)*) => {
-        /// Why a proof or an entry isn't accepted, by the numbers of `coniks.h`. It is displayed in words.
+        /// Why a proof or an entry is not accepted, by the numbers of `coniks.h`. Its display is the library's text.
         #[derive(Clone, Copy, Debug, PartialEq, Eq, Hash)]
         #[repr(u32)]
         pub enum Error {
@@ -140,7 +140,7 @@ errors! {
     PreviousLink = 38,
     /// The nonce of a version 1 entry isn't the one before.
     NonceChanged = 39,
-    /// The caller's verdict on the signature isn't good.
+    /// The caller's verification result is not good.
     Signature = 40,
     /// The entry hasn't 209 bytes.
     EntryLength = 48,
@@ -164,10 +164,14 @@ impl fmt::Display for Error {
 impl core::error::Error for Error {}
 
 fn accepted(status: u32) -> Result<(), Error> {
-    if status == GOOD { Ok(()) } else { Err(Error::of(status)) }
+    if status == GOOD {
+        Ok(())
+    } else {
+        Err(Error::of(status))
+    }
 }
 
-/// Writes what a status of `coniks.h` says, and returns it: the empty text for a number that is no error's.
+/// Writes the text of an error's status in `coniks.h`, and returns it: the empty text for other numbers.
 pub fn text(status: u32, room: &mut [u8; 128]) -> &str {
     // SAFETY: the bytes are there, and nothing else reads them meanwhile.
     let size = unsafe { c::coniks_text(status, room.as_mut_ptr(), room.len()) };
@@ -211,7 +215,7 @@ pub fn check<'a>(
 pub struct Head {
     /// From 1 on.
     pub epoch: u64,
-    /// By which the next entry names it.
+    /// The next entry contains it.
     pub link: [u8; 32],
 }
 
@@ -323,7 +327,7 @@ impl Monitor<'_> {
     }
 }
 
-/// Returns the link of an entry, by which the next entry names it.
+/// Returns the link of an entry, which the next entry contains.
 ///
 /// # Errors
 ///
@@ -335,7 +339,7 @@ pub fn link(entry: &[u8]) -> Result<[u8; 32], Error> {
     Ok(link)
 }
 
-/// What an entry says of an epoch, without its signature.
+/// An entry without its signature.
 #[derive(Clone, Copy, Debug, PartialEq, Eq)]
 pub struct Body {
     /// 1 or 2.
@@ -361,7 +365,15 @@ impl Body {
     ///
     /// [`Error::EntryLength`].
     pub fn of_entry(entry: &[u8]) -> Result<Self, Error> {
-        let none = Self { version: 0, epoch: 0, previous_epoch: 0, root: [0; 32], previous_link: [0; 32], nonce: [0; 32], policy: [0; 32] };
+        let none = Self {
+            version: 0,
+            epoch: 0,
+            previous_epoch: 0,
+            root: [0; 32],
+            previous_link: [0; 32],
+            nonce: [0; 32],
+            policy: [0; 32],
+        };
         let mut it = none.in_c();
         // SAFETY: the slice is there for the call, and the body is written by it alone.
         accepted(unsafe { c::coniks_entry_body(entry.as_ptr(), entry.len(), &mut it) })?;

@@ -1,4 +1,4 @@
-//! Calls whose answers `docs/FORMATS.md` and another SHA-256 give.
+//! Calls whose results follow from `docs/FORMATS.md` and another SHA-256.
 
 use coniks::{check, link, Auditor, Error, ENTRY_BYTES};
 

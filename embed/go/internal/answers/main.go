@@ -1,4 +1,4 @@
-// Answers the requests of embed/sides.py, one a line.
+// Replies to the requests of embed/sides.py, one on each line.
 package main
 
 import (
@@ -30,7 +30,7 @@ func bytes32(word string) (out [32]byte) {
 	return out
 }
 
-// said is the answer to a call, or the number of its error.
+// said is the result of a call, or the number of its error.
 func said(err error, answer string) string {
 	if refused, is := err.(coniks.Refused); is {
 		return fmt.Sprintf("refused %d", uint32(refused))

@@ -1,0 +1,159 @@
+"""The generated pages of this folder: LEMMAS.md and DEFINITIONS.md."""
+
+from __future__ import annotations
+
+import re
+import subprocess
+from pathlib import Path
+from typing import Sequence
+
+TOP = Path(__file__).resolve().parent.parent
+CRATES = TOP / "crates"
+
+USED = re.compile(r"^(?:pub )?use Rattle\.(\w+)\.proofs\.(\w+)\.\{", re.M)
+GIVEN = re.compile(r"#\[tactic\(auto, using\((.*?)\)\)\](.*?)fn (\w+)", re.S)
+DEFINED = re.compile(r"\s*(?:(?:abbrev|unfoldable) pub|pub (?:data|record)) (\S+)")
+
+# What pages have in code spans beside names: commands, and parts of the names of files and crates.
+NO_NAMES = {"ci", "memcpy", "memmove", "memset", "FUNCTION", "METHOD", "MODULE", "TYPE", "_tests", "coniks_"}
+
+LEMMAS = """\
+# Lemmas
+
+The lemma files of each crate (`proofs/*.antt`), what each contains, and the proofs that cite it. `docs/draw` writes this page.
+"""
+
+DEFINITIONS = """\
+# Definitions
+
+The definitions that contracts cite, module by module, with the comments of `specs/`. `docs/draw` writes this page. A name in a
+contract is one of these; [PROMISES.md](PROMISES.md) has the contracts.
+"""
+
+
+def crate_names() -> list[str]:
+    lines = (TOP / "crates.txt").read_text("utf-8").splitlines()
+    return [it.partition(":")[0].split()[0] for it in lines if ":" in it and not it.startswith("#")]
+
+
+def function_of(file: Path, home: Path) -> str:
+    """The function whose proof this file is of: `Type::name` or `name`."""
+    parts = [it.removeprefix("+") for it in file.relative_to(home).parts[:-1]]
+    return "::".join(parts[-2:]) if len(parts) > 1 and parts[-2][0].isupper() else parts[-1]
+
+
+def served(crate: str) -> dict[str, tuple[set[str], set[str]]]:
+    """The lemma files of a crate, each with the functions and the other lemma files whose proofs cite it."""
+    home = CRATES / crate / "proofs"
+    files: dict[str, tuple[set[str], set[str]]] = {}
+    for file in home.glob("*.antt"):
+        if file.stem not in ["Lib", "Lemmas", "Words"]:
+            files[file.stem] = set(), set()
+    for file in home.rglob("*.antt"):
+        cited = {name for of, name in USED.findall(file.read_text("utf-8")) if of == crate}
+        for name in cited.intersection(files):
+            if file.parent == home:
+                if file.stem in files:
+                    files[name][1].add(file.stem)
+            else:
+                files[name][0].add(function_of(file, home))
+    for file in (CRATES / crate / "src").rglob("*.rt"):
+        for given, _, function in GIVEN.findall(file.read_text("utf-8")):
+            for name in re.findall(r"crate::proofs::(\w+)::", given):
+                files[name][0].add(function)
+    return files
+
+
+def is_passed_on(crate: str, name: str) -> bool:
+    shown = CRATES / crate / "proofs/Lemmas.antt"
+    return shown.is_file() and f".proofs.{name}." in shown.read_text("utf-8")
+
+
+def lemmas_page() -> str:
+    lines = [LEMMAS.rstrip("\n")]
+    for crate in crate_names():
+        files = served(crate)
+        if files:
+            lines += ["", f"## `{crate}`", "", "| File | Contents | Cited by the proofs of |", "|---|---|---|"]
+        for name in sorted(files):
+            functions, others = files[name]
+            head = (CRATES / crate / "proofs" / f"{name}.antt").read_text("utf-8").splitlines()[0].removeprefix("-- ")
+            by = [f"`{it}`" for it in sorted(functions)] + sorted(others) + ["crates above"] * is_passed_on(crate, name)
+            lines += [f"| `{name}` | {head} | {', '.join(by)} |"]
+    return "\n".join(lines) + "\n"
+
+
+def modules(crate: str) -> list[Path]:
+    """The modules of a crate's definitions, in the order in which it lists them."""
+    home = CRATES / crate / "specs"
+    if not home.is_dir() or crate.endswith("_tests"):
+        return []
+    listed = re.findall(r"^pub mod (\w+)$", (home / "Lib.antt").read_text("utf-8"), re.M)
+    return [home / f"{it}.antt" for it in listed]
+
+
+def comment_from(lines: Sequence[str], at: int) -> tuple[str, int]:
+    """The text of the comment that begins at a line, and the line after it."""
+    words = []
+    while at < len(lines) and lines[at].lstrip().startswith("--"):
+        words.append(lines[at].lstrip().removeprefix("--").strip())
+        at += 1
+    return " ".join(words), at
+
+
+def definitions_in(lines: Sequence[str]) -> list[tuple[str, list[str]]]:
+    """The public definitions of a module: for each comment its text and the names that it is about."""
+    found: list[tuple[str, list[str]]] = []
+    at = 0
+    while at < len(lines):
+        comment, after = comment_from(lines, at)
+        following = lines[after] if after < len(lines) else ""
+        name = DEFINED.match(following)
+        if comment and (name or following.lstrip().startswith("module ")):
+            found.append((comment, []))
+        if name:
+            if not found:
+                found.append(("", []))
+            found[-1][1].append(name[1])
+        at = after + 1
+    return [it for it in found if it[1]]
+
+
+def definitions_page() -> str:
+    lines = [DEFINITIONS.rstrip("\n")]
+    for crate in crate_names():
+        files = modules(crate)
+        if files:
+            lines += ["", f"## `{crate}`"]
+        for file in files:
+            text = file.read_text("utf-8").splitlines()
+            head, after = comment_from(text, 0)
+            lines += ["", f"### {file.stem}", "", head, ""]
+            for comment, names in definitions_in(text[after:]):
+                shown = ", ".join(f"`{it}`" for it in names)
+                lines += [f"- {shown}: {comment}" if comment else f"- {shown}"]
+    return "\n".join(lines) + "\n"
+
+
+def words_of(file: Path) -> set[str]:
+    return set(re.findall(r"\w+", file.read_text("utf-8")))
+
+
+def known_names() -> set[str]:
+    """The names in the sources, and the parts of the names of all files."""
+    listed = subprocess.run(["git", "ls-files", "-z"], cwd=TOP, capture_output=True, check=True).stdout.decode().split("\0")
+    known = {part for it in listed for part in re.findall(r"\w+", it)}
+    for it in listed:
+        if it.endswith((".rt", ".antt", ".h", ".py", ".go")) and (TOP / it).is_file():
+            known |= words_of(TOP / it)
+    return known
+
+
+def unknown_names(pages: Sequence[str]) -> list[str]:
+    """The names in code spans of these pages that no source contains, each with its page."""
+    known, found = known_names() | NO_NAMES, []
+    for page in pages:
+        text = (TOP / "docs" / page).read_text("utf-8")
+        cited = {name for it in re.findall(r"`([^`]+)`", text) for name in re.findall(r"[A-Za-z_]\w*", it)}
+        found += [f"docs/{page}: {it}" for it in sorted(cited - known)]
+    return found
