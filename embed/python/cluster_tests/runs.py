@@ -1,0 +1,280 @@
+"""Faults of a cluster under load. Clients list what they were told; after each fault all of it must be there, and on each member."""
+
+import base64
+import json
+import os
+import random
+import signal
+import subprocess
+import sys
+import tempfile
+import threading
+import time
+from collections import Counter
+from contextlib import contextmanager, suppress
+from pathlib import Path
+
+import psycopg
+from database import Database
+from member import KEYS, Keys, digest
+from stand_ins import audited, has_library, shown
+from coniks.postgres import PostgresLog
+from coniks.provider import ProviderError, _lookup, entries
+
+# After so many runs a cluster ends and a new one begins, so that replays stay short.
+RUNS_OF_ROOM = 20
+SECONDS = 120
+
+
+class Member:
+    """A process of the cluster, as its clients see it."""
+
+    def __init__(self, room, conninfo, program, role):
+        words = [sys.executable, Path(__file__).with_name("member.py"), room, conninfo, program, role, random.choice(["0.3", "20"])]
+        with open(room / "said", "ab") as said:
+            self.process = subprocess.Popen(words, stdin=subprocess.PIPE, stdout=subprocess.PIPE, stderr=said, text=True)
+        self.role, self._lock = role, threading.Lock()
+
+    def ask(self, **request):
+        """An answer; for a process that is stopped it is waited for. Raises `EOFError` if the process ended."""
+        with self._lock, suppress(OSError, ValueError):
+            print(json.dumps(request), file=self.process.stdin, flush=True)
+            answer = json.loads(self.process.stdout.readline())
+            self.role = answer["role"]
+            return answer
+        raise EOFError
+
+    def surely(self, **request):
+        """Asks until it is done, with restarts if need be. Returns nothing if another member writes."""
+        until = time.monotonic() + SECONDS
+        while time.monotonic() < until:
+            answer = self.ask(**request)
+            if "ok" in answer or answer["error"] == "Overtaken":
+                return answer.get("ok")
+            self.ask(do="restart")
+            time.sleep(0.02)
+        raise TimeoutError(f"{request}: {answer}")
+
+    def is_stopped(self):
+        return Path(f"/proc/{self.process.pid}/stat").read_text().rpartition(")")[2].split()[0] == "T"
+
+
+class Cluster:
+    def __init__(self, room, database, program, chance, size=3):
+        self.room, self.database, self.program, self.chance = room, database, program, chance
+        self.log, self.told, self.wrong = PostgresLog(database.conninfo), Counter(), []
+        # Epochs with their entries and keys, names that are registered, digests of the lines shown, the entries in them.
+        self.acknowledged, self.names, self.shown, self.entries = [], [], {}, set()
+        self._noting, self._is_loaded, self._threads, self._count = threading.Lock(), threading.Event(), [], 0
+        self.members = []
+        for role in ["provider"] + ["replica"] * (size - 1):
+            self.add(role)
+
+    def add(self, role):
+        member = Member(self.room, self.database.conninfo, self.program, role)
+        self.members.append(member)
+        if self._is_loaded.is_set():
+            self._start(member)
+
+    def writer(self):
+        return self.chance.choice([it for it in self.members if it.role == "provider"] or self.members)
+
+    def other(self, member):
+        return self.chance.choice([it for it in self.members if it is not member])
+
+    @contextmanager
+    def load(self):
+        """Commits by each provider, and lookups by all."""
+        self._is_loaded.set()
+        for it in self.members:
+            self._start(it)
+        yield
+        self._is_loaded.clear()
+        for it in self._threads:
+            it.join()
+        self._threads = []
+
+    def _start(self, member):
+        thread = threading.Thread(target=self._loaded, args=(member, random.Random(self.chance.random())))
+        self._threads.append(thread)
+        thread.start()
+
+    def _loaded(self, member, chance):
+        with suppress(EOFError):
+            while self._is_loaded.is_set():
+                if member.role == "provider":
+                    self.commit(member, chance)
+                self.look(member, chance)
+
+    def answered(self, member, **request):
+        """What a member answers, if it does. What it says instead is counted."""
+        answer = member.ask(**request)
+        if "ok" in answer:
+            return answer["ok"]
+        self.told[answer["error"]] += 1
+        if answer["error"] in ("LogFailed", "RestartNeeded"):
+            member.ask(do="restart")
+        # A provider that was overtaken may not know a name yet.
+        elif answer["error"] != "Overtaken" and (answer["error"] != "NameUnknown" or member.surely(do="commit", operations=[])):
+            self.wrong.append((request, answer))
+        return None
+
+    def commit(self, member, chance):
+        with self._noting:
+            mine = [f"user-{self._count + it}" for it in range(chance.randrange(3))]
+            self._count += len(mine)
+            changed = chance.sample(self.names, min(len(self.names), chance.randrange(3)))
+        made = {it: f"key {chance.random()} " * chance.choice([1, 1, 200]) for it in mine + changed}
+        operations = [["register" if it in mine else "change", it, key] for it, key in made.items()]
+        done = self.answered(member, do="commit", operations=operations, step=chance.randrange(1, 3))
+        if done:
+            with self._noting:
+                self.acknowledged.append((done[0], bytes.fromhex(done[1]), made))
+                self.names += mine
+
+    def look(self, member, chance):
+        line = self.answered(member, do="lookup", name=f"user-{chance.randrange(self._count + 2)}")
+        if line:
+            found = _lookup(line.encode())
+            with self._noting:
+                self.entries.add(found.entry)
+                if self.shown.setdefault((found.name, found.epoch), digest(found.line)) != digest(found.line):
+                    self.wrong.append(("two answers", line))
+
+    # The faults. Each returns when nothing is out of order any more.
+
+    def strike(self, member, number):
+        """Sends a signal: at a step of a commit, or now."""
+        trap = (self.chance.choice(["before", "after"]), self.chance.choice(["prepare", "install"]), number)
+        if self.chance.random() < 0.7:
+            member.ask(do="trap", trap=trap)
+            until = time.monotonic() + 2
+            while time.monotonic() < until and member.process.poll() is None and not member.is_stopped():
+                time.sleep(0.001)
+        member.process.send_signal(number)
+
+    def kill_writer(self):
+        killed = self.writer()
+        self.strike(killed, signal.SIGKILL)
+        killed.process.wait()
+        self.members.remove(killed)
+        self.chance.choice(self.members).surely(do="lead")
+        self.add(self.chance.choice(["provider", "replica"]))
+
+    def pause_writer(self):
+        paused = self.writer()
+        self.strike(paused, signal.SIGSTOP)
+        self.other(paused).surely(do="lead")
+        time.sleep(self.chance.uniform(0, 0.3))
+        paused.process.send_signal(signal.SIGCONT)
+
+    def kill_database(self):
+        self.database.kill()
+        time.sleep(self.chance.uniform(0, 0.5))
+        self.database.start()
+
+    def cut_connections(self):
+        with psycopg.connect(self.database.conninfo, autocommit=True) as own:
+            for _ in range(self.chance.randrange(1, 20)):
+                own.execute("SELECT pg_terminate_backend(pid) FROM pg_stat_activity WHERE application_name = 'coniks_log' AND random() < 0.7")
+                time.sleep(self.chance.uniform(0, 0.02))
+
+    def start_two_writers(self):
+        leading = [threading.Thread(target=it.surely, kwargs={"do": "lead"}) for it in self.members]
+        for it in leading:
+            it.start()
+        for it in leading:
+            it.join()
+
+    def fill_disk(self):
+        ballast = self.database.folder / "ballast"
+        with suppress(OSError), open(ballast, "wb", buffering=0) as file:
+            while True:
+                file.write(bytes(1 << 16))
+        time.sleep(self.chance.uniform(0.2, 1))
+        ballast.unlink()
+        if not self.database.is_running():
+            self.database.start()
+
+    # What must hold.
+
+    def settle(self):
+        """Has each provider commit, so that those that were overtaken learn it, and each replica follow."""
+        for it in self.members:
+            if it.role == "provider":
+                it.surely(do="commit", operations=[])
+        if all(it.role == "replica" for it in self.members):
+            self.members[0].surely(do="lead")
+        for it in self.members:
+            it.surely(do="follow")
+
+    def check(self):
+        """Each promise, and whether it is kept."""
+        self.settle()
+        chain, lines = list(entries(self.log)), b"\n".join(self.log.read(0))
+        by_epoch = {int.from_bytes(it[1:9], "big"): it for it in chain}
+        asked = Keys(self.room, KEYS).asked()
+        recent = {(name, epoch): key for epoch, _, keys in self.acknowledged[-10:] for name, key in keys.items()}
+        sample = [*recent, *self.chance.sample(sorted(self.shown), min(len(self.shown), 50))]
+        probes = [it.surely(do="probe", asked=sample) for it in self.members]
+        found = [_lookup(self.members[-1].surely(do="lookup", name=name, epoch=epoch).encode()) for name, epoch in recent]
+        yield "each acknowledged epoch is in the log", all(by_epoch.get(epoch) == entry for epoch, entry, _ in self.acknowledged)
+        yield "each acknowledged key is shown", [shown(it) for it in found] == [it.encode() for it in recent.values()]
+        yield "each entry shown is in the log", self.entries <= set(chain)
+        yield "each lookup has its answer", all(self.shown.get(it, said) == said for it, said in zip(sample, probes[0][2:]))
+        yield "one body for each epoch", all(len(it) == 1 for it in asked.values())
+        yield "a body is signed once it is logged", all(it.hex().encode() in lines for of in asked.values() for it in of)
+        yield "the chain is audited", audited(chain, KEYS, has_library())
+        yield "all members answer the same", all(it == probes[0] for it in probes) and probes[0][0] == digest(b"".join(chain))
+        yield "one member commits", [it.role for it in self.members].count("provider") == 1
+        yield "no other error was told", not self.wrong
+
+    def close(self):
+        for it in self.members:
+            it.process.kill()
+            it.process.wait()
+        self.log.close()
+
+
+FAULTS = [Cluster.kill_writer, Cluster.pause_writer, Cluster.kill_database, Cluster.cut_connections, Cluster.start_two_writers, Cluster.fill_disk]
+
+
+@contextmanager
+def small_disk(folder):
+    """Whether the folder has a small disk of its own."""
+    is_mounted = subprocess.run(["mount", "-t", "tmpfs", "-o", "size=80m", "tmpfs", folder], capture_output=True).returncode == 0
+    try:
+        yield is_mounted
+    finally:
+        if is_mounted:
+            subprocess.run(["umount", "--lazy", folder], check=True)
+
+
+def try_room(tell, skip, program, chance, numbers, counts):
+    with tempfile.TemporaryDirectory() as room, tempfile.TemporaryDirectory() as folder, small_disk(folder) as is_small:
+        with Database(Path(folder)) as database:
+            cluster = Cluster(Path(room), database, program, chance)
+            for number in numbers:
+                fault = FAULTS[number % len(FAULTS)]
+                name = fault.__name__.replace("_", " ")
+                if fault is Cluster.fill_disk and not is_small:
+                    skip(name, "the right to mount a tmpfs")
+                    continue
+                with cluster.load():
+                    time.sleep(chance.uniform(0, 0.4))
+                    fault(cluster)
+                    time.sleep(chance.uniform(0, 0.3))
+                for what, is_kept in cluster.check():
+                    tell(f"fault {number}, {name}: {what}", is_kept, (cluster.wrong[:3], (Path(room) / "said").read_text()[-2000:]))
+                    counts["promises broken"] += not is_kept
+                counts[name] += 1
+            counts.update({"epochs acknowledged": len(cluster.acknowledged), "lookups kept": len(cluster.shown)})
+            counts.update({f"{it} told": count for it, count in cluster.told.items()})
+            cluster.close()
+
+
+def try_faults(tell, skip, program, count, seed=20261126):
+    chance, counts = random.Random(seed), Counter({"promises broken": 0})
+    for first in range(0, count, RUNS_OF_ROOM):
+        try_room(tell, skip, program, chance, range(first, min(count, first + RUNS_OF_ROOM)), counts)
+    print("faults: " + ", ".join(f"{it} {counts[it]}" for it in counts), flush=True)
