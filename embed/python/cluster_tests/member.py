@@ -3,6 +3,7 @@
 import hashlib
 import os
 import sys
+import time
 from pathlib import Path
 
 sys.dont_write_bytecode = True
@@ -11,7 +12,7 @@ sys.path[:0] = [str(TOP / "embed/python/provider_tests"), str(TOP / "examples/cl
 
 import stand_ins
 from coniks.postgres import PostgresLog
-from node import Node, serve
+from node import Node
 
 
 class Fixed:
@@ -42,8 +43,9 @@ class TrappedLog(PostgresLog):
         self._spring("after", line)
 
     def _spring(self, when, line):
-        if self.trap and self.trap[0] == when and line.startswith(b'{"cmd":"%s"' % self.trap[1].encode()):
-            number, self.trap = self.trap[2], None
+        at, kind, number, until = self.trap or ("", "", 0, 0)
+        if at == when and line.startswith(b'{"cmd":"%s"' % kind.encode()) and time.monotonic() < until:
+            self.trap = None
             os.kill(os.getpid(), number)
 
 
@@ -62,5 +64,6 @@ def digest(line):
 
 
 if __name__ == "__main__":
-    with TrappedLog(sys.argv[2], patience=float(sys.argv[5])) as log:
-        serve(Member(log, sys.argv[3], Keys(sys.argv[1], KEYS), sys.argv[4] == "provider"))
+    room, conninfo, program, patience, role = sys.argv[1:]
+    with TrappedLog(conninfo, patience=float(patience)) as log:
+        Member(log, program, Keys(room, KEYS), role == "provider").serve()

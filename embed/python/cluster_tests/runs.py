@@ -1,8 +1,5 @@
 """Faults of a cluster under load. Clients list what they were told; after each fault all of it must be there, and on each member."""
 
-import base64
-import json
-import os
 import random
 import signal
 import subprocess
@@ -17,32 +14,22 @@ from pathlib import Path
 import psycopg
 from database import Database
 from member import KEYS, Keys, digest
+from node import Asked
 from stand_ins import audited, has_library, shown
 from coniks.postgres import PostgresLog
-from coniks.provider import ProviderError, _lookup, entries
+from coniks.provider import _lookup, entries
 
 # After so many runs a cluster ends and a new one begins, so that replays stay short.
 RUNS_OF_ROOM = 20
 SECONDS = 120
 
 
-class Member:
+class Member(Asked):
     """A process of the cluster, as its clients see it."""
 
     def __init__(self, room, conninfo, program, role):
-        words = [sys.executable, Path(__file__).with_name("member.py"), room, conninfo, program, role, random.choice(["0.3", "20"])]
         with open(room / "said", "ab") as said:
-            self.process = subprocess.Popen(words, stdin=subprocess.PIPE, stdout=subprocess.PIPE, stderr=said, text=True)
-        self.role, self._lock = role, threading.Lock()
-
-    def ask(self, **request):
-        """An answer; for a process that is stopped it is waited for. Raises `EOFError` if the process ended."""
-        with self._lock, suppress(OSError, ValueError):
-            print(json.dumps(request), file=self.process.stdin, flush=True)
-            answer = json.loads(self.process.stdout.readline())
-            self.role = answer["role"]
-            return answer
-        raise EOFError
+            super().__init__([Path(__file__).with_name("member.py"), room, conninfo, program, random.choice(["0.3", "20"])], role, said)
 
     def surely(self, **request):
         """Asks until it is done, with restarts if need be. Returns nothing if another member writes."""
@@ -67,8 +54,10 @@ class Cluster:
         self.acknowledged, self.names, self.shown, self.entries = [], [], {}, set()
         self._noting, self._is_loaded, self._threads, self._count = threading.Lock(), threading.Event(), [], 0
         self.members = []
-        for role in ["provider"] + ["replica"] * (size - 1):
-            self.add(role)
+        self.add("provider")
+        self.members[0].surely(do="commit", operations=[])
+        for _ in range(1, size):
+            self.add("replica")
 
     def add(self, role):
         member = Member(self.room, self.database.conninfo, self.program, role)
@@ -145,10 +134,9 @@ class Cluster:
 
     def strike(self, member, number):
         """Sends a signal: at a step of a commit, or now."""
-        trap = (self.chance.choice(["before", "after"]), self.chance.choice(["prepare", "install"]), number)
         if self.chance.random() < 0.7:
-            member.ask(do="trap", trap=trap)
             until = time.monotonic() + 2
+            member.ask(do="trap", trap=[self.chance.choice(["before", "after"]), self.chance.choice(["prepare", "install"]), number, until])
             while time.monotonic() < until and member.process.poll() is None and not member.is_stopped():
                 time.sleep(0.001)
         member.process.send_signal(number)
@@ -228,6 +216,7 @@ class Cluster:
         yield "all members answer the same", all(it == probes[0] for it in probes) and probes[0][0] == digest(b"".join(chain))
         yield "one member commits", [it.role for it in self.members].count("provider") == 1
         yield "no other error was told", not self.wrong
+        self.wrong = []
 
     def close(self):
         for it in self.members:
