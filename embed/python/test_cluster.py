@@ -29,8 +29,10 @@ def main(words):
     if not program.is_file():
         tally.skip("coniks.postgres and coniks.replica", "the program `provider`")
     if not tally.skipped:
+        import replicas
         import runs
 
+        replicas.try_replicas(tally.tell, str(program))
         runs.try_faults(tally.tell, tally.skip, str(program), int(words[1]) if len(words) > 1 else 8)
     print(tally.line())
     return 1 if tally.failed else 0
