@@ -1,4 +1,4 @@
-"""A private PostgreSQL: a temporary folder, a Unix socket, no port. It takes the programs of Debian's package."""
+"""A private PostgreSQL: a folder, a Unix socket, no port. It takes the programs of Debian's package."""
 
 from __future__ import annotations
 
@@ -6,38 +6,26 @@ import os
 import shutil
 import signal
 import subprocess
-import tempfile
 import time
 from contextlib import suppress
 from pathlib import Path
-from typing import Any, Optional
+from typing import Any
 
 # PostgreSQL refuses to run as root: Debian's package makes this user.
 USER = "postgres"
 OPTIONS = ["-c", "listen_addresses=", "-c", "unix_socket_permissions=0700", "-c", "shared_buffers=16MB"]
 
 
-def programs() -> Optional[Path]:
-    """The folder of the newest PostgreSQL's programs, None if there is none."""
-    found = sorted(Path("/usr/lib/postgresql").glob("*/bin/initdb"), key=lambda it: int(it.parts[-3]))
-    return found[-1].parent if found else None
-
-
 class Database:
-    """A PostgreSQL in a folder, which can be killed and started again. A folder that it made itself is removed at the end."""
+    """A PostgreSQL in an empty folder, which can be killed and started again. Only its user and root reach the socket."""
 
-    def __init__(self, folder: Optional[Path] = None):
-        found = programs()
-        if found is None:
-            raise FileNotFoundError("PostgreSQL isn't here: on Debian, apt-get install postgresql")
-        self._programs, self._is_mine = found, folder is None
+    def __init__(self, folder: Path):
+        self._programs = sorted(Path("/usr/lib/postgresql").glob("*/bin"))[-1]
         self._as: dict[str, Any] = {"user": USER, "group": USER, "extra_groups": []} if os.geteuid() == 0 else {}
-        self.folder = folder or Path(tempfile.mkdtemp(prefix="cluster-"))
+        self.folder, self.conninfo = folder, f"host={folder} dbname=postgres user={USER}"
         if self._as:
-            shutil.chown(self.folder, USER, USER)
-        self.conninfo = f"host={self.folder} dbname=postgres user={USER}"
-        # What initdb writes need not survive a crash of this machine.
-        self._run("initdb", "--no-sync", "--auth=trust", f"--username={USER}", "--wal-segsize=1", "--locale=C", f"--pgdata={self.folder}/data")
+            shutil.chown(folder, USER, USER)
+        self._run("initdb", "--no-sync", "--auth=trust", f"--username={USER}", "--wal-segsize=1", "--locale=C", f"--pgdata={folder}/data")
         self.start()
 
     def _run(self, program: str, *words: str) -> None:
@@ -46,11 +34,11 @@ class Database:
             raise ChildProcessError(f"{program} failed: {ran.stdout}{ran.stderr}")
 
     def start(self) -> None:
-        """Starts PostgreSQL, and waits until it answers. Only its user and root reach the socket."""
+        """Starts PostgreSQL, and waits until it answers."""
         words = [f"{self._programs}/postgres", "-D", f"{self.folder}/data", "-k", f"{self.folder}", *OPTIONS]
         with open(self.folder / "said", "ab") as said:
             self._server = subprocess.Popen(words, stdout=said, stderr=said, cwd="/", start_new_session=True, **self._as)
-        while self._server.poll() is None:
+        while self.is_running():
             with suppress(ChildProcessError):
                 return self._run("pg_isready", "--quiet", f"--host={self.folder}")
             time.sleep(0.02)
@@ -68,13 +56,8 @@ class Database:
         self._server.kill()
         self._server.wait()
 
-    def close(self) -> None:
-        self.kill()
-        if self._is_mine:
-            shutil.rmtree(self.folder, ignore_errors=True)
-
     def __enter__(self) -> Database:
         return self
 
     def __exit__(self, *_: object) -> None:
-        self.close()
+        self.kill()

@@ -26,7 +26,7 @@ class Node:
 
     @property
     def directory(self) -> Union[Provider, Replica]:
-        keys, log = self._keys, self.log
+        log, keys = self.log, self._keys
         if self._opened is None and self._is_writer:
             self._opened = Provider(self._program, keys.index, keys.sign, log, policy=keys.policy, verify=keys.verify, nonce=self._nonce)
         elif self._opened is None:
@@ -76,23 +76,25 @@ class Node:
 
 
 class Asked:
-    """A node's process. It can be asked from several threads."""
+    """A node's process. Its last words are those of a node, and it can be asked from several threads."""
 
-    def __init__(self, words: Sequence[str], role: str, errors: Any = None):
-        pipe = subprocess.PIPE
-        self.process = subprocess.Popen([sys.executable, *words, role], stdin=pipe, stdout=pipe, stderr=errors, text=True)
-        self.role, self._lock = role, threading.Lock()
+    def __init__(self, *words: object, errors: Any = None):
+        pipe, told = subprocess.PIPE, [sys.executable, *map(str, words)]
+        self.process = subprocess.Popen(told, stdin=pipe, stdout=pipe, stderr=errors, text=True)
+        self.role, self._lock = "", threading.Lock()
 
     def send(self, **request: Any) -> None:
-        assert self.process.stdin
         print(json.dumps(request), file=self.process.stdin, flush=True)
 
     def ask(self, **request: Any) -> dict[str, Any]:
         """The answer. Waits while the process is stopped, and raises `EOFError` if it ended."""
         with self._lock, suppress(OSError, ValueError):
             self.send(**request)
-            assert self.process.stdout
-            answer: dict[str, Any] = json.loads(self.process.stdout.readline())
+            answer: dict[str, Any] = json.loads(self.process.stdout.readline() if self.process.stdout else "")
             self.role = answer["role"]
             return answer
         raise EOFError
+
+    def kill(self) -> None:
+        self.process.kill()
+        self.process.wait()

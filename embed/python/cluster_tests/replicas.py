@@ -4,11 +4,11 @@ import tempfile
 import threading
 import time
 from contextlib import contextmanager
-from unittest import mock
+from pathlib import Path
 
 import psycopg
 from database import Database
-from member import KEYS
+from runs import KEYS
 from stand_ins import POLICY, Signer, audited, index, opened
 from units import raises
 from coniks import provider
@@ -68,7 +68,7 @@ class Lost(PostgresLog):
 
 
 def try_log(tell):
-    with Database() as database, Lost(database.conninfo, patience=1) as mine, PostgresLog(database.conninfo) as other, PostgresLog(database.conninfo, "odd name") as third:
+    with tempfile.TemporaryDirectory() as folder, Database(Path(folder)) as database, Lost(database.conninfo, patience=1) as mine, PostgresLog(database.conninfo) as other, PostgresLog(database.conninfo, "odd name") as third:
         asked = lambda query: psycopg.connect(database.conninfo, autocommit=True).execute(query)
         mine.append(0, b"first")
         raises(tell, "log: a position that is taken", Overtaken, lambda: other.append(0, b"second"))

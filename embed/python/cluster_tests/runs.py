@@ -1,5 +1,10 @@
-"""Faults of a cluster under load. Clients list what they were told; after each fault all of it must be there, and on each member."""
+"""Faults of a cluster under load. Clients list what they were told; after each fault all of it must be there, and at each member.
 
+Run as a program, this is a member: a node that lists each body to sign, and sends itself a signal at a step of a commit.
+"""
+
+import hashlib
+import os
 import random
 import signal
 import subprocess
@@ -11,17 +16,67 @@ from collections import Counter
 from contextlib import contextmanager, suppress
 from pathlib import Path
 
+TOP = Path(__file__).resolve().parent.parent.parent.parent
+sys.dont_write_bytecode = True
+sys.path[:0] = [str(TOP / "embed/python/provider_tests"), str(TOP / "examples/cluster")]
+
 import psycopg
-from database import Database
-from member import KEYS, Keys, digest
-from node import Asked
-from stand_ins import audited, has_library, shown
+import stand_ins
 from coniks.postgres import PostgresLog
 from coniks.provider import _lookup, entries
+from database import Database
+from node import Asked, Node
+from stand_ins import audited, has_library, shown
 
-# After so many runs a cluster ends and a new one begins, so that replays stay short.
-RUNS_OF_ROOM = 20
+# After so many faults a cluster ends and a new one begins, so that replays stay short.
+FAULTS_OF_ROOM = 20
 SECONDS = 120
+
+
+class Fixed:
+    """Signs by a hash: a body has one signature, as by Ed25519. It has no security."""
+
+    def sign(self, body):
+        return hashlib.sha512(stand_ins.KEY + body).digest()
+
+    def verify(self, body, signature):
+        return signature == self.sign(body)
+
+
+KEYS = stand_ins.Ed25519() if stand_ins.nacl else Fixed()
+
+
+class Keys(stand_ins.Signer):
+    policy, index, sign = stand_ins.POLICY, staticmethod(stand_ins.index), stand_ins.Signer.__call__
+
+
+class TrappedLog(PostgresLog):
+    trap = ["", "", 0, 0]
+
+    def append(self, position, line):
+        self._spring("before", line)
+        super().append(position, line)
+        self._spring("after", line)
+
+    def _spring(self, when, line):
+        at, kind, number, until = self.trap
+        if at == when and line.startswith(b'{"cmd":"%s"' % kind.encode()) and time.monotonic() < until:
+            self.trap = TrappedLog.trap
+            os.kill(os.getpid(), number)
+
+
+class Trapped(Node):
+    def do_trap(self, trap):
+        self.log.trap = trap
+
+    def do_probe(self, asked):
+        """Digests of the chain, of the latest entry and of the lines of lookups."""
+        lines = [self.directory.lookup(name, epoch).line for name, epoch in asked]
+        return [digest(it) for it in [b"".join(self.directory.chain()), repr(self.directory.latest()).encode(), *lines]]
+
+
+def digest(line):
+    return hashlib.sha256(line).hexdigest()
 
 
 class Member(Asked):
@@ -29,10 +84,11 @@ class Member(Asked):
 
     def __init__(self, room, conninfo, program, role):
         with open(room / "said", "ab") as said:
-            super().__init__([Path(__file__).with_name("member.py"), room, conninfo, program, random.choice(["0.3", "20"])], role, said)
+            super().__init__(__file__, room, conninfo, program, random.choice([0.3, 20]), role, errors=said)
+        self.role = role
 
     def surely(self, **request):
-        """Asks until it is done, with restarts if need be. Returns nothing if another member writes."""
+        """Asks until it is done, with restarts if need be. Returns None if another member writes."""
         until = time.monotonic() + SECONDS
         while time.monotonic() < until:
             answer = self.ask(**request)
@@ -54,22 +110,18 @@ class Cluster:
         self.acknowledged, self.names, self.shown, self.entries = [], [], {}, set()
         self._noting, self._is_loaded, self._threads, self._count = threading.Lock(), threading.Event(), [], 0
         self.members = []
-        self.add("provider")
-        self.members[0].surely(do="commit", operations=[])
+        self.add("provider").surely(do="commit", operations=[])
         for _ in range(1, size):
             self.add("replica")
 
     def add(self, role):
-        member = Member(self.room, self.database.conninfo, self.program, role)
-        self.members.append(member)
+        self.members.append(Member(self.room, self.database.conninfo, self.program, role))
         if self._is_loaded.is_set():
-            self._start(member)
+            self._start(self.members[-1])
+        return self.members[-1]
 
     def writer(self):
         return self.chance.choice([it for it in self.members if it.role == "provider"] or self.members)
-
-    def other(self, member):
-        return self.chance.choice([it for it in self.members if it is not member])
 
     @contextmanager
     def load(self):
@@ -79,14 +131,12 @@ class Cluster:
             self._start(it)
         yield
         self._is_loaded.clear()
-        for it in self._threads:
-            it.join()
-        self._threads = []
+        while self._threads:
+            self._threads.pop().join()
 
     def _start(self, member):
-        thread = threading.Thread(target=self._loaded, args=(member, random.Random(self.chance.random())))
-        self._threads.append(thread)
-        thread.start()
+        self._threads.append(threading.Thread(target=self._loaded, args=(member, random.Random(self.chance.random()))))
+        self._threads[-1].start()
 
     def _loaded(self, member, chance):
         with suppress(EOFError):
@@ -152,7 +202,7 @@ class Cluster:
     def pause_writer(self):
         paused = self.writer()
         self.strike(paused, signal.SIGSTOP)
-        self.other(paused).surely(do="lead")
+        self.chance.choice([it for it in self.members if it is not paused]).surely(do="lead")
         time.sleep(self.chance.uniform(0, 0.3))
         paused.process.send_signal(signal.SIGCONT)
 
@@ -167,7 +217,7 @@ class Cluster:
                 own.execute("SELECT pg_terminate_backend(pid) FROM pg_stat_activity WHERE application_name = 'coniks_log' AND random() < 0.7")
                 time.sleep(self.chance.uniform(0, 0.02))
 
-    def start_two_writers(self):
+    def start_writers(self):
         leading = [threading.Thread(target=it.surely, kwargs={"do": "lead"}) for it in self.members]
         for it in leading:
             it.start()
@@ -175,16 +225,13 @@ class Cluster:
             it.join()
 
     def fill_disk(self):
-        ballast = self.database.folder / "ballast"
-        with suppress(OSError), open(ballast, "wb", buffering=0) as file:
+        with suppress(OSError), open(self.database.folder / "ballast", "wb", buffering=0) as file:
             while True:
                 file.write(bytes(1 << 16))
         time.sleep(self.chance.uniform(0.2, 1))
-        ballast.unlink()
+        (self.database.folder / "ballast").unlink()
         if not self.database.is_running():
             self.database.start()
-
-    # What must hold.
 
     def settle(self):
         """Has each provider commit, so that those that were overtaken learn it, and each replica follow."""
@@ -201,7 +248,7 @@ class Cluster:
         self.settle()
         chain, lines = list(entries(self.log)), b"\n".join(self.log.read(0))
         by_epoch = {int.from_bytes(it[1:9], "big"): it for it in chain}
-        asked = Keys(self.room, KEYS).asked()
+        asked = Keys(self.room, KEYS).asked().values()
         recent = {(name, epoch): key for epoch, _, keys in self.acknowledged[-10:] for name, key in keys.items()}
         sample = [*recent, *self.chance.sample(sorted(self.shown), min(len(self.shown), 50))]
         probes = [it.surely(do="probe", asked=sample) for it in self.members]
@@ -210,60 +257,61 @@ class Cluster:
         yield "each acknowledged key is shown", [shown(it) for it in found] == [it.encode() for it in recent.values()]
         yield "each entry shown is in the log", self.entries <= set(chain)
         yield "each lookup has its answer", all(self.shown.get(it, said) == said for it, said in zip(sample, probes[0][2:]))
-        yield "one body for each epoch", all(len(it) == 1 for it in asked.values())
-        yield "a body is signed once it is logged", all(it.hex().encode() in lines for of in asked.values() for it in of)
+        yield "one body for each epoch", all(len(it) == 1 for it in asked)
+        yield "a body is signed once it is logged", all(it.hex().encode() in lines for of in asked for it in of)
         yield "the chain is audited", audited(chain, KEYS, has_library())
         yield "all members answer the same", all(it == probes[0] for it in probes) and probes[0][0] == digest(b"".join(chain))
         yield "one member commits", [it.role for it in self.members].count("provider") == 1
         yield "no other error was told", not self.wrong
         self.wrong = []
 
-    def close(self):
-        for it in self.members:
-            it.process.kill()
-            it.process.wait()
-        self.log.close()
 
-
-FAULTS = [Cluster.kill_writer, Cluster.pause_writer, Cluster.kill_database, Cluster.cut_connections, Cluster.start_two_writers, Cluster.fill_disk]
+FAULTS = [Cluster.kill_writer, Cluster.pause_writer, Cluster.kill_database, Cluster.cut_connections, Cluster.start_writers, Cluster.fill_disk]
 
 
 @contextmanager
-def small_disk(folder):
-    """Whether the folder has a small disk of its own."""
-    is_mounted = subprocess.run(["mount", "-t", "tmpfs", "-o", "size=80m", "tmpfs", folder], capture_output=True).returncode == 0
-    try:
-        yield is_mounted
-    finally:
-        if is_mounted:
-            subprocess.run(["umount", "--lazy", folder], check=True)
+def small_disk():
+    """A folder, and whether it has a small disk of its own."""
+    with tempfile.TemporaryDirectory() as folder:
+        is_small = subprocess.run(["mount", "-t", "tmpfs", "-o", "size=80m", "tmpfs", folder], capture_output=True).returncode == 0
+        try:
+            yield Path(folder), is_small
+        finally:
+            if is_small:
+                subprocess.run(["umount", "--lazy", folder], check=True)
 
 
 def try_room(tell, skip, program, chance, numbers, counts):
-    with tempfile.TemporaryDirectory() as room, tempfile.TemporaryDirectory() as folder, small_disk(folder) as is_small:
-        with Database(Path(folder)) as database:
-            cluster = Cluster(Path(room), database, program, chance)
-            for number in numbers:
-                fault = FAULTS[number % len(FAULTS)]
-                name = fault.__name__.replace("_", " ")
-                if fault is Cluster.fill_disk and not is_small:
-                    skip(name, "the right to mount a tmpfs")
-                    continue
-                with cluster.load():
-                    time.sleep(chance.uniform(0, 0.4))
-                    fault(cluster)
-                    time.sleep(chance.uniform(0, 0.3))
-                for what, is_kept in cluster.check():
-                    tell(f"fault {number}, {name}: {what}", is_kept, (cluster.wrong[:3], (Path(room) / "said").read_text()[-2000:]))
-                    counts["promises broken"] += not is_kept
-                counts[name] += 1
-            counts.update({"epochs acknowledged": len(cluster.acknowledged), "lookups kept": len(cluster.shown)})
-            counts.update({f"{it} told": count for it, count in cluster.told.items()})
-            cluster.close()
+    with tempfile.TemporaryDirectory() as room, small_disk() as (folder, is_small), Database(folder) as database:
+        cluster = Cluster(Path(room), database, program, chance)
+        for number in numbers:
+            fault = FAULTS[number % len(FAULTS)]
+            name = fault.__name__.replace("_", " ")
+            if fault is Cluster.fill_disk and not is_small:
+                skip(name, "the right to mount a tmpfs")
+                continue
+            with cluster.load():
+                time.sleep(chance.uniform(0, 0.4))
+                fault(cluster)
+                time.sleep(chance.uniform(0, 0.3))
+            for what, is_kept in cluster.check():
+                tell(f"fault {number}, {name}: {what}", is_kept, (cluster.wrong[:3], (Path(room) / "said").read_text()[-2000:]))
+                counts["promises broken"] += not is_kept
+            counts[name] += 1
+        counts.update({"epochs acknowledged": len(cluster.acknowledged), "lookups kept": len(cluster.shown)})
+        counts.update({f"{it} told": count for it, count in cluster.told.items()})
+        for it in cluster.members:
+            it.kill()
 
 
 def try_faults(tell, skip, program, count, seed=20261126):
     chance, counts = random.Random(seed), Counter({"promises broken": 0})
-    for first in range(0, count, RUNS_OF_ROOM):
-        try_room(tell, skip, program, chance, range(first, min(count, first + RUNS_OF_ROOM)), counts)
+    for first in range(0, count, FAULTS_OF_ROOM):
+        try_room(tell, skip, program, chance, range(first, min(count, first + FAULTS_OF_ROOM)), counts)
     print("faults: " + ", ".join(f"{it} {counts[it]}" for it in counts), flush=True)
+
+
+if __name__ == "__main__":
+    room, conninfo, program, patience, role = sys.argv[1:]
+    with TrappedLog(conninfo, patience=float(patience)) as log:
+        Trapped(log, program, Keys(room, KEYS), role == "provider").serve()

@@ -13,7 +13,7 @@ import secrets
 import select
 import threading
 import time
-from contextlib import contextmanager
+from contextlib import contextmanager, suppress
 from typing import Any, Callable, Iterator, Optional, TypeVar
 
 import psycopg
@@ -29,11 +29,12 @@ Answer = TypeVar("Answer")
 _AT_ONCE = 32
 _PAUSE = 0.05
 _SQL = {
+    "is_durable": "SELECT current_setting('fsync') = 'on' AND current_setting('synchronous_commit') <> 'off'",
+    "is_there": "SELECT to_regclass(quote_ident({name})) IS NOT NULL",
     "create": """CREATE TABLE IF NOT EXISTS {table}
         (position bigint PRIMARY KEY CHECK (position >= 0), line bytea NOT NULL, token bytea NOT NULL)""",
     # Without the row before, none is inserted: positions have no gap.
-    "append": """WITH added AS (
-            INSERT INTO {table} SELECT %(position)s::bigint, %(line)b::bytea, %(token)b::bytea
+    "append": """WITH added AS (INSERT INTO {table} SELECT %(position)s::bigint, %(line)b::bytea, %(token)b::bytea
             WHERE %(position)s::bigint = 0 OR EXISTS (SELECT FROM {table} WHERE position = %(position)s::bigint - 1)
             RETURNING position)
         SELECT pg_notify({name}, position::text) FROM added""",
@@ -41,24 +42,18 @@ _SQL = {
     "read": "SELECT position, line FROM {table} WHERE position >= %s ORDER BY position LIMIT %s",
     "count": "SELECT coalesce(max(position) + 1, 0) FROM {table}",
     "listen": "LISTEN {table}",
-    "lock": "SELECT pg_advisory_xact_lock(hashtext({name}))",
-    "exists": "SELECT to_regclass(quote_ident({name})) IS NOT NULL",
-    "durable": "SELECT current_setting('fsync') = 'on' AND current_setting('synchronous_commit') <> 'off'",
-    "standby": "SELECT pg_is_in_recovery()",
 }
 
 
 class _Session:
-    """A connection for one thread at a time. It is opened when it is needed, and again after it was lost."""
+    """A connection for one thread at a time. It is opened when it is needed, and again after an error."""
 
     def __init__(self, conninfo: str, prepare: Callable[[Connection], None]):
-        self._conninfo, self._prepare = conninfo, prepare
-        self._lock = threading.Lock()
+        self._conninfo, self._prepare, self._lock = conninfo, prepare, threading.RLock()
         self._connection: Optional[Connection] = None
 
     @contextmanager
     def use(self) -> Iterator[Connection]:
-        """The connection. After an error, the next use opens another one."""
         with self._lock:
             try:
                 if self._connection is None:
@@ -66,17 +61,14 @@ class _Session:
                     self._prepare(self._connection)
                 yield self._connection
             except BaseException:
-                self._drop()
+                self.close()
                 raise
-
-    def _drop(self) -> None:
-        if self._connection is not None:
-            self._connection.close()
-            self._connection = None
 
     def close(self) -> None:
         with self._lock:
-            self._drop()
+            if self._connection is not None:
+                self._connection.close()
+                self._connection = None
 
 
 class PostgresLog:
@@ -94,27 +86,23 @@ class PostgresLog:
         whole = make_conninfo(**{"connect_timeout": "5", "application_name": table, **conninfo_to_dict(conninfo)})
         # A replica waits on a connection of its own, so that appends and reads need not wait for it.
         self._main, self._waiting = _Session(whole, self._check), _Session(whole, self._listen)
-        try:
-            with self._main.use() as connection:
-                if not self._value(connection, "exists"):
-                    with connection.transaction():
-                        connection.execute(self._sql["lock"])
-                        connection.execute(self._sql["create"])
-        except psycopg.Error as error:
-            raise LogFailed(f"the log can't be opened: {error}") from error
+        self._asked(self._main, lambda connection: None)
 
     def _value(self, connection: Connection, query: str, row: Optional[dict[str, Any]] = None) -> Any:
         found = connection.execute(self._sql[query], row).fetchone()
         return found and found[0]
 
     def _check(self, connection: Connection) -> None:
-        if not self._value(connection, "durable"):
+        if not self._value(connection, "is_durable"):
             raise LogFailed("PostgreSQL can lose what it committed: fsync and synchronous_commit must be on")
+        if not self._value(connection, "is_there"):
+            # Another process may create the table at the same time.
+            with suppress(psycopg.errors.UniqueViolation):
+                connection.execute(self._sql["create"])
 
     def _listen(self, connection: Connection) -> None:
-        if not self._value(connection, "standby"):
-            connection.add_notify_handler(lambda _: setattr(self, "_is_notified", True))
-            connection.execute(self._sql["listen"])
+        connection.add_notify_handler(lambda _: setattr(self, "_is_notified", True))
+        connection.execute(self._sql["listen"])
 
     def append(self, position: int, line: bytes) -> None:
         """Stores a line. If the connection is lost, the row's token tells whether this append or another one took the position.
@@ -137,13 +125,11 @@ class PostgresLog:
         """Inserts a row. If PostgreSQL still commits an earlier try, this one waits for it."""
         with self._main.use() as connection:
             try:
-                is_added = connection.execute(self._sql["append"], row).rowcount == 1
+                if connection.execute(self._sql["append"], row).rowcount != 1:
+                    raise LogFailed(f"the log has no line before position {row['position']}")
             except psycopg.errors.UniqueViolation:
                 if not self._value(connection, "is_mine", row):
                     raise Overtaken(f"position {row['position']} of the log is taken") from None
-                return
-            if not is_added:
-                raise LogFailed(f"the log has no line before position {row['position']}")
 
     def read(self, position: int) -> Iterator[bytes]:
         """Returns the lines from a position on. Raises `LogFailed` if one is missing before a later one."""
@@ -158,31 +144,26 @@ class PostgresLog:
                 return
 
     def wait(self, position: int, seconds: float) -> int:
-        """Waits until the log has a line at this position, at most some seconds. Returns how many lines it has. A standby of
-        PostgreSQL notifies nobody: over one it waits all the time."""
-        return self._asked(self._waiting, lambda it: self._wait(it, position, seconds))
+        """Waits until the log has a line at this position, at most some seconds. Returns how many lines it has."""
+        return self._asked(self._waiting, lambda connection: self._wait(connection, position, seconds))
 
     def _wait(self, connection: Connection, position: int, seconds: float) -> int:
         self._is_notified = False
-        count: int = self._value(connection, "count")
-        if count > position or self._is_notified:
-            return count
-        readable = select.poll()
-        readable.register(connection.fileno(), select.POLLIN)
-        readable.poll(seconds * 1000)
-        count = self._value(connection, "count")
-        return count
+        if self._value(connection, "count") <= position and not self._is_notified:
+            readable = select.poll()
+            readable.register(connection.fileno(), select.POLLIN)
+            readable.poll(seconds * 1000)
+        return int(self._value(connection, "count"))
 
     def _asked(self, session: _Session, call: Callable[[Connection], Answer]) -> Answer:
         """What a call that changes nothing returns. If the connection was lost, it is called once more over another one."""
-        for is_last in (False, True):
-            try:
-                with session.use() as connection:
-                    return call(connection)
-            except psycopg.Error as error:
-                if is_last:
-                    raise LogFailed(f"the log can't be read: {error}") from error
-        raise AssertionError
+        with suppress(psycopg.Error), session.use() as connection:
+            return call(connection)
+        try:
+            with session.use() as connection:
+                return call(connection)
+        except psycopg.Error as error:
+            raise LogFailed(f"the log can't be read: {error}") from error
 
     def close(self) -> None:
         """Closes the connections. A later call opens them again."""

@@ -352,8 +352,8 @@ class Directory:
         if os.getpid() != self._owner:
             raise Closed("the directory belongs to the process that this one was forked from")
 
-    def _start_engine(self) -> _Engine:
-        """Puts a new engine in place of the one there is."""
+    def _replaced(self) -> _Engine:
+        """A new engine, in place of the one there is."""
         self._check()
         self._stop(0)
         self._engine = self._new()
@@ -464,25 +464,23 @@ class Provider(Directory):
         timeout: Optional[float] = None,
         sign_pending: bool = True,
     ):
-        super().__init__(_starter(program, log, policy, nonce, workers, depth, timeout), index)
-        self._set_signer(sign, verify)
+        words, policy = _words(program, workers, depth), _sized(policy, 32, "the policy")
+        first = None if nonce is None else _sized(nonce, 32, "the nonce")
+        super().__init__(lambda: _Engine(words, timeout, log, policy, first), index)
+        # `_changing` is held by calls that change the directory, the signer's time included.
+        self._sign, self._verify, self._changing = sign, verify, threading.Lock()
         try:
             self._start(sign_pending)
         except BaseException:
             self.close()
             raise
 
-    def _set_signer(self, sign: Callable[[bytes], bytes], verify: Optional[Callable[[bytes, bytes], bool]]) -> None:
-        self._sign, self._verify = sign, verify
-        # Held by calls that change the directory, the signer's time included.
-        self._changing = threading.Lock()
-
     @classmethod
     def _over(cls, directory: Directory, sign: Callable[[bytes], bytes], verify: Optional[Callable[[bytes, bytes], bool]]) -> Provider:
         """A provider that goes on with the engine of another directory."""
         provider = cls.__new__(cls)
         Directory.__init__(provider, directory._new, directory._index, directory._engine)
-        provider._set_signer(sign, verify)
+        provider._sign, provider._verify, provider._changing = sign, verify, threading.Lock()
         return provider
 
     # What a crash, an exception or a failed append leaves behind, after each step of a commit:
@@ -503,7 +501,7 @@ class Provider(Directory):
     def _start(self, sign_pending: bool) -> None:
         with self._changing:
             with self._asking, self._halfway():
-                engine = self._start_engine()
+                engine = self._replaced()
                 engine.open()
             if engine.pending and sign_pending:
                 self._settle()
@@ -646,22 +644,11 @@ def _number_in(members: Mapping[str, Any], name: str, error: type[ProviderError]
     return value
 
 
-def _starter(
-    program: Union[Path, Sequence[str]],
-    log: Log,
-    policy: bytes,
-    nonce: Optional[bytes],
-    workers: Optional[int],
-    depth: Optional[int],
-    timeout: Optional[float],
-) -> Callable[[], _Engine]:
-    """What starts an engine with these options."""
+def _words(program: Union[Path, Sequence[str]], workers: Optional[int], depth: Optional[int]) -> list[str]:
     words = [os.fspath(program)] if isinstance(program, (str, os.PathLike)) else list(program)
     for option, value in [("--workers", workers), ("--depth", depth)]:
         words += [] if value is None else [option, str(_number(value, 64, option))]
-    _sized(policy, 32, "the policy")
-    first = None if nonce is None else _sized(nonce, 32, "the nonce")
-    return lambda: _Engine(words, timeout, log, bytes(policy), first)
+    return words
 
 
 def _sized(value: Any, size: int, what: str) -> bytes:

@@ -7,9 +7,9 @@ A replica has a child of its own, replays each line that the log gets, and compa
 asks no signer and appends nothing. Its lookups show an epoch some time after the provider's `commit` returned: `lag` returns how
 far it is behind, and `follow` brings it to where the log is.
 
-`promote` makes a provider of a replica, when the one there was is gone. A replica doesn't know when: that is the service's
-choice. If two providers write, the log gives each position to one of them, and the other one's call raises `Overtaken`. Close
-that one, and open a replica in its place.
+`promote` makes a provider of a replica once the one there was is gone, which is for the service to decide. If two providers
+write, the log gives each position to one of them, and a call of the other one raises `Overtaken`. Close that one, and open a
+replica in its place.
 """
 
 from __future__ import annotations
@@ -19,9 +19,9 @@ import time
 from dataclasses import dataclass
 from typing import Callable, Optional, Sequence, Union
 
-from .faults import Closed, LogFailed, ProviderError, SignerFailed
+from .faults import Closed, LogFailed, SignerFailed
 from .log import Path, SharedLog
-from .provider import _HALFWAY, Directory, Provider, _starter
+from .provider import _HALFWAY, Directory, Provider, _Engine, _sized, _words
 
 __all__ = ["Lag", "Replica"]
 
@@ -58,26 +58,28 @@ class Replica(Directory):
         depth: Optional[int] = None,
         timeout: Optional[float] = None,
     ):
-        super().__init__(_starter(program, log, policy, None, workers, depth, timeout), index)
+        words, policy = _words(program, workers, depth), _sized(policy, 32, "the policy")
+        super().__init__(lambda: _Engine(words, timeout, log, policy, None), index)
         self._log, self._lines, self._is_over = log, 0, threading.Event()
         self._error: Optional[Exception] = None
-        try:
-            self.restart()
-        except BaseException:
-            self.close()
-            raise
+        self.restart()
         threading.Thread(target=self._run, daemon=True).start()
 
     def restart(self) -> None:
         """Ends the child, starts another one and replays the log."""
         with self._asking, self._halfway():
             self._since = time.monotonic()
-            self._start_engine()
+            self._replaced()
 
     def _run(self) -> None:
+        """Follows the log until the replica is closed."""
         while not self._is_over.is_set():
             try:
-                self._follow_once()
+                position = self._position()
+                self._lines = self._log.wait(position, POLL)
+                if self._lines < position:
+                    raise LogFailed(f"the log has {self._lines} lines, of which {position} were replayed: it lost some")
+                self.follow()
                 self._error = None
             except Closed:
                 return
@@ -85,21 +87,14 @@ class Replica(Directory):
                 self._error = error
                 self._is_over.wait(PAUSE)
 
-    def _follow_once(self) -> None:
-        """Waits for a line, and replays what there is."""
+    def _position(self) -> int:
         with self._steps() as engine:
-            position = engine.position
-        self._lines = self._log.wait(position, POLL)
-        if self._lines < position:
-            raise LogFailed(f"the log has {self._lines} lines, of which {position} were replayed: it lost some")
-        self.follow()
+            return engine.position
 
     def follow(self) -> None:
         """Replays the lines that the log has now. A replica does it by itself, soon after they were appended."""
-        start = time.monotonic()
-        with self._steps() as engine:
-            position = engine.position
-        for number, line in enumerate(engine.logged(position), position):
+        start, position = time.monotonic(), self._position()
+        for number, line in enumerate(self._log.read(position), position):
             with self._steps() as engine:
                 # Another thread may have replayed it.
                 if number == engine.position:
@@ -113,18 +108,11 @@ class Replica(Directory):
             return Lag(max(0, self._lines - replayed), time.monotonic() - self._since, self._broken or self._error)
 
     def promote(
-        self,
-        sign: Callable[[bytes], bytes],
-        *,
-        verify: Optional[Callable[[bytes, bytes], bool]] = None,
-        sign_pending: bool = True,
+        self, sign: Callable[[bytes], bytes], *, verify: Optional[Callable[[bytes, bytes], bool]] = None, sign_pending: bool = True
     ) -> Provider:
-        """Makes a provider of the replica. It replays only what the replica hasn't, then signs and installs the pending update
-        if there is one. The replica is closed.
-
-        Raises `SignerFailed` or `LogFailed`, and then the replica goes on. After `Overtaken` another provider goes on in place of
-        this one, and the replica needs `restart`.
-        """
+        """Makes a provider of the replica, which is closed. It replays only what the replica hasn't, then signs and installs the
+        pending update if there is one. Raises `SignerFailed`, or `LogFailed` if the log can't be read, and then the replica goes
+        on. After another error, as `Overtaken`, it goes on after `restart`."""
         self.follow()
         with self._steps() as engine:
             engine.open()
@@ -138,8 +126,7 @@ class Replica(Directory):
             with self._asking:
                 self._engine, provider._engine, self._broken = provider._engine, None, None
             raise
-        except ProviderError as error:
-            self._broken = error
+        except BaseException:
             provider.close()
             raise
         self.close()
