@@ -4,6 +4,7 @@ processes that fails at random moments, and the transcript of examples/cluster.
 
     embed/python/test_cluster.py                    over crates/provider/out/provider
     embed/python/test_cluster.py PROVIDER FAULTS    over another program, with FAULTS faults instead of 8
+    embed/python/test_cluster.py --speed PROVIDER   prints lookups of one replica and of three, and how long a takeover takes
 
 The last line is `N passed, M failed`, with `, K skipped` if a tool isn't there.
 """
@@ -41,6 +42,10 @@ def try_example(tally, program):
 
 
 def main(words):
+    if words[:1] == ["--speed"]:
+        import speed
+
+        return speed.main(str(Path(words[1]).resolve()), *map(int, words[2:]))
     tally = Tally()
     program = Path(words[0] if words else TOP / "crates/provider/out/provider").resolve()
     lacking = [it for it in ["PostgreSQL", "psycopg"] if not tools.has(it)] + ["the program `provider`"] * (not program.is_file())

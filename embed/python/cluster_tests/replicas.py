@@ -8,8 +8,7 @@ from pathlib import Path
 
 import psycopg
 from database import Database
-from runs import KEYS
-from stand_ins import POLICY, Signer, audited, index, opened
+from stand_ins import POLICY, Salted, Signer, audited, index, opened
 from units import raises
 from coniks import provider
 from coniks.postgres import PostgresLog
@@ -115,7 +114,7 @@ def pair(program, **more):
     """A provider and a replica over a log in memory."""
     log = Shared()
     with tempfile.TemporaryDirectory() as room:
-        signer = Signer(room, KEYS)
+        signer = Signer(room, Salted())
         with opened(program, log, signer) as own, Replica(log, program, index, policy=POLICY) as replica:
             yield log, signer, own, replica
 
@@ -131,7 +130,7 @@ def try_replica(tell, program):
         tell("replica: it follows", soon(lambda: replica.latest() == own.latest()))
         answers = [[it.lookup(name, epoch).line for name in ("user-1", "user-2", "no") for epoch in (1, 2)] for it in (own, replica)]
         tell("replica: the answers are the provider's", answers[0] == answers[1] and own.chain() == replica.chain() == list(provider.entries(log)))
-        tell("replica: the chain from an epoch on", replica.chain(1) == own.chain()[1:] and audited(own.chain(), KEYS, False))
+        tell("replica: the chain from an epoch on", replica.chain(1) == own.chain()[1:] and audited(own.chain(), Salted(), False))
         tell("replica: no lag", soon(lambda: replica.lag().lines == 0 and replica.lag().seconds < 2 and replica.lag().error is None))
         log.is_silent = True
         own.commit(3, [])
@@ -197,7 +196,7 @@ def try_wrong(tell, program):
         del log.lines[2:]
         tell("replica: a log that loses lines", soon(lambda: "lost" in str(replica.lag().error)))
     with tempfile.TemporaryDirectory() as room, Replica(Shared(), program, index, policy=POLICY) as replica:
-        signer = Signer(room, KEYS)
+        signer = Signer(room, Salted())
         raises(tell, "replica: an empty log", provider.NotOpen, lambda: replica.lookup("alice"))
         with lead(replica, signer) as new:
             tell("promotion: over an empty log", new.commit(1, []).epoch == 1)

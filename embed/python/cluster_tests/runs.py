@@ -33,17 +33,8 @@ FAULTS_OF_ROOM = 20
 SECONDS = 120
 
 
-class Fixed:
-    """Signs by a hash: a body has one signature, as by Ed25519. It has no security."""
-
-    def sign(self, body):
-        return hashlib.sha512(stand_ins.KEY + body).digest()
-
-    def verify(self, body, signature):
-        return signature == self.sign(body)
-
-
-KEYS = stand_ins.Ed25519() if stand_ins.nacl else Fixed()
+# By `Salted`, two signatures of one body differ.
+KINDS = {"salted": stand_ins.Salted} | ({"ed25519": stand_ins.Ed25519} if stand_ins.nacl else {})
 
 
 class Keys(stand_ins.Signer):
@@ -82,9 +73,10 @@ def digest(line):
 class Member(Asked):
     """A process of the cluster, as its clients see it."""
 
-    def __init__(self, room, conninfo, program, role):
-        with open(room / "said", "ab") as said:
-            super().__init__(__file__, room, conninfo, program, random.choice([0.3, 20]), role, errors=said)
+    def __init__(self, cluster, role):
+        with open(cluster.room / "said", "ab") as said:
+            patience = cluster.chance.choice([0.3, 20])
+            super().__init__(__file__, cluster.room, cluster.database.conninfo, cluster.program, cluster.kind, patience, role, errors=said)
         self.role = role
 
     def surely(self, **request):
@@ -103,8 +95,8 @@ class Member(Asked):
 
 
 class Cluster:
-    def __init__(self, room, database, program, chance, size=3):
-        self.room, self.database, self.program, self.chance = room, database, program, chance
+    def __init__(self, room, database, program, kind, chance, size=3):
+        self.room, self.database, self.program, self.kind, self.chance = room, database, program, kind, chance
         self.log, self.told, self.wrong = PostgresLog(database.conninfo), Counter(), []
         # Epochs with their entries and keys, names that are registered, digests of the lines shown, the entries in them.
         self.acknowledged, self.names, self.shown, self.entries = [], [], {}, set()
@@ -115,7 +107,7 @@ class Cluster:
             self.add("replica")
 
     def add(self, role):
-        self.members.append(Member(self.room, self.database.conninfo, self.program, role))
+        self.members.append(Member(self, role))
         if self._is_loaded.is_set():
             self._start(self.members[-1])
         return self.members[-1]
@@ -248,7 +240,8 @@ class Cluster:
         self.settle()
         chain, lines = list(entries(self.log)), b"\n".join(self.log.read(0))
         by_epoch = {int.from_bytes(it[1:9], "big"): it for it in chain}
-        asked = Keys(self.room, KEYS).asked().values()
+        keys = KINDS[self.kind]()
+        asked = Keys(self.room, keys).asked().values()
         recent = {(name, epoch): key for epoch, _, keys in self.acknowledged[-10:] for name, key in keys.items()}
         sample = [*recent, *self.chance.sample(sorted(self.shown), min(len(self.shown), 50))]
         probes = [it.surely(do="probe", asked=sample) for it in self.members]
@@ -259,7 +252,7 @@ class Cluster:
         yield "each lookup has its answer", all(self.shown.get(it, said) == said for it, said in zip(sample, probes[0][2:]))
         yield "one body for each epoch", all(len(it) == 1 for it in asked)
         yield "a body is signed once it is logged", all(it.hex().encode() in lines for of in asked for it in of)
-        yield "the chain is audited", audited(chain, KEYS, has_library())
+        yield "the chain is audited", audited(chain, keys, has_library())
         yield "all members answer the same", all(it == probes[0] for it in probes) and probes[0][0] == digest(b"".join(chain))
         yield "one member commits", [it.role for it in self.members].count("provider") == 1
         yield "no other error was told", not self.wrong
@@ -281,9 +274,9 @@ def small_disk():
                 subprocess.run(["umount", "--lazy", folder], check=True)
 
 
-def try_room(tell, skip, program, chance, numbers, counts):
+def try_room(tell, skip, program, kind, chance, numbers, counts):
     with tempfile.TemporaryDirectory() as room, small_disk() as (folder, is_small), Database(folder) as database:
-        cluster = Cluster(Path(room), database, program, chance)
+        cluster = Cluster(Path(room), database, program, kind, chance)
         for number in numbers:
             fault = FAULTS[number % len(FAULTS)]
             name = fault.__name__.replace("_", " ")
@@ -295,7 +288,7 @@ def try_room(tell, skip, program, chance, numbers, counts):
                 fault(cluster)
                 time.sleep(chance.uniform(0, 0.3))
             for what, is_kept in cluster.check():
-                tell(f"fault {number}, {name}: {what}", is_kept, (cluster.wrong[:3], (Path(room) / "said").read_text()[-2000:]))
+                tell(f"fault {number}, {name}, {kind}: {what}", is_kept, (cluster.wrong[:3], (Path(room) / "said").read_text()[-2000:]))
                 counts["promises broken"] += not is_kept
             counts[name] += 1
         counts.update({"epochs acknowledged": len(cluster.acknowledged), "lookups kept": len(cluster.shown)})
@@ -307,11 +300,12 @@ def try_room(tell, skip, program, chance, numbers, counts):
 def try_faults(tell, skip, program, count, seed=20261126):
     chance, counts = random.Random(seed), Counter({"promises broken": 0})
     for first in range(0, count, FAULTS_OF_ROOM):
-        try_room(tell, skip, program, chance, range(first, min(count, first + FAULTS_OF_ROOM)), counts)
+        kind = list(KINDS)[-1 - first // FAULTS_OF_ROOM % len(KINDS)]
+        try_room(tell, skip, program, kind, chance, range(first, min(count, first + FAULTS_OF_ROOM)), counts)
     print("faults: " + ", ".join(f"{it} {counts[it]}" for it in counts), flush=True)
 
 
 if __name__ == "__main__":
-    room, conninfo, program, patience, role = sys.argv[1:]
+    room, conninfo, program, kind, patience, role = sys.argv[1:]
     with TrappedLog(conninfo, patience=float(patience)) as log:
-        Trapped(log, program, Keys(room, KEYS), role == "provider").serve()
+        Trapped(log, program, Keys(room, KINDS[kind]()), role == "provider").serve()
