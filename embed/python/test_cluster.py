@@ -62,6 +62,7 @@ def main(words):
     return 1 if tally.failed else 0
 
 
-if tools.DATABASE_PYTHON not in (None, sys.executable):
-    os.execv(tools.DATABASE_PYTHON, [tools.DATABASE_PYTHON, *sys.argv])
-sys.exit(main(sys.argv[1:]))
+if __name__ == "__main__":
+    if tools.DATABASE_PYTHON not in (None, sys.executable):
+        os.execv(tools.DATABASE_PYTHON, [tools.DATABASE_PYTHON, *sys.argv])
+    sys.exit(main(sys.argv[1:]))

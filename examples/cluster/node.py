@@ -1,100 +1,67 @@
-"""A process of the cluster, which is a provider or a replica, and the side that asks it. Requests and answers are JSON objects, one
-a line. A service has its own way to be asked."""
+"""A process of a cluster: it has a provider or a replica over a log, and is called through a pipe. A service has its own way."""
 
 from __future__ import annotations
 
-import json
-import subprocess
-import sys
+import multiprocessing
 import threading
 from contextlib import suppress
-from typing import Any, Optional, Sequence, Union
+from typing import Any, Callable, Optional, Union
 
-from coniks.provider import Change, Operation, Overtaken, Provider, ProviderError, Register
+from coniks.provider import Overtaken, Provider, ProviderError
 from coniks.replica import Replica
+
+_SPAWN = multiprocessing.get_context("spawn")
+
+
+def _serve(pipe: Any, program: str, open_log: Callable[[], Any], make_keys: Callable[[], Any], is_writer: bool, nonce: Optional[bytes]) -> None:
+    """Answers calls. The first one opens the directory; once it was overtaken, the next one opens a replica."""
+    opened: Union[Provider, Replica, None] = None
+    keys, answer = make_keys(), None
+    with suppress(EOFError), open_log() as log:
+        while True:
+            call, *arguments = pipe.recv()
+            try:
+                if opened is None and is_writer:
+                    opened = Provider(program, keys.index, keys.sign, log, policy=keys.policy, verify=keys.verify, nonce=nonce)
+                elif opened is None:
+                    opened = Replica(log, program, keys.index, policy=keys.policy)
+                if call != "lead":
+                    answer = getattr(opened, call)(*arguments)
+                elif isinstance(opened, Replica):
+                    opened, is_writer = opened.promote(keys.sign, verify=keys.verify), True
+            except ProviderError as error:
+                answer = error
+                if isinstance(error, Overtaken):
+                    if opened:
+                        opened.close()
+                    opened, is_writer = None, False
+            pipe.send((answer, is_writer))
 
 
 class Node:
-    """A directory over a log. The first request opens it; once it was overtaken, the next request opens a replica.
+    """The side that calls the process, from several threads. `make_keys` returns what has `policy`, `index`, `sign`, `verify`."""
 
-    `keys` has `policy`, `index`, `sign` and `verify`, as `Provider` takes them.
-    """
+    def __init__(self, program: str, open_log: Callable[[], Any], make_keys: Callable[[], Any], is_writer: bool, nonce: Optional[bytes] = None):
+        self._pipe, other = _SPAWN.Pipe()
+        self.process = _SPAWN.Process(target=_serve, args=(other, program, open_log, make_keys, is_writer, nonce), daemon=True)
+        self.process.start()
+        other.close()
+        self.is_writer, self._lock = is_writer, threading.Lock()
 
-    def __init__(self, log: Any, program: str, keys: Any, is_writer: bool, nonce: Optional[bytes] = None):
-        self.log, self._program, self._keys, self._is_writer, self._nonce = log, program, keys, is_writer, nonce
-        self._opened: Union[Provider, Replica, None] = None
+    def send(self, call: str, *arguments: Any) -> None:
+        self._pipe.send((call, *arguments))
 
-    @property
-    def directory(self) -> Union[Provider, Replica]:
-        log, keys = self.log, self._keys
-        if self._opened is None and self._is_writer:
-            self._opened = Provider(self._program, keys.index, keys.sign, log, policy=keys.policy, verify=keys.verify, nonce=self._nonce)
-        elif self._opened is None:
-            self._opened = Replica(log, self._program, keys.index, policy=keys.policy)
-        return self._opened
-
-    def answer(self, request: dict[str, Any]) -> dict[str, Any]:
-        try:
-            answer = {"ok": getattr(self, f"do_{request.pop('do')}")(**request)}
-        except ProviderError as error:
-            answer = {"error": type(error).__name__, "text": str(error)}
-            if isinstance(error, Overtaken):
-                if self._opened:
-                    self._opened.close()
-                self._opened, self._is_writer = None, False
-        return answer | {"role": "provider" if self._is_writer else "replica"}
-
-    def do_lead(self) -> None:
-        if isinstance(self.directory, Replica):
-            self._opened, self._is_writer = self.directory.promote(self._keys.sign, verify=self._keys.verify), True
-
-    def do_commit(self, operations: Sequence[Sequence[str]], step: int = 1) -> list[Any]:
-        """Commits operations: of each the kind, the name and the key, and the opening if it isn't random."""
-        if not isinstance(self.directory, Provider):
-            raise ProviderError("a replica commits nothing")
-        kinds: dict[str, Any] = {"register": Register, "change": Change}
-        made: list[Operation] = [kinds[kind](name, key.encode(), *map(bytes.fromhex, more)) for kind, name, key, *more in operations]
-        epoch = self.directory.commit(self.directory.latest().epoch + step, made)
-        return [epoch.epoch, epoch.entry.hex(), epoch.link.hex()]
-
-    def do_lookup(self, name: str, epoch: Optional[int] = None) -> str:
-        return self.directory.lookup(name, epoch).line.decode()
-
-    def do_chain(self) -> list[str]:
-        return [it.hex() for it in self.directory.chain()]
-
-    def do_follow(self) -> None:
-        if isinstance(self.directory, Replica):
-            self.directory.follow()
-
-    def do_restart(self) -> None:
-        self.directory.restart()
-
-    def serve(self) -> None:
-        for line in sys.stdin:
-            print(json.dumps(self.answer(json.loads(line))), flush=True)
-
-
-class Asked:
-    """A node's process. Its last words are those of a node, and it can be asked from several threads."""
-
-    def __init__(self, *words: object, errors: Any = None):
-        pipe, told = subprocess.PIPE, [sys.executable, *map(str, words)]
-        self.process = subprocess.Popen(told, stdin=pipe, stdout=pipe, stderr=errors, text=True)
-        self.role, self._lock = "", threading.Lock()
-
-    def send(self, **request: Any) -> None:
-        print(json.dumps(request), file=self.process.stdin, flush=True)
-
-    def ask(self, **request: Any) -> dict[str, Any]:
-        """The answer. Waits while the process is stopped, and raises `EOFError` if it ended."""
-        with self._lock, suppress(OSError, ValueError):
-            self.send(**request)
-            answer: dict[str, Any] = json.loads(self.process.stdout.readline() if self.process.stdout else "")
-            self.role = answer["role"]
+    def call(self, call: str, *arguments: Any) -> Any:
+        """What a method of the directory returns or raises; `lead` promotes a replica. Waits while the process is stopped, and
+        raises `EOFError` if it ended."""
+        with self._lock, suppress(OSError, EOFError):
+            self.send(call, *arguments)
+            answer, self.is_writer = self._pipe.recv()
+            if isinstance(answer, Exception):
+                raise answer
             return answer
         raise EOFError
 
     def kill(self) -> None:
         self.process.kill()
-        self.process.wait()
+        self.process.join()
