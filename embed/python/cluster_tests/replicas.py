@@ -9,7 +9,7 @@ from pathlib import Path
 import psycopg
 from database import Database
 from stand_ins import POLICY, Salted, Signer, audited, index, opened
-from units import raises
+from units import OneLine, raises
 from coniks import provider
 from coniks.postgres import PostgresLog
 from coniks.provider import LogFailed, Overtaken, Register
@@ -24,18 +24,16 @@ def soon(call, seconds=20):
     return bool(call())
 
 
-class Shared:
+class Shared(OneLine):
     """A log in memory. It can notify nobody, and can't be read for a while; it lists the positions it was read from."""
 
     def __init__(self):
-        self.lines, self.is_silent, self.is_gone, self.reads, self.after = [], False, False, [], lambda line: None
-        self._added = threading.Condition()
+        super().__init__()
+        self.is_silent, self.is_gone, self.reads, self.after, self._added = False, False, [], lambda line: None, threading.Condition()
 
     def append(self, position, line):
         with self._added:
-            if position != len(self.lines):
-                raise Overtaken(f"{position} of {len(self.lines)}")
-            self.lines.append(line)
+            super().append(position, line)
             self._added.notify_all()
         self.after(line)
 
@@ -43,7 +41,7 @@ class Shared:
         if self.is_gone:
             raise LogFailed("gone")
         self.reads.append(position)
-        return iter(self.lines[position:])
+        return super().read(position)
 
     def wait(self, position, seconds):
         with self._added:
@@ -51,23 +49,19 @@ class Shared:
         return len(self.lines)
 
 
-class Lost(PostgresLog):
-    """Loses its connection at an insert, before or after which a function is called."""
+def lose(log, call):
+    """At the next insert calls a function, and then loses the connection."""
 
-    before, after = [], []
+    def once(row):
+        log._insert = real
+        call(row)
+        raise psycopg.OperationalError("lost")
 
-    def _insert(self, row):
-        for call in [self.before.pop()] if self.before else []:
-            call()
-            raise psycopg.OperationalError("lost before")
-        super()._insert(row)
-        if self.after:
-            self.after.pop()
-            raise psycopg.OperationalError("lost after")
+    real, log._insert = log._insert, once
 
 
 def try_log(tell):
-    with tempfile.TemporaryDirectory() as folder, Database(Path(folder)) as database, Lost(database.conninfo, patience=1) as mine, PostgresLog(database.conninfo) as other, PostgresLog(database.conninfo, "odd name") as third:
+    with tempfile.TemporaryDirectory() as folder, Database(Path(folder)) as database, PostgresLog(database.conninfo, patience=1) as mine, PostgresLog(database.conninfo) as other, PostgresLog(database.conninfo, "odd name") as third:
         asked = lambda query: psycopg.connect(database.conninfo, autocommit=True).execute(query)
         mine.append(0, b"first")
         raises(tell, "log: a position that is taken", Overtaken, lambda: other.append(0, b"second"))
@@ -80,13 +74,13 @@ def try_log(tell):
         tell("log: the lines are read", list(mine.read(0)) == [b"first", *(b"%d" % it for it in range(1, 100))] == list(other.read(0)))
         tell("log: from a position on", list(mine.read(98)) == [b"98", b"99"] and list(mine.read(100)) == [])
         tell("log: another table", list(third.read(0)) == [bytes(3_000_000)])
-        mine.after = [1]
+        lose(mine, mine._insert)
         mine.append(100, b"same")
         tell("log: a connection that is lost after the commit", list(mine.read(100)) == [b"same"])
-        mine.before = [lambda: None]
+        lose(mine, lambda row: None)
         mine.append(101, b"same")
         tell("log: a connection that is lost before", list(mine.read(101)) == [b"same"])
-        mine.before = [lambda: other.append(102, b"same")]
+        lose(mine, lambda row: other.append(102, b"same"))
         raises(tell, "log: a connection that is lost, and the position", Overtaken, lambda: mine.append(102, b"same"))
         threading.Timer(0.2, lambda: other.append(103, b"notified")).start()
         start = time.monotonic()
@@ -132,24 +126,32 @@ def try_replica(tell, program):
         tell("replica: the answers are the provider's", answers[0] == answers[1] and own.chain() == replica.chain() == list(provider.entries(log)))
         tell("replica: the chain from an epoch on", replica.chain(1) == own.chain()[1:] and audited(own.chain(), Salted(), False))
         tell("replica: no lag", soon(lambda: replica.lag().lines == 0 and replica.lag().seconds < 2 and replica.lag().error is None))
+        threads = [threading.Thread(target=lambda: [replica.follow() for _ in range(100)]) for _ in range(4)]
+        for it in threads:
+            it.start()
+        for epoch in range(3, 9):
+            own.commit(epoch, [])
+        for it in threads:
+            it.join()
+        tell("replica: it follows by several threads", replica.lag().error is None and soon(lambda: replica.latest() == own.latest()))
         log.is_silent = True
-        own.commit(3, [])
-        tell("replica: it follows without a notification", soon(lambda: replica.latest().epoch == 3))
+        own.commit(9, [])
+        tell("replica: it follows without a notification", soon(lambda: replica.latest().epoch == 9))
         log.is_gone = True
-        own.commit(4, [])
+        own.commit(10, [])
         time.sleep(0.3)
         tell("replica: a log that can't be read", soon(lambda: replica.lag().lines == 2 and isinstance(replica.lag().error, LogFailed)))
-        tell("replica: the lag grows, and lookups go on", replica.lag().seconds > 0.3 and replica.lookup("user-1").epoch == 3)
+        tell("replica: the lag grows, and lookups go on", replica.lag().seconds > 0.3 and replica.lookup("user-1").epoch == 9)
         raises(tell, "replica: a promotion without the log", LogFailed, lambda: lead(replica, signer))
         log.is_gone, log.reads, position = False, [], len(log.lines)
-        own.commit(5, [])
+        own.commit(11, [])
         with lead(replica, signer) as new:
             tell("promotion: only what wasn't read is replayed", log.reads and min(log.reads) >= position - 2, log.reads)
-            tell("promotion: the last lines are read", new.commit(6, [Register("six", b"key")]).epoch == 6 and new.lookup("six").epoch == 6)
+            tell("promotion: the last lines are read", new.commit(12, [Register("six", b"key")]).epoch == 12 and new.lookup("six").epoch == 12)
             raises(tell, "promotion: the replica is closed", provider.Closed, replica.latest)
-            raises(tell, "promotion: the old provider", Overtaken, lambda: own.commit(6, [Register("other", b"key")]))
+            raises(tell, "promotion: the old provider", Overtaken, lambda: own.commit(12, [Register("other", b"key")]))
             raises(tell, "promotion: the old provider's next call", provider.RestartNeeded, own.latest)
-            tell("promotion: one body for each epoch", signer.is_asked_once() and set(signer.asked()) == {1, 2, 3, 4, 5, 6})
+            tell("promotion: one body for each epoch", signer.is_asked_once() and set(signer.asked()) == set(range(1, 13)))
             new.restart()
             tell("promotion: a restart", new.latest().names == 3 and new.chain() == list(provider.entries(log)))
 

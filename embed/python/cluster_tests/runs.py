@@ -276,6 +276,8 @@ def try_room(tell, skip, program, signer, chance, numbers, counts):
             counts[name] += 1
         counts.update({"epochs acknowledged": len(cluster.acknowledged), "lookups kept": len(cluster.shown)})
         counts.update({f"{it} told": count for it, count in cluster.told.items()})
+        asked = stand_ins.lines(room / "asked")
+        counts["bodies signed again"] += len(asked) - len(set(asked))
         for it in cluster.members:
             it.kill()
 
