@@ -23,6 +23,8 @@ An update is pending from the `prepare` line in the log to the `install` line. A
 pending update first. If the signer fails, the update stays pending: `retry`, or `commit` of the same operations, asks for
 the same body again, and `commit` under a later epoch number replaces the update. All calls can be used from several threads.
 
+With `coniks.postgres.PostgresLog` several machines share a log, and a `coniks.replica.Replica` follows it.
+
 Each error is a `ProviderError`. A `Fault` is the program's, one class for each of docs/FORMATS.md, and changes nothing. After
 `ProgramFailed`, `LogFailed`, `Overtaken` or `ReplayDiffers` each call raises `RestartNeeded` until `restart` returns.
 """
@@ -313,7 +315,7 @@ _Self = TypeVar("_Self", bound="Directory")
 
 
 class Directory:
-    """What `Provider` and `coniks.replica.Replica` share: a child that answers lookups, and starts again if need be."""
+    """What `Provider` and `coniks.replica.Replica` share: a child that answers lookups."""
 
     def __init__(self, start: Callable[[], _Engine], index: Callable[[str], bytes], engine: Optional[_Engine] = None):
         self._new, self._index, self._engine = start, index, engine
@@ -323,41 +325,26 @@ class Directory:
         self._broken: Optional[ProviderError] = None if engine else _HALFWAY
 
     @contextmanager
-    def _steps(self) -> Iterator[_Engine]:
-        """Steps between which the child and the log may differ. A `Fault` changes neither; after all else a restart is needed."""
+    def _steps(self, is_start: bool = False) -> Iterator[_Engine]:
+        """Steps between which the child and the log may differ. A `Fault` changes neither; after all else a restart is needed,
+        whose steps begin with a new engine."""
         with self._asking:
-            self._check()
-            if self._broken or not self._engine:
+            if self._is_closed:
+                raise Closed("the directory is closed")
+            if os.getpid() != self._owner:
+                raise Closed("the directory belongs to the process that this one was forked from")
+            if not is_start and (self._broken or not self._engine):
                 raise RestartNeeded(f"restart() is needed: {self._broken}") from self._broken
-            with self._halfway():
+            self._broken = _HALFWAY
+            try:
+                if is_start or not self._engine:
+                    self._stop(0)
+                    self._engine = self._new()
                 yield self._engine
-
-    @contextmanager
-    def _halfway(self) -> Iterator[None]:
-        """Each call needs a restart from the first of these steps to the last, and after an error of them that is no `Fault`."""
-        self._broken = _HALFWAY
-        try:
-            yield
-        except Fault:
+            except ProviderError as error:
+                self._broken = None if isinstance(error, Fault) and not is_start else error
+                raise
             self._broken = None
-            raise
-        except ProviderError as error:
-            self._broken = error
-            raise
-        self._broken = None
-
-    def _check(self) -> None:
-        if self._is_closed:
-            raise Closed("the directory is closed")
-        if os.getpid() != self._owner:
-            raise Closed("the directory belongs to the process that this one was forked from")
-
-    def _replaced(self) -> _Engine:
-        """A new engine, in place of the one there is."""
-        self._check()
-        self._stop(0)
-        self._engine = self._new()
-        return self._engine
 
     def _stop(self, seconds: float) -> None:
         if self._engine:
@@ -500,8 +487,7 @@ class Provider(Directory):
 
     def _start(self, sign_pending: bool) -> None:
         with self._changing:
-            with self._asking, self._halfway():
-                engine = self._replaced()
+            with self._steps(is_start=True) as engine:
                 engine.open()
             if engine.pending and sign_pending:
                 self._settle()

@@ -67,9 +67,9 @@ class Replica(Directory):
 
     def restart(self) -> None:
         """Ends the child, starts another one and replays the log."""
-        with self._asking, self._halfway():
-            self._since = time.monotonic()
-            self._replaced()
+        self._since = time.monotonic()
+        with self._steps(is_start=True):
+            pass
 
     def _run(self) -> None:
         """Follows the log until the replica is closed."""
