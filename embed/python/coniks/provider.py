@@ -384,9 +384,14 @@ class Directory:
 
     def _epoch(self, epoch: Optional[int]) -> int:
         """An epoch, the latest if none is given."""
-        if epoch is None:
-            return self._engine.latest.epoch if self._engine else 0
-        return epoch
+        if epoch is not None:
+            return epoch
+        engine = self._engine
+        if engine is None:
+            # A start is under way, or one is needed.
+            with self._steps() as engine:
+                pass
+        return engine.latest.epoch
 
     def _index_of(self, name: str) -> bytes:
         return _sized(self._index(_text(name)), 32, "an index")
@@ -406,7 +411,8 @@ class Directory:
     @property
     def pid(self) -> Optional[int]:
         """The child's process number."""
-        return self._engine.child.pid if self._engine else None
+        engine = self._engine
+        return engine.child.pid if engine else None
 
     def close(self) -> None:
         """Ends the child. The log stays open, since the caller opened it."""
@@ -569,7 +575,8 @@ class Provider(Directory):
     @property
     def pending(self) -> Optional[Pending]:
         """The update that isn't installed, because the signer failed; None if there is none."""
-        return self._engine.pending if self._engine else None
+        engine = self._engine
+        return engine.pending if engine else None
 
     def restart(self, sign_pending: bool = True) -> None:
         """Ends the child, starts another one, replays the log and signs and installs the pending update, as a start does. If
