@@ -335,11 +335,11 @@ def try_python(tell, skip, here, coniks, requests):
     try_requests(tell, "Python, installed", [venv / "bin/python3", room / "answers.py"], requests, env=kept, cwd=room)
     ran = run(venv / "bin/python3", "-c", "import coniks.provider", env=kept, cwd=room)
     tell("coniks.provider, installed", ran.returncode == 0, ran.stderr.decode())
-    if tools.has("mypy"):
-        ran = run("mypy", "--strict", here / "python/coniks", cwd=room)
+    if tools.has("mypy") and tools.has("psycopg"):
+        ran = run("mypy", "--strict", "--python-executable", tools.DATABASE_PYTHON, here / "python/coniks", cwd=room)
         tell("mypy --strict", ran.returncode == 0, ran.stdout.decode())
     else:
-        skip("the types of the side in Python", "mypy")
+        skip("the types of the side in Python", "psycopg" if tools.has("mypy") else "mypy")
 
 
 def try_watch(tell, program):

@@ -9,6 +9,7 @@ import os
 import shutil
 import subprocess
 import sys
+from pathlib import Path
 
 CC = os.environ.get("CC", "cc")
 CHROMIUM = os.environ.get("CHROMIUM", "chromium")
@@ -37,9 +38,11 @@ def python_with(*modules):
     return None
 
 
-# A Python that makes environments and builds packages in them without a registry, and one with PyNaCl.
+# A Python that makes environments and builds packages in them without a registry, one with PyNaCl, and one with psycopg, which
+# has PyNaCl too if one has both.
 PYTHON = python_with("ensurepip", "setuptools", "venv", "wheel")
 SIGNING_PYTHON = python_with("nacl.bindings", "nacl.signing")
+DATABASE_PYTHON = python_with("psycopg", "nacl.signing") or python_with("psycopg")
 
 # A tool, whether it is there, its packages in Debian, and what is skipped without it.
 TOOLS = {
@@ -52,6 +55,8 @@ TOOLS = {
     "go": (lambda: has_program("go"), "golang-go", "the side in Go"),
     "pip": (lambda: PYTHON is not None, "python3-venv python3-setuptools python3-wheel", "pip install"),
     "PyNaCl": (lambda: SIGNING_PYTHON is not None, "python3-nacl", "signatures by Ed25519 and examples/provider"),
+    "PostgreSQL": (lambda: any(Path("/usr/lib/postgresql").glob("*/bin/initdb")), "postgresql", "a directory on several machines"),
+    "psycopg": (lambda: DATABASE_PYTHON is not None, "python3-psycopg", "coniks.postgres and examples/cluster"),
     "mypy": (lambda: has_program("mypy"), "mypy", "the types of the side in Python"),
     "node": (lambda: has_program("node"), "nodejs", "the page's own tests"),
     "tsc": (lambda: has_program("tsc"), "node-typescript", "the types of the module for web projects"),

@@ -21,17 +21,13 @@ class Answer:
     proof: bytes
 
 
-class KeyServer:
-    """Registers names and looks them up. The log is its store: a provider that starts replays it."""
+class Secrets:
+    """A provider's secret keys: they compute indices and signatures."""
 
-    def __init__(self, program: Path, log: Path, signing: bytes, vrf: bytes, nonce: bytes):
+    def __init__(self, signing: bytes, vrf: bytes):
         self._signer, self._vrf = SigningKey(signing), vrf
         self.keys = PublicKeys(bytes(self._signer.verify_key), ecvrf.public_key(vrf))
-        with ExitStack() as opened:
-            file = opened.enter_context(FileLog(log))
-            provider = Provider(program, self.index, self.sign, file, policy=self.keys.policy, nonce=nonce, verify=self.verify)
-            self._directory = opened.enter_context(provider)
-            self._opened = opened.pop_all()
+        self.policy = self.keys.policy
 
     def proof(self, name: str) -> bytes:
         return ecvrf.prove(self._vrf, name.encode())
@@ -45,6 +41,18 @@ class KeyServer:
     def verify(self, body: bytes, signature: bytes) -> bool:
         """Whether a signature is valid. `provider` stores signatures without verifying them."""
         return is_signed(self.keys.signing, body + signature)
+
+
+class KeyServer(Secrets):
+    """Registers names and looks them up. The log is its store: a provider that starts goes on where the log ends."""
+
+    def __init__(self, program: Path, log: Path, signing: bytes, vrf: bytes, nonce: bytes):
+        super().__init__(signing, vrf)
+        with ExitStack() as opened:
+            file = opened.enter_context(FileLog(log))
+            provider = Provider(program, self.index, self.sign, file, policy=self.policy, nonce=nonce, verify=self.verify)
+            self._directory = opened.enter_context(provider)
+            self._opened = opened.pop_all()
 
     def commit(self, epoch: int, operations: Iterable[Operation]) -> Epoch:
         return self._directory.commit(epoch, operations)

@@ -9,7 +9,7 @@ from typing import Iterator, Protocol, Union
 
 from .faults import LogFailed, Overtaken
 
-__all__ = ["FileLog", "Log", "Path"]
+__all__ = ["FileLog", "Log", "Path", "SharedLog"]
 
 Path = Union[str, "os.PathLike[str]"]
 _CHUNK = 1 << 20
@@ -25,6 +25,13 @@ class Log(Protocol):
 
     def read(self, position: int) -> Iterator[bytes]:
         """Returns the lines from a position on."""
+
+
+class SharedLog(Log, Protocol):
+    """A log that several processes have open, as `coniks.postgres.PostgresLog`. A replica follows it."""
+
+    def wait(self, position: int, seconds: float) -> int:
+        """Waits until the log has a line at this position, at most some seconds. Returns how many lines it has."""
 
 
 class FileLog:

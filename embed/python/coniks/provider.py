@@ -23,6 +23,8 @@ An update is pending from the `prepare` line in the log to the `install` line. A
 pending update first. If the signer fails, the update stays pending: `retry`, or `commit` of the same operations, asks for
 the same body again, and `commit` under a later epoch number replaces the update. All calls can be used from several threads.
 
+With `coniks.postgres.PostgresLog` several machines share a log, and a `coniks.replica.Replica` follows it.
+
 Each error is a `ProviderError`. A `Fault` is the program's, one class for each of docs/FORMATS.md, and changes nothing. After
 `ProgramFailed`, `LogFailed`, `Overtaken` or `ReplayDiffers` each call raises `RestartNeeded` until `restart` returns.
 """
@@ -40,11 +42,11 @@ import threading
 import time
 from contextlib import contextmanager
 from dataclasses import dataclass, field
-from typing import Any, Callable, Iterable, Iterator, Mapping, Optional, Sequence, Union
+from typing import Any, Callable, Iterable, Iterator, Mapping, Optional, Sequence, TypeVar, Union
 
 from . import BODY_LENGTH, ENTRY_LENGTH, _bytes, _number, faults
 from .faults import *
-from .log import FileLog, Log, Path
+from .log import FileLog, Log, Path, SharedLog
 
 __all__ = [
     "Change",
@@ -58,7 +60,7 @@ __all__ = [
     "entries",
 ]
 __all__ += faults.__all__
-__all__ += ["FileLog", "Log"]
+__all__ += ["FileLog", "Log", "SharedLog"]
 
 SIGNATURE_LENGTH = 64
 _GET_PIPE_SIZE = 1032  # fcntl.F_GETPIPE_SZ, from Python 3.10 on
@@ -212,10 +214,220 @@ class _Child:
         self._process.stdout.close()
 
 
+class _Engine:
+    """A child, and how far the log was replayed into it: the position of the next line, the latest epoch, and the pending update
+    with its line."""
+
+    def __init__(self, words: Sequence[str], timeout: Optional[float], log: Log, policy: bytes, nonce: Optional[bytes]):
+        """Starts a child and replays the log."""
+        self._log, self._policy, self._nonce = log, policy, nonce
+        self.position = 0
+        self.latest = Epoch(0, bytes(32), bytes(32), b"")
+        self.chain: list[bytes] = []
+        self.pending: Optional[Pending] = None
+        self.pending_line = b""
+        self.child = _Child(words, timeout)
+        try:
+            for line in self.logged(0):
+                self.take(line)
+        except BaseException:
+            self.child.stop(0)
+            raise
+
+    def open(self) -> None:
+        """Opens a directory, if the log has no line."""
+        if self.position == 0:
+            nonce = self._nonce or secrets.token_bytes(32)
+            line = _line({"cmd": "open", "nonce": nonce.hex(), "policy": self._policy.hex()})
+            _ask(self.child, line)
+            self.append(line)
+
+    def logged(self, position: int) -> Iterator[bytes]:
+        """The lines of the log from a position on."""
+        try:
+            yield from self._log.read(position)
+        except ProviderError:
+            raise
+        except Exception as error:
+            raise LogFailed(f"the log can't be read: {error}") from error
+
+    def take(self, line: bytes) -> None:
+        """Replays the next line of the log."""
+        try:
+            self._replay(line, _object(line, LogFailed))
+        except Fault as fault:
+            raise ReplayDiffers(f"line {self.position} of the log is refused: {fault}") from fault
+        self.position += 1
+
+    def _replay(self, line: bytes, said: Mapping[str, Any]) -> None:
+        """Asks for one line of the log, and compares the answer: of `prepare` the body, and of `install` the link."""
+        answer = _ask(self.child, line)
+        if said.get("cmd") == "open":
+            for name, given in [("policy", self._policy), ("nonce", self._nonce)]:
+                if given is not None and _digits(said, name, 32, LogFailed) != given:
+                    raise LogFailed(f"the log's directory has another {name}")
+        elif said.get("cmd") == "prepare":
+            if answer.get("body") != said.get("body"):
+                raise ReplayDiffers(f"line {self.position} of the log has another body")
+            self.pending, self.pending_line = self.prepared(_number_in(said, "epoch", LogFailed), answer), line
+        elif said.get("cmd") == "install":
+            if answer.get("link") != said.get("link"):
+                raise ReplayDiffers(f"line {self.position} of the log has another link")
+            signature = _digits(said, "signature", SIGNATURE_LENGTH, LogFailed)
+            self.settle(self.installed(signature, answer))
+        else:
+            raise LogFailed(f"line {self.position} of the log is none of a provider")
+
+    def settle(self, epoch: Epoch) -> None:
+        """Notes that the pending update is installed."""
+        self.pending, self.latest = None, epoch
+        self.chain.append(epoch.entry)
+
+    def append(self, line: bytes) -> None:
+        try:
+            self._log.append(self.position, line)
+        except LogFailed:
+            raise
+        except Exception as error:
+            raise LogFailed(f"the log can't be written: {error}") from error
+        self.position += 1
+
+    def prepared(self, epoch: int, answer: Mapping[str, Any]) -> Pending:
+        """The update that the child has prepared. Its body is one of this epoch, after the latest one."""
+        body, root = _digits(answer, "body", BODY_LENGTH), _digits(answer, "root", 32)
+        numbers = epoch.to_bytes(8, "big") + self.latest.epoch.to_bytes(8, "big")
+        if body[1:81] != numbers + root + self.latest.link or body[113:] != self._policy:
+            raise ProgramFailed(f"the body of epoch {epoch} doesn't follow the entry of epoch {self.latest.epoch}")
+        return Pending(epoch, root, body)
+
+    def installed(self, signature: bytes, answer: Mapping[str, Any]) -> Epoch:
+        """The epoch that the child has installed. Its entry is what was signed, with the signature."""
+        pending = self.pending
+        root, link, entry = (_digits(answer, it, size) for it, size in [("root", 32), ("link", 32), ("entry", ENTRY_LENGTH)])
+        epoch = Epoch(_number_in(answer, "epoch"), root, link, entry)
+        if not pending or (epoch.epoch, root, entry) != (pending.epoch, pending.root, pending.body + signature):
+            raise ProgramFailed(f"the entry of epoch {epoch.epoch} isn't what was signed")
+        return epoch
+
+
 _HALFWAY = ProviderError("a call was interrupted")
+_Self = TypeVar("_Self", bound="Directory")
 
 
-class Provider:
+class Directory:
+    """What `Provider` and `coniks.replica.Replica` share: a child that answers lookups."""
+
+    def __init__(self, start: Callable[[], _Engine], index: Callable[[str], bytes], engine: Optional[_Engine] = None):
+        self._new, self._index, self._engine = start, index, engine
+        self._is_closed, self._owner = False, os.getpid()
+        # Held while the child answers, until the log has what it must. Lookups go on while the signer is asked.
+        self._asking = threading.Lock()
+        self._broken: Optional[ProviderError] = None if engine else _HALFWAY
+
+    @contextmanager
+    def _steps(self, is_start: bool = False) -> Iterator[_Engine]:
+        """Steps between which the child and the log may differ. A `Fault` changes neither; after all else a restart is needed,
+        whose steps begin with a new engine."""
+        with self._asking:
+            if self._is_closed:
+                raise Closed("the directory is closed")
+            if os.getpid() != self._owner:
+                raise Closed("the directory belongs to the process that this one was forked from")
+            if not is_start and (self._broken or not self._engine):
+                raise RestartNeeded(f"restart() is needed: {self._broken}") from self._broken
+            self._broken = _HALFWAY
+            try:
+                if is_start or not self._engine:
+                    self._stop(0)
+                    self._engine = self._new()
+                yield self._engine
+            except ProviderError as error:
+                self._broken = None if isinstance(error, Fault) and not is_start else error
+                raise
+            self._broken = None
+
+    def _stop(self, seconds: float) -> None:
+        if self._engine:
+            self._engine.child.stop(seconds)
+            self._engine = None
+
+    def lookup(self, name: str, epoch: Optional[int] = None) -> Lookup:
+        """A name's proof at an epoch, the latest if none is given."""
+        line = self._lookup_line(name, self._epoch(epoch))
+        with self._steps() as engine:
+            engine.child.send(line)
+            return _lookup(engine.child.receive())
+
+    def lookups(self, names: Iterable[str], epoch: Optional[int] = None) -> list[Lookup]:
+        """The proofs of many names at one epoch, in their order: more lookups a second than by `lookup`. Raises the first
+        `Fault` of a name."""
+        epoch = self._epoch(epoch)
+        found: list[Lookup] = []
+        with self._steps() as engine:
+            at_once = engine.child.at_once
+        for lines in _grouped((self._lookup_line(it, epoch) for it in names), at_once):
+            fault: Optional[Fault] = None
+            with self._steps() as engine:
+                engine.child.send(b"".join(lines))
+                for _ in lines:
+                    try:
+                        found.append(_lookup(engine.child.receive()))
+                    except Fault as told:
+                        fault = fault or told
+            if fault:
+                raise fault
+        return found
+
+    def _lookup_line(self, name: str, epoch: int) -> bytes:
+        index, number = self._index_of(name).hex(), _number(epoch, 64, "the epoch")
+        return f'{{"cmd":"lookup","epoch":{number},"index":"{index}","name":{json.dumps(name)}}}\n'.encode()
+
+    def _epoch(self, epoch: Optional[int]) -> int:
+        """An epoch, the latest if none is given."""
+        if epoch is not None:
+            return epoch
+        engine = self._engine
+        if engine is None:
+            # A start is under way, or one is needed.
+            with self._steps() as engine:
+                pass
+        return engine.latest.epoch
+
+    def _index_of(self, name: str) -> bytes:
+        return _sized(self._index(_text(name)), 32, "an index")
+
+    def latest(self) -> Latest:
+        """The latest epoch, and how large the directory is."""
+        with self._steps() as engine:
+            answer = _ask(engine.child, b'{"cmd":"latest"}')
+            epoch, names, nodes = (_number_in(answer, it) for it in ("epoch", "names", "nodes"))
+            return Latest(epoch, _digits(answer, "link", 32), names, nodes)
+
+    def chain(self, first: int = 0) -> list[bytes]:
+        """The entries of the epochs in their order, 209 bytes each, without the first so many: what an auditor takes."""
+        with self._steps() as engine:
+            return engine.chain[first:]
+
+    @property
+    def pid(self) -> Optional[int]:
+        """The child's process number."""
+        engine = self._engine
+        return engine.child.pid if engine else None
+
+    def close(self) -> None:
+        """Ends the child. The log stays open, since the caller opened it."""
+        with self._asking:
+            self._is_closed = True
+            self._stop(1)
+
+    def __enter__(self: _Self) -> _Self:
+        return self
+
+    def __exit__(self, *_: object) -> None:
+        self.close()
+
+
+class Provider(Directory):
     """A directory that the program `provider` keeps, with its log.
 
     `program` is the program's path, or its path and first arguments. `log` isn't closed by the provider. `policy` is the
@@ -245,30 +457,29 @@ class Provider:
         timeout: Optional[float] = None,
         sign_pending: bool = True,
     ):
-        words = [os.fspath(program)] if isinstance(program, (str, os.PathLike)) else list(program)
-        for option, value in [("--workers", workers), ("--depth", depth)]:
-            words += [] if value is None else [option, str(_number(value, 64, option))]
-        self._words = words
-        self._index, self._sign, self._verify, self._log, self._timeout = index, sign, verify, log, timeout
-        self._policy = _sized(policy, 32, "the policy")
-        self._nonce = None if nonce is None else _sized(nonce, 32, "the nonce")
-        self._child: Optional[_Child] = None
-        self._is_closed, self._owner = False, os.getpid()
-        # Held by calls that change the directory, the signer's time included.
-        self._changing = threading.Lock()
-        # Held while the child answers, until the log has what it must. Lookups go on while the signer is asked.
-        self._asking = threading.Lock()
-        self._broken: Optional[ProviderError] = _HALFWAY
+        words, policy = _words(program, workers, depth), _sized(policy, 32, "the policy")
+        first = None if nonce is None else _sized(nonce, 32, "the nonce")
+        super().__init__(lambda: _Engine(words, timeout, log, policy, first), index)
+        # `_changing` is held by calls that change the directory, the signer's time included.
+        self._sign, self._verify, self._changing = sign, verify, threading.Lock()
         try:
             self._start(sign_pending)
         except BaseException:
             self.close()
             raise
 
+    @classmethod
+    def _over(cls, directory: Directory, sign: Callable[[bytes], bytes], verify: Optional[Callable[[bytes, bytes], bool]]) -> Provider:
+        """A provider that goes on with the engine of another directory."""
+        provider = cls.__new__(cls)
+        Directory.__init__(provider, directory._new, directory._index, directory._engine)
+        provider._sign, provider._verify, provider._changing = sign, verify, threading.Lock()
+        return provider
+
     # What a crash, an exception or a failed append leaves behind, after each step of a commit:
     #
     #   1. the child accepts `prepare`       The log doesn't have the line, and the signer wasn't asked: as if never called.
-    #   2. the log appends it                A start finds the update pending. Its body is the logged one (`_replay` compares).
+    #   2. the log appends it                A start finds the update pending. Its body is the logged one (`_Engine` compares).
     #   3. the signer returns the signature  As after 2: it is asked for the same body again.
     #   4. the child accepts `install`       As after 2. No lookup has shown the entry, because `_asking` is held up to 5.
     #   5. the log appends it                A start finds the epoch installed, with this signature.
@@ -280,115 +491,12 @@ class Provider:
     # The epoch numbers of `prepare` lines only rise. The child refuses those up to the latest installed one, and `_prepare`
     # those up to the pending one. So the log has one `prepare` line for a number, and the signer is asked for one body.
 
-    @contextmanager
-    def _steps(self) -> Iterator[_Child]:
-        """Steps between which the child and the log may differ. A `Fault` changes neither; after all else a restart is needed."""
-        with self._asking:
-            if self._is_closed:
-                raise Closed("the provider is closed")
-            if os.getpid() != self._owner:
-                raise Closed("the provider belongs to the process that this one was forked from")
-            if self._broken or not self._child:
-                raise RestartNeeded(f"restart() is needed: {self._broken}") from self._broken
-            self._broken = _HALFWAY
-            try:
-                yield self._child
-            except Fault:
-                self._broken = None
-                raise
-            except ProviderError as error:
-                self._broken = error
-                raise
-            self._broken = None
-
     def _start(self, sign_pending: bool) -> None:
         with self._changing:
-            with self._asking:
-                if self._is_closed:
-                    raise Closed("the provider is closed")
-                self._broken = _HALFWAY
-                try:
-                    if self._child:
-                        self._child.stop(0)
-                    self._child = _Child(self._words, self._timeout)
-                    self._replay(self._child)
-                except ProviderError as error:
-                    self._broken = error
-                    raise
-                self._broken = None
-            if self._pending and sign_pending:
+            with self._steps(is_start=True) as engine:
+                engine.open()
+            if engine.pending and sign_pending:
                 self._settle()
-
-    def _replay(self, child: _Child) -> None:
-        """Brings a new child to where the log is, and opens a directory if the log has no line."""
-        self._position = 0
-        self._pending: Optional[Pending] = None
-        self._pending_line = b""
-        self._latest = Epoch(0, bytes(32), bytes(32), b"")
-        for line in self._logged():
-            try:
-                self._replay_line(child, line, _object(line, LogFailed))
-            except Fault as fault:
-                raise ReplayDiffers(f"line {self._position} of the log is refused: {fault}") from fault
-            self._position += 1
-        if self._position == 0:
-            nonce = self._nonce or secrets.token_bytes(32)
-            line = _line({"cmd": "open", "nonce": nonce.hex(), "policy": self._policy.hex()})
-            _ask(child, line)
-            self._append(line)
-
-    def _logged(self) -> Iterator[bytes]:
-        try:
-            yield from self._log.read(0)
-        except ProviderError:
-            raise
-        except Exception as error:
-            raise LogFailed(f"the log can't be read: {error}") from error
-
-    def _replay_line(self, child: _Child, line: bytes, said: Mapping[str, Any]) -> None:
-        """Asks for one line of the log, and compares the answer: of `prepare` the body, and of `install` the link."""
-        answer = _ask(child, line)
-        if said.get("cmd") == "open":
-            for name, given in [("policy", self._policy), ("nonce", self._nonce)]:
-                if given is not None and _digits(said, name, 32, LogFailed) != given:
-                    raise LogFailed(f"the log's directory has another {name}")
-        elif said.get("cmd") == "prepare":
-            if answer.get("body") != said.get("body"):
-                raise ReplayDiffers(f"line {self._position} of the log has another body")
-            self._pending, self._pending_line = self._prepared(_number_in(said, "epoch", LogFailed), answer), line
-        elif said.get("cmd") == "install":
-            if answer.get("link") != said.get("link"):
-                raise ReplayDiffers(f"line {self._position} of the log has another link")
-            signature = _digits(said, "signature", SIGNATURE_LENGTH, LogFailed)
-            self._pending, self._latest = None, self._installed(signature, answer)
-        else:
-            raise LogFailed(f"line {self._position} of the log is none of a provider")
-
-    def _append(self, line: bytes) -> None:
-        try:
-            self._log.append(self._position, line)
-        except LogFailed:
-            raise
-        except Exception as error:
-            raise LogFailed(f"the log can't be written: {error}") from error
-        self._position += 1
-
-    def _prepared(self, epoch: int, answer: Mapping[str, Any]) -> Pending:
-        """The update that the child has prepared. Its body is one of this epoch, after the latest one."""
-        body, root = _digits(answer, "body", BODY_LENGTH), _digits(answer, "root", 32)
-        numbers = epoch.to_bytes(8, "big") + self._latest.epoch.to_bytes(8, "big")
-        if body[1:81] != numbers + root + self._latest.link or body[113:] != self._policy:
-            raise ProgramFailed(f"the body of epoch {epoch} doesn't follow the entry of epoch {self._latest.epoch}")
-        return Pending(epoch, root, body)
-
-    def _installed(self, signature: bytes, answer: Mapping[str, Any]) -> Epoch:
-        """The epoch that the child has installed. Its entry is what was signed, with the signature."""
-        pending = self._pending
-        root, link, entry = (_digits(answer, it, size) for it, size in [("root", 32), ("link", 32), ("entry", ENTRY_LENGTH)])
-        epoch = Epoch(_number_in(answer, "epoch"), root, link, entry)
-        if not pending or (epoch.epoch, root, entry) != (pending.epoch, pending.root, pending.body + signature):
-            raise ProgramFailed(f"the entry of epoch {epoch.epoch} isn't what was signed")
-        return epoch
 
     def commit(self, epoch: int, operations: Iterable[Operation], nonce: Optional[bytes] = None) -> Epoch:
         """Binds names to keys in a new epoch, and returns it once the log has its entry. A `nonce` rehashes the whole tree.
@@ -418,33 +526,33 @@ class Provider:
 
     def _prepare(self, epoch: int, line: bytes) -> None:
         """Makes the update of a line the pending one, in the child and in the log."""
-        with self._steps():
-            pending = self._pending
-        if pending and _with(line, "body", pending.body) == self._pending_line:
+        with self._steps() as engine:
+            pending, pending_line = engine.pending, engine.pending_line
+        if pending and _with(line, "body", pending.body) == pending_line:
             return
         if pending and epoch <= pending.epoch:
             raise EpochSpent(epoch, pending.epoch)
-        with self._steps() as child:
-            prepared = self._prepared(epoch, _ask(child, line))
+        with self._steps() as engine:
+            prepared = engine.prepared(epoch, _ask(engine.child, line))
             line = _with(line, "body", prepared.body)
-            self._append(line)
-            self._pending, self._pending_line = prepared, line
+            engine.append(line)
+            engine.pending, engine.pending_line = prepared, line
 
     def _settle(self) -> Epoch:
         """Has the pending update signed, and installs it."""
-        pending = self._pending
+        pending = self.pending
         if not pending:
             raise NotPrepared()
         signature = self._signature(pending.body)
-        with self._steps() as child:
+        with self._steps() as engine:
             line = _line({"cmd": "install", "signature": signature.hex()})
             try:
-                answer = _ask(child, line)
+                answer = _ask(engine.child, line)
             except Fault as fault:
                 raise ProgramFailed(f"the program refuses a pending update: {fault}") from fault
-            epoch = self._installed(signature, answer)
-            self._append(_with(line, "link", epoch.link))
-            self._pending, self._latest = None, epoch
+            epoch = engine.installed(signature, answer)
+            engine.append(_with(line, "link", epoch.link))
+            engine.settle(epoch)
             return epoch
 
     def _signature(self, body: bytes) -> bytes:
@@ -467,53 +575,8 @@ class Provider:
     @property
     def pending(self) -> Optional[Pending]:
         """The update that isn't installed, because the signer failed; None if there is none."""
-        return self._pending
-
-    def lookup(self, name: str, epoch: Optional[int] = None) -> Lookup:
-        """A name's proof at an epoch, the latest if none is given."""
-        line = self._lookup_line(name, self._latest.epoch if epoch is None else epoch)
-        with self._steps() as child:
-            child.send(line)
-            return _lookup(child.receive())
-
-    def lookups(self, names: Iterable[str], epoch: Optional[int] = None) -> list[Lookup]:
-        """The proofs of many names at one epoch, in their order: more lookups a second than by `lookup`. Raises the first
-        `Fault` of a name."""
-        epoch = self._latest.epoch if epoch is None else epoch
-        found: list[Lookup] = []
-        with self._steps() as child:
-            at_once = child.at_once
-        for lines in _grouped((self._lookup_line(it, epoch) for it in names), at_once):
-            fault: Optional[Fault] = None
-            with self._steps() as child:
-                child.send(b"".join(lines))
-                for _ in lines:
-                    try:
-                        found.append(_lookup(child.receive()))
-                    except Fault as told:
-                        fault = fault or told
-            if fault:
-                raise fault
-        return found
-
-    def _lookup_line(self, name: str, epoch: int) -> bytes:
-        index, number = self._index_of(name).hex(), _number(epoch, 64, "the epoch")
-        return f'{{"cmd":"lookup","epoch":{number},"index":"{index}","name":{json.dumps(name)}}}\n'.encode()
-
-    def _index_of(self, name: str) -> bytes:
-        return _sized(self._index(_text(name)), 32, "an index")
-
-    def latest(self) -> Latest:
-        """The latest epoch, and how large the directory is."""
-        with self._steps() as child:
-            answer = _ask(child, b'{"cmd":"latest"}')
-            epoch, names, nodes = (_number_in(answer, it) for it in ("epoch", "names", "nodes"))
-            return Latest(epoch, _digits(answer, "link", 32), names, nodes)
-
-    @property
-    def pid(self) -> Optional[int]:
-        """The child's process number."""
-        return self._child.pid if self._child else None
+        engine = self._engine
+        return engine.pending if engine else None
 
     def restart(self, sign_pending: bool = True) -> None:
         """Ends the child, starts another one, replays the log and signs and installs the pending update, as a start does. If
@@ -522,17 +585,8 @@ class Provider:
 
     def close(self) -> None:
         """Ends the child. The log stays open, since the caller opened it."""
-        with self._changing, self._asking:
-            self._is_closed = True
-            if self._child:
-                self._child.stop(1)
-                self._child = None
-
-    def __enter__(self) -> Provider:
-        return self
-
-    def __exit__(self, *_: object) -> None:
-        self.close()
+        with self._changing:
+            super().close()
 
 
 def entries(log: Log) -> Iterator[bytes]:
@@ -581,6 +635,13 @@ def _number_in(members: Mapping[str, Any], name: str, error: type[ProviderError]
     if not isinstance(value, int):
         raise error(f"the member {name} isn't a number")
     return value
+
+
+def _words(program: Union[Path, Sequence[str]], workers: Optional[int], depth: Optional[int]) -> list[str]:
+    words = [os.fspath(program)] if isinstance(program, (str, os.PathLike)) else list(program)
+    for option, value in [("--workers", workers), ("--depth", depth)]:
+        words += [] if value is None else [option, str(_number(value, 64, option))]
+    return words
 
 
 def _sized(value: Any, size: int, what: str) -> bytes:

@@ -48,7 +48,7 @@ class Stage:
 
     def kill_child(self, *_):
         os.kill(self.provider.pid, signal.SIGKILL)
-        self.provider._child._process.wait()
+        self.provider._engine.child._process.wait()
 
     def start_again(self, is_new):
         """Goes on after a stop: by `restart`, or from the file alone."""

@@ -1,0 +1,177 @@
+"""A log in PostgreSQL, which the providers and replicas of several machines share. It needs psycopg 3.1.
+
+    log = PostgresLog("host=/run/postgresql dbname=keys")
+
+Each line is a row of one table, whose primary key is the position. So PostgreSQL decides which of two writers gets a position.
+An append returns once its row is committed, and PostgreSQL must keep what it committed: a connection is refused if `fsync` or
+`synchronous_commit` is off. docs/CLUSTER.md has what else a service needs.
+"""
+
+from __future__ import annotations
+
+import secrets
+import select
+import threading
+import time
+from contextlib import contextmanager, suppress
+from typing import Any, Callable, Iterator, Optional, TypeVar
+
+import psycopg
+from psycopg import sql
+from psycopg.conninfo import conninfo_to_dict, make_conninfo
+
+from .faults import LogFailed, Overtaken
+
+__all__ = ["PostgresLog"]
+
+Connection = psycopg.Connection[Any]
+Answer = TypeVar("Answer")
+_AT_ONCE = 32
+_PAUSE = 0.05
+_SQL = {
+    "is_durable": "SELECT current_setting('fsync') = 'on' AND current_setting('synchronous_commit') <> 'off'",
+    "is_there": "SELECT to_regclass(quote_ident({name})) IS NOT NULL",
+    "create": """CREATE TABLE IF NOT EXISTS {table}
+        (position bigint PRIMARY KEY CHECK (position >= 0), line bytea NOT NULL, token bytea NOT NULL)""",
+    # Without the row before, none is inserted: positions have no gap.
+    "append": """WITH added AS (INSERT INTO {table} SELECT %(position)s::bigint, %(line)b::bytea, %(token)b::bytea
+            WHERE %(position)s::bigint = 0 OR EXISTS (SELECT FROM {table} WHERE position = %(position)s::bigint - 1)
+            RETURNING position)
+        SELECT pg_notify({name}, position::text) FROM added""",
+    "is_mine": "SELECT token = %(token)b::bytea FROM {table} WHERE position = %(position)s::bigint",
+    "read": "SELECT position, line FROM {table} WHERE position >= %s ORDER BY position LIMIT %s",
+    "count": "SELECT coalesce(max(position) + 1, 0) FROM {table}",
+    "listen": "LISTEN {table}",
+}
+
+
+class _Session:
+    """A connection for one thread at a time. It is opened when it is needed, and again after an error."""
+
+    def __init__(self, conninfo: str, prepare: Callable[[Connection], None]):
+        self._conninfo, self._prepare, self._lock = conninfo, prepare, threading.RLock()
+        self._connection: Optional[Connection] = None
+
+    @contextmanager
+    def use(self) -> Iterator[Connection]:
+        with self._lock:
+            try:
+                if self._connection is None:
+                    self._connection = psycopg.connect(self._conninfo, autocommit=True)
+                    self._prepare(self._connection)
+                yield self._connection
+            except BaseException:
+                self.close()
+                raise
+
+    def close(self) -> None:
+        with self._lock:
+            if self._connection is not None:
+                self._connection.close()
+                self._connection = None
+
+
+class PostgresLog:
+    """A log in a table of PostgreSQL. Several processes have it open, and each position is taken once.
+
+    `conninfo` is libpq's connection string. The table is created if there is none. Its name is also that of the channel by
+    which waiting replicas are notified. `patience` is how many seconds an append tries to reach PostgreSQL again. All calls can
+    be used from several threads. The table contains keys, and the openings that blind the commitments.
+    """
+
+    def __init__(self, conninfo: str, table: str = "coniks_log", *, patience: float = 10):
+        self._patience, self._is_notified = patience, False
+        names = {"table": sql.Identifier(table), "name": sql.Literal(table)}
+        self._sql = {name: sql.SQL(text).format(**names) for name, text in _SQL.items()}
+        whole = make_conninfo(**{"connect_timeout": "5", "application_name": table, **conninfo_to_dict(conninfo)})
+        # A replica waits on a connection of its own, so that appends and reads need not wait for it.
+        self._main, self._waiting = _Session(whole, self._check), _Session(whole, self._listen)
+        self._asked(self._main, lambda connection: None)
+
+    def _value(self, connection: Connection, query: str, row: Optional[dict[str, Any]] = None) -> Any:
+        found = connection.execute(self._sql[query], row).fetchone()
+        return found and found[0]
+
+    def _check(self, connection: Connection) -> None:
+        if not self._value(connection, "is_durable"):
+            raise LogFailed("PostgreSQL can lose what it committed: fsync and synchronous_commit must be on")
+        if not self._value(connection, "is_there"):
+            # Another process may create the table at the same time.
+            with suppress(psycopg.errors.UniqueViolation):
+                connection.execute(self._sql["create"])
+
+    def _listen(self, connection: Connection) -> None:
+        connection.add_notify_handler(lambda _: setattr(self, "_is_notified", True))
+        connection.execute(self._sql["listen"])
+
+    def append(self, position: int, line: bytes) -> None:
+        """Stores a line. If the connection is lost, the row's token tells whether this append or another one took the position.
+        Raises `LogFailed` if PostgreSQL isn't reached in time: the line may be stored then."""
+        if b"\n" in line:
+            raise ValueError("a line has no newline")
+        row = {"position": position, "line": line, "token": secrets.token_bytes(16)}
+        until = time.monotonic() + self._patience
+        while True:
+            try:
+                return self._insert(row)
+            except (psycopg.OperationalError, psycopg.InterfaceError) as error:
+                if time.monotonic() > until:
+                    raise LogFailed(f"whether line {position} was stored isn't known: {error}") from error
+                time.sleep(_PAUSE)
+            except psycopg.Error as error:
+                raise LogFailed(f"the log can't be written: {error}") from error
+
+    def _insert(self, row: dict[str, Any]) -> None:
+        """Inserts a row. If PostgreSQL still commits an earlier try, this one waits for it."""
+        with self._main.use() as connection:
+            try:
+                if connection.execute(self._sql["append"], row).rowcount != 1:
+                    raise LogFailed(f"the log has no line before position {row['position']}")
+            except psycopg.errors.UniqueViolation:
+                if not self._value(connection, "is_mine", row):
+                    raise Overtaken(f"position {row['position']} of the log is taken") from None
+
+    def read(self, position: int) -> Iterator[bytes]:
+        """Returns the lines from a position on. Raises `LogFailed` if one is missing before a later one."""
+        while True:
+            rows = self._asked(self._main, lambda it: it.execute(self._sql["read"], (position, _AT_ONCE), binary=True).fetchall())
+            for number, line in rows:
+                if number != position:
+                    raise LogFailed(f"line {position} of the log is missing")
+                yield line
+                position += 1
+            if not rows:
+                return
+
+    def wait(self, position: int, seconds: float) -> int:
+        """Waits until the log has a line at this position, at most some seconds. Returns how many lines it has."""
+        return self._asked(self._waiting, lambda connection: self._wait(connection, position, seconds))
+
+    def _wait(self, connection: Connection, position: int, seconds: float) -> int:
+        self._is_notified = False
+        if self._value(connection, "count") <= position and not self._is_notified:
+            readable = select.poll()
+            readable.register(connection.fileno(), select.POLLIN)
+            readable.poll(seconds * 1000)
+        return int(self._value(connection, "count"))
+
+    def _asked(self, session: _Session, call: Callable[[Connection], Answer]) -> Answer:
+        """What a call that changes nothing returns. If the connection was lost, it is called once more over another one."""
+        with suppress(psycopg.Error), session.use() as connection:
+            return call(connection)
+        try:
+            with session.use() as connection:
+                return call(connection)
+        except psycopg.Error as error:
+            raise LogFailed(f"the log can't be read: {error}") from error
+
+    def close(self) -> None:
+        """Closes the connections. A later call opens them again."""
+        self._main.close()
+        self._waiting.close()
+
+    def __enter__(self) -> PostgresLog:
+        return self
+
+    def __exit__(self, *_: object) -> None:
+        self.close()
