@@ -35,7 +35,8 @@ class Database:
 
     def start(self) -> None:
         """Starts PostgreSQL, and waits until it answers."""
-        words = [f"{self._programs}/postgres", "-D", f"{self.folder}/data", "-k", f"{self.folder}", *OPTIONS]
+        # It ends when this process does, even if that is killed.
+        words = ["setpriv", "--pdeathsig=QUIT", f"{self._programs}/postgres", "-D", f"{self.folder}/data", "-k", f"{self.folder}", *OPTIONS]
         with open(self.folder / "said", "ab") as said:
             self._server = subprocess.Popen(words, stdout=said, stderr=said, cwd="/", start_new_session=True, **self._as)
         while self.is_running():
