@@ -32,7 +32,11 @@ def try_example(tally, program):
         tally.skip("the transcript of examples/cluster", "embed/build" if stand_ins.nacl else "PyNaCl")
     else:
         ran = subprocess.run([sys.executable, EXAMPLE / "run", program], capture_output=True, text=True)
-        tally.tell("examples/cluster/transcript.txt", ran.stdout == (EXAMPLE / "transcript.txt").read_text("utf-8"), ran.stdout + ran.stderr)
+        tally.tell(
+            "examples/cluster/transcript.txt",
+            ran.stdout == (EXAMPLE / "transcript.txt").read_text("utf-8"),
+            ran.stdout + ran.stderr,
+        )
     if not tools.has("mypy"):
         return tally.skip("the types of examples/cluster", "mypy")
     words = ["mypy", "--strict", "--cache-dir", os.devnull, "--python-executable", sys.executable, EXAMPLE / "run"]

@@ -25,7 +25,9 @@ class Database:
         self.folder, self.conninfo = folder, f"host={folder} dbname=postgres user={USER}"
         if self._as:
             shutil.chown(folder, USER, USER)
-        self._run("initdb", "--no-sync", "--auth=trust", f"--username={USER}", "--wal-segsize=1", "--locale=C", f"--pgdata={folder}/data")
+        self._run(
+            "initdb", "--no-sync", "--auth=trust", f"--username={USER}", "--wal-segsize=1", "--locale=C", f"--pgdata={folder}/data"
+        )
         self.start()
 
     def _run(self, program: str, *words: str) -> None:
@@ -36,7 +38,16 @@ class Database:
     def start(self) -> None:
         """Starts PostgreSQL, and waits until it answers."""
         # It ends when this process does, even if that is killed.
-        words = ["setpriv", "--pdeathsig=QUIT", f"{self._programs}/postgres", "-D", f"{self.folder}/data", "-k", f"{self.folder}", *OPTIONS]
+        words = [
+            "setpriv",
+            "--pdeathsig=QUIT",
+            f"{self._programs}/postgres",
+            "-D",
+            f"{self.folder}/data",
+            "-k",
+            f"{self.folder}",
+            *OPTIONS,
+        ]
         with open(self.folder / "said", "ab") as said:
             self._server = subprocess.Popen(words, stdout=said, stderr=said, cwd="/", start_new_session=True, **self._as)
         while self.is_running():

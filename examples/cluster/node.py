@@ -13,7 +13,9 @@ from coniks.replica import Replica
 _SPAWN = multiprocessing.get_context("spawn")
 
 
-def _serve(pipe: Any, program: str, open_log: Callable[[], Any], make_keys: Callable[[], Any], is_writer: bool, nonce: Optional[bytes]) -> None:
+def _serve(
+    pipe: Any, program: str, open_log: Callable[[], Any], make_keys: Callable[[], Any], is_writer: bool, nonce: Optional[bytes]
+) -> None:
     """Answers calls. The first one opens the directory; once it was overtaken, the next one opens a replica."""
     opened: Union[Provider, Replica, None] = None
     keys, answer = make_keys(), None
@@ -41,7 +43,14 @@ def _serve(pipe: Any, program: str, open_log: Callable[[], Any], make_keys: Call
 class Node:
     """The side that calls the process, from several threads. `make_keys` returns what has `policy`, `index`, `sign`, `verify`."""
 
-    def __init__(self, program: str, open_log: Callable[[], Any], make_keys: Callable[[], Any], is_writer: bool, nonce: Optional[bytes] = None):
+    def __init__(
+        self,
+        program: str,
+        open_log: Callable[[], Any],
+        make_keys: Callable[[], Any],
+        is_writer: bool,
+        nonce: Optional[bytes] = None,
+    ):
         self._pipe, other = _SPAWN.Pipe()
         self.process = _SPAWN.Process(target=_serve, args=(other, program, open_log, make_keys, is_writer, nonce), daemon=True)
         self.process.start()

@@ -65,7 +65,9 @@ def lose(log, call):
 
 
 def try_log(tell):
-    with tempfile.TemporaryDirectory() as folder, Database(Path(folder)) as database, PostgresLog(database.conninfo, patience=1) as mine, PostgresLog(database.conninfo) as other, PostgresLog(database.conninfo, "odd name") as third:
+    with tempfile.TemporaryDirectory() as folder, Database(Path(folder)) as database, PostgresLog(
+        database.conninfo, patience=1
+    ) as mine, PostgresLog(database.conninfo) as other, PostgresLog(database.conninfo, "odd name") as third:
         asked = lambda query: psycopg.connect(database.conninfo, autocommit=True).execute(query)
         mine.append(0, b"first")
         raises(tell, "log: a position that is taken", Overtaken, lambda: other.append(0, b"second"))
@@ -75,7 +77,10 @@ def try_log(tell):
         for number in range(1, 100):
             (mine, other)[number % 2].append(number, b"%d" % number)
         third.append(0, bytes(3_000_000))
-        tell("log: the lines are read", list(mine.read(0)) == [b"first", *(b"%d" % it for it in range(1, 100))] == list(other.read(0)))
+        tell(
+            "log: the lines are read",
+            list(mine.read(0)) == [b"first", *(b"%d" % it for it in range(1, 100))] == list(other.read(0)),
+        )
         tell("log: from a position on", list(mine.read(98)) == [b"98", b"99"] and list(mine.read(100)) == [])
         tell("log: another table", list(third.read(0)) == [bytes(3_000_000)])
         lose(mine, mine._insert)
@@ -98,9 +103,19 @@ def try_log(tell):
         tell("log: a line before a missing one", next(lines) == b"49")
         raises(tell, "log: a missing line", LogFailed, lambda: next(lines))
         raises(tell, "log: nothing is appended in its place", LogFailed, lambda: mine.append(51, b""))
-        raises(tell, "log: a commit that may be lost", LogFailed, lambda: PostgresLog(f"{database.conninfo} options='-c synchronous_commit=off'"))
+        raises(
+            tell,
+            "log: a commit that may be lost",
+            LogFailed,
+            lambda: PostgresLog(f"{database.conninfo} options='-c synchronous_commit=off'"),
+        )
         database.kill()
-        for what, call in [("an append", lambda: mine.append(105, b"")), ("a read", lambda: list(mine.read(0))), ("a wait", lambda: mine.wait(0, 1)), ("an open", lambda: PostgresLog(database.conninfo))]:
+        for what, call in [
+            ("an append", lambda: mine.append(105, b"")),
+            ("a read", lambda: list(mine.read(0))),
+            ("a wait", lambda: mine.wait(0, 1)),
+            ("an open", lambda: PostgresLog(database.conninfo)),
+        ]:
             raises(tell, f"log: {what} without PostgreSQL", LogFailed, call)
         database.start()
         mine.append(105, b"later")
@@ -126,10 +141,17 @@ def try_replica(tell, program):
         for epoch in (1, 2):
             own.commit(epoch, [Register(f"user-{epoch}", b"key")])
         tell("replica: it follows", soon(lambda: replica.latest() == own.latest()))
-        answers = [[it.lookup(name, epoch).line for name in ("user-1", "user-2", "no") for epoch in (1, 2)] for it in (own, replica)]
-        tell("replica: the answers are the provider's", answers[0] == answers[1] and own.chain() == replica.chain() == list(provider.entries(log)))
+        answers = [
+            [it.lookup(name, epoch).line for name in ("user-1", "user-2", "no") for epoch in (1, 2)] for it in (own, replica)
+        ]
+        tell(
+            "replica: the answers are the provider's",
+            answers[0] == answers[1] and own.chain() == replica.chain() == list(provider.entries(log)),
+        )
         tell("replica: the chain from an epoch on", replica.chain(1) == own.chain()[1:] and audited(own.chain(), Salted(), False))
-        tell("replica: no lag", soon(lambda: replica.lag().lines == 0 and replica.lag().seconds < 2 and replica.lag().error is None))
+        tell(
+            "replica: no lag", soon(lambda: replica.lag().lines == 0 and replica.lag().seconds < 2 and replica.lag().error is None)
+        )
         log.is_silent = True
         own.commit(3, [])
         tell("replica: it follows without a notification", soon(lambda: replica.latest().epoch == 3))
@@ -140,7 +162,10 @@ def try_replica(tell, program):
         log.is_gone = True
         own.commit(5, [])
         time.sleep(0.3)
-        tell("replica: a log that can't be read", soon(lambda: replica.lag().lines == 2 and isinstance(replica.lag().error, LogFailed)))
+        tell(
+            "replica: a log that can't be read",
+            soon(lambda: replica.lag().lines == 2 and isinstance(replica.lag().error, LogFailed)),
+        )
         tell("replica: the lag grows, and lookups go on", replica.lag().seconds > 0.3 and replica.lookup("user-1").epoch == 4)
         raises(tell, "replica: a promotion without the log", LogFailed, lambda: lead(replica, signer))
         log.is_gone = False
@@ -149,7 +174,10 @@ def try_replica(tell, program):
         own.commit(6, [])
         with lead(replica, signer) as new:
             tell("promotion: only what wasn't read is replayed", log.reads and min(log.reads) >= position, log.reads)
-            tell("promotion: the last lines are read", new.commit(7, [Register("seven", b"key")]).epoch == 7 and new.lookup("seven").epoch == 7)
+            tell(
+                "promotion: the last lines are read",
+                new.commit(7, [Register("seven", b"key")]).epoch == 7 and new.lookup("seven").epoch == 7,
+            )
             raises(tell, "promotion: the replica is closed", provider.Closed, replica.latest)
             raises(tell, "promotion: the old provider", Overtaken, lambda: own.commit(7, [Register("other", b"key")]))
             raises(tell, "promotion: the old provider's next call", provider.RestartNeeded, own.latest)
@@ -173,7 +201,10 @@ def try_pending(tell, program):
         log.after = take
         raises(tell, "pending: the old provider", Overtaken, lambda: own.commit(1, [Register("alice", b"key")]))
         with taken[0] as new:
-            tell("pending: it is installed", new.latest().epoch == 1 and new.pending is None and new.lookup("alice").entry == next(provider.entries(log)))
+            tell(
+                "pending: it is installed",
+                new.latest().epoch == 1 and new.pending is None and new.lookup("alice").entry == next(provider.entries(log)),
+            )
             tell("pending: one body", signer.is_asked_once() and len(log.lines) == 3)
             raises(tell, "pending: its number is spent", provider.EpochNotLater, lambda: new.commit(1, []), latest=1)
 
@@ -188,7 +219,9 @@ def try_wrong(tell, program):
             with Replica(lines, program, index, policy=POLICY) as other:
                 lines.lines += [it.replace(old, old + b"f") if number == at else it for number, it in enumerate(log.lines)][1:]
                 tell(f"replica: another {what} stops it", soon(lambda: isinstance(other.lag().error, provider.ReplayDiffers)))
-                raised = raises(tell, f"replica: each call then, another {what}", provider.RestartNeeded, lambda: other.lookup("alice"))
+                raised = raises(
+                    tell, f"replica: each call then, another {what}", provider.RestartNeeded, lambda: other.lookup("alice")
+                )
                 tell(f"replica: the cause, another {what}", isinstance(raised.__cause__, provider.ReplayDiffers))
                 lines.lines[:] = log.lines
                 other.restart()

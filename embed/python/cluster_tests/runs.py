@@ -191,7 +191,9 @@ class Cluster:
     def cut_connections(self):
         with psycopg.connect(self.database.conninfo, autocommit=True) as own:
             for _ in range(self.chance.randrange(1, 20)):
-                own.execute("SELECT pg_terminate_backend(pid) FROM pg_stat_activity WHERE application_name = 'coniks_log' AND random() < 0.7")
+                own.execute(
+                    "SELECT pg_terminate_backend(pid) FROM pg_stat_activity WHERE application_name = 'coniks_log' AND random() < 0.7"
+                )
                 time.sleep(self.chance.uniform(0, 0.02))
 
     def start_writers(self):
@@ -228,7 +230,9 @@ class Cluster:
         found = [[it.surely("lookup", *name) for name in sample] for it in self.members]
         probes = [(it.surely("chain"), it.surely("latest"), [at.line for at in of]) for it, of in zip(self.members, found)]
         yield "each acknowledged epoch is in the log", {epoch.entry for epoch, _ in self.acknowledged} <= set(chain)
-        yield "each acknowledged key is shown", all(shown(it) == recent.get((it.name, it.epoch), shown(it)) for it in found[-1][: len(recent)])
+        yield "each acknowledged key is shown", all(
+            shown(it) == recent.get((it.name, it.epoch), shown(it)) for it in found[-1][: len(recent)]
+        )
         yield "each entry shown is in the log", self.entries <= set(chain)
         yield "each lookup has its answer", all(self.shown.get((it.name, it.epoch), digest(it)) == digest(it) for it in found[0])
         yield "one body for each epoch", all(len(it) == 1 for it in asked)
@@ -240,7 +244,14 @@ class Cluster:
         self.wrong = []
 
 
-FAULTS = [Cluster.kill_writer, Cluster.pause_writer, Cluster.kill_database, Cluster.cut_connections, Cluster.start_writers, Cluster.fill_disk]
+FAULTS = [
+    Cluster.kill_writer,
+    Cluster.pause_writer,
+    Cluster.kill_database,
+    Cluster.cut_connections,
+    Cluster.start_writers,
+    Cluster.fill_disk,
+]
 
 
 def digest(found):

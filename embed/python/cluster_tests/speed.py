@@ -65,7 +65,9 @@ def main(program, names=100_000, seconds=3, rounds=5):
         found = [(rate(replicas[:1], seconds), rate(replicas, seconds)) for _ in range(rounds)]
         one, three = map(statistics.median, zip(*found))
         ratio = statistics.median(b / a for a, b in found)
-        print(f"lookups a second: {one:.0f} of one replica, {three:.0f} of three, median ratio {ratio:.2f}; load {os.getloadavg()[0]:.1f}")
+        print(
+            f"lookups a second: {one:.0f} of one replica, {three:.0f} of three, median ratio {ratio:.2f}; load {os.getloadavg()[0]:.1f}"
+        )
         for it in replicas:
             it.communicate()
         for behind in (0, 1, 10):
@@ -78,7 +80,9 @@ def main(program, names=100_000, seconds=3, rounds=5):
             log.end, start = None, time.monotonic()
             new = replica.promote(KEYS.sign)
             took = time.monotonic() - start
-            print(f"takeover: {took:.3f} s by a standby that lacks {behind} batches of {BATCH} names; a replay of all {replayed:.2f} s")
+            print(
+                f"takeover: {took:.3f} s by a standby that lacks {behind} batches of {BATCH} names; a replay of all {replayed:.2f} s"
+            )
             own.close()
             own = new
         own.close()

@@ -469,7 +469,9 @@ class Provider(Directory):
             raise
 
     @classmethod
-    def _over(cls, directory: Directory, sign: Callable[[bytes], bytes], verify: Optional[Callable[[bytes, bytes], bool]]) -> Provider:
+    def _over(
+        cls, directory: Directory, sign: Callable[[bytes], bytes], verify: Optional[Callable[[bytes, bytes], bool]]
+    ) -> Provider:
         """A provider that goes on with the engine of another directory."""
         provider = cls.__new__(cls)
         Directory.__init__(provider, directory._new, directory._index, directory._engine)

@@ -115,16 +115,25 @@ def check(tell, what, room, program, kind, library):
     with FileLog(room / "log") as log, opened(program, log, signer) as provider:
         by_epoch = {int.from_bytes(it[1:9], "big"): it for it in entries(log)}
         acknowledged = [json.loads(it) for it in lines(room / "acknowledged")]
-        tell(f"{what}: each acknowledged epoch is in the log", all(by_epoch.get(epoch) == bytes.fromhex(entry) for epoch, entry, _ in acknowledged))
+        tell(
+            f"{what}: each acknowledged epoch is in the log",
+            all(by_epoch.get(epoch) == bytes.fromhex(entry) for epoch, entry, _ in acknowledged),
+        )
         for epoch, entry, keys in acknowledged[-20:]:
             found = provider.lookups(keys, epoch)
             said = {it.name: base64.b64encode(shown(it) or b"").decode() for it in found}
             tell(f"{what}: epoch {epoch} has its keys", said == keys and all(it.entry.hex() == entry for it in found), (said, keys))
-        tell(f"{what}: each entry shown is in the chain", all(it in by_epoch.values() for it in map(bytes.fromhex, lines(room / "shown"))))
+        tell(
+            f"{what}: each entry shown is in the chain",
+            all(it in by_epoch.values() for it in map(bytes.fromhex, lines(room / "shown"))),
+        )
         tell(f"{what}: one body for each epoch", signer.is_asked_once(), signer.asked())
         tell(f"{what}: the chain is audited", audited(entries(log), signer.keys, library))
         latest = provider.latest()
-        tell(f"{what}: nothing is pending, and the latest is the log's", provider.pending is None and latest.epoch == max(by_epoch, default=0))
+        tell(
+            f"{what}: nothing is pending, and the latest is the log's",
+            provider.pending is None and latest.epoch == max(by_epoch, default=0),
+        )
     return len(acknowledged), len(lines(room / "shown"))
 
 

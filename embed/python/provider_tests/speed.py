@@ -23,7 +23,10 @@ def main(program, names=100_000, lookups=20_000):
                     provider.commit(epoch, made)
                 tell("commits", names, "names", time.monotonic() - start)
                 asked = [f"user-{chance.randrange(names)}" for _ in range(lookups)]
-                for what, look in [("lookup", lambda: [provider.lookup(it) for it in asked]), ("lookups", lambda: provider.lookups(asked))]:
+                for what, look in [
+                    ("lookup", lambda: [provider.lookup(it) for it in asked]),
+                    ("lookups", lambda: provider.lookups(asked)),
+                ]:
                     start, user = time.monotonic(), resource.getrusage(resource.RUSAGE_SELF).ru_utime
                     found = look()
                     took, used = time.monotonic() - start, resource.getrusage(resource.RUSAGE_SELF).ru_utime - user

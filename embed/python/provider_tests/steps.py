@@ -235,7 +235,10 @@ def fill(tell, room, program, rounds, library):
                 os.truncate(ballast, ballast.stat().st_size - (16 << 10))
             with FileLog(room / "log") as log, opened(program, log, signer) as provider:
                 by_epoch = {int.from_bytes(it[1:9], "big"): it for it in entries(log)}
-                tell(f"full disk {turn}: each acknowledged epoch is there", all(by_epoch.get(it) == entry for it, entry in there.items()))
+                tell(
+                    f"full disk {turn}: each acknowledged epoch is there",
+                    all(by_epoch.get(it) == entry for it, entry in there.items()),
+                )
                 tell(f"full disk {turn}: one body for each epoch", signer.is_asked_once())
                 tell(f"full disk {turn}: the chain is audited", audited(entries(log), signer.keys, library))
         tell("full disk: epochs were acknowledged", len(there) > rounds, len(there))

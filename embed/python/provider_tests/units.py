@@ -26,7 +26,10 @@ FAULTS = {
     "BoardFull": {}, "NotPrepared": {}, "UnknownEpoch": {},
 }  # fmt: skip
 OPEN = '{"ok":"open"}'
-PREPARED = '{"body":"%s","epoch":1,"nodes":1,"ok":"prepare","root":"%s"}' % ("01" + "00" * 7 + "01" + "00" * 8 + "aa" * 32 + "00" * 64 + POLICY.hex(), "aa" * 32)
+PREPARED = '{"body":"%s","epoch":1,"nodes":1,"ok":"prepare","root":"%s"}' % (
+    "01" + "00" * 7 + "01" + "00" * 8 + "aa" * 32 + "00" * 64 + POLICY.hex(),
+    "aa" * 32,
+)
 
 
 class Room:
@@ -94,12 +97,22 @@ def try_named_faults(tell):
     tell("faults: each has a class", {it.__name__ for it in provider.Fault.__subclasses__()} == FAULTS.keys())
     for name, members in FAULTS.items():
         with tempfile.TemporaryDirectory() as room:
-            program = faked(room, [OPEN, json.dumps({"fault": name} | members), '{"epoch":0,"link":"%s","names":0,"nodes":0,"ok":"latest"}' % ("0" * 64)])
+            program = faked(
+                room,
+                [
+                    OPEN,
+                    json.dumps({"fault": name} | members),
+                    '{"epoch":0,"link":"%s","names":0,"nodes":0,"ok":"latest"}' % ("0" * 64),
+                ],
+            )
             with Provider(program, index, Salted().sign, OneLine(), policy=POLICY) as it:
                 whole = {part: members.get(part) for part in ("position", "latest", "member")}
                 raised = raises(tell, f"fault {name}", getattr(provider, name), lambda: it.commit(1, []), **whole)
                 for copied in (copy.copy(raised), pickle.loads(pickle.dumps(raised))):
-                    tell(f"fault {name}, copied", type(copied) is type(raised) and str(copied) == str(raised) and vars(copied) == vars(raised))
+                    tell(
+                        f"fault {name}, copied",
+                        type(copied) is type(raised) and str(copied) == str(raised) and vars(copied) == vars(raised),
+                    )
                 tell(f"fault {name}: the provider goes on", it.latest().epoch == 0)
 
 
@@ -108,28 +121,50 @@ def try_real_faults(tell, program):
     known = {}
     with Room(program) as it, tempfile.TemporaryDirectory() as other:
         by_name = lambda name: known.get(name) or index(name)
-        with FileLog(Path(other) / "log") as log, Provider(program, by_name, it.signer.keys.sign, log, policy=POLICY, workers=2, depth=3) as own:
+        with FileLog(Path(other) / "log") as log, Provider(
+            program, by_name, it.signer.keys.sign, log, policy=POLICY, workers=2, depth=3
+        ) as own:
             first = own.commit(5, [Register("alice", b"key"), Register("bob", b"key")])
             before, size = own.latest(), os.path.getsize(Path(other) / "log")
             known["alice"] = known["dora"] = index("bob")
             long = "x" * 256
             for what, error, call, attributes in [
-                ("a name too long", "NameLength", lambda: own.commit(6, [Register("carl", b"k"), Register(long, b"k")]), {"position": 1}),
+                (
+                    "a name too long",
+                    "NameLength",
+                    lambda: own.commit(6, [Register("carl", b"k"), Register(long, b"k")]),
+                    {"position": 1},
+                ),
                 ("an empty key", "KeyLength", lambda: own.commit(6, [Register("carl", b"")]), {"position": 0}),
                 ("a key too long", "KeyLength", lambda: own.commit(6, [Register("carl", bytes(16385))]), {"position": 0}),
-                ("a name twice", "NameTwice", lambda: own.commit(6, [Register("carl", b"k"), Register("carl", b"k")]), {"position": 1}),
+                (
+                    "a name twice",
+                    "NameTwice",
+                    lambda: own.commit(6, [Register("carl", b"k"), Register("carl", b"k")]),
+                    {"position": 1},
+                ),
                 ("a name taken", "NameTaken", lambda: own.commit(6, [Register("bob", b"k")]), {"position": 0}),
                 ("a name unknown", "NameUnknown", lambda: own.commit(6, [Change("carl", b"k")]), {"position": 0}),
                 ("another index", "OtherIndex", lambda: own.commit(6, [Change("alice", b"k")]), {"position": 0}),
                 ("an index twice", "IndexClash", lambda: own.commit(6, [Register("dora", b"k")]), {"position": 0}),
-                ("too many", "BatchTooLong", lambda: own.commit(6, [Register(f"user-{n}", b"k") for n in range(4097)]), {"position": None}),
+                (
+                    "too many",
+                    "BatchTooLong",
+                    lambda: own.commit(6, [Register(f"user-{n}", b"k") for n in range(4097)]),
+                    {"position": None},
+                ),
                 ("an epoch not later", "EpochNotLater", lambda: own.commit(5, []), {"latest": 5}),
                 ("epoch 0", "EpochNotLater", lambda: own.commit(0, []), {"latest": 5}),
                 ("nothing pending", "NotPrepared", own.retry, {}),
                 ("an epoch that isn't there", "UnknownEpoch", lambda: own.lookup("bob", 4), {}),
                 ("an empty name", "NameLength", lambda: own.lookup(""), {"position": None}),
                 ("another index of a lookup", "OtherIndex", lambda: own.lookup("alice"), {"position": None}),
-                ("one of many lookups", "OtherIndex", lambda: own.lookups(["bob"] * 500 + ["alice"] + ["bob"] * 500), {"position": None}),
+                (
+                    "one of many lookups",
+                    "OtherIndex",
+                    lambda: own.lookups(["bob"] * 500 + ["alice"] + ["bob"] * 500),
+                    {"position": None},
+                ),
             ]:
                 raises(tell, f"fault: {what}", getattr(provider, error), call, **attributes)
                 tell(f"fault: {what}, changes nothing", own.latest() == before and os.path.getsize(Path(other) / "log") == size)
@@ -139,7 +174,7 @@ def try_real_faults(tell, program):
             tell("an older epoch is looked up", own.lookup("bob", 5).entry == first.entry and shown(own.lookup("bob", 5)) == b"key")
             tell("the latest epoch is looked up", own.lookup("bob").entry == second.entry and shown(own.lookup("bob")) == b"other")
             tell("a name that isn't there", shown(own.lookup("nobody")) is None)
-            many = own.lookups(["bob", "nobody", "bob é \" \\ \u0001"] * 300)
+            many = own.lookups(["bob", "nobody", 'bob é " \\ \u0001'] * 300)
             tell("many lookups are those of each", [shown(it) for it in many] == [b"other", None, None] * 300)
             tell("many lookups of none", own.lookups([]) == [])
             tell("the latest", own.latest().link == second.link and own.latest().names == 2 and own.latest().epoch == 6)
@@ -147,8 +182,14 @@ def try_real_faults(tell, program):
             tell("the log has the links", kept == [first.link, second.link])
         said = subprocess.run([program, *["--workers", "1"]], stdin=open(Path(other) / "log", "rb"), capture_output=True)
         made = [json.loads(line) for line in said.stdout.splitlines()]
-        tell("the log is a script of the program", said.returncode == 0 and [line["ok"] for line in made] == ["open", *["prepare", "install"] * 2])
-        tell("the script gives the entries", [line["entry"] for line in made if "entry" in line] == [first.entry.hex(), second.entry.hex()])
+        tell(
+            "the log is a script of the program",
+            said.returncode == 0 and [line["ok"] for line in made] == ["open", *["prepare", "install"] * 2],
+        )
+        tell(
+            "the script gives the entries",
+            [line["entry"] for line in made if "entry" in line] == [first.entry.hex(), second.entry.hex()],
+        )
 
 
 def try_arguments(tell, program):
@@ -172,8 +213,16 @@ def try_arguments(tell, program):
             ("a short nonce", ValueError, {"nonce": b"short"}),
             ("workers of text", TypeError, {"workers": "2"}),
         ]:
-            raises(tell, f"arguments: {what}", error, lambda: Provider(program, index, Salted().sign, OneLine(), **{"policy": POLICY, **more}))
-        for what, error, wrong in [("an index of 31 bytes", ValueError, lambda _: bytes(31)), ("an index of text", TypeError, lambda _: "0" * 32)]:
+            raises(
+                tell,
+                f"arguments: {what}",
+                error,
+                lambda: Provider(program, index, Salted().sign, OneLine(), **{"policy": POLICY, **more}),
+            )
+        for what, error, wrong in [
+            ("an index of 31 bytes", ValueError, lambda _: bytes(31)),
+            ("an index of text", TypeError, lambda _: "0" * 32),
+        ]:
             with Provider(program, wrong, Salted().sign, OneLine(), policy=POLICY) as other:
                 raises(tell, f"arguments: {what}", error, lambda: other.lookup("alice"))
         tell("arguments: the provider goes on", own.commit(1, [Register("alice", b"key")]).epoch == 1)
@@ -205,7 +254,11 @@ def try_program(tell, program):
         ("prints another entry", [OPEN, PREPARED, installed % ("01" * 209, "00" * 32, "aa" * 32)], {}),
         ("prints another epoch", [OPEN, PREPARED, installed.replace('epoch":1', 'epoch":2') % (entry, "00" * 32, "aa" * 32)], {}),
         ("prints another root", [OPEN, PREPARED, installed % (entry, "00" * 32, "ab" * 32)], {}),
-        ("prints a text for the epoch", [OPEN, PREPARED, installed.replace('epoch":1', 'epoch":"1"') % (entry, "00" * 32, "aa" * 32)], {}),
+        (
+            "prints a text for the epoch",
+            [OPEN, PREPARED, installed.replace('epoch":1', 'epoch":"1"') % (entry, "00" * 32, "aa" * 32)],
+            {},
+        ),
         ("is too slow", [OPEN, "wait 60"], {"timeout": 2}),
     ]:
         with tempfile.TemporaryDirectory() as room:
@@ -213,7 +266,9 @@ def try_program(tell, program):
 
             def start():
                 nonlocal own
-                own = Provider(faked(room, answers), index, lambda body: bytes(64), OneLine(), policy=POLICY, **{"timeout": 20, **more})
+                own = Provider(
+                    faked(room, answers), index, lambda body: bytes(64), OneLine(), policy=POLICY, **{"timeout": 20, **more}
+                )
                 return own.commit(1, [])
 
             begun = time.monotonic()
@@ -222,15 +277,28 @@ def try_program(tell, program):
             if own:
                 raises(tell, f"the program {what}: the next call", provider.RestartNeeded, own.latest)
                 own.close()
-    raises(tell, "a program that isn't there", provider.ProgramFailed, lambda: Provider("/nowhere/provider", index, Salted().sign, OneLine(), policy=POLICY))
+    raises(
+        tell,
+        "a program that isn't there",
+        provider.ProgramFailed,
+        lambda: Provider("/nowhere/provider", index, Salted().sign, OneLine(), policy=POLICY),
+    )
     with Room(program, timeout=60) as it:
         made = it.provider.commit(1, [Register(f"user-{n}", bytes(16000)) for n in range(200)])
         os.kill(it.provider.pid, signal.SIGKILL)
         raises(tell, "a child that was killed", provider.ProgramFailed, lambda: it.provider.lookup("user-1"))
-        for call in [it.provider.latest, it.provider.retry, lambda: it.provider.commit(2, []), lambda: it.provider.lookups(["user-1"])]:
+        for call in [
+            it.provider.latest,
+            it.provider.retry,
+            lambda: it.provider.commit(2, []),
+            lambda: it.provider.lookups(["user-1"]),
+        ]:
             raises(tell, "a child that was killed: each call", provider.RestartNeeded, call)
         it.provider.restart()
-        tell("a child that was killed: restart", it.provider.lookup("user-1").entry == made.entry and it.provider.latest().names == 200)
+        tell(
+            "a child that was killed: restart",
+            it.provider.lookup("user-1").entry == made.entry and it.provider.latest().names == 200,
+        )
         before = it.provider.pid
         it.provider.restart()
         tell("a restart without need", it.provider.pid != before and it.provider.latest().epoch == 1)
@@ -246,9 +314,25 @@ def try_signer(tell, program):
             raises(tell, f"a signer that {what}", provider.SignerFailed, lambda: own.commit(3, mine))
             it.signer.keys = Salted()
             tell(f"a signer that {what}: it is pending", own.pending and own.pending.epoch == 3 and own.latest().epoch == 0)
-        raises(tell, "other operations under the number", provider.EpochSpent, lambda: own.commit(3, [Register("alice", b"other")]), epoch=3, asked=3)
-        raises(tell, "other openings under the number", provider.EpochSpent, lambda: own.commit(3, [Register("alice", b"key")]), epoch=3, asked=3)
-        raises(tell, "the same operations under a number before", provider.EpochSpent, lambda: own.commit(2, mine), epoch=2, asked=3)
+        raises(
+            tell,
+            "other operations under the number",
+            provider.EpochSpent,
+            lambda: own.commit(3, [Register("alice", b"other")]),
+            epoch=3,
+            asked=3,
+        )
+        raises(
+            tell,
+            "other openings under the number",
+            provider.EpochSpent,
+            lambda: own.commit(3, [Register("alice", b"key")]),
+            epoch=3,
+            asked=3,
+        )
+        raises(
+            tell, "the same operations under a number before", provider.EpochSpent, lambda: own.commit(2, mine), epoch=2, asked=3
+        )
         raises(tell, "a refused batch under a later number", provider.NameUnknown, lambda: own.commit(4, [Change("bob", b"k")]))
         tell("a refused batch: the update is still pending", own.pending.epoch == 3)
         it.signer.fails = 1
@@ -259,11 +343,18 @@ def try_signer(tell, program):
         raises(tell, "the next fails", provider.SignerFailed, lambda: own.commit(5, [Change("alice", b"5")]))
         tell("a retry", own.retry().epoch == 5 and shown(own.lookup("alice")) == b"5")
         it.signer.fails = 1
-        raises(tell, "the third fails", provider.SignerFailed, lambda: own.commit(6, [Change("alice", b"6"), Register("six", b"6")]))
+        raises(
+            tell, "the third fails", provider.SignerFailed, lambda: own.commit(6, [Change("alice", b"6"), Register("six", b"6")])
+        )
         it.signer.fails = 1
         raises(tell, "a later epoch fails too", provider.SignerFailed, lambda: own.commit(8, [Change("alice", b"8")]))
         raises(tell, "the number before", provider.EpochSpent, lambda: own.commit(7, [Change("alice", b"7")]), epoch=7, asked=8)
-        tell("a later epoch", own.commit(9, [Change("alice", b"9")]).epoch == 9 and shown(own.lookup("alice")) == b"9" and shown(own.lookup("six")) is None)
+        tell(
+            "a later epoch",
+            own.commit(9, [Change("alice", b"9")]).epoch == 9
+            and shown(own.lookup("alice")) == b"9"
+            and shown(own.lookup("six")) is None,
+        )
         # And after a restart.
         it.signer.fails = 1
         raises(tell, "before a restart", provider.SignerFailed, lambda: own.commit(10, [Change("alice", b"10")]))
@@ -272,7 +363,9 @@ def try_signer(tell, program):
         it.log.close()
         it.start_again(sign_pending=False)
         own = it.provider
-        tell("a start that doesn't sign", own.pending.epoch == 10 and own.latest().epoch == 9 and shown(own.lookup("alice")) == b"9")
+        tell(
+            "a start that doesn't sign", own.pending.epoch == 10 and own.latest().epoch == 9 and shown(own.lookup("alice")) == b"9"
+        )
         raises(tell, "after a restart: other operations", provider.EpochSpent, lambda: own.commit(10, [Change("alice", b"other")]))
         it.signer.fails = 1
         raises(tell, "a restart whose signer fails", provider.SignerFailed, own.restart)
@@ -308,7 +401,11 @@ def try_logs(tell, program):
             ("no body", provider.ReplayDiffers, wrong(1, b'"body"', b'"bode"')),
             ("an edited key", provider.ReplayDiffers, wrong(1, b'"key":"a2V5"', b'"key":"a2V6"')),
             ("an edited link", provider.ReplayDiffers, wrong(2, link, b'"link":"%02x' % (int(link[-2:], 16) ^ 1))),
-            ("an edited signature", provider.ReplayDiffers, wrong(2, b'"signature":"', b'"signature":"%s' % (b"0" * 128) + b'","signatures":"')),
+            (
+                "an edited signature",
+                provider.ReplayDiffers,
+                wrong(2, b'"signature":"', b'"signature":"%s' % (b"0" * 128) + b'","signatures":"'),
+            ),
             ("a line too few", provider.ReplayDiffers, whole[:1] + whole[2:]),
             ("no `open`", provider.ReplayDiffers, whole[1:]),
             ("no JSON", provider.LogFailed, wrong(1, b"{", b"[")),
@@ -344,7 +441,10 @@ def try_file(tell):
             raises(tell, "a position that is taken", provider.Overtaken, lambda: log.append(2, b"other"))
             raises(tell, "a position too far", ValueError, lambda: log.append(4, b"other"))
             raises(tell, "a line with a newline", ValueError, lambda: log.append(3, b"a\nb"))
-            tell("what was appended is read", list(log.read(0)) == [b"first", b"", b"x" * 3_000_000] and list(log.read(2)) == [b"x" * 3_000_000])
+            tell(
+                "what was appended is read",
+                list(log.read(0)) == [b"first", b"", b"x" * 3_000_000] and list(log.read(2)) == [b"x" * 3_000_000],
+            )
             forked = os.fork()
             if not forked:
                 try:
@@ -362,13 +462,20 @@ def try_file(tell):
                 there = list(log.read(0))
                 log.append(len(there), b"next")
             wanted = whole[:size].split(b"\n")[:-1]
-            tell(f"a log cut at {size}", there == wanted and file.read_bytes() == b"".join(it + b"\n" for it in [*wanted, b"next"]), there)
+            tell(
+                f"a log cut at {size}",
+                there == wanted and file.read_bytes() == b"".join(it + b"\n" for it in [*wanted, b"next"]),
+                there,
+            )
         synced, written, sync, write = [], [], os.fsync, os.pwrite
         file.write_bytes(b"first\nlast line\ncut")
         with mock.patch.object(os, "fsync", lambda place: (synced.append(stat.S_ISDIR(os.fstat(place).st_mode)), sync(place))):
             with mock.patch.object(os, "pwrite", lambda *it: (written.append(it[1:]), write(*it))[1]):
                 FileLog(file).close()
-        tell("a log that opens: the last line and the folder are synced", synced == [False, True] and written == [(b"last line\n", 6)])
+        tell(
+            "a log that opens: the last line and the folder are synced",
+            synced == [False, True] and written == [(b"last line\n", 6)],
+        )
         for what, text, wanted in [("zeros at the end", b"first\nsecond" + bytes(5000), [b"first"]), ("a line with zeros", b"first\nse" + bytes(5000) + b"d\n", [b"first"]),
                                    ("zeros alone", bytes(9), []), ("a long cut line", b"first\n" + b"x" * (3 << 20), [b"first"])]:  # fmt: skip
             file.write_bytes(text)
