@@ -35,10 +35,10 @@ fn main(rt: HostRuntime) -> Result<()> {
     if plan.is_measured {
         print_cost(&rt, start.elapsed(&rt)?)?;
     }
-    if let Some(crew) = &plan.crew {
-        print_builds(&rt, &registry, &plan, crew)?;
+    if let Some(parallelism) = &plan.parallelism {
+        print_builds(&rt, &registry, &plan, parallelism)?;
         print_lookups(&rt, &registry)?;
-        print_renewals(&rt, &registry, crew)?;
+        print_renewals(&rt, &registry, parallelism)?;
     }
     Ok(())
 }

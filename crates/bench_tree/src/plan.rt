@@ -9,7 +9,7 @@ use coniks_work::{MAX_DEPTH, MAX_WORKERS};
 
 /// So many workers, and the depth at which they cut a batch.
 #[derive(Drop)]
-pub struct Crew {
+pub struct Parallelism {
     /// 1 to `MAX_WORKERS`.
     pub workers: usize,
     /// 0 to `MAX_DEPTH` bits.
@@ -28,7 +28,7 @@ pub struct Plan {
     /// Whether the cost in seconds and memory is printed.
     pub is_measured: bool,
     /// Who builds one more batch, to be timed.
-    pub crew: Option<Crew>,
+    pub parallelism: Option<Parallelism>,
     ghost some: { 0 < batch },
 }
 
@@ -69,16 +69,16 @@ fn batches_of(indices: &str, batch: &str) -> Result<Plan> {
         indices,
         batch,
         is_measured: true,
-        crew: None,
+        parallelism: None,
     })
 }
 
 /// The crew that two words name.
-fn crew_of(workers: &str, depth: &str) -> Result<Crew> {
+fn parallelism_of(workers: &str, depth: &str) -> Result<Parallelism> {
     let workers = bounded(workers, MAX_WORKERS)?;
     let depth = bounded(depth, MAX_DEPTH)?;
     ensure!(workers >= 1, "a crew has at least one worker");
-    Ok(Crew { workers, depth })
+    Ok(Parallelism { workers, depth })
 }
 
 /// The plan that the words of the command line name, the program's own name first.
@@ -87,7 +87,7 @@ pub fn plan_of(words: &[String]) -> Result<Plan> {
         [_, indices, batch] => Ok(batches_of(indices, batch)?),
         [_, indices, batch, workers, depth] => {
             let mut plan = batches_of(indices, batch)?;
-            plan.crew = Some(crew_of(workers, depth)?);
+            plan.parallelism = Some(parallelism_of(workers, depth)?);
             Ok(plan)
         }
         _ => {
@@ -99,7 +99,7 @@ pub fn plan_of(words: &[String]) -> Result<Plan> {
                 indices: 1000,
                 batch: 64,
                 is_measured: false,
-                crew: None,
+                parallelism: None,
             })
         }
     }

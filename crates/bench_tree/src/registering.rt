@@ -6,7 +6,7 @@ ghost use Rattle.coniks_tree.specs.Table.{Extends};
 ghost use Rattle.coniks_tree.specs.declared.table.Record.{Record};
 
 use crate::counting::Counting;
-use crate::plan::{Crew, Plan};
+use crate::plan::{Parallelism, Plan};
 use coniks_proof::{Digest, Hash32, Index, Nonce, Prefix, Proof, Sha256Hash};
 use coniks_samples::{NONCE, add, changes_to, known, record_of};
 use coniks_tree::{Change, OutOfMemory, Part, Record, Root, Tree};
@@ -148,7 +148,7 @@ impl Registry {
         &self,
         rt: &R,
         changes: &[Change],
-        crew: &Crew,
+        parallelism: &Parallelism,
     ) -> Result<Part, OutOfMemory> {
         let latest = known(&self.tree, self.latest);
         Ok(build(
@@ -159,8 +159,8 @@ impl Registry {
             &self.tree,
             latest,
             changes,
-            crew.depth,
-            crew.workers,
+            parallelism.depth,
+            parallelism.workers,
             &Open,
         )?)
     }
@@ -186,7 +186,7 @@ impl Registry {
         &self,
         rt: &R,
         entries: &[Change],
-        crew: &Crew,
+        parallelism: &Parallelism,
     ) -> Result<Part, OutOfMemory> {
         Ok(build(
             rt,
@@ -196,8 +196,8 @@ impl Registry {
             &self.tree,
             None,
             entries,
-            crew.depth,
-            crew.workers,
+            parallelism.depth,
+            parallelism.workers,
             &Open,
         )?)
     }

@@ -1,6 +1,6 @@
 //! How long one more batch takes to be built, all names under another nonce, and a path to be found.
 
-use crate::plan::{Crew, Plan};
+use crate::plan::{Parallelism, Plan};
 use crate::registering::{Registry, index_of};
 use anyhow::Result;
 use coniks_proof::Index;
@@ -37,22 +37,27 @@ fn build_time<R: Threads + Sync + Clock>(
     rt: &R,
     registry: &Registry,
     changes: &[Change],
-    crew: &Crew,
+    parallelism: &Parallelism,
 ) -> Result<Duration> {
     let start = Instant::now(rt)?;
-    let part = registry.part(rt, changes, crew)?;
+    let part = registry.part(rt, changes, parallelism)?;
     let time = start.elapsed(rt)?;
     drop(part);
     Ok(time)
 }
 
 /// Prints the least of a crew's times for something, and the one in the middle.
-fn print_times<R: Print>(rt: &R, what: &str, crew: &Crew, mut times: Vec<Duration>) -> Result<()> {
+fn print_times<R: Print>(
+    rt: &R,
+    what: &str,
+    parallelism: &Parallelism,
+    mut times: Vec<Duration>,
+) -> Result<()> {
     times.sort_unstable();
     let (Some(least), Some(median)) = (times.first(), times.get(times.len() / 2)) else {
         return Ok(());
     };
-    let Crew { workers, depth } = crew;
+    let Parallelism { workers, depth } = parallelism;
     let (least, median) = (Micros(*least), Micros(*median));
     println!(rt; "{what}, workers {workers}, depth {depth}: {least} least, {median} median")?;
     Ok(())
@@ -63,11 +68,11 @@ pub fn print_builds<R: Threads + Sync + Clock + Print + AllocGlobal>(
     rt: &R,
     registry: &Registry,
     plan: &Plan,
-    crew: &Crew,
+    parallelism: &Parallelism,
 ) -> Result<()> {
     let to = plan.indices.saturating_add(plan.batch);
     let changes = registry.changes(plan.indices, to)?;
-    let one = Crew {
+    let one = Parallelism {
         workers: 1,
         depth: 0,
     };
@@ -75,10 +80,10 @@ pub fn print_builds<R: Threads + Sync + Clock + Print + AllocGlobal>(
     let mut together = Vec::with_capacity(rt.alloc(), REPEATS)?;
     for _ in 0..REPEATS {
         alone.push(build_time(rt, registry, &changes, &one)?)?;
-        together.push(build_time(rt, registry, &changes, crew)?)?;
+        together.push(build_time(rt, registry, &changes, parallelism)?)?;
     }
     print_times(rt, "batch", &one, alone)?;
-    print_times(rt, "batch", crew, together)?;
+    print_times(rt, "batch", parallelism, together)?;
     Ok(())
 }
 
@@ -86,11 +91,11 @@ pub fn print_builds<R: Threads + Sync + Clock + Print + AllocGlobal>(
 fn renewal_time<R: Threads + Sync + Clock>(
     rt: &R,
     registry: &Registry,
-    crew: &Crew,
+    parallelism: &Parallelism,
 ) -> Result<Duration> {
     let start = Instant::now(rt)?;
     let entries = registry.entries()?;
-    let part = registry.renewed(rt, &entries, crew)?;
+    let part = registry.renewed(rt, &entries, parallelism)?;
     let time = start.elapsed(rt)?;
     drop(part);
     Ok(time)
@@ -100,9 +105,9 @@ fn renewal_time<R: Threads + Sync + Clock>(
 pub fn print_renewals<R: Threads + Sync + Clock + Print + AllocGlobal>(
     rt: &R,
     registry: &Registry,
-    crew: &Crew,
+    parallelism: &Parallelism,
 ) -> Result<()> {
-    let one = Crew {
+    let one = Parallelism {
         workers: 1,
         depth: 0,
     };
@@ -110,10 +115,10 @@ pub fn print_renewals<R: Threads + Sync + Clock + Print + AllocGlobal>(
     let mut together = Vec::with_capacity(rt.alloc(), RENEWALS)?;
     for _ in 0..RENEWALS {
         alone.push(renewal_time(rt, registry, &one)?)?;
-        together.push(renewal_time(rt, registry, crew)?)?;
+        together.push(renewal_time(rt, registry, parallelism)?)?;
     }
     print_times(rt, "renewal", &one, alone)?;
-    print_times(rt, "renewal", crew, together)?;
+    print_times(rt, "renewal", parallelism, together)?;
     Ok(())
 }
 

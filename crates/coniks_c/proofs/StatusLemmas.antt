@@ -4,7 +4,7 @@ use Rattle.std.proofs.lemmas.Option.{same_Some}
 use Rattle.coniks_proof.specs.declared.checker.CheckFault.TheVariants.{TooDeep, NameLength, KeyLength, WrongName, OtherIsSame, OtherOffPath, RootMismatch}
 use Rattle.coniks_proof.specs.declared.wire.WireFault.TheVariants.{NoBytes, UnknownKind, CutInCount, CutInSiblings, CutInOther, CutInOpening, CutInName, CutInKey, BytesFollow}
 use Rattle.coniks_chain.specs.declared.auditor.AuditFault.TheVariants.{Version, VersionBack, FirstEpoch, NotLater, PreviousEpoch, PreviousLink, NonceChanged, Verdict}
-use Rattle.coniks_c.specs.Statuses.{status_of}
+use Rattle.coniks_c.specs.Statuses.{refusal_status}
 use Rattle.coniks_c.specs.declared.text.Refusal.{Refusal}
 use Rattle.coniks_c.specs.declared.text.Refusal.TheVariants.{Check, Wire, Audit, EntryLength, NoEntry}
 
@@ -38,7 +38,7 @@ refusal_at status =
     if status == 48 then Some EntryLength else (
     if status == 49 then Some NoEntry else (None))))))))))))))))))))))))))
 
-back : (r : Refusal) → refusal_at (status_of r) ≡ Some r
+back : (r : Refusal) → refusal_at (refusal_status r) ≡ Some r
 back (Check TooDeep) = refl
 back (Check NameLength) = refl
 back (Check KeyLength) = refl
@@ -66,5 +66,5 @@ back (Audit Verdict) = refl
 back EntryLength = refl
 back NoEntry = refl
 
-pub status_once : (r t : Refusal) → status_of r ≡ status_of t → r ≡ t
+pub status_once : (r t : Refusal) → refusal_status r ≡ refusal_status t → r ≡ t
 status_once r t same = same_Some r t (sym (back r) ∙ ap refusal_at same ∙ back t)

@@ -7,14 +7,15 @@ use Rattle.coniks_proof.specs.Wire.{IsWire}
 use Rattle.coniks_proof.specs.declared.checker.CheckFault.{CheckFault}
 use Rattle.coniks_proof.specs.declared.paths.Proof.{Proof}
 
--- the bytes are a proof's, which shows this answer under the root and the nonce
-abbrev pub Shows : List ℕ → List ℕ → List ℕ → List ℕ → List ℕ → Option (List ℕ) → Type 0
-Shows nonce root index name bytes answer = (proof : Proof) × IsWire bytes proof × Accepts sha256 nonce root index name proof answer
+-- the bytes are a proof that shows this answer under the root and the nonce
+abbrev pub ShowsAnswer : List ℕ → List ℕ → List ℕ → List ℕ → List ℕ → Option (List ℕ) → Type 0
+ShowsAnswer nonce root index name bytes answer = (proof : Proof) × IsWire bytes proof × Accepts sha256 nonce root index name proof answer
 
 -- the bytes are a proof's, of whose faults this is the first
-abbrev pub IsRefused : List ℕ → List ℕ → List ℕ → List ℕ → List ℕ → CheckFault → Type 0
-IsRefused nonce root index name bytes fault = (proof : Proof) × IsWire bytes proof × IsFirst (Has sha256 nonce root index name proof) fault
+abbrev pub IsRefusedCheck : List ℕ → List ℕ → List ℕ → List ℕ → List ℕ → CheckFault → Type 0
+IsRefusedCheck nonce root index name bytes fault = (proof : Proof)
+    × IsWire bytes proof × IsFirst (Has sha256 nonce root index name proof) fault
 
--- so many of the bytes, from a place on
+-- this number of bytes, from a place on
 abbrev pub part : List ℕ → ℕ → ℕ → List ℕ
 part bytes from count = take count (drop from bytes)

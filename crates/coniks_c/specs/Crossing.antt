@@ -1,20 +1,25 @@
--- What stands in the structs that cross between C and the libraries.
+-- The contents of the structs that are passed between C and the libraries.
 use Rattle.std.specs.Prelude.{◌==◌, ◌≡◌, ℕ, List, Bool, Option, Some, None, if◌then◌else◌, replicate}
 use Rattle.coniks_chain.specs.Entries.{body_bytes}
-use Rattle.coniks_chain.specs.declared.auditor.Before.{Before}
+use Rattle.coniks_chain.specs.declared.auditor.AuditorState.{AuditorState}
 use Rattle.coniks_chain.specs.declared.entry.Body.{Body}
 use Rattle.coniks_chain.specs.declared.entry.Entry.{Entry}
-use Rattle.coniks_c.specs.declared.values.AuditorState.{AuditorState}
+use Rattle.coniks_c.specs.declared.values.RawAuditorState.{RawAuditorState}
 use Rattle.coniks_c.specs.declared.values.EntryBody.{EntryBody}
 
--- what stands before the next entry; nothing at epoch 0
-abbrev pub before_in : AuditorState → Option Before
+-- what the next entry is compared with; nothing at epoch 0
+abbrev pub before_in : RawAuditorState → Option AuditorState
 before_in state =
     if state.epoch == 0 then None
-    else Some (record { t = state.epoch; link = record { 0 = state.link.bytes }; version = state.version; nonce = record { 0 = state.nonce.bytes } })
+    else Some (record {
+      t = state.epoch;
+      link = record { 0 = state.link.bytes };
+      version = state.version;
+      nonce = record { 0 = state.nonce.bytes };
+    })
 
 -- all bytes of the state are 0
-pub record IsZero (state : AuditorState) : Type 0 where
+pub record IsZero (state : RawAuditorState) : Type 0 where
   pub epoch : state.epoch ≡ 0
   pub link : state.link.bytes ≡ replicate 32 0
   pub nonce : state.nonce.bytes ≡ replicate 32 0
@@ -33,6 +38,6 @@ body_in body = record {
   policy = body.policy.bytes;
 }
 
--- of the entry's signature the caller was told by this function: it is good where the number is 1
+-- the function's result for the entry's signature is good if and only if the caller's number is 1
 abbrev pub IsToldBy : (List ℕ → List ℕ → Bool) → Entry → ℕ → Type 0
 IsToldBy verdict entry told = verdict (body_bytes entry.body) entry.signature.0 ≡ (told == 1)

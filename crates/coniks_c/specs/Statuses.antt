@@ -1,4 +1,4 @@
--- The numbers that a call answers.
+-- The numbers that a call returns.
 use Rattle.std.specs.Prelude.{◌≡◌, ◌+◌, ℕ, List, Option, Some, None}
 use Rattle.coniks_proof.specs.Faults.{number}
 use Rattle.coniks_proof.specs.Wire.{order}
@@ -11,7 +11,7 @@ use Rattle.coniks_chain.specs.declared.seen.Seen.TheVariants.{Same, Changed, Abs
 use Rattle.coniks_c.specs.declared.text.Refusal.{Refusal}
 use Rattle.coniks_c.specs.declared.text.Refusal.TheVariants.{Check, Wire, Audit, EntryLength, NoEntry}
 
--- the status of an answer
+-- the status of an accepted answer
 abbrev pub status_of_answer : Option (List ℕ) → ℕ
 status_of_answer (Some key) = 0
 status_of_answer None = 1
@@ -37,9 +37,9 @@ abbrev pub IsSeenStatus : ℕ → Type 0
 IsSeenStatus status = (seen : Seen) × (status ≡ status_of_seen seen)
 
 -- the status of whatever is refused
-abbrev pub status_of : Refusal → ℕ
-status_of (Check fault) = number fault + 1
-status_of (Wire fault) = order fault + 16
-status_of (Audit fault) = place_of fault + 33
-status_of EntryLength = 48
-status_of NoEntry = 49
+abbrev pub refusal_status : Refusal → ℕ
+refusal_status (Check fault) = number fault + 1
+refusal_status (Wire fault) = order fault + 16
+refusal_status (Audit fault) = place_of fault + 33
+refusal_status EntryLength = 48
+refusal_status NoEntry = 49

@@ -43,12 +43,12 @@ audit_text NonceChanged = codes "the nonce of a version 1 entry isn't the one be
 audit_text Verdict = codes "the signature isn't one for this body"
 
 -- of whatever is refused
-abbrev pub text_of : Refusal → List ℕ
-text_of (Check fault) = check_text fault
-text_of (Wire fault) = wire_text fault
-text_of (Audit fault) = audit_text fault
-text_of EntryLength = codes "the entry hasn't 209 bytes"
-text_of NoEntry = codes "no entry was accepted yet"
+abbrev pub refusal_text : Refusal → List ℕ
+refusal_text (Check fault) = check_text fault
+refusal_text (Wire fault) = wire_text fault
+refusal_text (Audit fault) = audit_text fault
+refusal_text EntryLength = codes "the entry hasn't 209 bytes"
+refusal_text NoEntry = codes "no entry was accepted yet"
 
 -- a place with a text at its front and a zero byte after it: the text is cut to the room before that byte, and the rest of
 -- the place is as it was

@@ -6,22 +6,23 @@ use Rattle.coniks_proof.specs.Wire.{IsWire}
 use Rattle.coniks_proof.specs.declared.paths.Proof.{Proof}
 use Rattle.coniks_chain.specs.Seen.{seen_of}
 use Rattle.coniks_chain.specs.Watch.{IsSoundStep, IsFirstStepFault}
-use Rattle.coniks_chain.specs.declared.auditor.Before.{Before}
+use Rattle.coniks_chain.specs.declared.auditor.AuditorState.{AuditorState}
 use Rattle.coniks_chain.specs.declared.entry.Entry.{Entry}
 use Rattle.coniks_chain.specs.declared.seen.MonitorFault.{MonitorFault}
 use Rattle.coniks_chain.specs.declared.seen.Seen.{Seen}
 
--- the key that is expected: none where there are no bytes
+-- the expected key, none if there are no bytes
 abbrev pub expectation : List ℕ → Option (List ℕ)
 expectation [] = None
 expectation (b ∷ bytes) = Some (b ∷ bytes)
 
 -- the bytes are a proof's, the step with it is sound, and this is seen
-abbrev pub Sees : (List ℕ → List ℕ → Bool) → Option Before → List ℕ → List ℕ → Option (List ℕ) → Entry → List ℕ → Seen → Type 0
+abbrev pub Sees : (List ℕ → List ℕ → Bool) → Option AuditorState → List ℕ → List ℕ → Option (List ℕ) → Entry → List ℕ → Seen → Type 0
 Sees verdict before name index expected entry bytes seen =
-    (proof : Proof) × IsWire bytes proof × IsSoundStep sha256 verdict before name index entry proof (answer_of proof.end) × (seen ≡ seen_of expected (answer_of proof.end))
+    (proof : Proof) × IsWire bytes proof × IsSoundStep sha256 verdict before name index entry proof (answer_of proof.end)
+    × (seen ≡ seen_of expected (answer_of proof.end))
 
 -- the bytes are a proof's, and this is the first fault of the step with it
-abbrev pub IsRefusedStep : (List ℕ → List ℕ → Bool) → Option Before → List ℕ → List ℕ → Entry → List ℕ → MonitorFault → Type 0
+abbrev pub IsRefusedStep : (List ℕ → List ℕ → Bool) → Option AuditorState → List ℕ → List ℕ → Entry → List ℕ → MonitorFault → Type 0
 IsRefusedStep verdict before name index entry bytes fault =
     (proof : Proof) × IsWire bytes proof × IsFirstStepFault sha256 verdict before name index entry proof fault

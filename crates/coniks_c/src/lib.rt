@@ -1,8 +1,8 @@
 //! The checker of proofs, the auditor of a chain and a client's monitor for C, and for all that calls C. Nothing here takes
 //! memory but the stack, starts a thread, keeps anything after a call or calls anybody back.
 //!
-//! Each export judges the lengths that it is given, so a call asks no more of its caller than that the bytes are there. What
-//! each of them means to a C programmer stands in `include/coniks.h`.
+//! Each export checks the lengths that are passed, so a call has one precondition: the bytes are there. `include/coniks.h`
+//! describes the calls for C.
 #![tactic(auto)]
 
 mod auditor;
@@ -19,5 +19,5 @@ pub use check::coniks_check;
 pub use entries::{coniks_body_bytes, coniks_entry_body, coniks_link};
 pub use monitor::coniks_monitor_step;
 pub use text::coniks_text;
-pub use values::{AuditorState, Bytes32, Bytes145, EntryBody};
+pub use values::{Bytes32, Bytes145, EntryBody, RawAuditorState};
 pub use version::coniks_version;

@@ -8,7 +8,7 @@ ghost use Rattle.coniks_proof.specs.declared.checker.CheckFault.{CheckFault as W
 ghost use Rattle.coniks_proof.specs.declared.wire.WireFault.{WireFault as Unread};
 ghost use Rattle.coniks_chain.specs.Chain.{before_of, place_of};
 ghost use Rattle.coniks_chain.specs.Entries.{entry_from};
-ghost use Rattle.coniks_chain.specs.Seen.{key_of};
+ghost use Rattle.coniks_chain.specs.Seen.{key_shown};
 ghost use Rattle.coniks_chain.specs.declared.auditor.AuditFault.{AuditFault as Fault};
 ghost use Rattle.coniks_chain.specs.declared.seen.MonitorFault.TheVariants.{Audit, Check};
 ghost use Rattle.coniks_chain.specs.declared.seen.Seen.{Seen as Sight};
@@ -19,28 +19,28 @@ ghost use Rattle.coniks_c.specs.Watched.{IsRefusedStep, Sees, expectation};
 use crate::auditor::Told;
 use crate::entries::entry_of;
 use crate::status::{ENTRY_LENGTH, audit_status, check_status, seen_status, wire_status};
-use crate::values::{AuditorState, Bytes32};
-use coniks_chain::{Auditor, MonitorFault, Wanted};
-use coniks_proof::{BorrowedProof, Index, Sha256Hash};
+use crate::values::{Bytes32, RawAuditorState};
+use coniks_chain::{Auditor, ENTRY_BYTES, MonitorFault, Wanted};
+use coniks_proof::{Index, ProofRef, Sha256Hash};
 
-/// The key that a client expects, which is none where there are no bytes.
+/// Returns the key that a client expects, none if there are no bytes.
 fn expectation(bytes: &[u8]) -> Option<&[u8]>
-    ensures { key_of result ≡ expectation bytes.now }
+    ensures { key_shown result ≡ expectation bytes.now }
 {
     if bytes.is_empty() { None } else { Some(bytes) }
 }
 
-/// Shows a client's monitor an entry of 209 bytes, with the caller's verdict on its signature (1 where it is one for the
-/// body), and the bytes of a proof for its name at its index. The state is an auditor's. An empty expected key says that
-/// the name is expected to be bound to none.
+/// Audits an entry of 209 bytes, and checks the bytes of a proof for the client's name at its index. Pass 1 as the
+/// verification result if the entry's signature is valid. The state is an auditor's. An empty expected key means that the
+/// name is expected to be bound to none.
 ///
-/// The status is 0 where the proof shows what is expected, 1 where it shows no key though one is expected, and 9 where it
-/// shows another key, or one where none is expected. Else it is that of the first fault: 48 where the entry hasn't 209
-/// bytes, 17 to 25 for bytes that are no proof's, 33 to 40 for the entry, and 2 to 8 for the proof against the entry's root
-/// and nonce; then the state is as it was.
+/// Returns 0 if the proof shows what is expected, 1 if it shows no key although one is expected, and 9 if it shows another
+/// key, or a key although none is expected. Else returns the first error, and the state is unchanged: 48 for an entry of
+/// another length, 17 to 25 for the bytes of the proof, 33 to 40 for the entry, and 2 to 8 for the proof against the entry's
+/// root and nonce.
 #[unsafe(no_mangle)]
 pub extern "C" fn coniks_monitor_step(
-    state: &mut AuditorState,
+    state: &mut RawAuditorState,
     index: &Bytes32,
     name: &[u8],
     expected: &[u8],
@@ -48,21 +48,27 @@ pub extern "C" fn coniks_monitor_step(
     signature_verdict: u32,
     proof: &[u8],
 ) -> u32
-    ensures whole { result ≢ 48 → length entry.now ≡ 209 }
-    ensures other { result ≡ 48 → length entry.now ≢ 209 }
-    ensures seen { (seen : Sight) → result ≡ status_of_seen seen → (verdict : List ℕ → List ℕ → Bool) → IsToldBy verdict (entry_from entry.now) signature_verdict → Sees verdict (before_in state.old) name.now index.now.bytes (expectation expected.now) (entry_from entry.now) proof.now seen }
+    ensures whole { result ≢ 48 → length entry.now ≡ ENTRY_BYTES }
+    ensures other { result ≡ 48 → length entry.now ≢ ENTRY_BYTES }
+    ensures seen { (seen : Sight) → result ≡ status_of_seen seen → (verdict : List ℕ → List ℕ → Bool)
+        → IsToldBy verdict (entry_from entry.now) signature_verdict
+        → Sees verdict (before_in state.old) name.now index.now.bytes (expectation expected.now) (entry_from entry.now) proof.now seen }
     ensures kept { IsSeenStatus result → before_in state.new ≡ Some (before_of sha256 (entry_from entry.now)) }
     ensures unused { IsSeenStatus result → state.new.unused ≡ replicate 7 0 }
     ensures unread { (fault : Unread) → result ≡ order fault + 16 → IsFirstUnread (WireHas proof.now) fault }
-    ensures audited { (fault : Fault) → result ≡ place_of fault + 33 → (verdict : List ℕ → List ℕ → Bool) → IsToldBy verdict (entry_from entry.now) signature_verdict → IsRefusedStep verdict (before_in state.old) name.now index.now.bytes (entry_from entry.now) proof.now (Audit fault) }
-    ensures checked { (fault : Wrong) → result ≡ number fault + 1 → (verdict : List ℕ → List ℕ → Bool) → IsToldBy verdict (entry_from entry.now) signature_verdict → IsRefusedStep verdict (before_in state.old) name.now index.now.bytes (entry_from entry.now) proof.now (Check fault) }
+    ensures audited { (fault : Fault) → result ≡ place_of fault + 33 → (verdict : List ℕ → List ℕ → Bool)
+        → IsToldBy verdict (entry_from entry.now) signature_verdict
+        → IsRefusedStep verdict (before_in state.old) name.now index.now.bytes (entry_from entry.now) proof.now (Audit fault) }
+    ensures checked { (fault : Wrong) → result ≡ number fault + 1 → (verdict : List ℕ → List ℕ → Bool)
+        → IsToldBy verdict (entry_from entry.now) signature_verdict
+        → IsRefusedStep verdict (before_in state.old) name.now index.now.bytes (entry_from entry.now) proof.now (Check fault) }
     ensures known { IsSeenStatus result ⊎ (result ≡ 48) ⊎ IsWireStatus result ⊎ IsAuditStatus result ⊎ IsCheckStatus result }
     ensures unchanged { (IsSeenStatus result → ⊥) → state.new ≡ state.old }
 {
     let Some(entry) = entry_of(entry) else {
         return ENTRY_LENGTH;
     };
-    let proof = match BorrowedProof::read(proof) {
+    let proof = match ProofRef::read(proof) {
         Ok(proof) => proof,
         Err(fault) => return wire_status(fault),
     };
@@ -74,11 +80,11 @@ pub extern "C" fn coniks_monitor_step(
         index: Index(index.bytes),
         expected: expectation(expected),
     };
-    let mut auditor = Auditor::resume(Sha256Hash, state.before());
+    let mut auditor = Auditor::resume(Sha256Hash, state.state());
     match auditor.watch(&wanted, &entry, &proof, &told) {
         Ok(seen) => {
-            if let Some(before) = auditor.before() {
-                *state = AuditorState::after(&before);
+            if let Some(before) = auditor.state() {
+                *state = RawAuditorState::after(&before);
             }
             seen_status(seen)
         }

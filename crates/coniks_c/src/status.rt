@@ -1,4 +1,4 @@
-//! What a call answers to C, as numbers.
+//! The statuses that a call returns to C.
 
 ghost use Rattle.std.specs.Prelude.{◌≡◌, ◌+◌};
 ghost use Rattle.coniks_proof.specs.Faults.{number};
@@ -12,10 +12,10 @@ use coniks_proof::{CheckFault, WireFault};
 /// What was asked for is so: a proof shows a key, an entry follows, a client sees what it expects, bytes were written.
 pub const GOOD: u32 = 0;
 
-/// A proof is accepted, and shows that the name is bound to no key; to a monitor, where a key is expected.
+/// A proof is accepted, and shows that the name is bound to no key; in a monitor, although a key is expected.
 pub const ABSENT: u32 = 1;
 
-/// A proof is accepted, and shows another key than the expected one, or one where none is expected.
+/// A proof is accepted, and shows another key than the expected one, or a key although none is expected.
 pub const CHANGED: u32 = 9;
 
 /// An entry hasn't 209 bytes.

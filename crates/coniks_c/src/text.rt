@@ -1,8 +1,8 @@
 //! The texts of faults.
 
 ghost use Rattle.std.specs.Prelude.{◌≡◌, ◌≢◌, [], IfNone, IfSome, length};
-ghost use Rattle.coniks_c.specs.Statuses.{status_of};
-ghost use Rattle.coniks_c.specs.Texts.{audit_text, check_text, text_of, wire_text, written};
+ghost use Rattle.coniks_c.specs.Statuses.{refusal_status};
+ghost use Rattle.coniks_c.specs.Texts.{audit_text, check_text, refusal_text, wire_text, written};
 ghost use Rattle.coniks_c.specs.declared.text.Refusal.{Refusal as Fault};
 
 use coniks_chain::AuditFault;
@@ -21,8 +21,8 @@ pub(crate) enum Refusal {
 
 /// What has this status.
 fn refusal_of(status: u32) -> Option<Refusal>
-    ensures found { IfSome result (λ fault. status_of fault ≡ status) }
-    ensures none { IfNone result ((fault : Fault) → status_of fault ≢ status) }
+    ensures found { IfSome result (λ fault. refusal_status fault ≡ status) }
+    ensures none { IfNone result ((fault : Fault) → refusal_status fault ≢ status) }
 {
     Some(match status {
         2 => Refusal::Check(CheckFault::TooDeep),
@@ -105,7 +105,7 @@ fn audit_text(fault: AuditFault) -> &'static str
 
 /// What is said of a refusal.
 fn text_of(refusal: Refusal) -> &'static str
-    ensures { result.now ≡ text_of refusal }
+    ensures { result.now ≡ refusal_text refusal }
 {
     match refusal {
         Refusal::Check(fault) => check_text(fault),
@@ -133,8 +133,9 @@ fn write(text: &[u8], place: &mut [u8])
 /// no error's status is empty.
 #[unsafe(no_mangle)]
 pub extern "C" fn coniks_text(status: u32, text: &mut [u8]) -> usize
-    ensures said { (fault : Fault) → status_of fault ≡ status → (result ≡ length (text_of fault)) × (text.new ≡ written text.old (text_of fault)) }
-    ensures nothing { ((fault : Fault) → status_of fault ≢ status) → (result ≡ 0) × (text.new ≡ written text.old []) }
+    ensures said { (fault : Fault) → refusal_status fault ≡ status
+        → (result ≡ length (refusal_text fault)) × (text.new ≡ written text.old (refusal_text fault)) }
+    ensures nothing { ((fault : Fault) → refusal_status fault ≢ status) → (result ≡ 0) × (text.new ≡ written text.old []) }
 {
     let Some(refusal) = refusal_of(status) else {
         write(b"", text);

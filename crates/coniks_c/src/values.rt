@@ -3,7 +3,7 @@
 ghost use Rattle.std.specs.Prelude.{◌≡◌, ◌<◌, Some, None, replicate};
 ghost use Rattle.coniks_c.specs.Crossing.{before_in, body_in, IsZero};
 
-use coniks_chain::{Before, Body};
+use coniks_chain::{AuditorState, BODY_BYTES, Body};
 use coniks_proof::{Digest, Nonce};
 
 /// 32 bytes.
@@ -17,14 +17,14 @@ pub struct Bytes32 {
 #[repr(C)]
 #[derive(Clone, Copy, Drop)]
 pub struct Bytes145 {
-    pub bytes: [u8; 145],
+    pub bytes: [u8; BODY_BYTES],
 }
 
 /// What an auditor keeps between entries. It holds no pointer and no padding, so it can be copied, stored and compared as
 /// bytes. Before the first entry all of them are 0.
 #[repr(C)]
 #[derive(Clone, Copy, Drop)]
-pub struct AuditorState {
+pub struct RawAuditorState {
     /// The epoch of the last entry accepted, from 1 on; 0 before the first.
     pub epoch: u64,
     /// The link of that entry.
@@ -59,14 +59,14 @@ pub struct EntryBody {
     pub unused: [u8; 7],
 }
 
-impl AuditorState {
+impl RawAuditorState {
     /// The state before the first entry.
-    pub(crate) fn empty() -> AuditorState
+    pub(crate) fn empty() -> RawAuditorState
         ensures none { before_in result ≡ None }
         ensures zero { IsZero result }
     {
         let zeros = Bytes32 { bytes: [0; 32] };
-        AuditorState {
+        RawAuditorState {
             epoch: 0,
             link: zeros,
             nonce: zeros,
@@ -76,12 +76,12 @@ impl AuditorState {
     }
 
     /// The state after an entry.
-    pub(crate) fn after(before: &Before) -> AuditorState
+    pub(crate) fn after(before: &AuditorState) -> RawAuditorState
         requires { 0 < before.now.t }
         ensures kept { before_in result ≡ Some before.now }
         ensures unused { result.unused ≡ replicate 7 0 }
     {
-        AuditorState {
+        RawAuditorState {
             epoch: before.t,
             link: Bytes32 {
                 bytes: before.link.0,
@@ -94,14 +94,14 @@ impl AuditorState {
         }
     }
 
-    /// What stands before the next entry.
-    pub(crate) fn before(&self) -> Option<Before>
+    /// What the next entry is compared with.
+    pub(crate) fn state(&self) -> Option<AuditorState>
         ensures { result ≡ before_in self.now }
     {
         if self.epoch == 0 {
             return None;
         }
-        Some(Before {
+        Some(AuditorState {
             t: self.epoch,
             link: Digest(self.link.bytes),
             version: self.version,

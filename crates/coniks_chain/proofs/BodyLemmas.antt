@@ -1,4 +1,4 @@
--- The bytes of a body: each part stands at its place, and they give the body back.
+-- The bytes of a body: each part is at its place, and reading them gives the body.
 use Rattle.std.proofs.Common.{◌≡◌, ℕ, ◌+◌, ◌-◌, ◌<◌, ◌≤◌, ◌^◌, List, [], ◌∷◌, ◌++◌, length, refl, sym, ap, ◌∙◌, arith, take, drop, get_or, length-append, lit≤, lit<, ⊎_elim}
 use Rattle.std.specs.List.{between}
 use Rattle.std.specs.Int.{w64, to_be_bytes, from_be_bytes}
@@ -38,7 +38,8 @@ written_at bs i j n within eight bytes is = be_bytes_8 (between i j bs) n (lengt
 
 -- the parts of 145 bytes, as a body, have these bytes
 pub whole : (bs : List ℕ) → length bs ≡ 145 → ((i : ℕ) → get_or bs i 0 < 256) → (t t_prev : ℕ) (root previous nonce policy : List ℕ)
-    → t ≡ from_be_bytes w64 (between 1 9 bs) → t_prev ≡ from_be_bytes w64 (between 9 17 bs) → root ≡ between 17 49 bs → previous ≡ between 49 81 bs → nonce ≡ between 81 113 bs → policy ≡ between 113 145 bs
+    → t ≡ from_be_bytes w64 (between 1 9 bs) → t_prev ≡ from_be_bytes w64 (between 9 17 bs)
+    → root ≡ between 17 49 bs → previous ≡ between 49 81 bs → nonce ≡ between 81 113 bs → policy ≡ between 113 145 bs
     → get_or bs 0 0 ∷ to_be_bytes w64 t ++ to_be_bytes w64 t_prev ++ root ++ previous ++ nonce ++ policy ≡ bs
 whole bs size bytes t t_prev root previous nonce policy is_t is_t_prev is_root is_previous is_nonce is_policy =
     let some : 0 < length bs = omega arith in
@@ -57,7 +58,8 @@ pub same_number : (m n : ℕ) → m < 2 ^ 64 → n < 2 ^ 64 → to_be_bytes w64 
 same_number m n hm hn e = sym (from_be_bytes-to_be_bytes_8 m hm) ∙ ap (from_be_bytes w64) e ∙ from_be_bytes-to_be_bytes_8 n hn
 
 abbrev made : ℕ → ℕ → ℕ → List ℕ → List ℕ → List ℕ → List ℕ → Body
-made version t t_prev root previous nonce policy = record { version = version; t = t; t_prev = t_prev; root = record { 0 = root }; previous = record { 0 = previous }; nonce = record { 0 = nonce }; policy = policy }
+made version t t_prev root previous nonce policy =
+    record { version = version; t = t; t_prev = t_prev; root = record { 0 = root }; previous = record { 0 = previous }; nonce = record { 0 = nonce }; policy = policy }
 
 same_made : (v v' t t' p p' : ℕ) (r r' l l' n n' q q' : List ℕ) → v ≡ v' → t ≡ t' → p ≡ p' → r ≡ r' → l ≡ l' → n ≡ n' → q ≡ q' → made v t p r l n q ≡ made v' t' p' r' l' n' q'
 same_made v v' t t' p p' r r' l l' n n' q q' ev et ep er el en eq = cc
@@ -66,10 +68,14 @@ same_made v v' t t' p p' r r' l l' n n' q q' ev et ep er el en eq = cc
 pub same_body : (a b : Body) → IsBody a → IsBody b → body_bytes a ≡ body_bytes b → a ≡ b
 unfolding body_bytes
 same_body a b ia ib e =
-    let policy = parted (a.version ∷ to_be_bytes w64 a.t ++ to_be_bytes w64 a.t_prev ++ a.root.0 ++ a.previous.0 ++ a.nonce.0) (b.version ∷ to_be_bytes w64 b.t ++ to_be_bytes w64 b.t_prev ++ b.root.0 ++ b.previous.0 ++ b.nonce.0) a.policy b.policy (ia.policy ∙ sym ib.policy) e in
-    let nonce = parted (a.version ∷ to_be_bytes w64 a.t ++ to_be_bytes w64 a.t_prev ++ a.root.0 ++ a.previous.0) (b.version ∷ to_be_bytes w64 b.t ++ to_be_bytes w64 b.t_prev ++ b.root.0 ++ b.previous.0) a.nonce.0 b.nonce.0 (ia.nonce ∙ sym ib.nonce) policy.0 in
-    let previous = parted (a.version ∷ to_be_bytes w64 a.t ++ to_be_bytes w64 a.t_prev ++ a.root.0) (b.version ∷ to_be_bytes w64 b.t ++ to_be_bytes w64 b.t_prev ++ b.root.0) a.previous.0 b.previous.0 (ia.previous ∙ sym ib.previous) nonce.0 in
-    let root = parted (a.version ∷ to_be_bytes w64 a.t ++ to_be_bytes w64 a.t_prev) (b.version ∷ to_be_bytes w64 b.t ++ to_be_bytes w64 b.t_prev) a.root.0 b.root.0 (ia.root ∙ sym ib.root) previous.0 in
+    let policy = parted (a.version ∷ to_be_bytes w64 a.t ++ to_be_bytes w64 a.t_prev ++ a.root.0 ++ a.previous.0 ++ a.nonce.0)
+    (b.version ∷ to_be_bytes w64 b.t ++ to_be_bytes w64 b.t_prev ++ b.root.0 ++ b.previous.0 ++ b.nonce.0) a.policy b.policy (ia.policy ∙ sym ib.policy) e in
+    let nonce = parted (a.version ∷ to_be_bytes w64 a.t ++ to_be_bytes w64 a.t_prev ++ a.root.0 ++ a.previous.0)
+    (b.version ∷ to_be_bytes w64 b.t ++ to_be_bytes w64 b.t_prev ++ b.root.0 ++ b.previous.0) a.nonce.0 b.nonce.0 (ia.nonce ∙ sym ib.nonce) policy.0 in
+    let previous = parted (a.version ∷ to_be_bytes w64 a.t ++ to_be_bytes w64 a.t_prev ++ a.root.0)
+    (b.version ∷ to_be_bytes w64 b.t ++ to_be_bytes w64 b.t_prev ++ b.root.0) a.previous.0 b.previous.0 (ia.previous ∙ sym ib.previous) nonce.0 in
+    let root = parted (a.version ∷ to_be_bytes w64 a.t ++ to_be_bytes w64 a.t_prev)
+    (b.version ∷ to_be_bytes w64 b.t ++ to_be_bytes w64 b.t_prev) a.root.0 b.root.0 (ia.root ∙ sym ib.root) previous.0 in
     let t_prev = parted (a.version ∷ to_be_bytes w64 a.t) (b.version ∷ to_be_bytes w64 b.t) (to_be_bytes w64 a.t_prev) (to_be_bytes w64 b.t_prev) refl root.0 in
     let t = parted (a.version ∷ []) (b.version ∷ []) (to_be_bytes w64 a.t) (to_be_bytes w64 b.t) refl t_prev.0 in
     let same_t : a.t ≡ b.t = same_number a.t b.t ia.t ib.t t.1 in

@@ -8,8 +8,8 @@ use Rattle.coniks_proof.specs.declared.paths.Proof.{Proof}
 use Rattle.coniks_chain.specs.declared.entry.Entry.{Entry}
 use Rattle.coniks_chain.specs.declared.auditor.AuditFault.TheVariants.{NotLater}
 use Rattle.coniks_chain.specs.Chain.{Follows, before_of, before_at, GoodChain}
-use Rattle.coniks_chain.specs.Watch.{IsSoundRun, entries_of}
-use Rattle.coniks_chain.specs.Clients.{IsAcceptedUnder, TwoClients}
+use Rattle.coniks_chain.specs.Watch.{IsSoundRun, entries_watched}
+use Rattle.coniks_chain.specs.Clients.{IsAcceptedAtEntry, TwoClients}
 use Rattle.coniks_chain.proofs.ChainLemmas.{row}
 
 -- equality of entries is decided
@@ -17,7 +17,8 @@ abbrev Decided : {A : Type 0} → A → A → Type 0
 Decided x y = (x ≡ y) ⊎ (x ≢ y)
 
 decide_ℕ : (m n : ℕ) → Decided m n
-decide_ℕ m n = ⊎_elim (λ (less : m < n). inr (λ (e : m ≡ n). omega arith)) (λ (le : n ≤ m). ⊎_elim (λ (more : n < m). inr (λ (e : m ≡ n). omega arith)) (λ (ge : m ≤ n). inl (omega arith)) (cases_lt n m)) (cases_lt m n)
+decide_ℕ m n = ⊎_elim (λ (less : m < n). inr (λ (e : m ≡ n). omega arith))
+    (λ (le : n ≤ m). ⊎_elim (λ (more : n < m). inr (λ (e : m ≡ n). omega arith)) (λ (ge : m ≤ n). inl (omega arith)) (cases_lt n m)) (cases_lt m n)
 
 decide_list : {A : Type 0} → ((x y : A) → Decided x y) → (xs ys : List A) → Decided xs ys
 decide_list each [] [] = inl refl
@@ -33,7 +34,11 @@ both : {A B : Type 0} (f : A → B) (x y : A) → Decided (f x) (f y) → ((f x 
 both f x y part rest = ⊎_elim rest (λ apart. inr (λ e. apart (ap f e))) part
 
 abbrev made : ℕ → ℕ → ℕ → List ℕ → List ℕ → List ℕ → List ℕ → List ℕ → Entry
-made v t p r l n q s = record { body = record { version = v; t = t; t_prev = p; root = record { 0 = r }; previous = record { 0 = l }; nonce = record { 0 = n }; policy = q }; signature = record { 0 = s } }
+made v t p r l n q s = record {
+  body =
+      record { version = v; t = t; t_prev = p; root = record { 0 = r }; previous = record { 0 = l }; nonce = record { 0 = n }; policy = q };
+  signature = record { 0 = s };
+}
 
 same_parts : (v v' t t' p p' : ℕ) (r r' l l' n n' q q' s s' : List ℕ) → v ≡ v' → t ≡ t' → p ≡ p' → r ≡ r' → l ≡ l' → n ≡ n' → q ≡ q' → s ≡ s' → made v t p r l n q s ≡ made v' t' p' r' l' n' q' s'
 same_parts v v' t t' p p' r r' l l' n n' q q' s s' e₁ e₂ e₃ e₄ e₅ e₆ e₇ e₈ = cc
@@ -50,7 +55,8 @@ decide_entry x y =
     both (λ e. e.signature.0) x y (decide_list decide_ℕ x.signature.0 y.signature.0) (λ e₈. inl (same_parts _ _ _ _ _ _ _ _ _ _ _ _ _ _ _ _ e₁ e₂ e₃ e₄ e₅ e₆ e₇ e₈)))))))))
 
 -- in a good chain later entries have greater epochs
-pub increasing : (hash : List ℕ → List ℕ) (verdict : List ℕ → List ℕ → Bool) (xs : List Entry) (i j : ℕ) (e f : Entry) → GoodChain hash verdict xs → slice_get xs i ≡ Some e → slice_get xs j ≡ Some f → i < j → e.body.t < f.body.t
+pub increasing : (hash : List ℕ → List ℕ) (verdict : List ℕ → List ℕ → Bool) (xs : List Entry) (i j : ℕ) (e f : Entry)
+    → GoodChain hash verdict xs → slice_get xs i ≡ Some e → slice_get xs j ≡ Some f → i < j → e.body.t < f.body.t
 increasing hash verdict xs i zero e f good at_i at_j less = absurd (omega arith)
 increasing hash verdict xs i (suc m) e f good at_i at_j less =
     let within = slice_get_within xs (suc m) f at_j in
@@ -68,7 +74,8 @@ increasing hash verdict xs i (suc m) e f good at_i at_j less =
     (cases_lt i m)
 
 -- one epoch stands at one place
-pub one_place : (hash : List ℕ → List ℕ) (verdict : List ℕ → List ℕ → Bool) (xs : List Entry) (i j : ℕ) (e f : Entry) → GoodChain hash verdict xs → slice_get xs i ≡ Some e → slice_get xs j ≡ Some f → e.body.t ≡ f.body.t → e ≡ f
+pub one_place : (hash : List ℕ → List ℕ) (verdict : List ℕ → List ℕ → Bool) (xs : List Entry) (i j : ℕ) (e f : Entry)
+    → GoodChain hash verdict xs → slice_get xs i ≡ Some e → slice_get xs j ≡ Some f → e.body.t ≡ f.body.t → e ≡ f
 one_place hash verdict xs i j e f good at_i at_j epoch = ⊎_elim
     (λ (less : i < j). let more = increasing hash verdict xs i j e f good at_i at_j less in absurd (omega arith))
     (λ (le : j ≤ i). ⊎_elim
@@ -77,17 +84,19 @@ one_place hash verdict xs i j e f good at_i at_j epoch = ⊎_elim
     (cases_lt j i))
     (cases_lt i j)
 
-item_of : (items : List (Entry × Proof)) (k : ℕ) (e : Entry) (found : Option (Entry × Proof)) → slice_get items k ≡ found → option_map (λ item. item.0) found ≡ Some e → (item : Entry × Proof) × (slice_get items k ≡ Some item) × (item.0 ≡ e)
+item_of : (items : List (Entry × Proof)) (k : ℕ) (e : Entry) (found : Option (Entry × Proof)) → slice_get items k ≡ found
+    → option_map (λ item. item.0) found ≡ Some e → (item : Entry × Proof) × (slice_get items k ≡ Some item) × (item.0 ≡ e)
 item_of items k e None at is = absurd (cc)
 item_of items k e (Some item) at is = (item, at, same_Some item.0 e is)
 
 -- the entries of a sound run from the start are a good chain
-pub run_good : (hash : List ℕ → List ℕ) (verdict : List ℕ → List ℕ → Bool) (name index : List ℕ) (items : List (Entry × Proof)) → IsSoundRun hash verdict None name index items → GoodChain hash verdict (entries_of items)
+pub run_good : (hash : List ℕ → List ℕ) (verdict : List ℕ → List ℕ → Bool) (name index : List ℕ) (items : List (Entry × Proof))
+    → IsSoundRun hash verdict None name index items → GoodChain hash verdict (entries_watched items)
 run_good hash verdict name index items sound = λ k e at.
     let found = item_of items k e (slice_get items k) refl (sym (slice_get-map (λ item. item.0) items k) ∙ at) in
-    subst (λ x. Follows verdict (before_at hash None (entries_of items) k) x) found.2 (sound k found.0 found.1).follows
+    subst (λ x. Follows verdict (before_at hash None (entries_watched items) k) x) found.2 (sound k found.0 found.1).follows
 
-entry_at : (items : List (Entry × Proof)) (k : ℕ) (item : Entry × Proof) → slice_get items k ≡ Some item → slice_get (entries_of items) k ≡ Some item.0
+entry_at : (items : List (Entry × Proof)) (k : ℕ) (item : Entry × Proof) → slice_get items k ≡ Some item → slice_get (entries_watched items) k ≡ Some item.0
 entry_at items k item at = slice_get-map (λ x. x.0) items k ∙ ap (option_map (λ x. x.0)) at
 
 pub two_clients : TwoClients
@@ -95,18 +104,18 @@ two_clients hash verdict index link a b is_a is_b epoch answers =
     let good_a = run_good hash verdict a.name index a.items is_a.sound in
     let good_b = run_good hash verdict b.name index b.items is_b.sound in
     ⊎_elim
-    (λ (same : entries_of a.items ≡ entries_of b.items).
-    let stands_a : slice_get (entries_of a.items) a.place ≡ Some a.entry = entry_at a.items a.place (a.entry, a.proof) is_a.stands in
-    let stands_b : slice_get (entries_of a.items) b.place ≡ Some b.entry = ap (λ l. slice_get l b.place) same ∙ entry_at b.items b.place (b.entry, b.proof) is_b.stands in
-    let one : a.entry ≡ b.entry = one_place hash verdict (entries_of a.items) a.place b.place a.entry b.entry good_a stands_a stands_b epoch in
+    (λ (same : entries_watched a.items ≡ entries_watched b.items).
+    let stands_a : slice_get (entries_watched a.items) a.place ≡ Some a.entry = entry_at a.items a.place (a.entry, a.proof) is_a.stands in
+    let stands_b : slice_get (entries_watched a.items) b.place ≡ Some b.entry = ap (λ l. slice_get l b.place) same ∙ entry_at b.items b.place (b.entry, b.proof) is_b.stands in
+    let one : a.entry ≡ b.entry = one_place hash verdict (entries_watched a.items) a.place b.place a.entry b.entry good_a stands_a stands_b epoch in
     inr (
       same,
       record {
         one = one;
         accepted_a = (is_a.sound a.place (a.entry, a.proof) is_a.stands).accepted;
-        accepted_b = subst (λ e. IsAcceptedUnder hash index e b) (sym one) (is_b.sound b.place (b.entry, b.proof) is_b.stands).accepted;
+        accepted_b = subst (λ e. IsAcceptedAtEntry hash index e b) (sym one) (is_b.sound b.place (b.entry, b.proof) is_b.stands).accepted;
         differ = answers;
       },
     ))
     (λ apart. inl (record { good_a = good_a; good_b = good_b; ends_a = is_a.ends; ends_b = is_b.ends; differ = apart }))
-    (decide_list decide_entry (entries_of a.items) (entries_of b.items))
+    (decide_list decide_entry (entries_watched a.items) (entries_watched b.items))

@@ -17,7 +17,8 @@ two_parts one two low high long_low long_high long first second =
     sym all ∙ sym end ∙ second ∙ ap (λ x. x ++ high) begin
 
 -- the parts of an entry's bytes, one behind the other
-pub body_and_signature : (one two body signature : List ℕ) → length body ≡ 145 → length signature ≡ 64 → length two ≡ 209 → take (length body) one ≡ body → take (145 + length signature) two ≡ take 145 one ++ signature
+pub body_and_signature : (one two body signature : List ℕ) → length body ≡ 145 → length signature ≡ 64
+    → length two ≡ 209 → take (length body) one ≡ body → take (145 + length signature) two ≡ take 145 one ++ signature
     → two ≡ body ++ signature
 body_and_signature one two body signature long_body long_signature long first second =
     let all : take 209 two ≡ two = take_all 209 two (omega arith) in

@@ -7,11 +7,11 @@ use Rattle.std.proofs.lemmas.Bool.{cases_lt}
 use Rattle.std.proofs.Math.Seq.{drop-cons}
 use Rattle.coniks_chain.specs.declared.entry.Body.{Body}
 use Rattle.coniks_chain.specs.declared.entry.Entry.{Entry}
-use Rattle.coniks_chain.specs.declared.auditor.Before.{Before}
+use Rattle.coniks_chain.specs.declared.auditor.AuditorState.{AuditorState}
 use Rattle.coniks_chain.specs.declared.auditor.AuditFault.TheVariants.{FirstEpoch, NotLater, PreviousEpoch, PreviousLink}
 use Rattle.coniks_chain.specs.Entries.{body_bytes, link_preimage, IsEntry}
 use Rattle.coniks_chain.specs.Chain.{Follows, before_of, before_at, GoodChain}
-use Rattle.coniks_chain.specs.Fork.{EndsWith, Stand, IsFork, Stops, left_used_up, right_used_up, links_differ}
+use Rattle.coniks_chain.specs.Fork.{EndsWith, Stand, IsFork, HasNoFork, left_used_up, right_used_up, links_differ}
 use Rattle.coniks_proof.specs.Collisions.{IsCollision}
 use Rattle.coniks_chain.proofs.BodyLemmas.{parted, same_body}
 use Rattle.coniks_chain.proofs.ChainLemmas.{row}
@@ -43,28 +43,30 @@ module _ (xs ys : List Entry) (k : ℕ) (d : Entry) (in_a : k < length xs) (in_b
       ∙ ap (λ es. get_or ys (length ys - 1 - k) d ∷ es) standing.rest ∙ sym (drop-cons ys (length ys - 1 - k) d (omega arith)) ∙ ap (λ n. drop n ys) (sym b)
 
   -- the walk stops at different links
-  pub stops_here : (hash : List ℕ → List ℕ) → hash (link_preimage (get_or xs (length xs - 1 - k) d)) ≢ hash (link_preimage (get_or ys (length ys - 1 - k) d)) → Stops hash xs ys
+  pub stops_here : (hash : List ℕ → List ℕ) → hash (link_preimage (get_or xs (length xs - 1 - k) d)) ≢ hash (link_preimage (get_or ys (length ys - 1 - k) d)) → HasNoFork hash xs ys
   stops_here hash differ = links_differ (length xs - 1 - k) (length ys - 1 - k) (get_or xs (length xs - 1 - k) d) (get_or ys (length ys - 1 - k) d) standing differ
 
   -- the walk finds a fork
-  pub forks_here : (hash : List ℕ → List ℕ) → (get_or xs (length xs - 1 - k) d ≢ get_or ys (length ys - 1 - k) d) × (hash (link_preimage (get_or xs (length xs - 1 - k) d)) ≡ hash (link_preimage (get_or ys (length ys - 1 - k) d)))
+  pub forks_here : (hash : List ℕ → List ℕ) → (get_or xs (length xs - 1 - k) d ≢ get_or ys (length ys - 1 - k) d)
+      × (hash (link_preimage (get_or xs (length xs - 1 - k) d)) ≡ hash (link_preimage (get_or ys (length ys - 1 - k) d)))
       → IsFork hash xs ys (get_or xs (length xs - 1 - k) d) (get_or ys (length ys - 1 - k) d)
   forks_here hash found = record { i = length xs - 1 - k; j = length ys - 1 - k; stand = standing; differ = found.0; linked = found.1 }
 
 -- at the end of the walk a list is used up
-pub used_up : (hash : List ℕ → List ℕ) (xs ys : List Entry) (k : ℕ) → (length xs ≤ k) ⊎ (length ys ≤ k) → drop (length xs - k) xs ≡ drop (length ys - k) ys → Stops hash xs ys
+pub used_up : (hash : List ℕ → List ℕ) (xs ys : List Entry) (k : ℕ) → (length xs ≤ k) ⊎ (length ys ≤ k) → drop (length xs - k) xs ≡ drop (length ys - k) ys → HasNoFork hash xs ys
 used_up hash xs ys k done alike = ⊎_elim
     (λ a. let all : length xs - k ≡ 0 = omega arith in left_used_up (length ys - k) (ap (λ n. drop n xs) (sym all) ∙ alike))
     (λ b. let all : length ys - k ≡ 0 = omega arith in right_used_up (length xs - k) (alike ∙ ap (λ n. drop n ys) all))
     done
 
 -- an entry that follows has an epoch of at least 1
-pub positive : (verdict : List ℕ → List ℕ → Bool) (before : Option Before) (entry : Entry) → Follows verdict before entry → 0 < entry.body.t
+pub positive : (verdict : List ℕ → List ℕ → Bool) (before : Option AuditorState) (entry : Entry) → Follows verdict before entry → 0 < entry.body.t
 positive verdict None entry follows = row verdict None entry follows FirstEpoch
 positive verdict (Some before) entry follows = let later : before.t < entry.body.t = row verdict (Some before) entry follows NotLater in omega arith
 
 -- an entry can't be the first of a chain and stand later in one
-not_again : (hash : List ℕ → List ℕ) (verdict : List ℕ → List ℕ → Bool) (xs ys : List Entry) (n : ℕ) (e : Entry) → GoodChain hash verdict xs → GoodChain hash verdict ys → slice_get xs 0 ≡ Some e → slice_get ys (suc n) ≡ Some e → ⊥
+not_again : (hash : List ℕ → List ℕ) (verdict : List ℕ → List ℕ → Bool) (xs ys : List Entry) (n : ℕ) (e : Entry)
+    → GoodChain hash verdict xs → GoodChain hash verdict ys → slice_get xs 0 ≡ Some e → slice_get ys (suc n) ≡ Some e → ⊥
 not_again hash verdict xs ys n e good_x good_y first later =
     let start : e.body.t_prev ≡ 0 = row verdict None e (good_x 0 e first) PreviousEpoch in
     let within = slice_get_within ys (suc n) e later in
@@ -85,7 +87,8 @@ end_is_all hash verdict (e ∷ es) ys (suc n) good_x good_y some is =
     absurd (not_again hash verdict (e ∷ es) ys n e good_x good_y refl later)
 
 -- the entry after names the link
-named : (hash : List ℕ → List ℕ) (verdict : List ℕ → List ℕ → Bool) (xs : List Entry) (i : ℕ) (e s : Entry) → GoodChain hash verdict xs → slice_get xs i ≡ Some e → slice_get xs (suc i) ≡ Some s → s.body.previous.0 ≡ hash (link_preimage e)
+named : (hash : List ℕ → List ℕ) (verdict : List ℕ → List ℕ → Bool) (xs : List Entry) (i : ℕ) (e s : Entry)
+    → GoodChain hash verdict xs → slice_get xs i ≡ Some e → slice_get xs (suc i) ≡ Some s → s.body.previous.0 ≡ hash (link_preimage e)
 named hash verdict xs i e s good at next =
     let before : before_at hash None xs (suc i) ≡ Some (before_of hash e) = ap (option_map (before_of hash)) at in
     row verdict (Some (before_of hash e)) s (subst (λ b. Follows verdict b s) before (good (suc i) s next)) PreviousLink
@@ -100,16 +103,20 @@ last_is hash xs i e link end at none =
     ap (λ x. hash (link_preimage x)) (sym same) ∙ end.linked
 
 -- under the same rest, or under one last link, two entries have one link
-one_link : (hash : List ℕ → List ℕ) (verdict : List ℕ → List ℕ → Bool) (xs ys : List Entry) (i j : ℕ) (e f : Entry) (link : List ℕ) (after : Option Entry) → GoodChain hash verdict xs → GoodChain hash verdict ys
-    → EndsWith hash xs link → EndsWith hash ys link → slice_get xs i ≡ Some e → slice_get ys j ≡ Some f → slice_get xs (suc i) ≡ after → slice_get ys (suc j) ≡ after → hash (link_preimage e) ≡ hash (link_preimage f)
+one_link : (hash : List ℕ → List ℕ) (verdict : List ℕ → List ℕ → Bool) (xs ys : List Entry) (i j : ℕ) (e f : Entry) (link : List ℕ) (after : Option Entry)
+    → GoodChain hash verdict xs → GoodChain hash verdict ys
+    → EndsWith hash xs link → EndsWith hash ys link → slice_get xs i ≡ Some e → slice_get ys j ≡ Some f
+    → slice_get xs (suc i) ≡ after → slice_get ys (suc j) ≡ after → hash (link_preimage e) ≡ hash (link_preimage f)
 one_link hash verdict xs ys i j e f link None good_x good_y end_x end_y at_x at_y next_x next_y = last_is hash xs i e link end_x at_x next_x ∙ sym (last_is hash ys j f link end_y at_y next_y)
-one_link hash verdict xs ys i j e f link (Some s) good_x good_y end_x end_y at_x at_y next_x next_y = sym (named hash verdict xs i e s good_x at_x next_x) ∙ named hash verdict ys j f s good_y at_y next_y
+one_link hash verdict xs ys i j e f link (Some s) good_x good_y end_x end_y at_x at_y next_x next_y =
+    sym (named hash verdict xs i e s good_x at_x next_x) ∙ named hash verdict ys j f s good_y at_y next_y
 
 some_entry : (hash : List ℕ → List ℕ) (xs : List Entry) (link : List ℕ) → EndsWith hash xs link → 0 < length xs
 some_entry hash xs link end = let within = slice_get_within xs (length xs - 1) end.last end.there in omega arith
 
 -- two good chains with one last link at which the walk stops are the same
-pub good_same : (hash : List ℕ → List ℕ) (verdict : List ℕ → List ℕ → Bool) (xs ys : List Entry) (link : List ℕ) → GoodChain hash verdict xs → GoodChain hash verdict ys → EndsWith hash xs link → EndsWith hash ys link → Stops hash xs ys → xs ≡ ys
+pub good_same : (hash : List ℕ → List ℕ) (verdict : List ℕ → List ℕ → Bool) (xs ys : List Entry) (link : List ℕ)
+    → GoodChain hash verdict xs → GoodChain hash verdict ys → EndsWith hash xs link → EndsWith hash ys link → HasNoFork hash xs ys → xs ≡ ys
 good_same hash verdict xs ys link good_x good_y end_x end_y (left_used_up n is) = end_is_all hash verdict xs ys n good_x good_y (some_entry hash xs link end_x) is
 good_same hash verdict xs ys link good_x good_y end_x end_y (right_used_up n is) = sym (end_is_all hash verdict ys xs n good_y good_x (some_entry hash ys link end_y) (sym is))
 good_same hash verdict xs ys link good_x good_y end_x end_y (links_differ i j e f stand differ) =
@@ -162,7 +169,7 @@ no_other_place hash xs ys e f k l d g fork stand = ⊎_elim
     (cases_lt fork.i k)
 
 -- where lists fork the walk doesn't stop
-pub no_stop : (hash : List ℕ → List ℕ) (xs ys : List Entry) (e f : Entry) → IsFork hash xs ys e f → Stops hash xs ys → ⊥
+pub no_stop : (hash : List ℕ → List ℕ) (xs ys : List Entry) (e f : Entry) → IsFork hash xs ys e f → HasNoFork hash xs ys → ⊥
 no_stop hash xs ys e f fork (left_used_up n is) =
     let left = slice_get_within xs fork.i e fork.stand.left in
     let all : length xs ≡ length ys - n = ap length is ∙ length-drop n ys in
@@ -187,7 +194,8 @@ same_entry e f is_e is_f same =
     signed_same e.body f.body e.signature.0 f.signature.0 body signature
 
 -- a fork is a collision
-pub collides : (hash : List ℕ → List ℕ) (xs ys : List Entry) (e f : Entry) (x y : List ℕ) → IsEntry e → IsEntry f → IsFork hash xs ys e f → x ≡ link_preimage e → y ≡ link_preimage f → IsCollision hash x y
+pub collides : (hash : List ℕ → List ℕ) (xs ys : List Entry) (e f : Entry) (x y : List ℕ) → IsEntry e
+    → IsEntry f → IsFork hash xs ys e f → x ≡ link_preimage e → y ≡ link_preimage f → IsCollision hash x y
 collides hash xs ys e f x y is_e is_f fork is_x is_y = record {
   differ = λ same. fork.differ (same_entry e f is_e is_f (sym is_x ∙ same ∙ is_y));
   same_hash = ap hash is_x ∙ fork.linked ∙ ap hash (sym is_y);

@@ -4,27 +4,33 @@ use Rattle.std.specs.Option.{option_map}
 use Rattle.coniks_proof.specs.declared.values.Head.{Head}
 use Rattle.coniks_proof.specs.Preimages.{zeros}
 use Rattle.coniks_chain.specs.declared.entry.Entry.{Entry}
-use Rattle.coniks_chain.specs.declared.auditor.Before.{Before}
+use Rattle.coniks_chain.specs.declared.auditor.AuditorState.{AuditorState}
 use Rattle.coniks_chain.specs.declared.auditor.AuditFault.{AuditFault}
 use Rattle.coniks_chain.specs.declared.auditor.AuditFault.TheVariants.{Version, VersionBack, FirstEpoch, NotLater, PreviousEpoch, PreviousLink, NonceChanged, Verdict}
 use Rattle.coniks_chain.specs.Entries.{body_bytes, link_preimage}
 
 -- of an entry, what its successor is compared with
-abbrev pub before_of : (List ℕ → List ℕ) → Entry → Before
-before_of hash entry = record { t = entry.body.t; link = record { 0 = hash (link_preimage entry) }; version = entry.body.version; nonce = entry.body.nonce }
+abbrev pub before_of : (List ℕ → List ℕ) → Entry → AuditorState
+before_of hash entry = record {
+  t = entry.body.t;
+  link =
+      record { 0 = hash (link_preimage entry) };
+  version = entry.body.version;
+  nonce = entry.body.nonce;
+}
 
 -- the epoch that an entry has to name as the one before it
-abbrev pub epoch_before : Option Before → ℕ
+abbrev pub epoch_before : Option AuditorState → ℕ
 epoch_before None = 0
 epoch_before (Some before) = before.t
 
 -- the link that an entry has to name as the one before it
-abbrev pub link_before : Option Before → List ℕ
+abbrev pub link_before : Option AuditorState → List ℕ
 link_before None = zeros
 link_before (Some before) = before.link.0
 
--- what an entry has to meet so that it hasn't this fault
-abbrev pub Meets : (List ℕ → List ℕ → Bool) → Option Before → Entry → AuditFault → Type 0
+-- the condition under which an entry does not have this fault
+abbrev pub Meets : (List ℕ → List ℕ → Bool) → Option AuditorState → Entry → AuditFault → Type 0
 Meets verdict before entry Version = (entry.body.version ≡ 1) ⊎ (entry.body.version ≡ 2)
 Meets verdict before entry VersionBack = IfSome before (λ b. b.version ≤ entry.body.version)
 Meets verdict before entry FirstEpoch = IfNone before (0 < entry.body.t)
@@ -35,11 +41,11 @@ Meets verdict before entry NonceChanged = IfSome before (λ b. entry.body.versio
 Meets verdict before entry Verdict = verdict (body_bytes entry.body) entry.signature.0 ≡ true
 
 -- an entry has none of these faults
-abbrev pub MeetsAll : (List ℕ → List ℕ → Bool) → Option Before → Entry → List AuditFault → Type 0
+abbrev pub MeetsAll : (List ℕ → List ℕ → Bool) → Option AuditorState → Entry → List AuditFault → Type 0
 MeetsAll verdict before entry [] = Unit {0}
 MeetsAll verdict before entry (fault ∷ rest) = Meets verdict before entry fault × MeetsAll verdict before entry rest
 
--- the faults in the order in which they are judged
+-- the faults in the order in which they are checked
 abbrev pub faults : List AuditFault
 faults = Version ∷ VersionBack ∷ FirstEpoch ∷ NotLater ∷ PreviousEpoch ∷ PreviousLink ∷ NonceChanged ∷ Verdict ∷ []
 
@@ -55,36 +61,41 @@ place_of NonceChanged = 6
 place_of Verdict = 7
 
 -- the entry has no fault after what is before it
-pub record Follows (verdict : List ℕ → List ℕ → Bool) (before : Option Before) (entry : Entry) : Type 0 where
+pub record Follows (verdict : List ℕ → List ℕ → Bool) (before : Option AuditorState) (entry : Entry) : Type 0 where
   pub rows : MeetsAll verdict before entry faults
 
 -- the entry has this fault and none before it in the order
-pub record IsFirstFault (verdict : List ℕ → List ℕ → Bool) (before : Option Before) (entry : Entry) (fault : AuditFault) : Type 0 where
+pub record IsFirstEntryFault (verdict : List ℕ → List ℕ → Bool)
+    (before : Option AuditorState) (entry : Entry) (fault : AuditFault) : Type 0 where
   pub here : ¬ Meets verdict before entry fault
   pub earlier : MeetsAll verdict before entry (take (place_of fault) faults)
 
--- what stands just before place k of some entries, where `start` stands before the first of them
-abbrev pub before_at : (List ℕ → List ℕ) → Option Before → List Entry → ℕ → Option Before
+-- what place k of some entries is compared with, if the first of them is compared with `start`
+abbrev pub before_at : (List ℕ → List ℕ) → Option AuditorState → List Entry → ℕ → Option AuditorState
 before_at hash start entries zero = start
 before_at hash start entries (suc k) = option_map (before_of hash) (slice_get entries k)
 
--- the head of what stands there, if anything does
-abbrev pub head_of : Option Before → Option Head
-head_of before = option_map (λ b. record { epoch = b.t; link = b.link }) before
+-- the head of that, if there is any
+abbrev pub head_after : Option AuditorState → Option Head
+head_after before = option_map (λ b. record { epoch = b.t; link = b.link }) before
 
--- each of the first n entries follows the entry just before it
-abbrev pub ContinuesTo : (List ℕ → List ℕ) → (List ℕ → List ℕ → Bool) → Option Before → List Entry → ℕ → Type 0
-ContinuesTo hash verdict start entries n = (k : ℕ) (entry : Entry) → k < n → slice_get entries k ≡ Some entry → Follows verdict (before_at hash start entries k) entry
+-- each of the first n entries follows the entry before it
+abbrev pub ContinuesTo : (List ℕ → List ℕ) → (List ℕ → List ℕ → Bool) → Option AuditorState → List Entry → ℕ → Type 0
+ContinuesTo hash verdict start entries n = (k : ℕ) (entry : Entry) → k < n
+    → slice_get entries k ≡ Some entry → Follows verdict (before_at hash start entries k) entry
 
--- each entry follows the entry just before it, the first one what stood before
-abbrev pub Continues : (List ℕ → List ℕ) → (List ℕ → List ℕ → Bool) → Option Before → List Entry → Type 0
-Continues hash verdict start entries = (k : ℕ) (entry : Entry) → slice_get entries k ≡ Some entry → Follows verdict (before_at hash start entries k) entry
+-- each entry follows the entry before it, and the first one follows `start`
+abbrev pub Continues : (List ℕ → List ℕ) → (List ℕ → List ℕ → Bool) → Option AuditorState → List Entry → Type 0
+Continues hash verdict start entries = (k : ℕ) (entry : Entry)
+    → slice_get entries k ≡ Some entry → Follows verdict (before_at hash start entries k) entry
 
--- a good chain: each entry follows the one just before it, and nothing stands before the first
+-- a good chain: each entry follows the one before it, and the first one follows nothing
 abbrev pub GoodChain : (List ℕ → List ℕ) → (List ℕ → List ℕ → Bool) → List Entry → Type 0
 GoodChain hash verdict entries = Continues hash verdict None entries
 
 -- the first place at which an entry doesn't follow, and its first fault
-pub record IsFirstRefused (hash : List ℕ → List ℕ) (verdict : List ℕ → List ℕ → Bool) (start : Option Before) (entries : List Entry) (place : ℕ) (fault : AuditFault) : Type 0 where
+pub record IsFirstRefused (hash : List ℕ → List ℕ) (verdict : List ℕ → List ℕ → Bool)
+    (start : Option AuditorState) (entries : List Entry) (place : ℕ) (fault : AuditFault) : Type 0 where
   pub earlier : ContinuesTo hash verdict start entries place
-  pub here : (entry : Entry) × (slice_get entries place ≡ Some entry) × IsFirstFault verdict (before_at hash start entries place) entry fault
+  pub here : (entry : Entry) × (slice_get entries place ≡ Some entry)
+      × IsFirstEntryFault verdict (before_at hash start entries place) entry fault

@@ -5,7 +5,7 @@ use Rattle.coniks_proof.specs.Proofs.{Accepts, answer_of}
 use Rattle.coniks_chain.specs.declared.entry.Entry.{Entry}
 use Rattle.coniks_chain.specs.Chain.{GoodChain}
 use Rattle.coniks_chain.specs.Fork.{EndsWith}
-use Rattle.coniks_chain.specs.Watch.{IsSoundRun, entries_of}
+use Rattle.coniks_chain.specs.Watch.{IsSoundRun, entries_watched}
 
 -- a client: its name, the entries and proofs of its run, and one step of that run, by its place
 pub record Client : Type 0 where
@@ -15,23 +15,24 @@ pub record Client : Type 0 where
   pub entry : Entry
   pub proof : Proof
 
--- a client that started anew: its run is sound, its chain ends in this link, and the step stands at its place
+-- a client that has monitored from the start: its run is sound, its chain ends in this link, and the step is at its place
 pub record IsClient (hash : List ℕ → List ℕ) (verdict : List ℕ → List ℕ → Bool) (index link : List ℕ) (client : Client) : Type 0 where
   pub sound : IsSoundRun hash verdict None client.name index client.items
-  pub ends : EndsWith hash (entries_of client.items) link
+  pub ends : EndsWith hash (entries_watched client.items) link
   pub stands : slice_get client.items client.place ≡ Some (client.entry, client.proof)
 
 -- the steps of both are of one epoch
 abbrev pub AreOfOneEpoch : Client → Client → Type 0
 AreOfOneEpoch a b = a.entry.body.t ≡ b.entry.body.t
 
--- the proofs of both tell different answers
+-- the proofs of both have different answers
 abbrev pub TellDifferently : Client → Client → Type 0
 TellDifferently a b = answer_of a.proof.end ≢ answer_of b.proof.end
 
 -- under the root of this entry a client's proof is accepted with its answer
-abbrev pub IsAcceptedUnder : (List ℕ → List ℕ) → List ℕ → Entry → Client → Type 0
-IsAcceptedUnder hash index entry client = Accepts hash entry.body.nonce.0 entry.body.root.0 index client.name client.proof (answer_of client.proof.end)
+abbrev pub IsAcceptedAtEntry : (List ℕ → List ℕ) → List ℕ → Entry → Client → Type 0
+IsAcceptedAtEntry hash index entry client = Accepts hash entry.body.nonce.0
+    entry.body.root.0 index client.name client.proof (answer_of client.proof.end)
 
 -- the two chains are good, have one last link, and differ
 pub record AreTwoHistories (hash : List ℕ → List ℕ) (verdict : List ℕ → List ℕ → Bool) (link : List ℕ) (xs ys : List Entry) : Type 0 where
@@ -44,13 +45,13 @@ pub record AreTwoHistories (hash : List ℕ → List ℕ) (verdict : List ℕ �
 -- the steps of both have one entry, and under its root both proofs are accepted, with different answers
 pub record AreTwoAnswers (hash : List ℕ → List ℕ) (index : List ℕ) (a b : Client) : Type 0 where
   pub one : a.entry ≡ b.entry
-  pub accepted_a : IsAcceptedUnder hash index a.entry a
-  pub accepted_b : IsAcceptedUnder hash index a.entry b
+  pub accepted_a : IsAcceptedAtEntry hash index a.entry a
+  pub accepted_b : IsAcceptedAtEntry hash index a.entry b
   pub differ : TellDifferently a b
 
 -- two clients that saw different answers hold two histories, or one history and two answers under one root of it
 abbrev pub TwoClients : Type 0
 TwoClients = (hash : List ℕ → List ℕ) (verdict : List ℕ → List ℕ → Bool) (index link : List ℕ) (a b : Client)
     → IsClient hash verdict index link a → IsClient hash verdict index link b → AreOfOneEpoch a b → TellDifferently a b
-    → AreTwoHistories hash verdict link (entries_of a.items) (entries_of b.items)
-    ⊎ ((entries_of a.items ≡ entries_of b.items) × AreTwoAnswers hash index a b)
+    → AreTwoHistories hash verdict link (entries_watched a.items) (entries_watched b.items)
+    ⊎ ((entries_watched a.items ≡ entries_watched b.items) × AreTwoAnswers hash index a b)

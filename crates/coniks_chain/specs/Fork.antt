@@ -1,4 +1,4 @@
--- Where two lists of entries, walked from their ends, part.
+-- Where two lists of entries, compared from their ends, differ.
 use Rattle.std.specs.Prelude.{◌≡◌, ◌≢◌, ℕ, suc, ◌-◌, List, Some, length, drop, slice_get}
 use Rattle.coniks_chain.specs.declared.entry.Entry.{Entry}
 use Rattle.coniks_chain.specs.Entries.{link_preimage}
@@ -23,8 +23,8 @@ pub record IsFork (hash : List ℕ → List ℕ) (xs ys : List Entry) (e f : Ent
   pub differ : e ≢ f
   pub linked : hash (link_preimage e) ≡ hash (link_preimage f)
 
--- from the ends, all entries are the same up to two of different links, or up to where a list has no entry left
-pub data Stops (hash : List ℕ → List ℕ) (xs ys : List Entry) : Type 0 where
-  left_used_up : (n : ℕ) → xs ≡ drop n ys → Stops hash xs ys
-  right_used_up : (n : ℕ) → drop n xs ≡ ys → Stops hash xs ys
-  links_differ : (i j : ℕ) (e f : Entry) → Stand xs ys i j e f → hash (link_preimage e) ≢ hash (link_preimage f) → Stops hash xs ys
+-- from the ends, all entries are equal up to two of different links, or up to the start of a list
+pub data HasNoFork (hash : List ℕ → List ℕ) (xs ys : List Entry) : Type 0 where
+  left_used_up : (n : ℕ) → xs ≡ drop n ys → HasNoFork hash xs ys
+  right_used_up : (n : ℕ) → drop n xs ≡ ys → HasNoFork hash xs ys
+  links_differ : (i j : ℕ) (e f : Entry) → Stand xs ys i j e f → hash (link_preimage e) ≢ hash (link_preimage f) → HasNoFork hash xs ys

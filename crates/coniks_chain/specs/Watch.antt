@@ -4,53 +4,58 @@ use Rattle.coniks_proof.specs.declared.paths.Proof.{Proof}
 use Rattle.coniks_proof.specs.Faults.{Has, IsFirst}
 use Rattle.coniks_proof.specs.Proofs.{Accepts, answer_of}
 use Rattle.coniks_chain.specs.declared.entry.Entry.{Entry}
-use Rattle.coniks_chain.specs.declared.auditor.Before.{Before}
+use Rattle.coniks_chain.specs.declared.auditor.AuditorState.{AuditorState}
 use Rattle.coniks_chain.specs.declared.seen.Seen.{Seen}
 use Rattle.coniks_chain.specs.Seen.{seen_of, is_same, is_changed, is_absent}
 use Rattle.coniks_chain.specs.declared.seen.Tally.{Tally}
 use Rattle.coniks_chain.specs.declared.seen.MonitorFault.{MonitorFault}
 use Rattle.coniks_chain.specs.declared.seen.MonitorFault.TheVariants.{Audit, Check}
-use Rattle.coniks_chain.specs.Chain.{Follows, IsFirstFault, before_at}
+use Rattle.coniks_chain.specs.Chain.{Follows, IsFirstEntryFault, before_at}
 
--- what a monitor keeps: its hash, what stands before the next entry, its name and index, and the key that it expects
+-- the state of a monitor: its hash, what the next entry is compared with, its name and index, and the expected key
 pub record Watched (H : Type 0) : Type 0 where
   pub hasher : H
-  pub before : Option Before
+  pub before : Option AuditorState
   pub name : List ℕ
   pub index : List ℕ
   pub expected : Option (List ℕ)
 
 -- the entry follows and the proof is accepted under its root and nonce
-pub record IsSoundStep (hash : List ℕ → List ℕ) (verdict : List ℕ → List ℕ → Bool) (before : Option Before) (name index : List ℕ) (entry : Entry) (proof : Proof) (answer : Option (List ℕ)) : Type 0 where
+pub record IsSoundStep (hash : List ℕ → List ℕ) (verdict : List ℕ → List ℕ → Bool) (before : Option AuditorState)
+    (name index : List ℕ) (entry : Entry) (proof : Proof) (answer : Option (List ℕ)) : Type 0 where
   pub follows : Follows verdict before entry
   pub accepted : Accepts hash entry.body.nonce.0 entry.body.root.0 index name proof answer
 
 -- the first fault of a step: the audit's come before the check's
-abbrev pub IsFirstStepFault : (List ℕ → List ℕ) → (List ℕ → List ℕ → Bool) → Option Before → List ℕ → List ℕ → Entry → Proof → MonitorFault → Type 0
-IsFirstStepFault hash verdict before name index entry proof (Audit fault) = IsFirstFault verdict before entry fault
+abbrev pub IsFirstStepFault : (List ℕ → List ℕ) → (List ℕ → List ℕ → Bool)
+    → Option AuditorState → List ℕ → List ℕ → Entry → Proof → MonitorFault → Type 0
+IsFirstStepFault hash verdict before name index entry proof (Audit fault) = IsFirstEntryFault verdict before entry fault
 IsFirstStepFault hash verdict before name index entry proof (Check fault) =
     Follows verdict before entry × IsFirst (Has hash entry.body.nonce.0 entry.body.root.0 index name proof) fault
 
 -- the entries of a run
-abbrev pub entries_of : List (Entry × Proof) → List Entry
-entries_of items = map (λ item. item.0) items
+abbrev pub entries_watched : List (Entry × Proof) → List Entry
+entries_watched items = map (λ item. item.0) items
 
--- each of the first n steps is sound, what stands before it being the entry just before
-abbrev pub IsSoundTo : (List ℕ → List ℕ) → (List ℕ → List ℕ → Bool) → Option Before → List ℕ → List ℕ → List (Entry × Proof) → ℕ → Type 0
+-- each of the first n steps is sound after the entry before it
+abbrev pub IsSoundTo : (List ℕ → List ℕ) → (List ℕ → List ℕ → Bool)
+    → Option AuditorState → List ℕ → List ℕ → List (Entry × Proof) → ℕ → Type 0
 IsSoundTo hash verdict start name index items n =
     (k : ℕ) (item : Entry × Proof) → k < n → slice_get items k ≡ Some item
-    → IsSoundStep hash verdict (before_at hash start (entries_of items) k) name index item.0 item.1 (answer_of item.1.end)
+    → IsSoundStep hash verdict (before_at hash start (entries_watched items) k) name index item.0 item.1 (answer_of item.1.end)
 
 -- a sound run: the entries continue a good chain, and each proof is accepted against its entry
-abbrev pub IsSoundRun : (List ℕ → List ℕ) → (List ℕ → List ℕ → Bool) → Option Before → List ℕ → List ℕ → List (Entry × Proof) → Type 0
+abbrev pub IsSoundRun : (List ℕ → List ℕ) → (List ℕ → List ℕ → Bool) → Option AuditorState → List ℕ → List ℕ → List (Entry × Proof) → Type 0
 IsSoundRun hash verdict start name index items =
     (k : ℕ) (item : Entry × Proof) → slice_get items k ≡ Some item
-    → IsSoundStep hash verdict (before_at hash start (entries_of items) k) name index item.0 item.1 (answer_of item.1.end)
+    → IsSoundStep hash verdict (before_at hash start (entries_watched items) k) name index item.0 item.1 (answer_of item.1.end)
 
 -- the first place of a run that isn't sound, and its first fault
-pub record IsFirstUnsound (hash : List ℕ → List ℕ) (verdict : List ℕ → List ℕ → Bool) (start : Option Before) (name index : List ℕ) (items : List (Entry × Proof)) (place : ℕ) (fault : MonitorFault) : Type 0 where
+pub record IsFirstUnsound (hash : List ℕ → List ℕ) (verdict : List ℕ → List ℕ → Bool) (start : Option AuditorState)
+    (name index : List ℕ) (items : List (Entry × Proof)) (place : ℕ) (fault : MonitorFault) : Type 0 where
   pub earlier : IsSoundTo hash verdict start name index items place
-  pub here : (item : Entry × Proof) × (slice_get items place ≡ Some item) × IsFirstStepFault hash verdict (before_at hash start (entries_of items) place) name index item.0 item.1 fault
+  pub here : (item : Entry × Proof) × (slice_get items place ≡ Some item)
+      × IsFirstStepFault hash verdict (before_at hash start (entries_watched items) place) name index item.0 item.1 fault
 
 -- what is seen at an entry, under an expectation
 abbrev pub seen_at : Option (List ℕ) → Entry × Proof → Seen

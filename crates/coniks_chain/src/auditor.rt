@@ -1,7 +1,7 @@
 //! The auditor of a chain.
 
 ghost use Rattle.std.specs.Prelude.{◌≡◌, Option, Some, None, OnOk, OnErr, IfOk, IfErr, length};
-ghost use Rattle.coniks_chain.specs.Chain.{Follows, GoodChain, IsFirstFault, IsFirstRefused, before_at, before_of, head_of};
+ghost use Rattle.coniks_chain.specs.Chain.{Follows, GoodChain, IsFirstEntryFault, IsFirstRefused, before_at, before_of, head_after};
 
 use crate::entry::{Entry, link};
 use crate::signer::Verify;
@@ -9,7 +9,7 @@ use coniks_proof::{Digest, Hash32, Head, Nonce};
 use std::marker::Model;
 use thiserror::Error;
 
-/// Why an entry isn't accepted: of what applies, the first in this order.
+/// The error of an entry that is not accepted. If several apply, the first in declaration order is returned.
 #[derive(Clone, Copy, Debug, Drop, PartialEq, Eq, Error)]
 pub enum AuditFault {
     #[error("the version is neither 1 nor 2")]
@@ -30,24 +30,30 @@ pub enum AuditFault {
     Verdict,
 }
 
-/// Of an entry, what the next one is compared with: all that an auditor keeps beside its hash. Copy it, store it, compare
-/// it, and go on from it by `Auditor::resume`.
+/// The state of an auditor after an entry: the values that the next entry is compared with.
+///
+/// It is all that an auditor keeps beside its hash. Copy it, store it, compare it, and continue from it with
+/// `Auditor::resume`.
 #[derive(Clone, Copy, Debug, PartialEq, Eq)]
-pub struct Before {
+pub struct AuditorState {
     /// The entry's epoch.
     pub t: u64,
-    /// Its link, by which the next entry names it.
+    /// Its link, which the next entry contains.
     pub link: Digest,
-    /// Its version, which is never lower again.
+    /// Its version. No later entry has a lower one.
     pub version: u8,
-    /// Its nonce, which a next entry of version 1 keeps.
+    /// Its nonce. A next entry of version 1 has the same one.
     pub nonce: Nonce,
 }
 
-/// Judges an entry after what stands before it.
-fn judge<V: Verify>(before: &Option<Before>, entry: &Entry, verify: &V) -> Result<(), AuditFault>
+/// Checks an entry against the state before it.
+fn judge<V: Verify>(
+    before: &Option<AuditorState>,
+    entry: &Entry,
+    verify: &V,
+) -> Result<(), AuditFault>
     ensures ok { OnOk result (Follows (V.verdict_of verify.now) before.now entry.now) }
-    ensures err { IfErr result (IsFirstFault (V.verdict_of verify.now) before.now entry.now) }
+    ensures err { IfErr result (IsFirstEntryFault (V.verdict_of verify.now) before.now entry.now) }
 {
     let body = &entry.body;
     if body.version != 1 && body.version != 2 {
@@ -89,11 +95,11 @@ fn judge<V: Verify>(before: &Option<Before>, entry: &Entry, verify: &V) -> Resul
     Ok(())
 }
 
-/// What an entry is to the next one.
-fn before_of<H: Hash32>(h: &H, entry: &Entry) -> Before
+/// Returns the state after an entry.
+fn before_of<H: Hash32>(h: &H, entry: &Entry) -> AuditorState
     ensures { result ≡ before_of (H.digest_of h.now) entry.now }
 {
-    Before {
+    AuditorState {
         t: entry.body.t,
         link: link(h, entry),
         version: entry.body.version,
@@ -101,9 +107,9 @@ fn before_of<H: Hash32>(h: &H, entry: &Entry) -> Before
     }
 }
 
-/// The epoch and the link of what stands before the next entry.
-fn head_of(before: Option<Before>) -> Option<Head>
-    ensures { result ≡ head_of before }
+/// Returns the head of a state: its epoch and its link.
+fn head_of(before: Option<AuditorState>) -> Option<Head>
+    ensures { result ≡ head_after before }
 {
     before.map(|before| Head {
         epoch: before.t,
@@ -111,80 +117,96 @@ fn head_of(before: Option<Before>) -> Option<Head>
     })
 }
 
-/// Follows a chain entry by entry, and keeps what the next entry is compared with. It takes no memory.
+/// Follows a chain entry by entry, and keeps the values that the next entry is compared with. Allocates nothing.
 #[derive(Drop)]
 pub struct Auditor<H> {
     h: H,
-    before: Option<Before>,
+    before: Option<AuditorState>,
 }
 
 impl<H> Model for Auditor<H> {
     ghost use Rattle.std.specs.Prelude.{Option};
-    ghost use Rattle.coniks_chain.specs.declared.auditor.Before.{Before};
+    ghost use Rattle.coniks_chain.specs.declared.auditor.AuditorState.{AuditorState};
 
-    ghost Value = { H × Option Before };
+    ghost Value = { H × Option AuditorState };
 
     ghost view = { λ a. (a.h, a.before) };
 }
 
 impl<H: Hash32 + Drop> Auditor<H> {
-    /// An auditor that has seen no entry.
+    /// Returns an auditor that has seen no entry.
     pub fn new(h: H) -> Self
         ensures { result ≡ (h, None) }
     {
         Auditor { h, before: None }
     }
 
-    /// An auditor that goes on where another one, of the same hash, stood when `before` was taken of it. None for one
-    /// that has seen no entry. Nothing is asked of the value: who stores it is trusted with it.
-    pub fn resume(h: H, before: Option<Before>) -> Self
+    /// Returns an auditor that continues from the state of another one of the same hash.
+    ///
+    /// `None` is the state of an auditor that has seen no entry. The state is not checked, so the caller trusts its
+    /// storage.
+    pub fn resume(h: H, before: Option<AuditorState>) -> Self
         ensures { result ≡ (h, before) }
     {
         Auditor { h, before }
     }
 
-    /// What the auditor keeps of the last entry accepted, to be stored and given to `resume`. None before the first.
-    pub fn before(&self) -> Option<Before>
+    /// Returns the state after the last accepted entry, for `resume`, or `None` before the first.
+    pub fn state(&self) -> Option<AuditorState>
         ensures { result ≡ self.now.1 }
     {
         self.before
     }
 
-    /// The head of the last entry accepted: its epoch and its link. None before the first. Nothing is hashed.
+    /// Returns the head of the last accepted entry, its epoch and its link, or `None` before the first.
+    ///
+    /// Computes no hash.
     pub fn head(&self) -> Option<Head>
-        ensures { result ≡ head_of self.now.1 }
+        ensures { result ≡ head_after self.now.1 }
     {
         head_of(self.before)
     }
 
-    /// The hash that links entries.
+    /// Returns the hash that links entries.
     pub(crate) fn hasher(&self) -> &H
         ensures { result.now ≡ self.now.0 }
     {
         &self.h
     }
 
-    /// Says whether an entry would be accepted.
+    /// Checks whether an entry would be accepted.
     pub(crate) fn judge<V: Verify>(&self, entry: &Entry, verify: &V) -> Result<(), AuditFault>
         ensures ok { OnOk result (Follows (V.verdict_of verify.now) self.now.1 entry.now) }
-        ensures err { IfErr result (IsFirstFault (V.verdict_of verify.now) self.now.1 entry.now) }
+        ensures err { IfErr result (IsFirstEntryFault (V.verdict_of verify.now) self.now.1 entry.now) }
     {
         judge(&self.before, entry, verify)
     }
 
-    /// Keeps what the next entry is compared with.
+    /// Stores the values that the next entry is compared with.
     pub(crate) fn keep(&mut self, entry: &Entry)
         ensures { self.new ≡ (self.old.0, Some (before_of (H.digest_of self.old.0) entry.now)) }
     {
         self.before = Some(before_of(&self.h, entry));
     }
 
-    /// Accepts an entry that follows the last one accepted, or says why it doesn't. After a refusal the auditor is as
-    /// it was.
+    /// Accepts an entry that follows the last accepted one.
+    ///
+    /// # Errors
+    ///
+    /// If several apply, the first in this order is returned. After an error the auditor is unchanged.
+    ///
+    /// - `Version` if the version is neither 1 nor 2.
+    /// - `VersionBack` if the version is lower than that of the entry before.
+    /// - `FirstEpoch` if the first entry's epoch is 0.
+    /// - `NotLater` if the epoch is not later than that of the entry before.
+    /// - `PreviousEpoch` if the epoch before is wrong; for the first entry it is 0.
+    /// - `PreviousLink` if the link before is wrong; for the first entry it is 32 zero bytes.
+    /// - `NonceChanged` if an entry of version 1 does not have the nonce of the entry before.
+    /// - `Verdict` if the signature is not one for the body.
     pub fn feed<V: Verify>(&mut self, entry: &Entry, verify: &V) -> Result<(), AuditFault>
         ensures ok { OnOk result (Follows (V.verdict_of verify.now) self.old.1 entry.now) }
         ensures kept { OnOk result (self.new ≡ (self.old.0, Some (before_of (H.digest_of self.old.0) entry.now))) }
-        ensures err { IfErr result (IsFirstFault (V.verdict_of verify.now) self.old.1 entry.now) }
+        ensures err { IfErr result (IsFirstEntryFault (V.verdict_of verify.now) self.old.1 entry.now) }
         ensures unchanged { OnErr result (self.new ≡ self.old) }
     {
         self.judge(entry, verify)?;
@@ -193,15 +215,20 @@ impl<H: Hash32 + Drop> Auditor<H> {
     }
 }
 
-/// The head of a good chain, None for no entries; else the place, from 0, of the first entry that doesn't follow, and
-/// its fault. It takes no memory.
+/// Audits a chain from its first entry, and returns its head, or `None` if there are no entries.
+///
+/// Allocates nothing.
+///
+/// # Errors
+///
+/// The position of the first entry that does not follow, counted from 0, and its error, as of `Auditor::feed`.
 pub fn audit<H: Hash32, V: Verify>(
     h: &H,
     entries: &[Entry],
     verify: &V,
 ) -> Result<Option<Head>, (usize, AuditFault)>
     ensures ok { OnOk result (GoodChain (H.digest_of h.now) (V.verdict_of verify.now) entries.now) }
-    ensures head { IfOk result (λ head. head ≡ head_of (before_at (H.digest_of h.now) None entries.now (length entries.now))) }
+    ensures head { IfOk result (λ head. head ≡ head_after (before_at (H.digest_of h.now) None entries.now (length entries.now))) }
     ensures err { IfErr result (λ refused. IsFirstRefused (H.digest_of h.now) (V.verdict_of verify.now) None entries.now refused.0 refused.1) }
 {
     let mut before = None;

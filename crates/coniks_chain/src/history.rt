@@ -4,12 +4,12 @@ ghost use Rattle.std.specs.Prelude.{◌≡◌, ◌↔◌, List, ℕ, Bool, IfOk,
 ghost use Rattle.coniks_proof.specs.Collisions.{IsCollision};
 ghost use Rattle.coniks_chain.specs.Chain.{GoodChain};
 ghost use Rattle.coniks_chain.specs.Entries.{link_preimage};
-ghost use Rattle.coniks_chain.specs.Fork.{EndsWith, IsFork, Stops};
+ghost use Rattle.coniks_chain.specs.Fork.{EndsWith, IsFork, HasNoFork};
 ghost use Rattle.coniks_chain.specs.Pair.{Compares};
 ghost use Rattle.coniks_chain.specs.declared.entry.Entry.{Entry};
 
-use crate::entry::{Entry, LINK_TAG, link};
-use coniks_proof::{Bytes, Collision, Hash32};
+use crate::entry::{Entry, LINK_BYTES, LINK_TAG, link};
+use coniks_proof::{Bytes, Collision, Hash32, OutOfMemory};
 use std::alloc::{AllocError, Global};
 
 /// Two entries, side by side.
@@ -35,7 +35,7 @@ fn compare<H: Hash32>(h: &H, e: &Entry, f: &Entry) -> Pair
 
 /// From the ends, the first two entries that differ, if they have one link.
 fn fork<H: Hash32>(h: &H, a: &[Entry], b: &[Entry]) -> Option<(Entry, Entry)>
-    ensures none { IfNone result (Stops (H.digest_of h.now) a.now b.now) }
+    ensures none { IfNone result (HasNoFork (H.digest_of h.now) a.now b.now) }
     ensures some { IfSome result (λ pair. IsFork (H.digest_of h.now) a.now b.now pair.0 pair.1) }
 {
     for k in 0..a.len().min(b.len()) {
@@ -54,34 +54,36 @@ fn fork<H: Hash32>(h: &H, a: &[Entry], b: &[Entry]) -> Option<(Entry, Entry)>
 fn preimage(alloc: Global, entry: &Entry) -> Result<Bytes, AllocError>
     ensures { IfOk result (λ bytes. bytes ≡ link_preimage entry.now) }
 {
-    let mut bytes = Vec::with_capacity(alloc, 210)?;
+    let mut bytes = Vec::with_capacity(alloc, LINK_BYTES)?;
     bytes.push(LINK_TAG)?;
     bytes.extend_from_slice(&entry.body.bytes())?;
     bytes.extend_from_slice(&entry.signature.0)?;
     Ok(Bytes::new(bytes))
 }
 
-/// Walks two lists of entries from their ends. At the first two that differ under one link it gives what is hashed to
-/// their links, `x` from `a` and `y` from `b`; at two of different links, or where a list has no entry left, it gives
-/// None. Whatever it gives is a collision. Where both lists are good chains that end in one link, None says that they
-/// are the same: a link binds the directory to one history (CONIKS, section 3).
+/// Walks two lists of entries from their ends. At the first two entries that differ under one link, it returns the preimages
+/// of their links, `x` from `a` and `y` from `b`. At two entries with different links, or at the end of a list, it returns
+/// `None`. What it returns is a collision. If both lists are good chains that end in one link, `None` says that they are the
+/// same: a link binds the directory to one history (CONIKS, section 3).
 ///
 /// # Errors
 ///
-/// A growth was refused. Where nothing is found no memory is asked for.
+/// `OutOfMemory` if an allocation fails. If nothing is found, none is made.
 pub fn extract_history<H: Hash32>(
     alloc: Global,
     h: &H,
     a: &[Entry],
     b: &[Entry],
-) -> Result<Option<Collision>, AllocError>
-    ensures none { IfOk result (λ found. IfNone found (Stops (H.digest_of h.now) a.now b.now)) }
-    ensures preimages { IfOk result (λ found. IfSome found (λ c. (e f : Entry) × IsFork (H.digest_of h.now) a.now b.now e f × (c.x ≡ link_preimage e) × (c.y ≡ link_preimage f))) }
+) -> Result<Option<Collision>, OutOfMemory>
+    ensures none { IfOk result (λ found. IfNone found (HasNoFork (H.digest_of h.now) a.now b.now)) }
+    ensures preimages { IfOk result
+        (λ found. IfSome found (λ c. (e f : Entry) × IsFork (H.digest_of h.now) a.now b.now e f × (c.x ≡ link_preimage e) × (c.y ≡ link_preimage f))) }
     ensures collision { IfOk result (λ found. IfSome found (λ c. IsCollision (H.digest_of h.now) c.x c.y)) }
-    ensures calm { Stops (H.digest_of h.now) a.now b.now → IsOk result }
+    ensures calm { HasNoFork (H.digest_of h.now) a.now b.now → IsOk result }
 
     // For two good chains that end in one link there is a collision, unless the chains are the same.
-    ensures good { IfOk result (λ found. (verdict : List ℕ → List ℕ → Bool) (link : List ℕ) → GoodChain (H.digest_of h.now) verdict a.now → GoodChain (H.digest_of h.now) verdict b.now
+    ensures good { IfOk result (λ found. (verdict : List ℕ → List ℕ → Bool) (link : List ℕ)
+        → GoodChain (H.digest_of h.now) verdict a.now → GoodChain (H.digest_of h.now) verdict b.now
         → EndsWith (H.digest_of h.now) a.now link → EndsWith (H.digest_of h.now) b.now link → IsNone found ↔ (a.now ≡ b.now)) }
 {
     let (e, f) = match fork(h, a, b) {

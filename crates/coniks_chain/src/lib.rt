@@ -1,11 +1,11 @@
-//! The signed entries of a CONIKS key directory, the chain that they make, its auditor and a client's monitor.
+//! The chain of signed tree roots (STRs) of a CONIKS key directory, its auditor and a client's monitor.
 //!
 //! A directory signs the root of its tree at each epoch, together with the hash of the entry before it (Melara,
-//! Blankstein, Bonneau, Felten, Freedman: CONIKS, USENIX Security 2015, section 3). An auditor follows such a chain,
-//! and a client's monitor follows it with a proof for its own name at each entry. Two chains that end in one link are
-//! the same, or a collision of the hash is found in them.
+//! Blankstein, Bonneau, Felten, Freedman: CONIKS, USENIX Security 2015, section 3). An entry is the encoding of one STR.
+//! An auditor verifies such a chain. A client's monitor also checks a proof for its own name at each entry. Two chains
+//! that end in one link are the same, or `extract_history` finds a collision of the hash in them.
 //!
-//! An auditor is fed the entries, with who judges their signatures:
+//! An auditor takes the entries, and a type that verifies their signatures:
 //!
 //! ```rust
 //! let mut auditor = Auditor::new(TaggedHash);
@@ -38,8 +38,8 @@ pub mod monitor;
 pub mod seen;
 pub mod signer;
 
-pub use auditor::{AuditFault, Auditor, Before, audit};
-pub use entry::{Body, Entry, Signature, link};
+pub use auditor::{AuditFault, Auditor, AuditorState, audit};
+pub use entry::{BODY_BYTES, Body, ENTRY_BYTES, Entry, Signature, link};
 pub use history::extract_history;
 pub use monitor::{Monitor, Wanted};
 pub use seen::{MonitorFault, Seen, Tally};

@@ -1,4 +1,4 @@
-//! What a client's monitor sees, and why it refuses.
+//! What a client's monitor sees, and its errors.
 
 ghost use Rattle.std.specs.Prelude.{◌≡◌, ◌<◌, ◌+◌};
 ghost use Rattle.coniks_chain.specs.Seen.{counted};
@@ -7,18 +7,18 @@ use crate::auditor::AuditFault;
 use coniks_proof::CheckFault;
 use thiserror::Error;
 
-/// What a proof says of the client's name, against the key that the client expects.
+/// What a proof shows about the client's name, compared with the key that the client expects.
 #[derive(Clone, Copy, Debug, PartialEq, Eq)]
 pub enum Seen {
-    /// The expected key, or no key where none is expected.
+    /// The expected key, or no key if none is expected.
     Same,
-    /// A key other than the expected one, or a key where none is expected.
+    /// A key other than the expected one, or a key if none is expected.
     Changed,
-    /// No key, where one is expected.
+    /// No key, although one is expected.
     Absent,
 }
 
-/// How often each was seen.
+/// The number of steps with each result.
 #[derive(Clone, Copy, Debug, PartialEq, Eq)]
 pub struct Tally {
     pub same: usize,
@@ -27,7 +27,7 @@ pub struct Tally {
 }
 
 impl Tally {
-    /// Counts what was seen.
+    /// Counts a result.
     pub(crate) fn count(&mut self, seen: Seen)
         requires same { self.old.same < usize.MAX }
         requires changed { self.old.changed < usize.MAX }
@@ -42,7 +42,7 @@ impl Tally {
     }
 }
 
-/// Why a monitor doesn't accept a step. The entry's fault comes before the proof's.
+/// The error of a monitor's step. The entry's error comes before the proof's.
 #[derive(Clone, Copy, Debug, Drop, PartialEq, Eq, Error)]
 pub enum MonitorFault {
     #[error("the entry is refused: {0}")]

@@ -1,46 +1,47 @@
-//! Who signs bodies, and who judges signatures.
+//! Signers of bodies, and the verification of their signatures.
 
 ghost use Rattle.std.specs.Prelude.{◌≡◌, ◌<◌, ◌+◌, ◌-◌, ◌^◌, List, ℕ, Bool, true, Option, Some, None, IfSome, IfNone};
 ghost use Rattle.coniks_chain.specs.Entries.{IsBody, body_bytes, signed};
 ghost use Rattle.coniks_chain.specs.Signing.{verified};
 ghost use Rattle.coniks_chain.specs.declared.entry.Signature.{Signature};
 
-use crate::entry::{Body, Entry, Signature};
+use crate::entry::{BODY_BYTES, Body, Entry, Signature};
 
-/// Judges signatures.
+/// Verifies signatures.
 pub trait Verify {
-    /// The verdict on a body's bytes and a signature.
+    /// The verification result for a body's bytes and a signature.
     ghost verdict_of: { Self → List ℕ → List ℕ → Bool };
 
-    /// Says whether a signature is one for the bytes of a body.
-    fn verdict(&self, body: &[u8; 145], signature: &Signature) -> bool
+    /// Returns whether the signature is one for the bytes of the body.
+    fn verdict(&self, body: &[u8; BODY_BYTES], signature: &Signature) -> bool
         ensures { result ≡ verdict_of self.now body.now signature.now.0 };
 }
 
-/// Signs bodies, or refuses to, and counts both.
+/// Signs bodies or refuses to, and counts both.
 ///
-/// A type that writes this has its verdict on each signature proved. Most write `SignatureSource` instead, and are a signer
-/// by `Signer`.
+/// A type that implements this trait proves the verification result of each signature that it returns. Most types
+/// implement `SignatureSource` instead, and `Signer` makes a signer of them.
 pub trait Sign: Verify {
     ghost use Rattle.coniks_chain.specs.declared.entry.Body.{Body};
     ghost use Rattle.coniks_chain.specs.declared.entry.Entry.{Entry};
     ghost use Rattle.coniks_chain.specs.declared.entry.Signature.{Signature};
 
-    /// One call of `sign`: asked to sign these bytes, the signer gives this signature or none, and is this afterwards.
+    /// One call of `sign`: the signer, the bytes, the signature that it returns or `None`, and the signer after the call.
     ghost signs: { Self → List ℕ → Option Signature → Self → Type 0 };
 
-    /// How many signatures it gave.
+    /// The number of signatures that it returned.
     ghost made_of: { Self → ℕ };
 
-    /// How often it gave none.
+    /// The number of calls in which it returned none.
     ghost refused_of: { Self → ℕ };
 
     /// The last body that it signed, with the signature.
     ghost last_of: { Self → Option Entry };
 
-    /// A signature for the bytes of a body, or None where the signer refuses. One of the two counts rises by one, and
-    /// both have to be below 2^64 - 1. No verdict changes.
-    fn sign(&mut self, body: &[u8; 145]) -> Option<Signature>
+    /// Signs the bytes of a body, or returns `None` if the signer refuses.
+    ///
+    /// One of the two counts increases by 1, and both are below 2^64 - 1 before the call. No verification result changes.
+    fn sign(&mut self, body: &[u8; BODY_BYTES]) -> Option<Signature>
         requires made_below { made_of self.old < 2 ^ 64 - 1 }
         requires refused_below { refused_of self.old < 2 ^ 64 - 1 }
         ensures signs { signs self.old body.now result self.new }
@@ -53,21 +54,22 @@ pub trait Sign: Verify {
         ensures last_kept { IfNone result (last_of self.new ≡ last_of self.old) }
         ensures verdicts_kept { (bytes signature : List ℕ) → Self.verdict_of self.new bytes signature ≡ Self.verdict_of self.old bytes signature };
 
-    /// How many signatures it gave.
+    /// Returns the number of signatures that it returned.
     fn made(&self) -> u64
         ensures { result ≡ made_of self.now };
 
-    /// How often it gave none.
+    /// Returns the number of calls in which it returned none.
     fn refused(&self) -> u64
         ensures { result ≡ refused_of self.now };
 
-    /// The last body that it signed, with the signature. None before the first.
+    /// Returns the last body that it signed, with the signature, or `None` before the first.
     fn last(&self) -> Option<Entry>
         ensures { result ≡ last_of self.now };
 }
 
-/// How often a signer signed and refused, and the last body that it signed, with the signature. A signer that proves its
-/// own verdicts keeps one; for any other there is `Signer`.
+/// The counts of a signer, and the last body that it signed, with the signature.
+///
+/// A signer that proves its own verification results keeps one. For any other there is `Signer`.
 #[derive(Clone, Copy, Debug, PartialEq, Eq)]
 pub struct Signings {
     pub made: u64,
@@ -76,7 +78,7 @@ pub struct Signings {
 }
 
 impl Signings {
-    /// Those of a signer that hasn't been asked.
+    /// Returns the counts of a signer that has not been asked.
     pub fn none() -> Signings
         ensures { result ≡ record { made = 0; refused = 0; last = None } }
     {
@@ -87,8 +89,8 @@ impl Signings {
         }
     }
 
-    /// Counts a signature, and keeps it with the body that has these bytes.
-    pub fn signed(&mut self, body: &[u8; 145], signature: Signature)
+    /// Counts a signature, and stores it with the body that has these bytes.
+    pub fn signed(&mut self, body: &[u8; BODY_BYTES], signature: Signature)
         requires { self.old.made < 2 ^ 64 - 1 }
         ensures made { self.new.made ≡ self.old.made + 1 }
         ensures refused { self.new.refused ≡ self.old.refused }
@@ -110,23 +112,24 @@ impl Signings {
     }
 }
 
-/// Where signatures come from: a key in memory, a device, another process. `Signer` makes a signer of it.
+/// A source of signatures: a key in memory, a device or another process. `Signer` makes a signer of it.
 ///
-/// One whose signatures are made by another process keeps the body and answers None until the signature has arrived:
+/// If another process makes the signatures, the source stores the body and returns `None` until the signature has
+/// arrived:
 ///
 /// ```rust
 /// impl SignatureSource for Desk {
 ///     ghost gives = { λ desk body given after. given ≡ desk.arrived };
 ///
-///     fn signature(&mut self, body: &[u8; 145]) -> Option<Signature> {
+///     fn signature(&mut self, body: &[u8; BODY_BYTES]) -> Option<Signature> {
 ///         self.wanted = Some(*body);
 ///         self.arrived.take()
 ///     }
 /// }
 /// ```
 ///
-/// The directory's `install` then answers `SignerRefused` and hands the update back. Handed in again at the same epoch, it
-/// asks for the same body, and goes in with the signature that has arrived meanwhile:
+/// The directory's `install` then returns `SignerRefused` with the update. Installed again at the same epoch, the update
+/// asks for the same body, and is installed with the signature that has arrived:
 ///
 /// ```rust
 /// let (_, update) = refused.err().expect(rt, "a refusal");
@@ -136,19 +139,25 @@ impl Signings {
 pub trait SignatureSource: Verify {
     ghost use Rattle.coniks_chain.specs.declared.entry.Signature.{Signature};
 
-    /// One call of `signature`: asked for a signature of these bytes, the source gives this one or none, and is this
-    /// afterwards. A source writes what its users may know of a call, or `λ _ _ _ _. Unit {0}` if they need nothing.
-    /// `Signer` and the directory say that such a call was made, once and for the body that is signed.
+    /// One call of `signature`: the source, the bytes, the signature that it returns or `None`, and the source after the
+    /// call.
+    ///
+    /// A source defines what its users know of a call, or `λ _ _ _ _. Unit {0}` if they need nothing. `Signer` and the
+    /// directory promise that such a call was made, once and for the body that is signed.
     ghost gives: { Self → List ℕ → Option Signature → Self → Type 0 };
 
-    /// A signature for the bytes of a body, or None where there is none now. It may be a wrong one. No verdict changes.
-    fn signature(&mut self, body: &[u8; 145]) -> Option<Signature>
+    /// Returns a signature for the bytes of a body, or `None` if there is none now.
+    ///
+    /// The signature can be a wrong one. No verification result changes.
+    fn signature(&mut self, body: &[u8; BODY_BYTES]) -> Option<Signature>
         ensures gives { gives self.old body.now result self.new }
         ensures verdicts_kept { (bytes signature : List ℕ) → Self.verdict_of self.new bytes signature ≡ Self.verdict_of self.old bytes signature };
 }
 
-/// A signer over a source of signatures: it verifies each signature before it hands it on, refuses in place of a wrong
-/// one, and counts. Each call of `sign` asks the source exactly once, for the same body (`signs`).
+/// A signer over a source of signatures.
+///
+/// It verifies each signature before it returns it, refuses instead of returning a wrong one, and counts both. Each call
+/// of `sign` asks the source exactly once, for the same body (`signs`).
 #[derive(Drop)]
 pub struct Signer<S> {
     /// The source.
@@ -156,8 +165,8 @@ pub struct Signer<S> {
     signings: Signings,
 }
 
-/// What the source gives for a body, where the verdict on it is yes.
-fn judged<S: SignatureSource>(source: &mut S, body: &[u8; 145]) -> Option<Signature>
+/// Returns the source's signature for a body, if it verifies.
+fn judged<S: SignatureSource>(source: &mut S, body: &[u8; BODY_BYTES]) -> Option<Signature>
     ensures given { (given : Option Signature) × S.gives source.old body.now given source.new × (result ≡ verified (S.verdict_of source.new body.now) given) }
     ensures verdict { IfSome result (λ signature. S.verdict_of source.new body.now signature.0 ≡ true) }
     ensures verdicts_kept { (bytes signature : List ℕ) → S.verdict_of source.new bytes signature ≡ S.verdict_of source.old bytes signature }
@@ -171,7 +180,7 @@ fn judged<S: SignatureSource>(source: &mut S, body: &[u8; 145]) -> Option<Signat
 }
 
 impl<S> Signer<S> {
-    /// A signer over a source, which hasn't been asked.
+    /// Returns a signer over a source, which has not been asked.
     pub fn new(source: S) -> Signer<S>
         ensures source { result.source ≡ source }
         ensures signings { result.signings ≡ record { made = 0; refused = 0; last = None } }
@@ -186,7 +195,7 @@ impl<S> Signer<S> {
 impl<S: SignatureSource> Verify for Signer<S> {
     ghost verdict_of = { λ signer body signature. S.verdict_of signer.source body signature };
 
-    fn verdict(&self, body: &[u8; 145], signature: &Signature) -> bool {
+    fn verdict(&self, body: &[u8; BODY_BYTES], signature: &Signature) -> bool {
         self.source.verdict(body, signature)
     }
 }
@@ -196,7 +205,8 @@ impl<S: SignatureSource> Sign for Signer<S> {
     ghost use Rattle.coniks_chain.specs.Signing.{verified};
     ghost use Rattle.coniks_chain.specs.declared.entry.Signature.{Signature};
 
-    ghost signs = { λ signer body result after. (given : Option Signature) × S.gives signer.source body given after.source × (result ≡ verified (S.verdict_of after.source body) given) };
+    ghost signs = { λ signer body result after. (given : Option Signature)
+        × S.gives signer.source body given after.source × (result ≡ verified (S.verdict_of after.source body) given) };
 
     ghost made_of = { λ signer. signer.signings.made };
 
@@ -204,8 +214,8 @@ impl<S: SignatureSource> Sign for Signer<S> {
 
     ghost last_of = { λ signer. signer.signings.last };
 
-    /// What the source gives, where the verdict on it is yes.
-    fn sign(&mut self, body: &[u8; 145]) -> Option<Signature> {
+    /// Returns the source's signature, if it verifies.
+    fn sign(&mut self, body: &[u8; BODY_BYTES]) -> Option<Signature> {
         let signature = judged(&mut self.source, body);
         match signature {
             Some(signature) => self.signings.signed(body, signature),

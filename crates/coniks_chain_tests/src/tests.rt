@@ -3,7 +3,7 @@
 mod signers;
 
 use coniks_chain::{
-    AuditFault, Auditor, Before, Body, Entry, Monitor, MonitorFault, Seen, Signature, Tally,
+    AuditFault, Auditor, AuditorState, Body, Entry, Monitor, MonitorFault, Seen, Signature, Tally,
     Verify, Wanted, audit, extract_history, link,
 };
 use coniks_proof::{
@@ -323,10 +323,10 @@ fn heads_of_an_auditor(rt: HostRuntime) {
 fn stored_step(
     rt: &impl Abort,
     alloc: Global,
-    stored: Option<Before>,
+    stored: Option<AuditorState>,
     place: usize,
     key: u8,
-) -> (Result<Seen, MonitorFault>, Option<Before>) {
+) -> (Result<Seen, MonitorFault>, Option<AuditorState>) {
     let wanted = Wanted {
         name: b"a",
         index: Index([0; 32]),
@@ -335,7 +335,7 @@ fn stored_step(
     let mut auditor = Auditor::resume(Sha256Hash, stored);
     let proof = proof_of(rt, alloc, &[key]);
     let seen = auditor.watch(&wanted, &entry_at(rt, place), &proof.borrowed(), &Yes);
-    (seen, auditor.before())
+    (seen, auditor.state())
 }
 
 /// A client that keeps nothing but what it stores takes the steps of one that goes on.
@@ -372,10 +372,10 @@ fn steps_of_a_stored_state(rt: HostRuntime) {
 fn resumed_monitor(rt: HostRuntime) {
     let alloc = rt.alloc();
     let mut first = watch(&rt, alloc, b"a", Some(b"k"));
-    assert!(rt; first.before().is_none());
+    assert!(rt; first.state().is_none());
     assert_eq!(rt; step_to(&rt, alloc, &mut first, 0, b'k'), Ok(Seen::Same));
     let (name, key) = (copied(&rt, alloc, b"a"), copied(&rt, alloc, b"k"));
-    let mut next = Monitor::resume(Sha256Hash, first.before(), name, Index([0; 32]), Some(key));
+    let mut next = Monitor::resume(Sha256Hash, first.state(), name, Index([0; 32]), Some(key));
     assert_eq!(rt; step_to(&rt, alloc, &mut next, 1, b'l'), Ok(Seen::Changed));
 }
 
@@ -686,7 +686,7 @@ fn refused_once(
 /// What histories give, whether or not memory is refused; where they give nothing, none is asked for. `faults/run` refuses
 /// each request for memory in turn, and is told by what the test writes whether it was one of `extract_history`.
 #[test]
-fn refused(rt: HostRuntime) {
+fn refused_in_turn(rt: HostRuntime) {
     let alloc = rt.alloc();
     let one = flat_entry(1, 0, 0);
     let other = flat_entry(1, 0, 1);

@@ -2,10 +2,10 @@
 use Rattle.std.proofs.Common.{◌≡◌, ℕ, ◌+◌, List, [], ◌∷◌, ◌++◌, length, map, take, drop, true, false, refl, sym, ap, subst, ◌∙◌, ◌||◌, inl, inr, Option, None, append_assoc, slice_get, Some}
 use Rattle.std.proofs.lemmas.List.{take-append-drop}
 use Rattle.std.proofs.lemmas.Bool.{or_left}
-use Rattle.coniks_directory.proofs.Words.{Batch, Before, Entry, Epoch, HoldsEpoch, IsAccepted, IsChainOf, IsMap, IsUpdate, IsUpdateOf, Grows, Mirrors, Numbered, Operation, Prepared, Record}
+use Rattle.coniks_directory.proofs.Words.{Batch, AuditorState, Entry, Epoch, HoldsEpoch, IsAccepted, IsChainOf, IsMap, IsUpdate, IsUpdateOf, Grows, Mirrors, Numbered, Operation, Prepared, Record}
 use Rattle.coniks_directory.proofs.Words.{Registered, Registry, SameEntries, Shown, State, Whole, after, backed_by, before_at, body_of, bound_by, bytes_eq}
 use Rattle.coniks_directory.proofs.Words.{bytes_eq-Decides, clashes, entries_of, false_from_ne_true, fault_from, fault_of, first_fault, has_name, history_of, latest_registry, map-append, or_cases}
-use Rattle.coniks_directory.proofs.Words.{or_right, overlaid, placed, rebound, records_after, registered_at, registered_of, registry_after, registry_at, root_at, shown_after, shown_next, shown_of}
+use Rattle.coniks_directory.proofs.Words.{or_right, overlaid, placed, rebound, records_after, registered_at, registered_of, registry_after, registry_at, root_at, shown_after, shown_with, shown_of}
 use Rattle.coniks_chain.specs.declared.entry.Entry.{Entry as Signed}
 use Rattle.coniks_directory.specs.Runs.{IsPreparedOf}
 use Rattle.coniks_directory.specs.Supplied.{AgreeOn, IsSupplied}
@@ -93,12 +93,12 @@ none_next xs i x name at none off =
     ]) (subst (λ bs. has_name bs name ≡ true) same has))
 
 -- the names that an update leaves are those that are registered and those of its records
-pub leaves_name : (hash of : List ℕ → List ℕ) (s : State) (p : Prepared) (name : List ℕ) → Whole hash of s
+pub leaves_name : (hash index_of : List ℕ → List ℕ) (s : State) (p : Prepared) (name : List ℕ) → Whole hash index_of s
     → has_name (registry_after s p) name ≡ has_name (latest_registry (history_of s)) name || has_name (map registered_of p.records.items) name
-leaves_name hash of s p name whole =
+leaves_name hash index_of s p name whole =
     let new = map registered_of p.records.items in
     let now = latest_registry (history_of s) in
-    let is = latest-is hash of s whole in
+    let is = latest-is hash index_of s whole in
     same_bool (has_name (registry_after s p) name) (has_name now name || has_name new name)
     (λ has.
     has_either (map registered_of s.records) new name (has_name now name || has_name new name ≡ true)
@@ -113,32 +113,35 @@ leaves_name hash of s p name whole =
     ])))
 
 -- a function with one index more agrees on a registry that lacks the name, or has it with this index
-pub supplied_agree : (of also : List ℕ → List ℕ) (name index : List ℕ) (registry : Registry) → IsSupplied of name index also → (has_name registry name ≡ true → of name ≡ index) → AgreeOn of also registry
-supplied_agree of also name index registry supplied kept n has = (elim (bytes_eq n name) as (λ v. bytes_eq n name ≡ v → of n ≡ also n) [
+pub supplied_agree : (index_of also : List ℕ → List ℕ) (name index : List ℕ) (registry : Registry)
+    → IsSupplied index_of name index also → (has_name registry name ≡ true → index_of name ≡ index) → AgreeOn index_of also registry
+supplied_agree index_of also name index registry supplied kept n has = (elim (bytes_eq n name) as (λ v. bytes_eq n name ≡ v → index_of n ≡ also n) [
   | true ↦ λ on.
       let same = (bytes_eq-Decides n name).0 on in
-      ap of same ∙ kept (subst (λ m. has_name registry m ≡ true) same has) ∙ sym supplied.here ∙ ap also (sym same)
+      ap index_of same ∙ kept (subst (λ m. has_name registry m ≡ true) same has) ∙ sym supplied.here ∙ ap also (sym same)
   | false ↦ λ off. sym (supplied.others n (λ same. let on = eq_same n name same in cc))
 ]) refl
 
 -- ---- entries and roots
 
-module _ (hash of also : List ℕ → List ℕ) where
-  pub entries_agree : (registry : Registry) → AgreeOn of also registry → entries_of hash of registry ≡ entries_of hash also registry
+module _ (hash index_of also : List ℕ → List ℕ) where
+  pub entries_agree : (registry : Registry) → AgreeOn index_of also registry → entries_of hash index_of registry ≡ entries_of hash also registry
   entries_agree [] agree = refl
   entries_agree (b ∷ bs) agree =
-      let here : of b.name ≡ also b.name = agree b.name (named_in b (b ∷ bs) (inl refl)) in
+      let here : index_of b.name ≡ also b.name = agree b.name (named_in b (b ∷ bs) (inl refl)) in
       let rest = entries_agree bs (λ name has. agree name (or_right (bytes_eq b.name name) (has_name bs name) has)) in
       rw (here, rest) refl
 
-  pub root_agree : (shown : Shown) → AgreeOn of also shown.registry → root_at hash of shown ≡ root_at hash also shown
+  pub root_agree : (shown : Shown) → AgreeOn index_of also shown.registry → root_at hash index_of shown ≡ root_at hash also shown
   root_agree shown agree = rw (entries_agree shown.registry agree) refl
 
   -- and so are bodies
-  pub body_agree : (policy : List ℕ) (before : Option Before) (shown : Shown) → AgreeOn of also shown.registry → body_of hash of policy before shown ≡ body_of hash also policy before shown
-  body_agree policy before shown agree = ap (λ (r : List ℕ). record (body_of hash of policy before shown) { root = record { 0 = r } }) (root_agree shown agree)
+  pub body_agree : (policy : List ℕ) (before : Option AuditorState) (shown : Shown) → AgreeOn index_of also shown.registry
+      → body_of hash index_of policy before shown ≡ body_of hash also policy before shown
+  body_agree policy before shown agree = ap (λ (r : List ℕ). record (body_of hash index_of policy before shown) { root = record { 0 = r } }) (root_agree shown agree)
 
-  pub mirrors_agree : (records : List Record) (es : List Numbered) (registry : Registry) → AgreeOn of also registry → Mirrors hash of records es registry → Mirrors hash also records es registry
+  pub mirrors_agree : (records : List Record) (es : List Numbered) (registry : Registry)
+      → AgreeOn index_of also registry → Mirrors hash index_of records es registry → Mirrors hash also records es registry
   mirrors_agree records es registry agree m =
       let same = entries_agree registry agree in
       record {
@@ -152,11 +155,11 @@ module _ (hash of also : List ℕ → List ℕ) where
   -- ---- a directory
 
   -- what its records bind has the same indices
-  module _ (s : State) (agree : (name : List ℕ) → have s.records name → of name ≡ also name) where
-    agree_at : (n : ℕ) → AgreeOn of also (registry_at s.records n)
+  module _ (s : State) (agree : (name : List ℕ) → have s.records name → index_of name ≡ also name) where
+    agree_at : (n : ℕ) → AgreeOn index_of also (registry_at s.records n)
     agree_at n name has = agree name (have_at s.records n name has)
 
-    holds_agree : (e : Epoch) → HoldsEpoch hash of s.nodes s.records e → HoldsEpoch hash also s.nodes s.records e
+    holds_agree : (e : Epoch) → HoldsEpoch hash index_of s.nodes s.records e → HoldsEpoch hash also s.nodes s.records e
     holds_agree e h = record {
       known = h.known;
       counted = h.counted;
@@ -167,17 +170,17 @@ module _ (hash of also : List ℕ → List ℕ) where
       };
     }
 
-    chain_agree : (chain : List Signed) → IsChainOf hash of s.policy (history_of s) chain → IsChainOf hash also s.policy (history_of s) chain
+    chain_agree : (chain : List Signed) → IsChainOf hash index_of s.policy (history_of s) chain → IsChainOf hash also s.policy (history_of s) chain
     chain_agree chain c = record {
       long = c.long;
       bodies = λ k shown entry at there.
           let e = get-mapped (shown_of s.records) s.epochs k shown at in
-          let on : AgreeOn of also shown.registry = subst (λ (x : Shown). AgreeOn of also x.registry) e.2 (agree_at e.0.count) in
+          let on : AgreeOn index_of also shown.registry = subst (λ (x : Shown). AgreeOn index_of also x.registry) e.2 (agree_at e.0.count) in
           c.bodies k shown entry at there
-          ∙ ap (λ (r : List ℕ). record (body_of hash of s.policy (before_at hash None chain k) shown) { root = record { 0 = r } }) (root_agree shown on);
+          ∙ ap (λ (r : List ℕ). record (body_of hash index_of s.policy (before_at hash None chain k) shown) { root = record { 0 = r } }) (root_agree shown on);
     }
 
-    pub whole_records : Whole hash of s → Whole hash also s
+    pub whole_records : Whole hash index_of s → Whole hash also s
     whole_records whole = record {
       held = λ k e at. holds_agree e (whole.held k e at);
       last = whole.last;
@@ -187,18 +190,18 @@ module _ (hash of also : List ℕ → List ℕ) where
     }
 
   -- a directory is one by each function of indices that agrees on its latest registry
-  pub whole_agree : (s : State) → AgreeOn of also (latest_registry (history_of s)) → Whole hash of s → Whole hash also s
+  pub whole_agree : (s : State) → AgreeOn index_of also (latest_registry (history_of s)) → Whole hash index_of s → Whole hash also s
   whole_agree s agree whole =
-      whole_records s (λ name has. agree name (rw (latest-is hash of s whole) (have_all s.records name has))) whole
+      whole_records s (λ name has. agree name (rw (latest-is hash index_of s whole) (have_all s.records name has))) whole
 
   -- ---- updates
 
-  pub update_agree : (s : State) (p : Prepared) → AgreeOn of also (registry_after s p) → IsUpdate hash of s p → IsUpdate hash also s p
+  pub update_agree : (s : State) (p : Prepared) → AgreeOn index_of also (registry_after s p) → IsUpdate hash index_of s p → IsUpdate hash also s p
   update_agree s p agree u = record {
     base = u.base;
     counted = u.counted;
-    brought = u.brought;
-    brings = u.brings;
+    new_nonce = u.new_nonce;
+    rotates = u.rotates;
     fits = u.fits;
     placed = u.placed;
     entries = u.entries;
@@ -218,7 +221,7 @@ module _ (hash of also : List ℕ → List ℕ) where
       (rw (map-append registered_of (s.records ++ grows.more_records) p.records.items, map-append registered_of s.records grows.more_records)
       (has_either old new name (has_name ((old ++ more) ++ new) name ≡ true) (λ h. has_left (old ++ more) new name (has_left old more name h)) (λ h. has_right (old ++ more) new name h) before)))
 
-  pub update_of_agree : (s : State) (p : Prepared) → AgreeOn of also (registry_after s p) → IsUpdateOf hash of s p → IsUpdateOf hash also s p
+  pub update_of_agree : (s : State) (p : Prepared) → AgreeOn index_of also (registry_after s p) → IsUpdateOf hash index_of s p → IsUpdateOf hash also s p
   update_of_agree s p agree u = record {
     earlier = u.earlier;
     grows = u.grows;
@@ -227,69 +230,71 @@ module _ (hash of also : List ℕ → List ℕ) where
 
   -- ---- batches
 
-  agree_left : (xs ys : List Registered) → AgreeOn of also (xs ++ ys) → AgreeOn of also xs
+  agree_left : (xs ys : List Registered) → AgreeOn index_of also (xs ++ ys) → AgreeOn index_of also xs
   agree_left xs ys agree name has = agree name (has_left xs ys name has)
 
-  clashes_agree : (names : Registry) (name : List ℕ) → AgreeOn of also names → of name ≡ also name → clashes of names name ≡ clashes also names name
+  clashes_agree : (names : Registry) (name : List ℕ) → AgreeOn index_of also names → index_of name ≡ also name → clashes index_of names name ≡ clashes also names name
   clashes_agree [] name agree same = refl
   clashes_agree (b ∷ bs) name agree same =
-      let here : of b.name ≡ also b.name = agree b.name (named_in b (b ∷ bs) (inl refl)) in
+      let here : index_of b.name ≡ also b.name = agree b.name (named_in b (b ∷ bs) (inl refl)) in
       let rest = clashes_agree bs name (λ n has. agree n (or_right (bytes_eq b.name n) (has_name bs n) has)) same in
       rw (rest, here, same) refl
 
-  fault_of_agree : (registry : Registry) (earlier : List Registered) (op : Operation) → AgreeOn of also (registry ++ earlier) → of op.name ≡ also op.name
-      → fault_of of registry earlier op ≡ fault_of also registry earlier op
+  fault_of_agree : (registry : Registry) (earlier : List Registered) (op : Operation) → AgreeOn index_of also (registry ++ earlier) → index_of op.name ≡ also op.name
+      → fault_of index_of registry earlier op ≡ fault_of also registry earlier op
   fault_of_agree registry earlier op agree same = rw (clashes_agree (registry ++ earlier) op.name agree same) refl
 
-  fault_from_agree : (registry : Registry) (earlier : List Registered) (place : ℕ) (ops : List Operation) → AgreeOn of also (registry ++ (earlier ++ map bound_by ops))
-      → fault_from of registry earlier place ops ≡ fault_from also registry earlier place ops
+  fault_from_agree : (registry : Registry) (earlier : List Registered) (place : ℕ) (ops : List Operation) → AgreeOn index_of also (registry ++ (earlier ++ map bound_by ops))
+      → fault_from index_of registry earlier place ops ≡ fault_from also registry earlier place ops
   fault_from_agree registry earlier place [] agree = refl
   fault_from_agree registry earlier place (op ∷ ops) agree =
       let b = bound_by op in
-      let whole : AgreeOn of also ((registry ++ earlier) ++ b ∷ map bound_by ops) = subst (AgreeOn of also) (sym (append_assoc registry earlier (b ∷ map bound_by ops))) agree in
-      let own : of op.name ≡ also op.name = whole op.name (has_right (registry ++ earlier) (b ∷ map bound_by ops) op.name (named_in b (b ∷ map bound_by ops) (inl refl))) in
+      let whole : AgreeOn index_of also ((registry ++ earlier) ++ b ∷ map bound_by ops) = subst (AgreeOn index_of also) (sym (append_assoc registry earlier (b ∷ map bound_by ops))) agree in
+      let own : index_of op.name ≡ also op.name = whole op.name (has_right (registry ++ earlier) (b ∷ map bound_by ops) op.name (named_in b (b ∷ map bound_by ops) (inl refl))) in
       let here = fault_of_agree registry earlier op (agree_left (registry ++ earlier) (b ∷ map bound_by ops) whole) own in
       let rest = fault_from_agree registry (earlier ++ b ∷ []) (place + 1) ops
-      (subst (λ bs. AgreeOn of also (registry ++ bs)) (sym (append_assoc earlier (b ∷ []) (map bound_by ops))) agree) in
-      ap (λ f. placed place f (fault_from of registry (earlier ++ b ∷ []) (place + 1) ops)) here ∙ ap (placed place (fault_of also registry earlier op)) rest
+      (subst (λ bs. AgreeOn index_of also (registry ++ bs)) (sym (append_assoc earlier (b ∷ []) (map bound_by ops))) agree) in
+      ap (λ f. placed place f (fault_from index_of registry (earlier ++ b ∷ []) (place + 1) ops)) here ∙ ap (placed place (fault_of also registry earlier op)) rest
 
   -- a batch's fault is the same by a function that agrees on the registry that the batch leaves
-  pub first_agree : (registry : Registry) (ops : List Operation) → AgreeOn of also (after registry ops) → first_fault of registry ops ≡ first_fault also registry ops
+  pub first_agree : (registry : Registry) (ops : List Operation) → AgreeOn index_of also (after registry ops) → first_fault index_of registry ops ≡ first_fault also registry ops
   first_agree registry ops agree = fault_from_agree registry [] 0 ops (λ name has.
       agree name (has_either registry (map bound_by ops) name (has_name (after registry ops) name ≡ true) (has_still registry (map bound_by ops) name) (has_new registry (map bound_by ops) name) has))
 
-  pub accepted_agree : (registry : Registry) (ops : List Operation) (depth workers : ℕ) → AgreeOn of also (after registry ops) → IsAccepted of registry ops depth workers
+  pub accepted_agree : (registry : Registry) (ops : List Operation) (depth workers : ℕ) → AgreeOn index_of also (after registry ops) → IsAccepted index_of registry ops depth workers
       → IsAccepted also registry ops depth workers
-  accepted_agree registry ops depth workers agree a = record { crew = a.crew; shallow = a.shallow; few = a.few; faultless = sym (first_agree registry ops agree) ∙ a.faultless }
+  accepted_agree registry ops depth workers agree a = record { worker_count = a.worker_count; shallow = a.shallow; few = a.few; faultless = sym (first_agree registry ops agree) ∙ a.faultless }
 
-  pub prepared_agree : (s : State) (brought : Option (List ℕ)) (ops : List Operation) (depth workers : ℕ) (p : Prepared) → AgreeOn of also (registry_after s p)
-      → IsPreparedOf hash of s brought ops depth workers p → IsPreparedOf hash also s brought ops depth workers p
-  prepared_agree s brought ops depth workers p agree made = record {
+  pub prepared_agree : (s : State) (new_nonce : Option (List ℕ)) (ops : List Operation) (depth workers : ℕ) (p : Prepared) → AgreeOn index_of also (registry_after s p)
+      → IsPreparedOf hash index_of s new_nonce ops depth workers p → IsPreparedOf hash also s new_nonce ops depth workers p
+  prepared_agree s new_nonce ops depth workers p agree made = record {
     is_update = update_agree s p agree made.is_update;
-    brings = made.brings;
+    rotates = made.rotates;
     registry = made.registry;
-    accepted = accepted_agree (latest_registry (history_of s)) ops depth workers (subst (AgreeOn of also) made.registry agree) made.accepted;
+    accepted = accepted_agree (latest_registry (history_of s)) ops depth workers (subst (AgreeOn index_of also) made.registry agree) made.accepted;
   }
 
   -- ---- runs
 
   -- a run is one by each function of indices that agrees on the registry that it leaves
-  pub steps_agree : (nonce policy : List ℕ) (batches : List Batch) (s : State) → AgreeOn of also (latest_registry (history_of s)) → Steps hash of nonce policy batches s → Steps hash also nonce policy batches s
+  pub steps_agree : (nonce policy : List ℕ) (batches : List Batch) (s : State) → AgreeOn index_of also (latest_registry (history_of s))
+      → Steps hash index_of nonce policy batches s → Steps hash also nonce policy batches s
   steps_agree nonce policy _ _ agree opened = opened
   steps_agree nonce policy _ _ agree (stayed batches s later run same) =
-      stayed batches s later (steps_agree nonce policy batches s (subst (λ (x : State). AgreeOn of also (latest_registry (history_of x))) same agree) run) same
-  steps_agree nonce policy _ _ agree (committed batches b s later depth workers published capacity run keeps accepted may history grows) =
-      let left = ap latest_registry history ∙ at_end latest_registry (λ x. x.registry) (λ x. refl) (λ x y xs. refl) (history_of s) (shown_next s b.ops b.t) in
-      let on : AgreeOn of also (after (latest_registry (history_of s)) b.ops) = subst (AgreeOn of also) left agree in
-      let before : AgreeOn of also (latest_registry (history_of s)) = λ name has. on name (has_still (latest_registry (history_of s)) (map bound_by b.ops) name has) in
-      committed batches b s later depth workers published capacity (steps_agree nonce policy batches s before run) keeps
+      stayed batches s later (steps_agree nonce policy batches s (subst (λ (x : State). AgreeOn index_of also (latest_registry (history_of x))) same agree) run) same
+  steps_agree nonce policy _ _ agree (committed batches b s later depth workers published capacity run accepted may history grows) =
+      let left = ap latest_registry history ∙ at_end latest_registry (λ x. x.registry) (λ x. refl) (λ x y xs. refl) (history_of s) (shown_with s b.new_nonce b.ops b.t) in
+      let on : AgreeOn index_of also (after (latest_registry (history_of s)) b.ops) = subst (AgreeOn index_of also) left agree in
+      let before : AgreeOn index_of also (latest_registry (history_of s)) = λ name has. on name (has_still (latest_registry (history_of s)) (map bound_by b.ops) name has) in
+      committed batches b s later depth workers published capacity (steps_agree nonce policy batches s before run)
       (accepted_agree (latest_registry (history_of s)) b.ops depth workers on accepted) may history grows
   steps_agree nonce policy _ _ agree (installed batches b earlier s later update depth workers published capacity run prepared since may history grows) =
       let left = ap latest_registry history ∙ at_end latest_registry (λ x. x.registry) (λ x. refl) (λ x y xs. refl) (history_of s) (shown_after s update b.t) in
-      let same = fresh_registry hash of earlier s update since prepared.is_update may.fresh in
-      let showed = fresh_history hash of earlier s update since prepared.is_update may.fresh in
-      let on : AgreeOn of also (registry_after earlier update) = subst (AgreeOn of also) (left ∙ same) agree in
-      let left_by : AgreeOn of also (after (latest_registry (history_of s)) b.ops) = subst (AgreeOn of also) (prepared.registry ∙ ap (λ ss. after (latest_registry ss) b.ops) (sym showed)) on in
-      let before : AgreeOn of also (latest_registry (history_of s)) = λ name has. left_by name (has_still (latest_registry (history_of s)) (map bound_by b.ops) name has) in
+      let same = fresh_registry hash index_of earlier s update since prepared.is_update may.fresh in
+      let showed = fresh_history hash index_of earlier s update since prepared.is_update may.fresh in
+      let on : AgreeOn index_of also (registry_after earlier update) = subst (AgreeOn index_of also) (left ∙ same) agree in
+      let left_by : AgreeOn index_of also (after (latest_registry (history_of s)) b.ops) = subst
+      (AgreeOn index_of also) (prepared.registry ∙ ap (λ ss. after (latest_registry ss) b.ops) (sym showed)) on in
+      let before : AgreeOn index_of also (latest_registry (history_of s)) = λ name has. left_by name (has_still (latest_registry (history_of s)) (map bound_by b.ops) name has) in
       installed batches b earlier s later update depth workers published capacity (steps_agree nonce policy batches s before run)
-      (prepared_agree earlier b.brought b.ops depth workers update on prepared) since may history grows
+      (prepared_agree earlier b.new_nonce b.ops depth workers update on prepared) since may history grows

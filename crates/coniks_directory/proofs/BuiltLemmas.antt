@@ -1,13 +1,13 @@
 -- What a part and the records of a batch leave.
 use Rattle.std.proofs.Common.{◌≡◌, ◌<◌, ◌≤◌, ◌+◌, ◌*◌, ℕ, suc, List, [], ◌∷◌, ◌++◌, length, map, arith, Bool, true, false, refl, sym, ap, subst, ◌∙◌, inl, inr, Option, Some, None, slice_get}
-use Rattle.coniks_directory.proofs.Words.{AllPlaced, AreApart, AreChangesOf, AreDrafts, AreSealed, AreInOrder, BTreeMap, Change, Entry, Extends, Fits}
+use Rattle.coniks_directory.proofs.Words.{AllPlaced, AreApart, AreChangesOf, ArePendingRecords, AreSealed, AreInOrder, BTreeMap, Change, Entry, Extends, Fits}
 use Rattle.coniks_directory.proofs.Words.{Growth, IsBuilt, IsIn, IsIndex, IsMap, IsGrowth, IsOldMap, IsSmall, IsStored, KeepsNone, MayFollow, Mirrors, Node, Numbered, Operation, Part}
 use Rattle.coniks_directory.proofs.Words.{Placed, Record, Registered, Registry, Root, SameEntries, ShowsLatest, Stands, after, backed_by}
 use Rattle.coniks_directory.proofs.Words.{bound_by, entries_of, entry_of, entry_of_change, entry_of_record, false_from_ne_true, first_fault}
 use Rattle.coniks_directory.proofs.Words.{has_name, length-map, most_anew, node_count, overwritten, registered_at, registered_of, unchanged}
 use Rattle.coniks_proof.proofs.Lemmas.{AreIncreasing-in_order, IsIn-append_left, IsIn-append_right, IsMap-apart, entry_in, in_entries, in_overlaid}
 use Rattle.coniks_proof.proofs.Lemmas.{increasing_map, may_follow, named_in, named_of, own_of_map, same_entry}
-use Rattle.coniks_tree.specs.Parts.{entries_of as entries_of_changes}
+use Rattle.coniks_tree.specs.Parts.{entries_in as entries_of_changes}
 use Rattle.coniks_tree.specs.Entries.{Lists}
 use Rattle.coniks_tree.proofs.Lemmas.{Extends-append, Lists-apart, Lists-stands}
 use Rattle.coniks_tree.specs.Counts.{new_nodes, new_within}
@@ -20,22 +20,22 @@ use Rattle.coniks_directory.proofs.MirrorLemmas.{IsMap-backed, registered_at-ext
 use Rattle.coniks_directory.proofs.HolderLemmas.{backed_in, in_backed}
 use Rattle.coniks_directory.proofs.OverlaidLemmas.{IsMap-overlaid, overlaid_new, overlaid_old, within-overlaid}
 use Rattle.coniks_proof.proofs.Lemmas.{IsMap-overwritten, in_overwritten, index_there, overwritten_index, overwritten_new}
-use Rattle.coniks_directory.proofs.DraftLemmas.{in_records, record_in}
+use Rattle.coniks_directory.proofs.PendingLemmas.{in_records, record_in}
 
 -- what stands in a list stands that much further on where it follows another
 get-behind : {T : Type 0} (xs ys : List T) (n : ℕ) → slice_get (xs ++ ys) (length xs + n) ≡ slice_get ys n
 get-behind [] ys n = let start : 0 + n ≡ n = omega arith in ap (slice_get ys) start
 get-behind (x ∷ xs) ys n = let step : suc (length xs) + n ≡ suc (length xs + n) = omega arith in ap (slice_get (x ∷ (xs ++ ys))) step ∙ get-behind xs ys n
 
-module _ (hash of : List ℕ → List ℕ) (old : List Record) (es : List Numbered) (registry : Registry) (m : Mirrors hash of old es registry)
-    (ops : List Operation) (new : List Record) (numbers : BTreeMap (List ℕ) ℕ) (s : AreDrafts hash of (map bound_by ops) new numbers)
-    (z : AreSealed hash new) (cs : List Numbered) (c : AreChangesOf (length old) new cs) (may : MayFollow of registry ops) where
+module _ (hash index_of : List ℕ → List ℕ) (old : List Record) (es : List Numbered) (registry : Registry) (m : Mirrors hash index_of old es registry)
+    (ops : List Operation) (new : List Record) (numbers : BTreeMap (List ℕ) ℕ) (s : ArePendingRecords hash index_of (map bound_by ops) new numbers)
+    (z : AreSealed hash new) (cs : List Numbered) (c : AreChangesOf (length old) new cs) (may : MayFollow index_of registry ops) where
   -- what the record of a number binds, of all records
   abbrev binding : ℕ → Registered
   binding n = registered_at (old ++ new) n
 
   -- the entry of a new record, with its binding behind it
-  new_entry : (n : ℕ) (r : Record) → slice_get new n ≡ Some r → entry_of hash of (registered_of r) ≡ backed_by binding (entry_of_record (length old + n) r)
+  new_entry : (n : ℕ) (r : Record) → slice_get new n ≡ Some r → entry_of hash index_of (registered_of r) ≡ backed_by binding (entry_of_record (length old + n) r)
   new_entry n r at = let draft = s.drafted n r at in let found = get-behind old new n ∙ at in rw (found, draft.indexed, z n r at) refl
 
   -- and that of an old one is what it was
@@ -43,71 +43,71 @@ module _ (hash of : List ℕ → List ℕ) (old : List Record) (es : List Number
   old_entry x there = rw (registered_at-extended old (old ++ new) x (Extends-append old new) (m.stored x there)) refl
 
   -- the record of a binding of the batch
-  record_of : (b : Registered) → IsIn b (map bound_by ops) → (n : ℕ) × (r : Record) × (slice_get new n ≡ Some r) × (registered_of r ≡ b) × (r.index.0 ≡ of b.name)
+  record_of : (b : Registered) → IsIn b (map bound_by ops) → (n : ℕ) × (r : Record) × (slice_get new n ≡ Some r) × (registered_of r ≡ b) × (r.index.0 ≡ index_of b.name)
   record_of b there =
       let k = in_records new b (subst (λ (xs : List Registered). IsIn b xs) (sym s.binds) there) in
-      (k.0, k.1, k.2, k.3, (s.drafted k.0 k.1 k.2).indexed ∙ ap (λ (x : Registered). of x.name) k.3)
+      (k.0, k.1, k.2, k.3, (s.drafted k.0 k.1 k.2).indexed ∙ ap (λ (x : Registered). index_of x.name) k.3)
 
   pub stored_new : (e : Numbered) → IsIn e cs → IsStored (old ++ new) e
   stored_new e there = let k = c.only e there in subst (IsStored (old ++ new)) k.3 (k.1, get-behind old new k.0 ∙ k.2, refl)
 
-  names_after : IsMap (entries_of hash of (after registry ops))
+  names_after : IsMap (entries_of hash index_of (after registry ops))
   names_after =
       let bs = map bound_by ops in
-      IsMap-overlaid hash of (registry ++ bs) registry bs
+      IsMap-overlaid hash index_of (registry ++ bs) registry bs
       (λ x y in_x in_y apart same. apart (may.apart x.name y.name (named_in x (registry ++ bs) in_x) (named_in y (registry ++ bs) in_y) same))
       (λ b there. IsIn-append_left b registry bs there)
       (λ b there. let r = record_of b there in (IsIn-append_right b registry bs there, subst IsIndex r.4 (s.drafted r.0 r.1 r.2).ranged))
       m.names
 
-  there : (x : Numbered) → IsIn x (overwritten es cs) → IsIn (backed_by binding x) (entries_of hash of (after registry ops))
+  there : (x : Numbered) → IsIn x (overwritten es cs) → IsIn (backed_by binding x) (entries_of hash index_of (after registry ops))
   there x is = elim (in_overwritten es cs x is) [
     | inl fresh ↦
         let r = c.only x fresh in
         let bound = subst (λ (bs : List Registered). IsIn (registered_of r.1) bs) s.binds (record_in new r.0 r.1 r.2) in
         let stays = overlaid_new registry (map bound_by ops) (registered_of r.1) may.once bound in
-        subst (λ (e : Entry Registered). IsIn e (entries_of hash of (after registry ops))) (new_entry r.0 r.1 r.2 ∙ ap (backed_by binding) r.3)
-        (entry_in hash of (registered_of r.1) (after registry ops) stays)
+        subst (λ (e : Entry Registered). IsIn e (entries_of hash index_of (after registry ops))) (new_entry r.0 r.1 r.2 ∙ ap (backed_by binding) r.3)
+        (entry_in hash index_of (registered_of r.1) (after registry ops) stays)
     | inr (kept, off) ↦
         let f = registered_at old in
         let b = f x.behind in
-        let own = in_entries hash of (backed_by f x) registry (m.same.there (backed_by f x) (backed_in f es x kept)) in
+        let own = in_entries hash index_of (backed_by f x) registry (m.same.there (backed_by f x) (backed_in f es x kept)) in
         let gone : has_name (map bound_by ops) b.name ≡ false = false_from_ne_true (has_name (map bound_by ops) b.name) (λ h.
         let n = named_of (map bound_by ops) b.name h in
         let r = record_of n.bound n.there in
-        let on = index_there cs (entry_of_record (length old + r.0) r.1) x.index (c.each r.0 r.1 r.2) (r.4 ∙ ap of n.named ∙ ap (λ (e : Entry Registered). e.index) own.0) in
+        let on = index_there cs (entry_of_record (length old + r.0) r.1) x.index (c.each r.0 r.1 r.2) (r.4 ∙ ap index_of n.named ∙ ap (λ (e : Entry Registered). e.index) own.0) in
         cc) in
-        subst (λ (e : Entry Registered). IsIn e (entries_of hash of (after registry ops))) (own.0 ∙ old_entry x kept)
-        (entry_in hash of b (after registry ops) (overlaid_old registry (map bound_by ops) b own.1 gone))
+        subst (λ (e : Entry Registered). IsIn e (entries_of hash index_of (after registry ops))) (own.0 ∙ old_entry x kept)
+        (entry_in hash index_of b (after registry ops) (overlaid_old registry (map bound_by ops) b own.1 gone))
   ]
 
   -- the index of each binding is that of an entry
-  index_of : (e : Entry Registered) → IsIn e (entries_of hash of (after registry ops)) → (x : Numbered) × IsIn x (overwritten es cs) × (x.index ≡ e.index)
-  index_of e is =
-      let own = in_entries hash of e (after registry ops) is in
+  indexed_entry : (e : Entry Registered) → IsIn e (entries_of hash index_of (after registry ops)) → (x : Numbered) × IsIn x (overwritten es cs) × (x.index ≡ e.index)
+  indexed_entry e is =
+      let own = in_entries hash index_of e (after registry ops) is in
       elim (in_overlaid registry (map bound_by ops) e.behind own.1) [
         | inl fresh ↦
             let r = record_of e.behind fresh in
             let entry = entry_of_record (length old + r.0) r.1 in
             (entry, overwritten_new es cs entry (c.each r.0 r.1 r.2), r.4 ∙ ap (λ (x : Entry Registered). x.index) own.0)
         | inr (kept, gone) ↦
-            let was = subst (λ (x : Entry Registered). IsIn x (entries_of hash of registry)) own.0 (entry_in hash of e.behind registry kept) in
+            let was = subst (λ (x : Entry Registered). IsIn x (entries_of hash index_of registry)) own.0 (entry_in hash index_of e.behind registry kept) in
             let k = in_backed (registered_at old) es e (m.same.back e was) in
             let at = overwritten_index es cs k.0 k.1 in
             (at.0, at.1, at.2 ∙ ap (λ (x : Entry Registered). x.index) k.2)
       ]
 
-  same_after : SameEntries (map (backed_by binding) (overwritten es cs)) (entries_of hash of (after registry ops))
+  same_after : SameEntries (map (backed_by binding) (overwritten es cs)) (entries_of hash index_of (after registry ops))
   same_after = record {
-    there = λ e is. let k = in_backed binding (overwritten es cs) e is in subst (λ (x : Entry Registered). IsIn x (entries_of hash of (after registry ops))) k.2 (there k.0 k.1);
+    there = λ e is. let k = in_backed binding (overwritten es cs) e is in subst (λ (x : Entry Registered). IsIn x (entries_of hash index_of (after registry ops))) k.2 (there k.0 k.1);
     back = λ e is.
-        let x = index_of e is in
-        let one = same_entry (entries_of hash of (after registry ops)) (backed_by binding x.0) e names_after (there x.0 x.1) is x.2 in
+        let x = indexed_entry e is in
+        let one = same_entry (entries_of hash index_of (after registry ops)) (backed_by binding x.0) e names_after (there x.0 x.1) is x.2 in
         subst (λ (y : Entry Registered). IsIn y (map (backed_by binding) (overwritten es cs))) one (backed_in binding (overwritten es cs) x.0 x.1);
   }
 
   -- the entries overwritten by the changes are those of the registry after the batch
-  pub Mirrors-after : Mirrors hash of (old ++ new) (overwritten es cs) (after registry ops)
+  pub Mirrors-after : Mirrors hash index_of (old ++ new) (overwritten es cs) (after registry ops)
   Mirrors-after = record {
     stored = λ e is. elim (in_overwritten es cs e is) [
       | inl fresh ↦ stored_new e fresh
@@ -124,10 +124,11 @@ placed_all all [] stored = tt
 placed_all all (c ∷ cs) stored = (stored (entry_of_change c) (inl refl), placed_all all cs (λ e there. stored e (inr there)))
 
 -- the old map, and the registry that it mirrors
-old_map : (hash of : List ℕ → List ℕ) (nonce : List ℕ) (nodes : List Node) (records : List Record) (root : Option Root) (registry : Registry) → ShowsLatest hash of nonce nodes records root registry
-    → (es : List Numbered) × IsOldMap hash nonce nodes records root es × Mirrors hash of records es registry
-old_map hash of nonce nodes records (Some root) registry shown = (shown.entries, shown.shows, shown.mirrors)
-old_map hash of nonce nodes records None registry none = rw none (
+old_map : (hash index_of : List ℕ → List ℕ) (nonce : List ℕ) (nodes : List Node) (records : List Record) (root : Option Root) (registry : Registry)
+    → ShowsLatest hash index_of nonce nodes records root registry
+    → (es : List Numbered) × IsOldMap hash nonce nodes records root es × Mirrors hash index_of records es registry
+old_map hash index_of nonce nodes records (Some root) registry shown = (shown.entries, shown.shows, shown.mirrors)
+old_map hash index_of nonce nodes records None registry none = rw none (
   [],
   refl,
   record {
@@ -145,18 +146,18 @@ unfolding new_nodes new_within
 none_counted = refl
 
 -- records whose indices are those of their names
-held_by : (of : List ℕ → List ℕ) (records : List Record) → ((n : ℕ) (r : Record) → slice_get records n ≡ Some r → r.index.0 ≡ of r.binding.name) → AreOf of (indices_in records)
-held_by of [] all = tt
-held_by of (r ∷ rs) all = (all 0 r refl, held_by of rs (λ n x at. all (suc n) x at))
+held_by : (index_of : List ℕ → List ℕ) (records : List Record) → ((n : ℕ) (r : Record) → slice_get records n ≡ Some r → r.index.0 ≡ index_of r.binding.name) → AreOf index_of (indices_in records)
+held_by index_of [] all = tt
+held_by index_of (r ∷ rs) all = (all 0 r refl, held_by index_of rs (λ n x at. all (suc n) x at))
 
 few_kept : (root : Option Root) → node_count (unchanged root) ≤ 1
 few_kept (Some root) = omega arith
 few_kept None = omega arith
 
 -- the part that `build` makes of the changes of a batch without fault, as its tree grows by them
-module _ (hash of : List ℕ → List ℕ) (nonce latest : List ℕ) (nodes : List Node) (records : List Record) (root : Option Root) (registry : Registry) (ops : List Operation)
+module _ (hash index_of : List ℕ → List ℕ) (nonce latest : List ℕ) (nodes : List Node) (records : List Record) (root : Option Root) (registry : Registry) (ops : List Operation)
     (new : List Record) (numbers : BTreeMap (List ℕ) ℕ) (changes : List Change) (growth : Growth) (p : Part)
-    (shown : ShowsLatest hash of latest nodes records root registry) (none : first_fault of registry ops ≡ None) (s : AreDrafts hash of (map bound_by ops) new numbers)
+    (shown : ShowsLatest hash index_of latest nodes records root registry) (none : first_fault index_of registry ops ≡ None) (s : ArePendingRecords hash index_of (map bound_by ops) new numbers)
     (z : AreSealed hash new) (c : AreChangesOf (length records) new (entries_of_changes changes)) where
   -- there are as many changes as operations
   as_many : length changes ≡ length ops
@@ -165,11 +166,11 @@ module _ (hash of : List ℕ → List ℕ) (nonce latest : List ℕ) (nodes : Li
   own : IsMap (entries_of_changes changes)
   own = increasing_map (entries_of_changes changes) c.increasing
 
-  old : (es : List Numbered) × IsOldMap hash latest nodes records root es × Mirrors hash of records es registry
-  old = old_map hash of latest nodes records root registry shown
+  old : (es : List Numbered) × IsOldMap hash latest nodes records root es × Mirrors hash index_of records es registry
+  old = old_map hash index_of latest nodes records root registry shown
 
-  may : MayFollow of registry ops
-  may = may_follow of registry ops (own_of_map hash of registry old.2.names) none
+  may : MayFollow index_of registry ops
+  may = may_follow index_of registry ops (own_of_map hash index_of registry old.2.names) none
 
   -- the changed map
   changed : List Numbered
@@ -179,12 +180,12 @@ module _ (hash of : List ℕ → List ℕ) (nonce latest : List ℕ) (nodes : Li
   unfolding changed
   changed_map = IsMap-overwritten old.0 (entries_of_changes changes) old.2.indices own
 
-  mirrored : Mirrors hash of (records ++ new) changed (after registry ops)
+  mirrored : Mirrors hash index_of (records ++ new) changed (after registry ops)
   unfolding changed
-  mirrored = Mirrors-after hash of records old.0 registry old.2 ops new numbers s z (entries_of_changes changes) c may
+  mirrored = Mirrors-after hash index_of records old.0 registry old.2 ops new numbers s z (entries_of_changes changes) c may
 
   stored : AllPlaced (records ++ new) changes
-  stored = placed_all (records ++ new) changes (stored_new hash of records old.0 registry old.2 ops new numbers s z (entries_of_changes changes) c may)
+  stored = placed_all (records ++ new) changes (stored_new hash index_of records old.0 registry old.2 ops new numbers s z (entries_of_changes changes) c may)
 
   -- what `build` says of the part
   pub record IsMade : Type 0 where
@@ -224,8 +225,8 @@ module _ (hash of : List ℕ → List ℕ) (nonce latest : List ℕ) (nodes : Li
         let l = listed on in
         let f = registered_at (records ++ new) in
         let listed_few = no_more (entries_of_changes growth.changes.items) changed (l.once changed_map) l.same.back in
-        let changed_few = no_more (map (backed_by f) changed) (entries_of hash of (after registry ops)) (IsMap-backed f changed changed_map) mirrored.same.there in
-        omega (arith, listed_few, changed_few, length-map growth.changes.items entry_of_change, length-map changed (backed_by f), length-map (after registry ops) (entry_of hash of))
+        let changed_few = no_more (map (backed_by f) changed) (entries_of hash index_of (after registry ops)) (IsMap-backed f changed changed_map) mirrored.same.there in
+        omega (arith, listed_few, changed_few, length-map growth.changes.items entry_of_change, length-map changed (backed_by f), length-map (after registry ops) (entry_of hash index_of))
 
     few_anew : anew ≡ true → (node_count p ≤ most_anew (after registry ops)) × KeepsNone p
     few_anew on =
@@ -243,7 +244,7 @@ module _ (hash of : List ℕ → List ℕ) (nonce latest : List ℕ) (nodes : Li
         (rw (← many) (grind arith), λ none. made.empty (many ∙ none) ∙ ap unchanged kept.0)
 
     -- as many nodes as the indices of the old map and of the changes say
-    count_kept : anew ≡ false → 0 < length ops → node_count p ≡ new_nodes 0 (places_of of registry) (places_of of (map bound_by ops))
+    count_kept : anew ≡ false → 0 < length ops → node_count p ≡ new_nodes 0 (places_of index_of registry) (places_of index_of (map bound_by ops))
     unfolding changed old
     count_kept off some =
         let kept = grows.kept off in
@@ -252,14 +253,14 @@ module _ (hash of : List ℕ → List ℕ) (nonce latest : List ℕ) (nodes : Li
         let many : length growth.changes.items ≡ length ops = ap length kept.1 ∙ as_many in
         made.many (omega (arith, many, some)) old.0 there (rw is (AreIncreasing-in_order (entries_of_changes changes) own c.increasing)) (rw is (IsMap-apart changed changed_map))
         ∙ ap (new_nodes 0 old.0) is
-        ∙ count_same old.0 (places_of of registry) (entries_of_changes changes) (places_of of (map bound_by ops)) (mirrors_alike hash of records old.0 registry old.2)
-        (changes_alike hash of (length records) (map bound_by ops) new numbers (entries_of_changes changes) s c own)
+        ∙ count_same old.0 (places_of index_of registry) (entries_of_changes changes) (places_of index_of (map bound_by ops)) (mirrors_alike hash index_of records old.0 registry old.2)
+        (changes_alike hash index_of (length records) (map bound_by ops) new numbers (entries_of_changes changes) s c own)
 
     -- or as many as the whole changed map has
-    listed_alike : (on : anew ≡ true) → AreAlike (entries_of_changes growth.changes.items) (places_of of (after registry ops))
+    listed_alike : (on : anew ≡ true) → AreAlike (entries_of_changes growth.changes.items) (places_of index_of (after registry ops))
     listed_alike on =
         let l = listed on in
-        let m = mirrors_alike hash of (records ++ new) changed (after registry ops) mirrored in
+        let m = mirrors_alike hash index_of (records ++ new) changed (after registry ops) mirrored in
         record {
           there = λ e is. m.there e (l.same.back e is);
           back = λ f is. let k = m.back f is in (k.0, l.same.there k.0 k.1, k.2);
@@ -267,11 +268,11 @@ module _ (hash of : List ℕ → List ℕ) (nonce latest : List ℕ) (nodes : Li
           other = m.other;
         }
 
-    count_anew : anew ≡ true → node_count p ≡ new_nodes 0 [] (places_of of (after registry ops))
+    count_anew : anew ≡ true → node_count p ≡ new_nodes 0 [] (places_of index_of (after registry ops))
     count_anew on =
         let l = listed on in
         let cs = growth.changes.items in
-        let alike = count_same [] [] (entries_of_changes cs) (places_of of (after registry ops)) nothing_alike (listed_alike on) in
+        let alike = count_same [] [] (entries_of_changes cs) (places_of index_of (after registry ops)) nothing_alike (listed_alike on) in
         (elim cs as (λ xs. cs ≡ xs → node_count p ≡ new_nodes 0 [] (entries_of_changes xs)) [
           | [] ↦ λ is. rw (made.empty (ap length is), grows.none on) none_counted
           | x ∷ xs ↦ λ is.
@@ -280,19 +281,19 @@ module _ (hash of : List ℕ → List ℕ) (nonce latest : List ℕ) (nodes : Li
         ]) refl
         ∙ alike
 
-    counts : (b : Bool) → anew ≡ b → IsCounted b of root registry ops p
+    counts : (b : Bool) → anew ≡ b → IsCounted b index_of root registry ops p
     counts true on = count_anew on
-    counts false off = (elim ops as (λ os. ops ≡ os → IsCounted false of root registry os p) [
+    counts false off = (elim ops as (λ os. ops ≡ os → IsCounted false index_of root registry os p) [
       | [] ↦ λ is. (few_from_root off).1 (ap length is)
-      | x ∷ xs ↦ λ is. count_kept off (rw is (omega arith)) ∙ ap (λ os. new_nodes 0 (places_of of registry) (places_of of (map bound_by os))) is
+      | x ∷ xs ↦ λ is. count_kept off (rw is (omega arith)) ∙ ap (λ os. new_nodes 0 (places_of index_of registry) (places_of index_of (map bound_by os))) is
     ]) refl
 
-    pub built : IsBuilt hash of nonce nodes records root registry ops anew p new
+    pub built : IsBuilt hash index_of nonce nodes records root registry ops anew p new
     built = record {
       binds = s.binds;
       fits = made.fits;
       counted = counts anew refl;
-      held = held_by of new (λ n r at. (s.drafted n r at).indexed);
+      held = held_by index_of new (λ n r at. (s.drafted n r at).indexed);
       small = (elim anew as (λ b. anew ≡ b → IsSmall b root ops (after registry ops) p) [ true ↦ few_anew | false ↦ few_from_root ]) refl;
       placed = made.placed (records ++ new) (Extends-append records new) (grows.placed (records ++ new) (Extends-append records new) stored);
       entries = changed;

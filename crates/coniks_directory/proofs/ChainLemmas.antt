@@ -1,7 +1,7 @@
 -- The chain of a history, entry by entry.
 use Rattle.std.proofs.Common.{◌≡◌, ℕ, zero, suc, ◌-◌, ◌<◌, ◌≤◌, List, [], ◌∷◌, ◌++◌, length, length-append, Bool, true}
 use Rattle.std.proofs.Common.{refl, sym, ap, subst, ◌∙◌, ◌⊎◌, arith, inl, inr, IfSome, Option, Some, None, slice_get}
-use Rattle.coniks_directory.proofs.Words.{AreRising, AreUnder, Before, Body, Follows, IsChainOf, IsUnder, Shown, before_at, before_of, body_bytes, body_of}
+use Rattle.coniks_directory.proofs.Words.{AreRising, AreUnder, AuditorState, Body, Follows, IsChainOf, IsUnder, Shown, before_at, before_of, body_bytes, body_of}
 use Rattle.coniks_directory.proofs.Words.{epoch_before, last_number, latest_epoch, latest_nonce, latest_version, link_before, option_map, slice_get-get_or}
 use Rattle.coniks_directory.proofs.Words.{slice_get_within}
 use Rattle.coniks_chain.specs.declared.entry.Entry.{Entry}
@@ -23,7 +23,7 @@ IsVersion version = (version ≡ 1) ⊎ (version ≡ 2)
 
 version_of : (version : ℕ) (nonce : List ℕ) (s : Shown) → IsVersion version → IsUnder version nonce s → IsVersion s.version
 version_of version nonce s known (None, same, _) = subst IsVersion (sym same) known
-version_of version nonce s known (Some brought, second, _) = inr second
+version_of version nonce s known (Some new_nonce, second, _) = inr second
 
 pub latest-known : (version : ℕ) (nonce : List ℕ) (history : List Shown) → IsVersion version → AreUnder version nonce history → IsVersion (latest_version version history)
 latest-known version nonce [] known all = known
@@ -32,17 +32,17 @@ latest-known version nonce (s ∷ history) known all = latest-known s.version s.
 -- ---- the last entry
 
 -- what stands before the next entry is of the latest epoch, and has its version and nonce
-pub record IsLast (nonce : List ℕ) (history : List Shown) (before : Option Before) : Type 0 where
+pub record IsLast (nonce : List ℕ) (history : List Shown) (before : Option AuditorState) : Type 0 where
   pub epoch : epoch_before before ≡ latest_epoch history
   pub version : IfSome before (λ b. latest_version 1 history ≡ b.version)
   pub under : IfSome before (λ b. latest_nonce nonce history ≡ b.nonce.0)
 
-pub is_last : (hash of : List ℕ → List ℕ) (policy nonce : List ℕ) (history : List Shown) (chain : List Entry) → IsChainOf hash of policy history chain
+pub is_last : (hash index_of : List ℕ → List ℕ) (policy nonce : List ℕ) (history : List Shown) (chain : List Entry) → IsChainOf hash index_of policy history chain
     → IsLast nonce history (before_at hash None chain (length chain))
-is_last hash of policy nonce [] [] is = record { epoch = refl; version = tt; under = tt }
-is_last hash of policy nonce [] (e ∷ chain) is = absurd (let long = is.long in omega arith)
-is_last hash of policy nonce (s ∷ history) [] is = absurd (let long = is.long in omega arith)
-is_last hash of policy nonce (s ∷ history) (e ∷ chain) is =
+is_last hash index_of policy nonce [] [] is = record { epoch = refl; version = tt; under = tt }
+is_last hash index_of policy nonce [] (e ∷ chain) is = absurd (let long = is.long in omega arith)
+is_last hash index_of policy nonce (s ∷ history) [] is = absurd (let long = is.long in omega arith)
+is_last hash index_of policy nonce (s ∷ history) (e ∷ chain) is =
     let long : length chain ≡ length history = (let all = is.long in omega arith) in
     let shown = slice_get-get_or (s ∷ history) (length history) s (omega arith) in
     let place : length (s ∷ history) - 1 ≡ length history = omega arith in
@@ -63,25 +63,25 @@ before_at-push hash es e (suc k) le =
     let at = slice_get-get_or es k e (omega arith) in ap (option_map (before_of hash)) (Extends-append es (e ∷ []) k _ at ∙ sym at)
 
 -- one epoch more, and its entry
-pub chain-push : (hash of : List ℕ → List ℕ) (policy : List ℕ) (history : List Shown) (chain : List Entry) (shown : Shown) (entry : Entry) → IsChainOf hash of policy history chain
-    → entry.body ≡ body_of hash of policy (before_at hash None chain (length chain)) shown → IsChainOf hash of policy (history ++ shown ∷ []) (chain ++ entry ∷ [])
-chain-push hash of policy history chain shown entry is body = record {
+pub chain-push : (hash index_of : List ℕ → List ℕ) (policy : List ℕ) (history : List Shown) (chain : List Entry) (shown : Shown) (entry : Entry) → IsChainOf hash index_of policy history chain
+    → entry.body ≡ body_of hash index_of policy (before_at hash None chain (length chain)) shown → IsChainOf hash index_of policy (history ++ shown ∷ []) (chain ++ entry ∷ [])
+chain-push hash index_of policy history chain shown entry is body = record {
   long = let long = is.long in omega (arith, length-append chain (entry ∷ []), length-append history (shown ∷ []));
   bodies = λ k x e at_x at_e. elim (get-push chain entry k e at_e) [
     | inl old ↦
         let within = slice_get_within chain k e old in
         let at = slice_get-get_or history k x (let long = is.long in omega arith) in
-        is.bodies k x e (at ∙ sym (Extends-append history (shown ∷ []) k _ at) ∙ at_x) old ∙ ap (λ b. body_of hash of policy b x) (sym (before_at-push hash chain entry k (omega arith)))
+        is.bodies k x e (at ∙ sym (Extends-append history (shown ∷ []) k _ at) ∙ at_x) old ∙ ap (λ b. body_of hash index_of policy b x) (sym (before_at-push hash chain entry k (omega arith)))
     | inr (here, same) ↦
         let at = ap (slice_get (history ++ shown ∷ [])) (here ∙ is.long) ∙ get-last history shown in
         let shown-is : shown ≡ x = cc in
         let before = sym (before_at-push hash chain entry (length chain) (omega arith)) ∙ ap (before_at hash None (chain ++ entry ∷ [])) (sym here) in
-        ap (λ (f : Entry). f.body) (sym same) ∙ body ∙ ap (λ b. body_of hash of policy b shown) before ∙ ap (body_of hash of policy (before_at hash None (chain ++ entry ∷ []) k)) shown-is
+        ap (λ (f : Entry). f.body) (sym same) ∙ body ∙ ap (λ b. body_of hash index_of policy b shown) before ∙ ap (body_of hash index_of policy (before_at hash None (chain ++ entry ∷ []) k)) shown-is
   ];
 }
 
 -- the entry of a later epoch, which keeps version and nonce or brings a nonce, follows
-module _ (hash of : List ℕ → List ℕ) (policy nonce : List ℕ) (verdict : List ℕ → List ℕ → Bool) (history : List Shown) (known : IsVersion (latest_version 1 history))
+module _ (hash index_of : List ℕ → List ℕ) (policy nonce : List ℕ) (verdict : List ℕ → List ℕ → Bool) (history : List Shown) (known : IsVersion (latest_version 1 history))
     (shown : Shown) (later : latest_epoch history < shown.t) (entry : Entry) (signed : verdict (body_bytes entry.body) entry.signature.0 ≡ true) where
   -- what an entry of this version and nonce meets after one of the latest version and nonce
   record MayCome (version : ℕ) (under : List ℕ) : Type 0 where
@@ -91,13 +91,13 @@ module _ (hash of : List ℕ → List ℕ) (policy nonce : List ℕ) (verdict : 
 
   may_come : IsUnder (latest_version 1 history) (latest_nonce nonce history) shown → MayCome shown.version shown.nonce
   may_come (None, version, same) = record { is_version = subst IsVersion (sym version) known; no_less = omega (arith, version); kept = λ first. same }
-  may_come (Some brought, version, _) = record {
+  may_come (Some new_nonce, version, _) = record {
     is_version = inr version;
     no_less = elim known [ inl one ↦ omega (arith, one, version) | inr two ↦ omega (arith, two, version) ];
     kept = λ first. absurd (omega (arith, first, version));
   }
 
-  pub follows_next : (before : Option Before) → entry.body ≡ body_of hash of policy before shown → IsLast nonce history before
+  pub follows_next : (before : Option AuditorState) → entry.body ≡ body_of hash index_of policy before shown → IsLast nonce history before
       → IsUnder (latest_version 1 history) (latest_nonce nonce history) shown → Follows verdict before entry
   follows_next before body last under =
       let may = may_come under in

@@ -1,11 +1,11 @@
 -- An update that isn't stale is one of the directory as it is.
 use Rattle.std.proofs.Common.{◌≡◌, ℕ, List, [], ◌++◌, length, map, refl, sym, ap, ◌∙◌, arith, length-append, append_assoc, Option}
-use Rattle.coniks_directory.proofs.Words.{Brings, Grows, IsUpdate, IsUpdateOf, Prepared, Record, State, append-nil, history_of, nil_from_length}
+use Rattle.coniks_directory.proofs.Words.{RotatesTo, Grows, IsUpdate, IsUpdateOf, Prepared, Record, State, append-nil, history_of, nil_from_length}
 use Rattle.coniks_directory.proofs.Words.{registry_after, registry_at, shown_of}
 use Rattle.coniks_tree.proofs.Lemmas.{Extends-trans, Fits-more, Stands-extended}
 
 -- where no epoch came since, neither did records: the update is one of the later state
-module _ (hash of : List ℕ → List ℕ) (s t : State) (p : Prepared) (grows : Grows s t) (u : IsUpdate hash of s p) (base : p.base ≡ length t.epochs) where
+module _ (hash index_of : List ℕ → List ℕ) (s t : State) (p : Prepared) (grows : Grows s t) (u : IsUpdate hash index_of s p) (base : p.base ≡ length t.epochs) where
   none_since : grows.more_epochs ≡ []
   none_since = nil_from_length grows.more_epochs (omega (arith, u.base, ap length grows.epochs, length-append s.epochs grows.more_epochs))
 
@@ -15,16 +15,16 @@ module _ (hash of : List ℕ → List ℕ) (s t : State) (p : Prepared) (grows :
   same_records : t.records ≡ s.records
   same_records = grows.records ∙ ap (λ rs. s.records ++ rs) (grows.still none_since) ∙ append-nil s.records
 
-  pub fresh_brings : (brought : Option (List ℕ)) → Brings s brought p → Brings t brought p
-  fresh_brings brought brings =
-      record { version = rw (same_records, same_epochs) brings.version; nonce = rw (grows.nonce, same_records, same_epochs) brings.nonce }
+  pub fresh_rotates : (new_nonce : Option (List ℕ)) → RotatesTo s new_nonce p → RotatesTo t new_nonce p
+  fresh_rotates new_nonce rotates =
+      record { version = rw (same_records, same_epochs) rotates.version; nonce = rw (grows.nonce, same_records, same_epochs) rotates.nonce }
 
-  pub fresh_update : IsUpdate hash of t p
+  pub fresh_update : IsUpdate hash index_of t p
   fresh_update = record {
     base = base;
     counted = rw (same_epochs, same_records) u.counted;
-    brought = u.brought;
-    brings = fresh_brings u.brought u.brings;
+    new_nonce = u.new_nonce;
+    rotates = fresh_rotates u.new_nonce u.rotates;
     fits = Fits-more (length s.nodes) (length t.nodes) 0 p.part grows.longer u.fits;
     placed = rw same_records u.placed;
     entries = u.entries;
@@ -39,8 +39,8 @@ module _ (hash of : List ℕ → List ℕ) (s t : State) (p : Prepared) (grows :
   pub fresh_registry : registry_after t p ≡ registry_after s p
   fresh_registry = ap (λ (rs : List Record). registry_at (rs ++ p.records.items) (length (rs ++ p.records.items))) same_records
 
-pub fresh : (hash of : List ℕ → List ℕ) (s : State) (p : Prepared) → IsUpdateOf hash of s p → p.base ≡ length s.epochs → IsUpdate hash of s p
-fresh hash of s p u base = fresh_update hash of u.earlier s p u.grows u.update base
+pub fresh : (hash index_of : List ℕ → List ℕ) (s : State) (p : Prepared) → IsUpdateOf hash index_of s p → p.base ≡ length s.epochs → IsUpdate hash index_of s p
+fresh hash index_of s p u base = fresh_update hash index_of u.earlier s p u.grows u.update base
 
 -- a state that stays has grown
 pub Grows-refl : (s : State) → Grows s s
@@ -75,9 +75,9 @@ Grows-trans s t u a b = record {
 pub ruleset growth = (Grows-refl, Grows-trans)
 
 -- an update stays one of its directory
-pub stays : (hash of : List ℕ → List ℕ) (s t : State) (p : Prepared) → Grows s t → IsUpdateOf hash of s p → IsUpdateOf hash of t p
-stays hash of s t p grows u = record { earlier = u.earlier; grows = Grows-trans u.earlier s t u.grows grows; update = u.update }
+pub stays : (hash index_of : List ℕ → List ℕ) (s t : State) (p : Prepared) → Grows s t → IsUpdateOf hash index_of s p → IsUpdateOf hash index_of t p
+stays hash index_of s t p grows u = record { earlier = u.earlier; grows = Grows-trans u.earlier s t u.grows grows; update = u.update }
 
 -- an update is one of the directory that it was prepared from
-pub prepared_of : (hash of : List ℕ → List ℕ) (s : State) (p : Prepared) → IsUpdate hash of s p → IsUpdateOf hash of s p
-prepared_of hash of s p u = record { earlier = s; grows = Grows-refl s; update = u }
+pub prepared_of : (hash index_of : List ℕ → List ℕ) (s : State) (p : Prepared) → IsUpdate hash index_of s p → IsUpdateOf hash index_of s p
+prepared_of hash index_of s p u = record { earlier = s; grows = Grows-refl s; update = u }

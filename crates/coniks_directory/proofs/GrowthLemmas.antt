@@ -1,4 +1,4 @@
--- What an epoch's tree grows by where it is made anew: the entries of a root overwritten by changes, in the order of their indices.
+-- The changes from which an epoch's tree grows under a new nonce: the entries of a root overwritten by changes, in the order of their indices.
 use Rattle.std.proofs.Common.{◌≡◌, ℕ, suc, ◌+◌, ◌<◌, ◌≤◌, List, [], ◌∷◌, ◌++◌, length, Bool, true, false, cond, not, refl, sym, ap, subst, ◌∙◌, arith, inl, inr}
 use Rattle.coniks_directory.proofs.Words.{AreAligned, AreApart, Change, Entry, IsIn, IsMap, Numbered, bytes_eq, entry_of_change}
 use Rattle.coniks_directory.proofs.Words.{filter, map-append, overwritten}
@@ -7,7 +7,7 @@ use Rattle.coniks_proof.specs.Entries.{half}
 use Rattle.coniks_proof.proofs.Lemmas.{AreIncreasing-in_order, IsIn-filter, IsMap-apart, apart-halves, apart-last, eq_apart, eq_same}
 use Rattle.coniks_proof.proofs.Lemmas.{half-overwritten, in_order-split, new_apart, overwritten-empty, overwritten-nothing, overwritten-one}
 use Rattle.coniks_tree.specs.Entries.{Lists, in_order}
-use Rattle.coniks_tree.specs.Parts.{entries_of}
+use Rattle.coniks_tree.specs.Parts.{entries_in}
 use Rattle.coniks_proof.proofs.Lemmas.{IsMap-overwritten, in_overwritten, overwritten_new, overwritten_old}
 use Rattle.coniks_tree.proofs.Lemmas.{in_order-Lists, in_order-same, listed-both}
 
@@ -48,8 +48,8 @@ pub nothing-Lists : (changes : List Change) (es : List Numbered) → changes ≡
 nothing-Lists changes es none empty = rw (none, empty) (in_order-Lists [] [] (IsMap-apart [] tt) (sym (in_order-same 0 [] (AreIncreasing-in_order [] tt tt))))
 
 -- a list that goes on with some changes
-pub listed-more : (was now cs : List Change) (es : List Numbered) → now ≡ was ++ cs → es ≡ entries_of cs → entries_of now ≡ entries_of was ++ es
-listed-more was now cs es is same = ap entries_of is ∙ map-append entry_of_change was cs ∙ ap (λ xs. entries_of was ++ xs) (sym same)
+pub listed-more : (was now cs : List Change) (es : List Numbered) → now ≡ was ++ cs → es ≡ entries_in cs → entries_in now ≡ entries_in was ++ es
+listed-more was now cs es is same = ap entries_in is ∙ map-append entry_of_change was cs ∙ ap (λ xs. entries_in was ++ xs) (sym same)
 
 -- ---- entries overwritten by changes, level by level
 
@@ -109,16 +109,16 @@ overwritten-more es fs cs all e there =
 
 -- entries that are listed and then overwritten are the list of the changed map
 pub overlaid-Lists : (listed all : List Change) (es cs : List Numbered) → Lists listed es → IsMap es → IsMap cs → AreInOrder 0 cs
-    → (AreAligned 0 (entries_of listed) cs → entries_of all ≡ in_order 0 (overwritten (entries_of listed) cs)) → Lists all (overwritten es cs)
+    → (AreAligned 0 (entries_in listed) cs → entries_in all ≡ in_order 0 (overwritten (entries_in listed) cs)) → Lists all (overwritten es cs)
 overlaid-Lists listed all es cs l map own ordered is =
-    let map_listed = IsMap-overwritten (entries_of listed) cs (l.once map) own in
-    let apart = IsMap-apart (overwritten (entries_of listed) cs) map_listed in
-    let m = in_order-Lists all (overwritten (entries_of listed) cs) apart (is (record { old = l.order; new = ordered; apart = apart })) in
+    let map_listed = IsMap-overwritten (entries_in listed) cs (l.once map) own in
+    let apart = IsMap-apart (overwritten (entries_in listed) cs) map_listed in
+    let m = in_order-Lists all (overwritten (entries_in listed) cs) apart (is (record { old = l.order; new = ordered; apart = apart })) in
     record {
       order = m.order;
       same = record {
-        there = λ e there. m.same.there e (overwritten-more es (entries_of listed) cs l.same.there e there);
-        back = λ e there. overwritten-more (entries_of listed) es cs l.same.back e (m.same.back e there);
+        there = λ e there. m.same.there e (overwritten-more es (entries_in listed) cs l.same.there e there);
+        back = λ e there. overwritten-more (entries_in listed) es cs l.same.back e (m.same.back e there);
       };
       once = λ _. m.once map_listed;
     }

@@ -1,4 +1,4 @@
--- The heads of a chain, which rise.
+-- The heads of a chain, whose epochs increase.
 use Rattle.std.proofs.Common.{◌≡◌, ℕ, suc, ◌+◌, ◌≤◌, get_or, append_assoc, length-append, List, [], ◌∷◌, ◌++◌, length, map, refl, sym, ap, subst, ◌∙◌, arith, Option, Some, None, slice_get}
 use Rattle.coniks_directory.proofs.Words.{AreRising, Begins, Body, Head, IsChainOf, Shown, before_at, head_at, heads_of, last_of, link_before}
 use Rattle.coniks_directory.proofs.Words.{map-map, numbers_of, same_Some, zeros}
@@ -15,9 +15,9 @@ numbers_alike (s ∷ history) (e ∷ chain) long same =
     ap (λ n. n ∷ map (λ (x : Entry). x.body.t) chain) (same 0 s e refl refl)
     ∙ ap (λ ns. s.t ∷ ns) (numbers_alike history chain (omega arith) (λ k x f at_x at_f. same (suc k) x f at_x at_f))
 
-pub chain-rises : (hash of : List ℕ → List ℕ) (policy : List ℕ) (history : List Shown) (chain : List Entry) → IsChainOf hash of policy history chain → AreRising 0 (numbers_of history)
+pub chain-rises : (hash index_of : List ℕ → List ℕ) (policy : List ℕ) (history : List Shown) (chain : List Entry) → IsChainOf hash index_of policy history chain → AreRising 0 (numbers_of history)
     → AreRising 0 (map (λ (e : Entry). e.body.t) chain)
-chain-rises hash of policy history chain is up =
+chain-rises hash index_of policy history chain is up =
     subst (AreRising 0) (sym (numbers_alike history chain is.long (λ k s e at_s at_e. ap (λ (b : Body). b.t) (is.bodies k s e at_s at_e)))) up
 
 -- the last of the heads that others follow stands where these begin
@@ -26,12 +26,13 @@ last_place [] rest h is = absurd (let never = is in cc)
 last_place (x ∷ []) rest h is = (0, refl, λ d. same_Some x h is)
 last_place (x ∷ y ∷ hs) rest h is = let k = last_place (y ∷ hs) rest h is in (suc k.0, ap suc k.1, k.2)
 
-pub no_older : (hash of : List ℕ → List ℕ) (policy : List ℕ) (history : List Shown) (chain : List Entry) (had has : List Head) (latest answer : Head) → IsChainOf hash of policy history chain
+pub no_older : (hash index_of : List ℕ → List ℕ) (policy : List ℕ) (history : List Shown) (chain : List Entry) (had has : List Head) (latest answer : Head)
+    → IsChainOf hash index_of policy history chain
     → AreRising 0 (numbers_of history) → Begins had has → Begins has (heads_of hash chain) → last_of had ≡ Some latest → last_of has ≡ Some answer → latest.epoch ≤ answer.epoch
-no_older hash of policy history chain had has latest answer is up begins within last_had last_has =
+no_older hash index_of policy history chain had has latest answer is up begins within last_had last_has =
     let epoch : Head → ℕ = λ h. h.epoch in
     let all : heads_of hash chain ≡ had ++ (begins.0 ++ within.0) = within.1 ∙ ap (λ hs. hs ++ within.0) begins.1 ∙ append_assoc had begins.0 within.0 in
-    let rise : AreRising 0 (map epoch (heads_of hash chain)) = rw (map-map epoch (head_at hash) chain) (chain-rises hash of policy history chain is up) in
+    let rise : AreRising 0 (map epoch (heads_of hash chain)) = rw (map-map epoch (head_at hash) chain) (chain-rises hash index_of policy history chain is up) in
     let first = last_place had (begins.0 ++ within.0) latest last_had in
     let last = last_place has within.0 answer last_has in
     let one : get_or (heads_of hash chain) first.0 latest ≡ latest = ap (λ hs. get_or hs first.0 latest) all ∙ first.2 latest in

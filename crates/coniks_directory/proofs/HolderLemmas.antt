@@ -16,53 +16,57 @@ backed_in f [] x there = absurd there
 backed_in f (y ∷ es) x (inl here) = inl (ap (backed_by f) here)
 backed_in f (y ∷ es) x (inr later) = inr (backed_in f es x later)
 
-module _ (hash of : List ℕ → List ℕ) (nonce : List ℕ) (nodes : List Node) (records : List Record) (root : ℕ) (registry : Registry) (s : ShowsRegistry hash of nonce nodes records root registry) where
-  pub found_none : (i : List ℕ) → Finds records i None s.entries → IsFree of registry i
+module _ (hash index_of : List ℕ → List ℕ) (nonce : List ℕ) (nodes : List Node) (records : List Record)
+    (root : ℕ) (registry : Registry) (s : ShowsRegistry hash index_of nonce nodes records root registry) where
+  pub found_none : (i : List ℕ) → Finds records i None s.entries → IsFree index_of registry i
   found_none i finds = λ name at. false_from_ne_true (has_name registry name) (λ h.
       let n = named_of registry name h in
-      let k = in_backed (registered_at records) s.entries (entry_of hash of n.bound) (s.mirrors.same.back (entry_of hash of n.bound) (entry_in hash of n.bound registry n.there)) in
-      finds k.0 k.1 (ap (λ (e : Entry Registered). e.index) k.2 ∙ ap of n.named ∙ at))
+      let k = in_backed (registered_at records) s.entries (entry_of hash index_of n.bound) (s.mirrors.same.back (entry_of hash index_of n.bound) (entry_in hash index_of n.bound registry n.there)) in
+      finds k.0 k.1 (ap (λ (e : Entry Registered). e.index) k.2 ∙ ap index_of n.named ∙ at))
 
-  pub found_some : (i : List ℕ) (place : RecordNo) (r : Record) → Finds records i (Some place) s.entries → slice_get records place.0 ≡ Some r → IsHeld of registry i (registered_of r)
+  pub found_some : (i : List ℕ) (place : RecordNo) (r : Record) → Finds records i (Some place) s.entries → slice_get records place.0 ≡ Some r → IsHeld index_of registry i (registered_of r)
   found_some i place r finds at =
       let finds-at = finds.1 in
       let one : finds.0 ≡ r = cc in
       let e : Numbered = entry_of_record place.0 finds.0 in
       let f = registered_at records in
-      let stands : IsIn (backed_by f e) (entries_of hash of registry) = s.mirrors.same.there (backed_by f e) (backed_in f s.entries e finds.2) in
-      let own = in_entries hash of (backed_by f e) registry stands in
+      let stands : IsIn (backed_by f e) (entries_of hash index_of registry) = s.mirrors.same.there (backed_by f e) (backed_in f s.entries e finds.2) in
+      let own = in_entries hash index_of (backed_by f e) registry stands in
       let binds : f place.0 ≡ registered_of r = ap registered_by at in
       let b = registered_of r in
       let bound : IsIn b registry = subst (λ (x : Registered). IsIn x registry) binds own.1 in
-      let at-index : of b.name ≡ i = ap (λ (x : Registered). of x.name) (sym binds) ∙ ap (λ (x : Entry Registered). x.index) own.0 ∙ finds.3 in
+      let at-index : index_of b.name ≡ i = ap (λ (x : Registered). index_of x.name) (sym binds) ∙ ap (λ (x : Entry Registered). x.index) own.0 ∙ finds.3 in
       record {
         at = at-index;
         has = named_in b registry bound;
         only = λ name there has.
             let n = named_of registry name has in
-            let same = same_entry (entries_of hash of registry) (entry_of hash of n.bound) (entry_of hash of b) s.mirrors.names (entry_in hash of n.bound registry n.there)
-            (entry_in hash of b registry bound)
-            (ap of n.named ∙ there ∙ sym at-index) in
+            let same = same_entry (entries_of hash index_of registry) (entry_of hash index_of n.bound) (entry_of hash index_of b) s.mirrors.names (entry_in hash index_of n.bound registry n.there)
+            (entry_in hash index_of b registry bound)
+            (ap index_of n.named ∙ there ∙ sym at-index) in
             sym n.named ∙ ap (λ (x : Entry Registered). x.behind.name) same;
       }
 
-pub clash_free : (of : List ℕ → List ℕ) (registry : Registry) (name : List ℕ) → IsFree of registry (of name) → clashes of registry name ≡ false
-clash_free of registry name none = false_from_ne_true (clashes of registry name) (λ h. let c = clash_found of registry name h in let there = c.there in let gone = none c.other c.at in cc)
+pub clash_free : (index_of : List ℕ → List ℕ) (registry : Registry) (name : List ℕ) → IsFree index_of registry (index_of name) → clashes index_of registry name ≡ false
+clash_free index_of registry name none = false_from_ne_true (clashes index_of registry name)
+    (λ h. let c = clash_found index_of registry name h in let there = c.there in let gone = none c.other c.at in cc)
 
-pub clash_held : (of : List ℕ → List ℕ) (registry : Registry) (name : List ℕ) (b : Registered) → IsHeld of registry (of name) b → clashes of registry name ≡ not (bytes_eq b.name name)
-clash_held of registry name b held = (elim (bytes_eq b.name name) as (λ v. bytes_eq b.name name ≡ v → clashes of registry name ≡ not v) [
-  | true ↦ λ is. false_from_ne_true (clashes of registry name) (λ h. let c = clash_found of registry name h in c.apart (held.only c.other c.at c.there ∙ (bytes_eq-Decides b.name name).0 is))
-  | false ↦ λ is. clash_made of registry name (record { other = b.name; at = held.at; there = held.has; apart = λ same. let on = eq_same b.name name same in cc })
+pub clash_held : (index_of : List ℕ → List ℕ) (registry : Registry) (name : List ℕ) (b : Registered)
+    → IsHeld index_of registry (index_of name) b → clashes index_of registry name ≡ not (bytes_eq b.name name)
+clash_held index_of registry name b held = (elim (bytes_eq b.name name) as (λ v. bytes_eq b.name name ≡ v → clashes index_of registry name ≡ not v) [
+  | true ↦ λ is. false_from_ne_true (clashes index_of registry name)
+      (λ h. let c = clash_found index_of registry name h in c.apart (held.only c.other c.at c.there ∙ (bytes_eq-Decides b.name name).0 is))
+  | false ↦ λ is. clash_made index_of registry name (record { other = b.name; at = held.at; there = held.has; apart = λ same. let on = eq_same b.name name same in cc })
 ]) refl
 
-pub named_held : (of : List ℕ → List ℕ) (registry : Registry) (name : List ℕ) (b : Registered) → IsHeld of registry (of name) b → has_name registry name ≡ bytes_eq b.name name
-named_held of registry name b held = same_bool (has_name registry name) (bytes_eq b.name name)
+pub named_held : (index_of : List ℕ → List ℕ) (registry : Registry) (name : List ℕ) (b : Registered) → IsHeld index_of registry (index_of name) b → has_name registry name ≡ bytes_eq b.name name
+named_held index_of registry name b held = same_bool (has_name registry name) (bytes_eq b.name name)
     (λ h. eq_same b.name name (sym (held.only name refl h)))
     (λ on. subst (λ n. has_name registry n ≡ true) ((bytes_eq-Decides b.name name).0 on) held.has)
 
 -- whoever has the index of a name that isn't there is another name
-pub clash_some : (of : List ℕ → List ℕ) (registry : Registry) (name : List ℕ) (holder : Option (Bor Record)) → HolderIs of registry (of name) holder → has_name registry name ≡ false
-    → clashes of registry name ≡ is_some holder
-clash_some of registry name None held gone = clash_free of registry name held
-clash_some of registry name (Some r) held gone =
-    clash_held of registry name (registered_of r.now) held ∙ ap not (sym (named_held of registry name (registered_of r.now) held) ∙ gone)
+pub clash_some : (index_of : List ℕ → List ℕ) (registry : Registry) (name : List ℕ) (holder : Option (Bor Record)) → HolderIs index_of registry (index_of name) holder → has_name registry name ≡ false
+    → clashes index_of registry name ≡ is_some holder
+clash_some index_of registry name None held gone = clash_free index_of registry name held
+clash_some index_of registry name (Some r) held gone =
+    clash_held index_of registry name (registered_of r.now) held ∙ ap not (sym (named_held index_of registry name (registered_of r.now) held) ∙ gone)

@@ -15,9 +15,9 @@ use Rattle.coniks_directory.proofs.StateLemmas.{registry_at-append}
 
 -- ---- the epochs before
 
-holds-extended : (hash of : List ℕ → List ℕ) (nodes further : List Node) (records more : List Record) (e : Epoch) → Extends nodes further → length nodes ≤ length further
-    → HoldsEpoch hash of nodes records e → HoldsEpoch hash of further (records ++ more) e
-holds-extended hash of nodes further records more e grown longer h =
+holds-extended : (hash index_of : List ℕ → List ℕ) (nodes further : List Node) (records more : List Record) (e : Epoch) → Extends nodes further → length nodes ≤ length further
+    → HoldsEpoch hash index_of nodes records e → HoldsEpoch hash index_of further (records ++ more) e
+holds-extended hash index_of nodes further records more e grown longer h =
     let r = h.registry in
     let kept = Extends-append records more in
     record {
@@ -26,7 +26,7 @@ holds-extended hash of nodes further records more e grown longer h =
       registry = record {
         entries = r.entries;
         shows = Shows-extended hash e.nonce.0 nodes further records (records ++ more) grown kept e.root.0 [] r.entries r.shows;
-        mirrors = rw (registry_at-append records more e.count h.counted) (Mirrors-extended hash of records (records ++ more) r.entries _ kept r.mirrors);
+        mirrors = rw (registry_at-append records more e.count h.counted) (Mirrors-extended hash index_of records (records ++ more) r.entries _ kept r.mirrors);
       };
     }
 
@@ -57,8 +57,8 @@ pub installed_is : (s : State) (p : Prepared) (root : Root) (t count : ℕ) (ent
 installed_is s p root t count entry nodes records epochs chain records-are counted epochs-are chain-is = cc
 
 -- the update's part is attached, and its epoch and its entry are added
-module _ (hash of : List ℕ → List ℕ) (s : State) (whole : Whole hash of s) (p : Prepared) (u : IsUpdate hash of s p)
-    (t : ℕ) (later : latest_epoch (history_of s) < t) (entry : Entry) (body : IsNext hash of s p t entry.body)
+module _ (hash index_of : List ℕ → List ℕ) (s : State) (whole : Whole hash index_of s) (p : Prepared) (u : IsUpdate hash index_of s p)
+    (t : ℕ) (later : latest_epoch (history_of s) < t) (entry : Entry) (body : IsNext hash index_of s p t entry.body)
     (nodes : List Node) (root : Root) (longer : length s.nodes ≤ length nodes) (older : Extends s.nodes nodes) (known : root.0 < length nodes)
     (shows : (es : List Numbered) → Stands hash p.nonce.0 s.nodes s.records p.part [] es → Shows hash p.nonce.0 nodes (records_after s p) root.0 [] es) where
   history-installed : history_of (installed s p nodes root t entry) ≡ history_of s ++ shown_after s p t ∷ []
@@ -66,7 +66,7 @@ module _ (hash of : List ℕ → List ℕ) (s : State) (whole : Whole hash of s)
       map-append (shown_of (records_after s p)) s.epochs (epoch_after s p root t ∷ [])
       ∙ ap (λ (ss : List Shown). ss ++ shown_after s p t ∷ []) (shown-before s.records p.records.items s.epochs (λ k e at. (whole.held k e at).counted))
 
-  held_next : HoldsEpoch hash of nodes (records_after s p) (epoch_after s p root t)
+  held_next : HoldsEpoch hash index_of nodes (records_after s p) (epoch_after s p root t)
   held_next = record {
     known = known;
     counted = omega arith;
@@ -74,19 +74,19 @@ module _ (hash of : List ℕ → List ℕ) (s : State) (whole : Whole hash of s)
   }
 
   under_next : IsUnder (latest_version 1 (history_of s)) (latest_nonce s.nonce (history_of s)) (shown_after s p t)
-  under_next = (u.brought, u.brings.version, u.brings.nonce)
+  under_next = (u.new_nonce, u.rotates.version, u.rotates.nonce)
 
   -- it is whole
-  whole_next : Whole hash of (installed s p nodes root t entry)
+  whole_next : Whole hash index_of (installed s p nodes root t entry)
   whole_next = record {
     held = λ k x at. elim (get-push s.epochs (epoch_after s p root t) k x at) [
-      | inl old ↦ holds-extended hash of s.nodes nodes s.records p.records.items x older longer (whole.held k x old)
-      | inr new ↦ subst (HoldsEpoch hash of nodes (records_after s p)) new.1 held_next
+      | inl old ↦ holds-extended hash index_of s.nodes nodes s.records p.records.items x older longer (whole.held k x old)
+      | inr new ↦ subst (HoldsEpoch hash index_of nodes (records_after s p)) new.1 held_next
     ];
     last = at_end last_count (λ e. e.count) (λ e. refl) (λ x y es. refl) s.epochs (epoch_after s p root t);
     rising = rw (history-installed, map-append (λ (x : Shown). x.t) (history_of s) (shown_after s p t ∷ [])) (rising-push 0 (numbers_of (history_of s)) t whole.rising later);
     under = rw history-installed (under-push 1 s.nonce (history_of s) (shown_after s p t) whole.under under_next);
-    chain = rw history-installed (chain-push hash of s.policy (history_of s) s.chain (shown_after s p t) entry whole.chain body);
+    chain = rw history-installed (chain-push hash index_of s.policy (history_of s) s.chain (shown_after s p t) entry whole.chain body);
   }
 
   -- where the chain is good it still is
@@ -94,12 +94,12 @@ module _ (hash of : List ℕ → List ℕ) (s : State) (whole : Whole hash of s)
       → GoodChain hash verdict s.chain → GoodChain hash further (s.chain ++ entry ∷ [])
   good_next verdict further same signed good =
       let before = before_at hash None s.chain (length s.chain) in
-      let last = is_last hash of s.policy s.nonce (history_of s) s.chain whole.chain in
+      let last = is_last hash index_of s.policy s.nonce (history_of s) s.chain whole.chain in
       let known = latest-known 1 s.nonce (history_of s) (inl refl) whole.under in
       good_push hash further s.chain entry (good_same_verdict hash verdict further same s.chain good)
-      (follows_next hash of s.policy s.nonce further (history_of s) known (shown_after s p t) later entry signed before body last under_next)
+      (follows_next hash index_of s.policy s.nonce further (history_of s) known (shown_after s p t) later entry signed before body last under_next)
 
-  pub left_next : Leaves hash of s (installed s p nodes root t entry) p t entry
+  pub left_next : Leaves hash index_of s (installed s p nodes root t entry) p t entry
   left_next = record {
     whole = whole_next;
     history = history-installed;
@@ -118,12 +118,13 @@ module _ (hash of : List ℕ → List ℕ) (s : State) (whole : Whole hash of s)
   }
 
 -- the body that an install signs is that of the epoch which it makes
-pub body_is : (hash of : List ℕ → List ℕ) (s : State) (p : Prepared) (t latest : ℕ) (root previous : Digest) (u : IsUpdate hash of s p) → Whole hash of s → latest ≡ latest_epoch (history_of s)
+pub body_is : (hash index_of : List ℕ → List ℕ) (s : State) (p : Prepared) (t latest : ℕ) (root previous : Digest) (u : IsUpdate hash index_of s p)
+    → Whole hash index_of s → latest ≡ latest_epoch (history_of s)
     → ((es : List Numbered) → Stands hash p.nonce.0 s.nodes s.records p.part [] es → root.0 ≡ node hash p.nonce.0 [] es) → previous.0 ≡ link_before (before_at hash None s.chain (length s.chain))
-    → (let b : Body = record { version = p.version; t = t; t_prev = latest; root = root; previous = previous; nonce = p.nonce; policy = s.policy } in IsNext hash of s p t b)
-body_is hash of s p t latest root previous u whole latest-is root-is previous-is =
-    let epoch = latest-is ∙ sym (is_last hash of s.policy s.nonce (history_of s) s.chain whole.chain).epoch in
+    → (let b : Body = record { version = p.version; t = t; t_prev = latest; root = root; previous = previous; nonce = p.nonce; policy = s.policy } in IsNext hash index_of s p t b)
+body_is hash index_of s p t latest root previous u whole latest-is root-is previous-is =
+    let epoch = latest-is ∙ sym (is_last hash index_of s.policy s.nonce (history_of s) s.chain whole.chain).epoch in
     let digest : List ℕ → Digest = λ d. record { 0 = d } in
-    let rooted = ap digest (root-is u.entries u.stands ∙ mirrored_root hash of p.nonce.0 (records_after s p) u.entries (registry_after s p) u.mirrors) in
+    let rooted = ap digest (root-is u.entries u.stands ∙ mirrored_root hash index_of p.nonce.0 (records_after s p) u.entries (registry_after s p) u.mirrors) in
     let linked = ap digest previous-is in
     cc

@@ -9,11 +9,11 @@ use Rattle.coniks_proof.proofs.Lemmas.{clashes-append}
 use Rattle.coniks_directory.proofs.LastLemmas.{take_next}
 
 -- a name that isn't among the earlier ones, and whose kind has no fault, is left with a clash or none
-pub at_clash : (of : List ℕ → List ℕ) (registry : Registry) (before : List Registered) (op : Operation) → fits MAX_NAME op.name ≡ true → fits MAX_KEY op.key ≡ true
-    → (a b clash : Bool) → has_name before op.name ≡ false → kind_fault op.kind (has_name registry op.name) ≡ None → clashes of registry op.name ≡ a → clashes of before op.name ≡ b
-    → a || b ≡ clash → fault_of of registry before op ≡ cond clash (Some index_clash) None
-at_clash of registry before op named keyed a b clash once kind ha hb either =
-    let all = clashes-append of registry before op.name in
+pub at_clash : (index_of : List ℕ → List ℕ) (registry : Registry) (before : List Registered) (op : Operation) → fits MAX_NAME op.name ≡ true → fits MAX_KEY op.key ≡ true
+    → (a b clash : Bool) → has_name before op.name ≡ false → kind_fault op.kind (has_name registry op.name) ≡ None → clashes index_of registry op.name ≡ a → clashes index_of before op.name ≡ b
+    → a || b ≡ clash → fault_of index_of registry before op ≡ cond clash (Some index_clash) None
+at_clash index_of registry before op named keyed a b clash once kind ha hb either =
+    let all = clashes-append index_of registry before op.name in
     rw (named, keyed, once, kind, all, ha, hb, either) refl
 
 -- ---- the operations in turn
@@ -27,16 +27,17 @@ pub bound-next : (ops : List Operation) (i : ℕ) (op : Operation) → slice_get
 bound-next ops i op at = sym (ap (map bound_by) (take_next ops i op at) ∙ map-append bound_by (take i ops) (op ∷ []))
 
 -- the first fault is the next operation's, or that of the operations after it
-pub judged-next : (of : List ℕ → List ℕ) (registry : Registry) (ops : List Operation) (i : ℕ) (op : Operation) (f : Option Fault) → slice_get ops i ≡ Some op → IsJudged of registry ops i
-    → fault_of of registry (map bound_by (take i ops)) op ≡ f → first_fault of registry ops ≡ placed i f (fault_from of registry (map bound_by (take (i + 1) ops)) (i + 1) (drop (i + 1) ops))
-judged-next of registry ops i op f at judged is =
+pub judged-next : (index_of : List ℕ → List ℕ) (registry : Registry) (ops : List Operation) (i : ℕ) (op : Operation) (f : Option Fault) → slice_get ops i ≡ Some op → IsJudged index_of registry ops i
+    → fault_of index_of registry (map bound_by (take i ops)) op ≡ f
+    → first_fault index_of registry ops ≡ placed i f (fault_from index_of registry (map bound_by (take (i + 1) ops)) (i + 1) (drop (i + 1) ops))
+judged-next index_of registry ops i op f at judged is =
     let before = map bound_by (take i ops) in
     let rest = drop (i + 1) ops in
-    judged ∙ at_drop_more (fault_from of registry before i) ops i op (slice_get_within ops i op at)
-    ∙ ap (λ x. fault_from of registry before i (x ∷ rest)) (get_or_from_slice_get ops i op op at)
-    ∙ ap (λ g. placed i g (fault_from of registry (before ++ bound_by op ∷ []) (i + 1) rest)) is
-    ∙ ap (λ bs. placed i f (fault_from of registry bs (i + 1) rest)) (bound-next ops i op at)
+    judged ∙ at_drop_more (fault_from index_of registry before i) ops i op (slice_get_within ops i op at)
+    ∙ ap (λ x. fault_from index_of registry before i (x ∷ rest)) (get_or_from_slice_get ops i op op at)
+    ∙ ap (λ g. placed i g (fault_from index_of registry (before ++ bound_by op ∷ []) (i + 1) rest)) is
+    ∙ ap (λ bs. placed i f (fault_from index_of registry bs (i + 1) rest)) (bound-next ops i op at)
 
 -- none is left after the last
-pub judged-all : (of : List ℕ → List ℕ) (registry : Registry) (ops : List Operation) (i : ℕ) → length ops ≤ i → IsJudged of registry ops i → first_fault of registry ops ≡ None
-judged-all of registry ops i past judged = judged ∙ at_drop_all (fault_from of registry (map bound_by (take i ops)) i) ops i past
+pub judged-all : (index_of : List ℕ → List ℕ) (registry : Registry) (ops : List Operation) (i : ℕ) → length ops ≤ i → IsJudged index_of registry ops i → first_fault index_of registry ops ≡ None
+judged-all index_of registry ops i past judged = judged ∙ at_drop_all (fault_from index_of registry (map bound_by (take i ops)) i) ops i past

@@ -4,7 +4,7 @@ mod StateLemmas
 mod MirrorLemmas
 mod HolderLemmas
 mod JudgeLemmas
-mod DraftLemmas
+mod PendingLemmas
 mod SealLemmas
 mod OrderLemmas
 mod OverlaidLemmas
@@ -14,6 +14,7 @@ mod BuiltLemmas
 mod NumberLemmas
 mod LookupLemmas
 mod FreshLemmas
+mod CommitLemmas
 mod ChainLemmas
 mod InstallLemmas
 mod HeadLemmas

@@ -16,13 +16,13 @@ backed-extended records more (e ∷ es) kept s =
     rw (registered_at-extended records more e kept (s e (inl refl)), backed-extended records more es kept (λ x is. s x (inr is))) refl
 
 -- entries that mirror a registry do so with more records
-pub Mirrors-extended : (hash of : List ℕ → List ℕ) (records more : List Record) (es : List Numbered) (registry : Registry) → Extends records more → Mirrors hash of records es registry
-    → Mirrors hash of more es registry
-Mirrors-extended hash of records more es registry kept m = record {
+pub Mirrors-extended : (hash index_of : List ℕ → List ℕ) (records more : List Record) (es : List Numbered) (registry : Registry) → Extends records more → Mirrors hash index_of records es registry
+    → Mirrors hash index_of more es registry
+Mirrors-extended hash index_of records more es registry kept m = record {
   stored = λ e is. let s = m.stored e is in (s.0, kept e.behind s.0 s.1, s.2);
   indices = m.indices;
   names = m.names;
-  same = subst (λ (xs : List (Entry Registered)). SameEntries xs (entries_of hash of registry)) (sym (backed-extended records more es kept m.stored)) m.same;
+  same = subst (λ (xs : List (Entry Registered)). SameEntries xs (entries_of hash index_of registry)) (sym (backed-extended records more es kept m.stored)) m.same;
   limits = m.limits;
 }
 
@@ -34,19 +34,19 @@ pub IsMap-backed : {B C : Type 0} (f : B → C) (es : List (Entry B)) → IsMap 
 IsMap-backed f [] m = tt
 IsMap-backed f (e ∷ es) m = (m.0, IsNew-backed f e.index es m.1, IsMap-backed f es m.2)
 
-module _ (hash of : List ℕ → List ℕ) (nonce : List ℕ) (records : List Record) (es : List Numbered) (registry : Registry) (m : Mirrors hash of records es registry) where
+module _ (hash index_of : List ℕ → List ℕ) (nonce : List ℕ) (records : List Record) (es : List Numbered) (registry : Registry) (m : Mirrors hash index_of records es registry) where
   -- the root over the entries is that of the registry
-  pub mirrored_root : node hash nonce [] es ≡ root_of hash of nonce registry
+  pub mirrored_root : node hash nonce [] es ≡ root_of hash index_of nonce registry
   mirrored_root =
       sym (node-backed (registered_at records) hash nonce [] es)
-      ∙ node-same hash nonce [] (map (backed_by (registered_at records)) es) (entries_of hash of registry) (IsMap-backed (registered_at records) es m.indices) m.names m.same
+      ∙ node-same hash nonce [] (map (backed_by (registered_at records)) es) (entries_of hash index_of registry) (IsMap-backed (registered_at records) es m.indices) m.names m.same
 
   -- a path in the tree over the entries is one in the tree over the registry
-  pub mirrored_path : (j : List ℕ) (proof : Proof) → IsPath hash nonce (map (backed_by (registered_at records)) es) j proof → IsPath hash nonce (entries_of hash of registry) j proof
+  pub mirrored_path : (j : List ℕ) (proof : Proof) → IsPath hash nonce (map (backed_by (registered_at records)) es) j proof → IsPath hash nonce (entries_of hash index_of registry) j proof
   mirrored_path j proof path =
       let backed = map (backed_by (registered_at records)) es in
       let indices = IsMap-backed (registered_at records) es m.indices in
       record {
-        siblings_are = path.siblings_are ∙ siblings-same hash nonce [] j backed (entries_of hash of registry) indices m.names m.same;
-        end_is = subst (λ (xs : List (Entry Registered)). EndIs j xs proof.end) (end_of-same [] j backed (entries_of hash of registry) indices m.names m.same) path.end_is;
+        siblings_are = path.siblings_are ∙ siblings-same hash nonce [] j backed (entries_of hash index_of registry) indices m.names m.same;
+        end_is = subst (λ (xs : List (Entry Registered)). EndIs j xs proof.end) (end_of-same [] j backed (entries_of hash index_of registry) indices m.names m.same) path.end_is;
       }

@@ -3,9 +3,9 @@ use Rattle.std.proofs.Common.{◌≡◌, ◌≤◌, ℕ, zero, suc, ◌+◌, Lis
 use Rattle.coniks_proof.specs.Bits.{turns}
 use Rattle.coniks_proof.specs.Entries.{half}
 use Rattle.coniks_tree.specs.Counts.{new_nodes, new_unchanged, new_within}
-use Rattle.coniks_directory.proofs.Words.{AreChangesOf, AreDrafts, BTreeMap, Entry, IsIn, IsMap, IsNew, Mirrors, Numbered, Record, Registered, Registry, backed_by, entries_of, entry_of, entry_of_record, length-map, overwritten, registered_at, registered_of}
+use Rattle.coniks_directory.proofs.Words.{AreChangesOf, ArePendingRecords, BTreeMap, Entry, IsIn, IsMap, IsNew, Mirrors, Numbered, Record, Registered, Registry, backed_by, entries_of, entry_of, entry_of_record, length-map, overwritten, registered_at, registered_of}
 use Rattle.coniks_directory.specs.Nodes.{place_of, places_of}
-use Rattle.coniks_directory.proofs.DraftLemmas.{in_records, record_in}
+use Rattle.coniks_directory.proofs.PendingLemmas.{in_records, record_in}
 use Rattle.coniks_directory.proofs.GrowthLemmas.{no_more}
 use Rattle.coniks_directory.proofs.HolderLemmas.{backed_in, in_backed}
 use Rattle.coniks_proof.proofs.Lemmas.{IsIn-filter, IsMap-filter, IsMap-overwritten, entry_in, in_entries, in_overwritten, of_filter, overwritten_index, overwritten_new, passes}
@@ -103,8 +103,10 @@ count_within height level es fs (c ∷ cs) [] old new = absurd (let k = new.ther
 count_within zero level es fs (c ∷ cs) (d ∷ ds) old new = refl
 count_within (suc height) level es fs (c ∷ cs) (d ∷ ds) old new =
     let size = many (overwritten es (c ∷ cs)) (overwritten fs (d ∷ ds)) (over_alike es fs (c ∷ cs) (d ∷ ds) old new) in
-    let left = count_within height (suc level) (half false level es) (half false level fs) (half false level (c ∷ cs)) (half false level (d ∷ ds)) (half_alike false level es fs old) (half_alike false level (c ∷ cs) (d ∷ ds) new) in
-    let right = count_within height (suc level) (half true level es) (half true level fs) (half true level (c ∷ cs)) (half true level (d ∷ ds)) (half_alike true level es fs old) (half_alike true level (c ∷ cs) (d ∷ ds) new) in
+    let left = count_within height (suc level) (half false level es) (half false level fs) (half false level (c ∷ cs))
+    (half false level (d ∷ ds)) (half_alike false level es fs old) (half_alike false level (c ∷ cs) (d ∷ ds) new) in
+    let right = count_within height (suc level) (half true level es) (half true level fs) (half true level (c ∷ cs))
+    (half true level (d ∷ ds)) (half_alike true level es fs old) (half_alike true level (c ∷ cs) (d ∷ ds) new) in
     rw (size, left, right) refl
 
 pub count_same : (es fs cs ds : List Numbered) → AreAlike es fs → AreAlike cs ds → new_nodes 0 es cs ≡ new_nodes 0 fs ds
@@ -116,53 +118,57 @@ count_same es fs cs ds old new = count_within 256 0 es fs cs ds old new
 pub nothing_alike : AreAlike [] []
 nothing_alike = record { there = λ e is. absurd is; back = λ e is. absurd is; one = tt; other = tt }
 
-place_in : (of : List ℕ → List ℕ) (b : Registered) (registry : Registry) → IsIn b registry → IsIn (place_of of b) (places_of of registry)
-place_in of b [] there = absurd there
-place_in of b (x ∷ xs) (inl here) = inl (ap (place_of of) here)
-place_in of b (x ∷ xs) (inr later) = inr (place_in of b xs later)
+place_in : (index_of : List ℕ → List ℕ) (b : Registered) (registry : Registry) → IsIn b registry → IsIn (place_of index_of b) (places_of index_of registry)
+place_in index_of b [] there = absurd there
+place_in index_of b (x ∷ xs) (inl here) = inl (ap (place_of index_of) here)
+place_in index_of b (x ∷ xs) (inr later) = inr (place_in index_of b xs later)
 
-in_places : (of : List ℕ → List ℕ) (e : Numbered) (registry : Registry) → IsIn e (places_of of registry) → (b : Registered) × IsIn b registry × (place_of of b ≡ e)
-in_places of e [] there = absurd there
-in_places of e (x ∷ xs) (inl here) = (x, inl refl, here)
-in_places of e (x ∷ xs) (inr later) = let k = in_places of e xs later in (k.0, inr k.1, k.2)
+in_places : (index_of : List ℕ → List ℕ) (e : Numbered) (registry : Registry) → IsIn e (places_of index_of registry) → (b : Registered) × IsIn b registry × (place_of index_of b ≡ e)
+in_places index_of e [] there = absurd there
+in_places index_of e (x ∷ xs) (inl here) = (x, inl refl, here)
+in_places index_of e (x ∷ xs) (inr later) = let k = in_places index_of e xs later in (k.0, inr k.1, k.2)
 
-module _ (hash of : List ℕ → List ℕ) where
-  places_new : (index : List ℕ) (registry : Registry) → IsNew index (entries_of hash of registry) → IsNew index (places_of of registry)
+module _ (hash index_of : List ℕ → List ℕ) where
+  places_new : (index : List ℕ) (registry : Registry) → IsNew index (entries_of hash index_of registry) → IsNew index (places_of index_of registry)
   places_new index [] new = tt
   places_new index (b ∷ bs) new = (new.0, places_new index bs new.1)
 
-  pub places_map : (registry : Registry) → IsMap (entries_of hash of registry) → IsMap (places_of of registry)
+  pub places_map : (registry : Registry) → IsMap (entries_of hash index_of registry) → IsMap (places_of index_of registry)
   places_map [] own = tt
-  places_map (b ∷ bs) own = (own.0, places_new (of b.name) bs own.1, places_map bs own.2)
+  places_map (b ∷ bs) own = (own.0, places_new (index_of b.name) bs own.1, places_map bs own.2)
 
   -- the entries of a tree stand where the names of its registry do
-  pub mirrors_alike : (records : List Record) (es : List Numbered) (registry : Registry) → Mirrors hash of records es registry → AreAlike es (places_of of registry)
+  pub mirrors_alike : (records : List Record) (es : List Numbered) (registry : Registry) → Mirrors hash index_of records es registry → AreAlike es (places_of index_of registry)
   mirrors_alike records es registry m =
       let f = registered_at records in
       record {
         there = λ e is.
-            let own = in_entries hash of (backed_by f e) registry (m.same.there (backed_by f e) (backed_in f es e is)) in
-            (place_of of (f e.behind), place_in of (f e.behind) registry own.1, ap (λ (x : Entry Registered). x.index) own.0);
+            let own = in_entries hash index_of (backed_by f e) registry (m.same.there (backed_by f e) (backed_in f es e is)) in
+            (place_of index_of (f e.behind), place_in index_of (f e.behind) registry own.1, ap (λ (x : Entry Registered). x.index) own.0);
         back = λ p is.
-            let b = in_places of p registry is in
-            let k = in_backed f es (entry_of hash of b.0) (m.same.back (entry_of hash of b.0) (entry_in hash of b.0 registry b.1)) in
+            let b = in_places index_of p registry is in
+            let k = in_backed f es (entry_of hash index_of b.0) (m.same.back (entry_of hash index_of b.0) (entry_in hash index_of b.0 registry b.1)) in
             (k.0, k.1, ap (λ (x : Entry Registered). x.index) k.2 ∙ ap (λ (x : Numbered). x.index) b.2);
         one = m.indices;
         other = places_map registry m.names;
       }
 
   -- and so do the changes of a batch
-  pub changes_alike : (base : ℕ) (bound : List Registered) (records : List Record) (numbers : BTreeMap (List ℕ) ℕ) (cs : List Numbered) → AreDrafts hash of bound records numbers → AreChangesOf base records cs → IsMap cs
-      → AreAlike cs (places_of of bound)
+  pub changes_alike : (base : ℕ) (bound : List Registered) (records : List Record) (numbers : BTreeMap (List ℕ) ℕ) (cs : List Numbered)
+      → ArePendingRecords hash index_of bound records numbers → AreChangesOf base records cs → IsMap cs
+      → AreAlike cs (places_of index_of bound)
   changes_alike base bound records numbers cs s c own = record {
     there = λ e is.
         let r = c.only e is in
-        let b = registered_of r.1 in
-        (place_of of b, place_in of b bound (subst (λ (bs : List Registered). IsIn b bs) s.binds (record_in records r.0 r.1 r.2)), sym (s.drafted r.0 r.1 r.2).indexed ∙ ap (λ (x : Numbered). x.index) r.3);
+        let b = registered_of r.1 in (
+          place_of index_of b,
+          place_in index_of b bound (subst (λ (bs : List Registered). IsIn b bs) s.binds (record_in records r.0 r.1 r.2)),
+          sym (s.drafted r.0 r.1 r.2).indexed ∙ ap (λ (x : Numbered). x.index) r.3,
+        );
     back = λ p is.
-        let b = in_places of p bound is in
+        let b = in_places index_of p bound is in
         let k = in_records records b.0 (subst (λ (bs : List Registered). IsIn b.0 bs) (sym s.binds) b.1) in
-        (entry_of_record (base + k.0) k.1, c.each k.0 k.1 k.2, (s.drafted k.0 k.1 k.2).indexed ∙ ap (λ (x : Registered). of x.name) k.3 ∙ ap (λ (x : Numbered). x.index) b.2);
+        (entry_of_record (base + k.0) k.1, c.each k.0 k.1 k.2, (s.drafted k.0 k.1 k.2).indexed ∙ ap (λ (x : Registered). index_of x.name) k.3 ∙ ap (λ (x : Numbered). x.index) b.2);
     one = own;
     other = places_map bound s.distinct;
   }

@@ -1,7 +1,7 @@
 -- The changes of a batch, in the order of the map of their records.
 use Rattle.std.proofs.Common.{◌≡◌, ℕ, zero, suc, ◌+◌, ◌<◌, List, [], ◌∷◌, ◌++◌, length, map, arith, true, false, refl, sym, ap, ◌∙◌, inl, inr, cond, slice_index, Some, slice_get}
-use Rattle.coniks_directory.proofs.Words.{All, All-found, All-map, AllAfter, AllByRecursion, AreChangesOf, AreDrafts, AreIncreasing, BTreeMap}
-use Rattle.coniks_directory.proofs.Words.{IsBefore, IsIn, IsDraft, IsIndex, IsStrictlySortedBy, Less, Numbered, Record, Registered, by_ranked}
+use Rattle.coniks_directory.proofs.Words.{All, All-found, All-map, AllAfter, AllByRecursion, AreChangesOf, ArePendingRecords, AreIncreasing, BTreeMap}
+use Rattle.coniks_directory.proofs.Words.{IsBefore, IsIn, IsPendingRecord, IsIndex, IsStrictlySortedBy, Less, Numbered, Record, Registered, by_ranked}
 use Rattle.coniks_directory.proofs.Words.{entry_of_record, is_at, is_eq, keys_of, length-map, lookup, map-append, nat_cmp, nat_list_cmp_total}
 use Rattle.coniks_directory.proofs.Words.{option_map_or, ranked, slice_cmp, slice_get_within, values, values_of}
 
@@ -37,7 +37,7 @@ maps-push f g xs ys x y are is = map-append g ys (y ∷ []) ∙ ap (λ zs. zs ++
 abbrev IsKept : List Record → List ℕ × ℕ → Type 0
 IsKept records p = (r : Record) × (slice_get records p.1 ≡ Some r) × (r.index.0 ≡ p.0)
 
-module _ (of : List ℕ → List ℕ) (base : ℕ) (records : List Record) (drafted : (n : ℕ) (r : Record) → slice_get records n ≡ Some r → IsDraft of r) where
+module _ (index_of : List ℕ → List ℕ) (base : ℕ) (records : List Record) (drafted : (n : ℕ) (r : Record) → slice_get records n ≡ Some r → IsPendingRecord index_of r) where
   after : (x : List ℕ) (ps : List (List ℕ × ℕ)) → IsIndex x → All (IsKept records) ps → AllByRecursion (λ y. slice_cmp nat_cmp x y ≡ Less) (keys_of ps)
       → AllAfter x (map (entry_at base records) (values_of ps))
   after x [] ix kept sorted = tt
@@ -73,7 +73,7 @@ each base records (p ∷ ps) index n some =
       | false ↦ λ h. inr (each base records ps index n h)
     ]) some
 
-module _ (hash of : List ℕ → List ℕ) (bound : List Registered) (records : List Record) (numbers : BTreeMap (List ℕ) ℕ) (s : AreDrafts hash of bound records numbers) where
+module _ (hash index_of : List ℕ → List ℕ) (bound : List Registered) (records : List Record) (numbers : BTreeMap (List ℕ) ℕ) (s : ArePendingRecords hash index_of bound records numbers) where
   all_kept : All (IsKept records) numbers.entries
   all_kept k d below = s.kept _ _ (All-found nat_list_cmp_total numbers s.ordered k d below)
 
@@ -83,7 +83,7 @@ module _ (hash of : List ℕ → List ℕ) (bound : List Registered) (records : 
 
   pub changes : (base : ℕ) → AreChangesOf base records (map (entry_at base records) (values numbers))
   changes base = record {
-    increasing = increasing of base records s.drafted numbers.entries all_kept s.ordered;
+    increasing = increasing index_of base records s.drafted numbers.entries all_kept s.ordered;
     each = λ n r at. rw at at (each base records numbers.entries r.index.0 n (s.all n r at));
     only = λ e there. only base records numbers.entries e all_kept there;
     counted = length-map (values numbers) (entry_at base records) ∙ length-map numbers.entries (λ (p : List ℕ × ℕ). p.1) ∙ s.counted;

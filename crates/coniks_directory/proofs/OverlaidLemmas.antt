@@ -20,18 +20,18 @@ overlaid_new registry (x ∷ xs) b once (inr later) = overlaid_new (rebound regi
 
 -- names that part have indices that part
 abbrev pub ArePart : (List ℕ → List ℕ) → List Registered → Type 0
-ArePart of all = (c d : Registered) → IsIn c all → IsIn d all → c.name ≢ d.name → of c.name ≢ of d.name
+ArePart index_of all = (c d : Registered) → IsIn c all → IsIn d all → c.name ≢ d.name → index_of c.name ≢ index_of d.name
 
 -- a registry overlaid is a map, where in all bindings names that part have indices that part
-pub IsMap-overlaid : (hash of : List ℕ → List ℕ) (all : List Registered) (registry : Registry) (bs : List Registered) → ArePart of all → ((b : Registered) → IsIn b registry → IsIn b all)
-    → ((b : Registered) → IsIn b bs → IsIn b all × IsIndex (of b.name)) → IsMap (entries_of hash of registry) → IsMap (entries_of hash of (overlaid registry bs))
-IsMap-overlaid hash of all registry [] part old new map = map
-IsMap-overlaid hash of all registry (x ∷ xs) part old new map =
+pub IsMap-overlaid : (hash index_of : List ℕ → List ℕ) (all : List Registered) (registry : Registry) (bs : List Registered) → ArePart index_of all → ((b : Registered) → IsIn b registry → IsIn b all)
+    → ((b : Registered) → IsIn b bs → IsIn b all × IsIndex (index_of b.name)) → IsMap (entries_of hash index_of registry) → IsMap (entries_of hash index_of (overlaid registry bs))
+IsMap-overlaid hash index_of all registry [] part old new map = map
+IsMap-overlaid hash index_of all registry (x ∷ xs) part old new map =
     let here = new x (inl refl) in
-    IsMap-overlaid hash of all (rebound registry x) xs part
+    IsMap-overlaid hash index_of all (rebound registry x) xs part
     (λ c there. elim (in_rebound registry x c there) [ inl same ↦ subst (λ (y : Registered). IsIn y all) same here.0 | inr stays ↦ old c stays.0 ])
     (λ b there. new b (inr there))
-    (IsMap-rebound hash of registry x map here.1 (λ c there. part c x (old c there) here.0))
+    (IsMap-rebound hash index_of registry x map here.1 (λ c there. part c x (old c there) here.0))
 
 within_all : (registry : Registry) → ((b : Registered) → IsIn b registry → IsLength MAX_NAME b.name × IsLength MAX_KEY b.key) → AreWithin registry
 within_all [] each = tt

@@ -5,70 +5,71 @@ use Rattle.coniks_directory.proofs.Words.{append-nil, defined, epochs_from, hist
 use Rattle.coniks_directory.proofs.Words.{latest_registry, latest_version, shown_by}
 use Rattle.coniks_directory.specs.Runs as runs
 use Rattle.coniks_proof.proofs.Lemmas.{may_follow, own_after}
-use Rattle.coniks_directory.proofs.FreshLemmas.{fresh_brings, fresh_history, fresh_registry}
+use Rattle.coniks_directory.proofs.FreshLemmas.{fresh_rotates, fresh_history, fresh_registry}
 use Rattle.coniks_directory.proofs.LastLemmas.{at_end}
 use Rattle.coniks_directory.proofs.StepLemmas.{Steps, committed, installed, opened, stayed}
 use Rattle.coniks_directory.proofs.AgreementLemmas.{prepared_agree, steps_agree}
 
 -- a state is that of the directory that the batches define, and further batches go on from it
-pub record IsDefined (of : List ℕ → List ℕ) (nonce policy : List ℕ) (batches : List Batch) (s : State) : Type 0 where
+pub record IsDefined (index_of : List ℕ → List ℕ) (nonce policy : List ℕ) (batches : List Batch) (s : State) : Type 0 where
   pub nonce_is : s.nonce ≡ nonce
   pub policy_is : s.policy ≡ policy
-  own : HaveOwnIndices of (latest_registry (history_of s))
+  own : HaveOwnIndices index_of (latest_registry (history_of s))
   epochs : (more : List Batch) → defined nonce (batches ++ more)
       ≡ history_of s ++ epochs_from (latest_version 1 (history_of s)) (latest_nonce nonce (history_of s)) (latest_registry (history_of s)) more
-  accepts : (more : List Batch) → AreAcceptedFrom of (latest_epoch (history_of s)) (latest_registry (history_of s)) more → AreAccepted of (batches ++ more)
+  accepts : (more : List Batch) → AreAcceptedFrom index_of (latest_epoch (history_of s)) (latest_registry (history_of s)) more → AreAccepted index_of (batches ++ more)
 
-module _ (of : List ℕ → List ℕ) (nonce policy : List ℕ) (batches : List Batch) (s : State) (d : IsDefined of nonce policy batches s) where
+module _ (index_of : List ℕ → List ℕ) (nonce policy : List ℕ) (batches : List Batch) (s : State) (d : IsDefined index_of nonce policy batches s) where
   -- a later state with the epoch of one more batch is so too
-  next : (b : Batch) (later : State) (shown : Shown) (depth workers : ℕ) → later.nonce ≡ s.nonce → later.policy ≡ s.policy → IsAccepted of (latest_registry (history_of s)) b.ops depth workers
+  next : (b : Batch) (later : State) (shown : Shown) (depth workers : ℕ) → later.nonce ≡ s.nonce → later.policy ≡ s.policy → IsAccepted index_of (latest_registry (history_of s)) b.ops depth workers
       → latest_epoch (history_of s) < b.t → history_of later ≡ history_of s ++ shown ∷ []
-      → shown ≡ shown_by (latest_version 1 (history_of s)) (latest_nonce s.nonce (history_of s)) (latest_registry (history_of s)) b → IsDefined of nonce policy (batches ++ b ∷ []) later
+      → shown ≡ shown_by (latest_version 1 (history_of s)) (latest_nonce s.nonce (history_of s)) (latest_registry (history_of s)) b → IsDefined index_of nonce policy (batches ++ b ∷ []) later
   next b later shown depth workers nonce-is policy-is a rises history shown-is =
       let registry = ap latest_registry history ∙ at_end latest_registry (λ x. x.registry) (λ x. refl) (λ x y xs. refl) (history_of s) shown ∙ ap (λ (x : Shown). x.registry) shown-is in
       let epoch = ap latest_epoch history ∙ at_end latest_epoch (λ x. x.t) (λ x. refl) (λ x y xs. refl) (history_of s) shown ∙ ap (λ (x : Shown). x.t) shown-is in
       let version = ap (latest_version 1) history ∙ at_end (latest_version 1) (λ x. x.version) (λ x. refl) (λ x y xs. refl) (history_of s) shown ∙ ap (λ (x : Shown). x.version) shown-is in
       let under = ap (latest_nonce nonce) history ∙ at_end (latest_nonce nonce) (λ x. x.nonce) (λ x. refl) (λ x y xs. refl) (history_of s) shown ∙ ap (λ (x : Shown). x.nonce) shown-is in
-      let may = may_follow of (latest_registry (history_of s)) b.ops d.own a.faultless in
+      let may = may_follow index_of (latest_registry (history_of s)) b.ops d.own a.faultless in
       record {
         nonce_is = nonce-is ∙ d.nonce_is;
         policy_is = policy-is ∙ d.policy_is;
-        own = rw registry (own_after of (latest_registry (history_of s)) b.ops may);
+        own = rw registry (own_after index_of (latest_registry (history_of s)) b.ops may);
         epochs = λ more. rw (append_assoc batches (b ∷ []) more, registry, version, under, history, append_assoc (history_of s) (shown ∷ []), shown-is, d.nonce_is) (d.epochs (b ∷ more));
         accepts = λ more all. rw (append_assoc batches (b ∷ []) more) (d.accepts (b ∷ more) (rises, a.few, may, rw (epoch, registry) at all));
       }
 
-defined_by_steps : (hash of : List ℕ → List ℕ) (nonce policy : List ℕ) (batches : List Batch) (s : State) → Steps hash of nonce policy batches s → IsDefined of nonce policy batches s
-defined_by_steps hash of nonce policy _ _ opened =
+defined_by_steps : (hash index_of : List ℕ → List ℕ) (nonce policy : List ℕ) (batches : List Batch) (s : State) → Steps hash index_of nonce policy batches s → IsDefined index_of nonce policy batches s
+defined_by_steps hash index_of nonce policy _ _ opened =
     record { nonce_is = refl; policy_is = refl; own = λ x y has. absurd (let never = has in cc); epochs = λ more. refl; accepts = λ more all. all }
-defined_by_steps hash of nonce policy _ _ (stayed batches s later run same) = subst (IsDefined of nonce policy batches) (sym same) (defined_by_steps hash of nonce policy batches s run)
-defined_by_steps hash of nonce policy _ _ (committed batches b s later depth workers published capacity run keeps accepted may history grows) =
-    next of nonce policy batches s (defined_by_steps hash of nonce policy batches s run) b later _ depth workers grows.nonce grows.policy accepted may.later history (rw keeps refl)
-defined_by_steps hash of nonce policy _ _ (installed batches b earlier s later update depth workers published capacity run prepared since may history grows) =
-    let brings = fresh_brings hash of earlier s update since prepared.is_update may.fresh b.brought prepared.brings in
-    let same = fresh_history hash of earlier s update since prepared.is_update may.fresh in
-    let registry = fresh_registry hash of earlier s update since prepared.is_update may.fresh ∙ prepared.registry ∙ ap (λ ss. after (latest_registry ss) b.ops) (sym same) in
-    let accepted = subst (λ ss. IsAccepted of (latest_registry ss) b.ops depth workers) (sym same) prepared.accepted in
-    next of nonce policy batches s (defined_by_steps hash of nonce policy batches s run) b later _ depth workers grows.nonce grows.policy accepted may.later history
-    (rw (brings.version, brings.nonce, registry) refl)
+defined_by_steps hash index_of nonce policy _ _ (stayed batches s later run same) = subst
+    (IsDefined index_of nonce policy batches) (sym same) (defined_by_steps hash index_of nonce policy batches s run)
+defined_by_steps hash index_of nonce policy _ _ (committed batches b s later depth workers published capacity run accepted may history grows) =
+    next index_of nonce policy batches s (defined_by_steps hash index_of nonce policy batches s run) b later _ depth workers grows.nonce grows.policy accepted may.later history refl
+defined_by_steps hash index_of nonce policy _ _ (installed batches b earlier s later update depth workers published capacity run prepared since may history grows) =
+    let rotates = fresh_rotates hash index_of earlier s update since prepared.is_update may.fresh b.new_nonce prepared.rotates in
+    let same = fresh_history hash index_of earlier s update since prepared.is_update may.fresh in
+    let registry = fresh_registry hash index_of earlier s update since prepared.is_update may.fresh ∙ prepared.registry ∙ ap (λ ss. after (latest_registry ss) b.ops) (sym same) in
+    let accepted = subst (λ ss. IsAccepted index_of (latest_registry ss) b.ops depth workers) (sym same) prepared.accepted in
+    next index_of nonce policy batches s (defined_by_steps hash index_of nonce policy batches s run) b later _ depth workers grows.nonce grows.policy accepted may.later history
+    (rw (rotates.version, rotates.nonce, registry) refl)
 
 -- a run is one by the function that the directory holds at its end, as though no index had been supplied
-steps_of : (hash of : List ℕ → List ℕ) (nonce policy : List ℕ) (batches : List Batch) (s : State) → Run hash of nonce policy batches s → Steps hash of nonce policy batches s
-steps_of hash _ _ _ _ _ (runs.opened of nonce policy) = opened
-steps_of hash _ _ _ _ _ (runs.stayed of nonce policy batches s later run same) = stayed batches s later (steps_of hash of nonce policy batches s run) same
-steps_of hash _ _ _ _ _ (runs.supplied of also nonce policy batches s run agree) = steps_agree hash of also nonce policy batches s agree (steps_of hash of nonce policy batches s run)
-steps_of hash _ _ _ _ _ (runs.committed of nonce policy batches b s later depth workers published capacity run keeps accepted may history grows) =
-    committed batches b s later depth workers published capacity (steps_of hash of nonce policy batches s run) keeps accepted may history grows
-steps_of hash _ _ _ _ _ (runs.installed of then nonce policy batches b earlier s later update depth workers published capacity run prepared agree since may history grows) =
-    installed batches b earlier s later update depth workers published capacity (steps_of hash of nonce policy batches s run)
-    (prepared_agree hash then of earlier b.brought b.ops depth workers update agree prepared) since may history grows
+steps_of : (hash index_of : List ℕ → List ℕ) (nonce policy : List ℕ) (batches : List Batch) (s : State) → Run hash index_of nonce policy batches s → Steps hash index_of nonce policy batches s
+steps_of hash _ _ _ _ _ (runs.opened index_of nonce policy) = opened
+steps_of hash _ _ _ _ _ (runs.stayed index_of nonce policy batches s later run same) = stayed batches s later (steps_of hash index_of nonce policy batches s run) same
+steps_of hash _ _ _ _ _ (runs.supplied index_of also nonce policy batches s run agree) = steps_agree hash index_of also nonce policy batches s agree (steps_of hash index_of nonce policy batches s run)
+steps_of hash _ _ _ _ _ (runs.committed index_of nonce policy batches b s later depth workers published capacity run accepted may history grows) =
+    committed batches b s later depth workers published capacity (steps_of hash index_of nonce policy batches s run) accepted may history grows
+steps_of hash _ _ _ _ _ (runs.installed index_of then nonce policy batches b earlier s later update depth workers published capacity run prepared agree since may history grows) =
+    installed batches b earlier s later update depth workers published capacity (steps_of hash index_of nonce policy batches s run)
+    (prepared_agree hash then index_of earlier b.new_nonce b.ops depth workers update agree prepared) since may history grows
 
-pub defined_by : (hash of : List ℕ → List ℕ) (nonce policy : List ℕ) (batches : List Batch) (s : State) → Run hash of nonce policy batches s → IsDefined of nonce policy batches s
-defined_by hash of nonce policy batches s run = defined_by_steps hash of nonce policy batches s (steps_of hash of nonce policy batches s run)
+pub defined_by : (hash index_of : List ℕ → List ℕ) (nonce policy : List ℕ) (batches : List Batch) (s : State) → Run hash index_of nonce policy batches s → IsDefined index_of nonce policy batches s
+defined_by hash index_of nonce policy batches s run = defined_by_steps hash index_of nonce policy batches s (steps_of hash index_of nonce policy batches s run)
 
-module _ (hash of : List ℕ → List ℕ) (nonce policy : List ℕ) (batches : List Batch) (s : State) (run : Run hash of nonce policy batches s) where
+module _ (hash index_of : List ℕ → List ℕ) (nonce policy : List ℕ) (batches : List Batch) (s : State) (run : Run hash index_of nonce policy batches s) where
   pub history_by : history_of s ≡ defined nonce batches
-  history_by = sym (ap (defined nonce) (sym (append-nil batches)) ∙ (defined_by hash of nonce policy batches s run).epochs [] ∙ append-nil (history_of s))
+  history_by = sym (ap (defined nonce) (sym (append-nil batches)) ∙ (defined_by hash index_of nonce policy batches s run).epochs [] ∙ append-nil (history_of s))
 
-  pub accepted_by : AreAccepted of batches
-  accepted_by = subst (AreAccepted of) (append-nil batches) ((defined_by hash of nonce policy batches s run).accepts [] tt)
+  pub accepted_by : AreAccepted index_of batches
+  accepted_by = subst (AreAccepted index_of) (append-nil batches) ((defined_by hash index_of nonce policy batches s run).accepts [] tt)

@@ -3,7 +3,7 @@ use Rattle.std.proofs.Common.{◌≡◌, ◌<◌, ◌≤◌, ◌+◌, ℕ, zero,
 use Rattle.std.proofs.lemmas.List.{drop_all}
 use Rattle.std.proofs.lemmas.List.Edits.{map_over_more}
 use Rattle.std.proofs.Math.Seq.{map-set_same}
-use Rattle.coniks_directory.proofs.Words.{AreDrafts, AreSealed, AreSealedTo, AreWithin, BTreeMap, Digest, IsDraft, IsLength, MAX_KEY, MAX_NAME, Record, Registered}
+use Rattle.coniks_directory.proofs.Words.{ArePendingRecords, AreSealed, AreSealedTo, AreWithin, BTreeMap, Digest, IsPendingRecord, IsLength, MAX_KEY, MAX_NAME, Record, Registered}
 use Rattle.coniks_directory.proofs.Words.{append-nil, commitment_to, length-map, map-map, number_at, option_map, registered_of, sealed_by}
 use Rattle.coniks_directory.proofs.Words.{slice_get-map, slice_get_read, take_all}
 
@@ -69,11 +69,12 @@ module _ (hash : List ℕ → List ℕ) where
   are_sealed records n r at = let k = sealed_at records n r at in subst (λ (x : Record). x.commitment.0 ≡ commitment_to hash (registered_of x)) k.2 refl
 
   -- sealed drafts are drafts
-  module _ (other of : List ℕ → List ℕ) (bound : List Registered) (records : List Record) (numbers : BTreeMap (List ℕ) ℕ) (s : AreDrafts other of bound records numbers) where
-    pub drafts_sealed : AreDrafts other of bound (map (sealed_by hash) records) numbers
+  module _ (other index_of : List ℕ → List ℕ) (bound : List Registered) (records : List Record) (numbers : BTreeMap (List ℕ) ℕ) (s : ArePendingRecords other index_of bound records numbers) where
+    pub drafts_sealed : ArePendingRecords other index_of bound (map (sealed_by hash) records) numbers
     drafts_sealed = record {
       binds = map-map registered_of (sealed_by hash) records ∙ s.binds;
-      drafted = λ n r at. let k = sealed_at records n r at in let d = s.drafted n k.0 k.1 in subst (IsDraft of) k.2 (record { indexed = d.indexed; ranged = d.ranged; named = d.named; keyed = d.keyed });
+      drafted = λ n r at. let k = sealed_at records n r at in let d = s.drafted n k.0 k.1 in subst
+          (IsPendingRecord index_of) k.2 (record { indexed = d.indexed; ranged = d.ranged; named = d.named; keyed = d.keyed });
       kept = λ index n some. let k = s.kept index n some in (sealed_by hash k.0, at_sealed records n k.0 k.1, k.2);
       all = λ n r at. let k = sealed_at records n r at in subst (λ (x : Record). number_at numbers x.index.0 ≡ Some n) k.2 (s.all n k.0 k.1);
       ordered = s.ordered;
@@ -82,10 +83,10 @@ module _ (hash : List ℕ → List ℕ) where
     }
 
 -- the drafts' names and keys are within their limits
-within_all : (of : List ℕ → List ℕ) (records : List Record) → ((n : ℕ) (r : Record) → slice_get records n ≡ Some r → IsDraft of r) → AreWithin (map registered_of records)
-within_all of [] drafted = tt
-within_all of (x ∷ xs) drafted = let d = drafted 0 x refl in (d.named, d.keyed, within_all of xs (λ n r at. drafted (suc n) r at))
+within_all : (index_of : List ℕ → List ℕ) (records : List Record) → ((n : ℕ) (r : Record) → slice_get records n ≡ Some r → IsPendingRecord index_of r) → AreWithin (map registered_of records)
+within_all index_of [] drafted = tt
+within_all index_of (x ∷ xs) drafted = let d = drafted 0 x refl in (d.named, d.keyed, within_all index_of xs (λ n r at. drafted (suc n) r at))
 
-pub drafts_within : (hash of : List ℕ → List ℕ) (bound : List Registered) (records : List Record) (numbers : BTreeMap (List ℕ) ℕ) → AreDrafts hash of bound records numbers
+pub drafts_within : (hash index_of : List ℕ → List ℕ) (bound : List Registered) (records : List Record) (numbers : BTreeMap (List ℕ) ℕ) → ArePendingRecords hash index_of bound records numbers
     → AreWithin (map registered_of records)
-drafts_within hash of bound records numbers s = within_all of records s.drafted
+drafts_within hash index_of bound records numbers s = within_all index_of records s.drafted

@@ -21,8 +21,8 @@ latest-count records (e ∷ []) = refl
 latest-count records (e ∷ f ∷ es) = latest-count records (f ∷ es)
 
 -- the latest registry is what all records leave
-pub latest-is : (hash of : List ℕ → List ℕ) (s : State) → Whole hash of s → latest_registry (history_of s) ≡ registry_at s.records (length s.records)
-latest-is hash of s whole = latest-count s.records s.epochs ∙ ap (registry_at s.records) whole.last
+pub latest-is : (hash index_of : List ℕ → List ℕ) (s : State) → Whole hash index_of s → latest_registry (history_of s) ≡ registry_at s.records (length s.records)
+latest-is hash index_of s whole = latest-count s.records s.epochs ∙ ap (registry_at s.records) whole.last
 
 -- the latest registry is that of the last epoch
 pub latest-last : (s : State) (e : Epoch) → slice_get s.epochs (length s.epochs - 1) ≡ Some e → latest_registry (history_of s) ≡ registry_at s.records e.count

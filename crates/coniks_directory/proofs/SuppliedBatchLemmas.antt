@@ -1,4 +1,4 @@
--- Batches whose operations come with indices: the indices that they are judged by, their first fault, and what an install supplies.
+-- Batches whose operations have indices: the indices by which they are checked, their first fault, and what an install supplies.
 use Rattle.std.proofs.Common.{◌≡◌, ◌≤◌, ◌<◌, ◌⊎◌, get_or, ℕ, zero, suc, ◌+◌, List, [], ◌∷◌, ◌++◌, length, map, take, drop, Bool, true, false, ◌||◌, refl, sym, ap, ◌∙◌, arith, inl, inr, Option, Some, None, Result, Ok, Err, if◌then◌else◌, slice_get, nat_lt, nat_le}
 use Rattle.std.specs.Prelude.{IfErr, IfOk, OnOk}
 use Rattle.std.specs.Bool.{then_some}
@@ -38,7 +38,8 @@ module _ {K : Type 0} (key : K → List ℕ) (cmp : K → K → Ordering) (is : 
   pub seen_insert : (es : List (K × Index)) → map (seen key) (insert_entry cmp es k v) ≡ put_index (map (seen key) es) (key k) v.0
   seen_insert [] = refl
   seen_insert (e ∷ es) =
-      (elim (cmp k e.0) as (λ o. cmp k e.0 ≡ o → map (seen key) (match_ordering o ((k, v) ∷ e ∷ es) ((e.0, v) ∷ es) (e ∷ insert_entry cmp es k v)) ≡ put_index (seen key e ∷ map (seen key) es) (key k) v.0) [
+      (elim (cmp k e.0) as (λ o. cmp k e.0 ≡ o
+      → map (seen key) (match_ordering o ((k, v) ∷ e ∷ es) ((e.0, v) ∷ es) (e ∷ insert_entry cmp es k v)) ≡ put_index (seen key e ∷ map (seen key) es) (key k) v.0) [
         | Less ↦ λ o. let same : slice_cmp nat_cmp (key k) (key e.0) ≡ Less = sym (is k e.0) ∙ o in rw same refl
         | Equal ↦ λ o. let same : slice_cmp nat_cmp (key k) (key e.0) ≡ Equal = sym (is k e.0) ∙ o in rw same refl
         | Greater ↦ λ o. let same : slice_cmp nat_cmp (key k) (key e.0) ≡ Greater = sym (is k e.0) ∙ o in rw same (ap (λ xs. seen key e ∷ xs) (seen_insert es))
@@ -52,17 +53,21 @@ module _ (name index : List ℕ) where
   pub index_put : (es : List Supplied) (other : List ℕ) → supplied_index (put_index es name index) other ≡ (if here other then index else supplied_index es other)
   index_put [] other = refl
   index_put (e ∷ es) other =
-      (elim (slice_cmp nat_cmp name e.0) as (λ o. slice_cmp nat_cmp name e.0 ≡ o → supplied_index (match_ordering o ((name, index) ∷ e ∷ es) ((e.0, index) ∷ es) (e ∷ put_index es name index)) other ≡ (if here other then index else supplied_index (e ∷ es) other)) [
+      (elim (slice_cmp nat_cmp name e.0) as
+      (λ o. slice_cmp nat_cmp name e.0 ≡ o
+      → supplied_index (match_ordering o ((name, index) ∷ e ∷ es) ((e.0, index) ∷ es) (e ∷ put_index es name index)) other ≡ (if here other then index else supplied_index (e ∷ es) other)) [
         | Less ↦ λ _. refl
         | Equal ↦ λ o.
             let same : name ≡ e.0 = (bytes_eq-Decides name e.0).0 (sym (is_eq-slice_cmp name e.0) ∙ ap is_eq o) in
-            (elim (bytes_eq other e.0) as (λ b. bytes_eq other e.0 ≡ b → (if b then index else supplied_index es other) ≡ (if here other then index else (if b then e.1 else supplied_index es other))) [
+            (elim (bytes_eq other e.0) as (λ b. bytes_eq other e.0 ≡ b
+            → (if b then index else supplied_index es other) ≡ (if here other then index else (if b then e.1 else supplied_index es other))) [
               | true ↦ λ on. let on' : bytes_eq other name ≡ true = ap (bytes_eq other) same ∙ on in rw on' refl
               | false ↦ λ off. let off' : bytes_eq other name ≡ false = ap (bytes_eq other) same ∙ off in rw off' refl
             ]) refl
         | Greater ↦ λ o.
             let apart : bytes_eq name e.0 ≡ false = sym (is_eq-slice_cmp name e.0) ∙ ap is_eq o in
-            (elim (bytes_eq other e.0) as (λ b. bytes_eq other e.0 ≡ b → (if b then e.1 else supplied_index (put_index es name index) other) ≡ (if here other then index else (if b then e.1 else supplied_index es other))) [
+            (elim (bytes_eq other e.0) as (λ b. bytes_eq other e.0 ≡ b
+            → (if b then e.1 else supplied_index (put_index es name index) other) ≡ (if here other then index else (if b then e.1 else supplied_index es other))) [
               | true ↦ λ on.
                   let at = (bytes_eq-Decides other e.0).0 on in
                   let off : bytes_eq other name ≡ false = eq_apart other name (λ both. let is_same = eq_same name e.0 (sym both ∙ at) in cc) in
@@ -75,7 +80,9 @@ module _ (name index : List ℕ) where
   pub has_put : (es : List Supplied) (other : List ℕ) → is_supplied (put_index es name index) other ≡ here other || is_supplied es other
   has_put [] other = refl
   has_put (e ∷ es) other =
-      (elim (slice_cmp nat_cmp name e.0) as (λ o. slice_cmp nat_cmp name e.0 ≡ o → is_supplied (match_ordering o ((name, index) ∷ e ∷ es) ((e.0, index) ∷ es) (e ∷ put_index es name index)) other ≡ here other || is_supplied (e ∷ es) other) [
+      (elim (slice_cmp nat_cmp name e.0) as
+      (λ o. slice_cmp nat_cmp name e.0 ≡ o
+      → is_supplied (match_ordering o ((name, index) ∷ e ∷ es) ((e.0, index) ∷ es) (e ∷ put_index es name index)) other ≡ here other || is_supplied (e ∷ es) other) [
         | Less ↦ λ _. refl
         | Equal ↦ λ o.
             let same : name ≡ e.0 = (bytes_eq-Decides name e.0).0 (sym (is_eq-slice_cmp name e.0) ∙ ap is_eq o) in
@@ -93,10 +100,11 @@ module _ (name index : List ℕ) where
 
 pub index_append : (xs ys : List Supplied) (name : List ℕ) → supplied_index (xs ++ ys) name ≡ (if is_supplied xs name then supplied_index xs name else supplied_index ys name)
 index_append [] ys name = refl
-index_append (x ∷ xs) ys name = elim (bytes_eq name x.0) as (λ b. (if b then x.1 else supplied_index (xs ++ ys) name) ≡ (if (b || is_supplied xs name) then (if b then x.1 else supplied_index xs name) else supplied_index ys name)) [
-  | true ↦ refl
-  | false ↦ index_append xs ys name
-]
+index_append (x ∷ xs) ys name = elim (bytes_eq name x.0) as
+    (λ b. (if b then x.1 else supplied_index (xs ++ ys) name) ≡ (if (b || is_supplied xs name) then (if b then x.1 else supplied_index xs name) else supplied_index ys name)) [
+      | true ↦ refl
+      | false ↦ index_append xs ys name
+    ]
 
 pub has_append : (xs ys : List Supplied) (name : List ℕ) → is_supplied (xs ++ ys) name ≡ is_supplied xs name || is_supplied ys name
 has_append [] ys name = refl
@@ -142,23 +150,28 @@ module _ (registry : Registry) where
   }
 
   -- of a name that stands twice the first index counts
-  pub fresh_kept : (fresh named : List Supplied) (n i : List ℕ) → has_name registry n ≡ false → is_supplied fresh n ≡ true → IsFresh registry fresh named → IsFresh registry fresh (named ++ (n, i) ∷ [])
+  pub fresh_kept : (fresh named : List Supplied) (n i : List ℕ) → has_name registry n ≡ false
+      → is_supplied fresh n ≡ true → IsFresh registry fresh named → IsFresh registry fresh (named ++ (n, i) ∷ [])
   fresh_kept fresh named n i gone there f =
       let among : is_supplied named n ≡ true = sym (f.names n gone) ∙ there in
       record {
         none = f.none;
-        names = λ name off. f.names name off ∙ sym (has_append named ((n, i) ∷ []) name ∙ (elim (bytes_eq name n) as (λ b. bytes_eq name n ≡ b → is_supplied named name || (b || false) ≡ is_supplied named name) [
-          | true ↦ λ on. let here : is_supplied named name ≡ true = ap (is_supplied named) ((bytes_eq-Decides name n).0 on) ∙ among in rw here refl
-          | false ↦ λ _. elim (is_supplied named name) as (λ c. c || false ≡ c) [ true ↦ refl | false ↦ refl ]
-        ]) refl);
-        indices = λ name off. f.indices name off ∙ sym (index_append named ((n, i) ∷ []) name ∙ (elim (is_supplied named name) as (λ c. is_supplied named name ≡ c → (if c then supplied_index named name else supplied_index ((n, i) ∷ []) name) ≡ supplied_index named name) [
-          | true ↦ λ _. refl
-          | false ↦ λ none. let other = apart n name (is_supplied named) true false among none (λ same. let never = same in cc) in rw other (sym (no_index named name none))
-        ]) refl);
+        names = λ name off. f.names name off ∙ sym
+            (has_append named ((n, i) ∷ []) name ∙ (elim (bytes_eq name n) as (λ b. bytes_eq name n ≡ b → is_supplied named name || (b || false) ≡ is_supplied named name) [
+              | true ↦ λ on. let here : is_supplied named name ≡ true = ap (is_supplied named) ((bytes_eq-Decides name n).0 on) ∙ among in rw here refl
+              | false ↦ λ _. elim (is_supplied named name) as (λ c. c || false ≡ c) [ true ↦ refl | false ↦ refl ]
+            ]) refl);
+        indices = λ name off. f.indices name off ∙ sym
+            (index_append named ((n, i) ∷ []) name ∙
+            (elim (is_supplied named name) as (λ c. is_supplied named name ≡ c → (if c then supplied_index named name else supplied_index ((n, i) ∷ []) name) ≡ supplied_index named name) [
+              | true ↦ λ _. refl
+              | false ↦ λ none. let other = apart n name (is_supplied named) true false among none (λ same. let never = same in cc) in rw other (sym (no_index named name none))
+            ]) refl);
       }
 
   -- any other name is new
-  pub fresh_put : (fresh named : List Supplied) (n i : List ℕ) → has_name registry n ≡ false → is_supplied fresh n ≡ false → IsFresh registry fresh named → IsFresh registry (put_index fresh n i) (named ++ (n, i) ∷ [])
+  pub fresh_put : (fresh named : List Supplied) (n i : List ℕ) → has_name registry n ≡ false → is_supplied fresh n ≡ false
+      → IsFresh registry fresh named → IsFresh registry (put_index fresh n i) (named ++ (n, i) ∷ [])
   fresh_put fresh named n i gone free f =
       let not_among : is_supplied named n ≡ false = sym (f.names n gone) ∙ free in
       record {
@@ -172,22 +185,26 @@ module _ (registry : Registry) where
             ])
             ∙ sym (has_append named ((n, i) ∷ []) name);
         indices = λ name off. index_put n i fresh name ∙ ap (λ c. if bytes_eq name n then i else c) (f.indices name off)
-            ∙ sym (index_append named ((n, i) ∷ []) name ∙ (elim (is_supplied named name) as (λ c. is_supplied named name ≡ c → (if c then supplied_index named name else (if bytes_eq name n then i else zeros)) ≡ (if bytes_eq name n then i else supplied_index named name)) [
+            ∙ sym (index_append named ((n, i) ∷ []) name ∙
+            (elim (is_supplied named name) as
+            (λ c. is_supplied named name ≡ c → (if c then supplied_index named name else (if bytes_eq name n then i else zeros)) ≡ (if bytes_eq name n then i else supplied_index named name)) [
               | true ↦ λ there. let other = apart n name (is_supplied named) false true not_among there (λ same. let never = same in cc) in rw other refl
               | false ↦ λ none. rw (no_index named name none) refl
             ]) refl);
       }
 
   -- then the indices are those that the batch is checked by
-  pub fresh_index : (of : List ℕ → List ℕ) (fresh : List Supplied) (batch : List Indexed) → IsFresh registry fresh (named_in batch) → given_index fresh of ≡ index_in of registry batch
-  fresh_index of fresh batch f = fun_ext (λ name. (elim (has_name registry name) as (λ b. has_name registry name ≡ b → given_index fresh of name ≡ (if b then of name else given_index (named_in batch) of name)) [
-    | true ↦ λ has. rw (f.none name has) refl
-    | false ↦ λ off. rw (f.names name off, f.indices name off) refl
-  ]) refl)
+  pub fresh_index : (index_of : List ℕ → List ℕ) (fresh : List Supplied) (batch : List Indexed)
+      → IsFresh registry fresh (named_in batch) → given_index fresh index_of ≡ index_in index_of registry batch
+  fresh_index index_of fresh batch f = fun_ext
+      (λ name. (elim (has_name registry name) as (λ b. has_name registry name ≡ b → given_index fresh index_of name ≡ (if b then index_of name else given_index (named_in batch) index_of name)) [
+        | true ↦ λ has. rw (f.none name has) refl
+        | false ↦ λ off. rw (f.names name off, f.indices name off) refl
+      ]) refl)
 
   -- and a registered name has the index that it had
-  pub given_agree : (of : List ℕ → List ℕ) (batch : List Indexed) → AgreeOn of (index_in of registry batch) registry
-  given_agree of batch name has = rw has refl
+  pub given_agree : (index_of : List ℕ → List ℕ) (batch : List Indexed) → AgreeOn index_of (index_in index_of registry batch) registry
+  given_agree index_of batch name has = rw has refl
 
 -- ---- operations with their indices
 
@@ -220,40 +237,44 @@ named_next xs i x at = ap named_in (take_next xs i x at) ∙ map-append (λ (y :
 
 -- up to a place, the place of the first operation whose name is registered with another index
 abbrev pub IsFirstOther : (List ℕ → List ℕ) → Registry → List Indexed → ℕ → Option ℕ → Type 0
-IsFirstOther of registry xs i other = other_from of registry 0 xs ≡ option_or other (other_from of registry i (drop i xs))
+IsFirstOther index_of registry xs i other = other_from index_of registry 0 xs ≡ option_or other (other_from index_of registry i (drop i xs))
 
 or_assoc : (x y z : Option ℕ) → option_or x (option_or y z) ≡ option_or (option_or x y) z
 or_assoc None y z = refl
 or_assoc (Some x) y z = refl
 
-pub other-next : (of : List ℕ → List ℕ) (registry : Registry) (xs : List Indexed) (i : ℕ) (x : Indexed) (other : Option ℕ) → slice_get xs i ≡ Some x → IsFirstOther of registry xs i other
-    → IsFirstOther of registry xs (i + 1) (option_or other (then_some (has_other of registry x) i))
-other-next of registry xs i x other at first =
-    let rest = other_from of registry (i + 1) (drop (i + 1) xs) in
+pub other-next : (index_of : List ℕ → List ℕ) (registry : Registry) (xs : List Indexed) (i : ℕ) (x : Indexed) (other : Option ℕ) → slice_get xs i ≡ Some x → IsFirstOther index_of registry xs i other
+    → IsFirstOther index_of registry xs (i + 1) (option_or other (then_some (has_other index_of registry x) i))
+other-next index_of registry xs i x other at first =
+    let rest = other_from index_of registry (i + 1) (drop (i + 1) xs) in
     first
-    ∙ ap (option_or other) (at_drop_more (other_from of registry i) xs i x (slice_get_within xs i x at) ∙ ap (λ y. other_from of registry i (y ∷ drop (i + 1) xs)) (get_or_from_slice_get xs i x x at)
-    ∙ elim (has_other of registry x) as (λ b. (if b then Some i else rest) ≡ option_or (then_some b i) rest) [ true ↦ refl | false ↦ refl ])
-    ∙ or_assoc other (then_some (has_other of registry x) i) rest
+    ∙ ap (option_or other) (at_drop_more (other_from index_of registry i) xs i x (slice_get_within xs i x at)
+    ∙ ap (λ y. other_from index_of registry i (y ∷ drop (i + 1) xs)) (get_or_from_slice_get xs i x x at)
+    ∙ elim (has_other index_of registry x) as (λ b. (if b then Some i else rest) ≡ option_or (then_some b i) rest) [ true ↦ refl | false ↦ refl ])
+    ∙ or_assoc other (then_some (has_other index_of registry x) i) rest
 
-pub other-all : (of : List ℕ → List ℕ) (registry : Registry) (xs : List Indexed) (i : ℕ) (other : Option ℕ) → length xs ≤ i → IsFirstOther of registry xs i other → other ≡ other_from of registry 0 xs
-other-all of registry xs i other past first =
-    sym (first ∙ ap (option_or other) (at_drop_all (other_from of registry i) xs i past) ∙ elim other as (λ o. option_or o None ≡ o) [ None ↦ refl | Some p ↦ refl ])
+pub other-all : (index_of : List ℕ → List ℕ) (registry : Registry) (xs : List Indexed) (i : ℕ) (other : Option ℕ)
+    → length xs ≤ i → IsFirstOther index_of registry xs i other → other ≡ other_from index_of registry 0 xs
+other-all index_of registry xs i other past first =
+    sym (first ∙ ap (option_or other) (at_drop_all (other_from index_of registry i) xs i past) ∙ elim other as (λ o. option_or o None ≡ o) [ None ↦ refl | Some p ↦ refl ])
 
 -- ---- the first fault
 
-other_later : (of : List ℕ → List ℕ) (registry : Registry) (place : ℕ) (xs : List Indexed) (q : ℕ) → other_from of registry place xs ≡ Some q → place ≤ q
-other_later of registry place [] q found = absurd (let never = found in cc)
-other_later of registry place (x ∷ xs) q found = (elim (has_other of registry x) as (λ b. (if b then Some place else other_from of registry (place + 1) xs) ≡ Some q → place ≤ q) [
+other_later : (index_of : List ℕ → List ℕ) (registry : Registry) (place : ℕ) (xs : List Indexed) (q : ℕ) → other_from index_of registry place xs ≡ Some q → place ≤ q
+other_later index_of registry place [] q found = absurd (let never = found in cc)
+other_later index_of registry place (x ∷ xs) q found = (elim (has_other index_of registry x) as (λ b. (if b then Some place else other_from index_of registry (place + 1) xs) ≡ Some q → place ≤ q) [
   | true ↦ λ here. let same : place ≡ q = cc in omega arith
-  | false ↦ λ later. let after = other_later of registry (place + 1) xs q later in omega arith
+  | false ↦ λ later. let after = other_later index_of registry (place + 1) xs q later in omega arith
 ]) found
 
-fault_later : (of : List ℕ → List ℕ) (registry : Registry) (earlier : List Registered) (place : ℕ) (ops : List Operation) (at : ℕ × Fault) → fault_from of registry earlier place ops ≡ Some at → place ≤ at.0
-fault_later of registry earlier place [] at found = absurd (let never = found in cc)
-fault_later of registry earlier place (op ∷ ops) at found = (elim (fault_of of registry earlier op) as (λ f. placed place f (fault_from of registry (earlier ++ bound_by op ∷ []) (place + 1) ops) ≡ Some at → place ≤ at.0) [
-  | None ↦ λ later. let after = fault_later of registry (earlier ++ bound_by op ∷ []) (place + 1) ops at later in omega arith
-  | Some f ↦ λ here. let same : (place, f) ≡ at = cc in let first : place ≡ at.0 = ap (λ (x : ℕ × Fault). x.0) same in omega arith
-]) found
+fault_later : (index_of : List ℕ → List ℕ) (registry : Registry) (earlier : List Registered) (place : ℕ) (ops : List Operation) (at : ℕ × Fault)
+    → fault_from index_of registry earlier place ops ≡ Some at → place ≤ at.0
+fault_later index_of registry earlier place [] at found = absurd (let never = found in cc)
+fault_later index_of registry earlier place (op ∷ ops) at found =
+    (elim (fault_of index_of registry earlier op) as (λ f. placed place f (fault_from index_of registry (earlier ++ bound_by op ∷ []) (place + 1) ops) ≡ Some at → place ≤ at.0) [
+      | None ↦ λ later. let after = fault_later index_of registry (earlier ++ bound_by op ∷ []) (place + 1) ops at later in omega arith
+      | Some f ↦ λ here. let same : (place, f) ≡ at = cc in let first : place ≡ at.0 = ap (λ (x : ℕ × Fault). x.0) same in omega arith
+    ]) found
 
 -- an error comes before another index at a later place, and an index before an error at a later place
 fault_first : (place : ℕ) (f : Fault) (q : ℕ) → place < q → earlier_of place f q ≡ (place, of_operation f)
@@ -296,47 +317,49 @@ at_once place f later =
       | index_clash ↦ rw lt refl
     ]
 
-module _ (of index : List ℕ → List ℕ) (registry : Registry) where
+module _ (index_of index : List ℕ → List ℕ) (registry : Registry) where
   -- the first fault is the earliest of the operations' and the other indices'
   pub earliest_fault : (earlier : List Registered) (place : ℕ) (xs : List Indexed)
-      → supplied_fault_from of registry index earlier place xs ≡ earliest (fault_from index registry earlier place (operations_of xs)) (other_from of registry place xs)
+      → supplied_fault_from index_of registry index earlier place xs ≡ earliest (fault_from index registry earlier place (operations_of xs)) (other_from index_of registry place xs)
   earliest_fault earlier place [] = refl
   earliest_fault earlier place (x ∷ xs) =
       let next = earlier ++ bound_by x.op ∷ [] in
       let rest = earliest_fault next (place + 1) xs in
       let more = fault_from index registry next (place + 1) (operations_of xs) in
-      let others = other_from of registry (place + 1) xs in
-      let left = supplied_fault_from of registry index next (place + 1) xs in
-      elim (fault_of index registry earlier x.op) as (λ f. placed_fault place (or_other (has_other of registry x) f) left ≡ earliest (placed place f more) (if has_other of registry x then Some place else others)) [
-        | None ↦ elim (has_other of registry x) as (λ b. placed_fault place (or_other b None) left ≡ earliest more (if b then Some place else others)) [
+      let others = other_from index_of registry (place + 1) xs in
+      let left = supplied_fault_from index_of registry index next (place + 1) xs in
+      elim (fault_of index registry earlier x.op) as
+      (λ f. placed_fault place (or_other (has_other index_of registry x) f) left ≡ earliest (placed place f more) (if has_other index_of registry x then Some place else others)) [
+        | None ↦ elim (has_other index_of registry x) as (λ b. placed_fault place (or_other b None) left ≡ earliest more (if b then Some place else others)) [
           | true ↦ (elim more as (λ m. more ≡ m → Some (place, other_index) ≡ earliest m (Some place)) [
             | None ↦ λ _. refl
             | Some at ↦ λ found. ap Some (sym (other_first at.0 at.1 place (let late = fault_later index registry next (place + 1) (operations_of xs) at found in omega arith)))
           ]) refl
           | false ↦ rest
         ]
-        | Some f ↦ elim (has_other of registry x) as (λ b. placed_fault place (or_other b (Some f)) left ≡ earliest (Some (place, f)) (if b then Some place else others)) [
+        | Some f ↦ elim (has_other index_of registry x) as (λ b. placed_fault place (or_other b (Some f)) left ≡ earliest (Some (place, f)) (if b then Some place else others)) [
           | true ↦ at_once place f left
           | false ↦ (elim others as (λ o. others ≡ o → placed_fault place (or_other false (Some f)) left ≡ earliest (Some (place, f)) o) [
             | None ↦ λ _. refl
-            | Some q ↦ λ found. ap Some (sym (fault_first place f q (let late = other_later of registry (place + 1) xs q found in omega arith)))
+            | Some q ↦ λ found. ap Some (sym (fault_first place f q (let late = other_later index_of registry (place + 1) xs q found in omega arith)))
           ]) refl
         ]
       ]
 
 -- ---- why a batch isn't accepted
 
-module _ (of : List ℕ → List ℕ) (registry : Registry) (ops : List Op) (indices : List Index) (long : length ops ≡ length indices) (depth workers : ℕ) where
+module _ (index_of : List ℕ → List ℕ) (registry : Registry) (ops : List Op) (indices : List Index) (long : length ops ≡ length indices) (depth workers : ℕ) where
   abbrev batch : List Indexed
   batch = indexed ops indices
 
   -- the first fault by the operations alone, and by the other indices
-  faults : (other : Option ℕ) → other_from of registry 0 batch ≡ other → supplied_fault of registry batch ≡ earliest (first_fault (index_in of registry batch) registry (operations ops)) other
+  faults : (other : Option ℕ) → other_from index_of registry 0 batch ≡ other
+      → supplied_fault index_of registry batch ≡ earliest (first_fault (index_in index_of registry batch) registry (operations ops)) other
   faults other is =
-      earliest_fault of (index_in of registry batch) registry [] 0 batch
+      earliest_fault index_of (index_in index_of registry batch) registry [] 0 batch
       ∙ rw (is, indexed_operations ops indices long) refl
 
-  pub limit_fault : (fault : BatchFault) → IsLimit fault → IsBatchFault of registry (operations ops) depth workers fault → IsSuppliedFault of registry batch depth workers (InBatch fault)
+  pub limit_fault : (fault : BatchFault) → IsLimit fault → IsBatchFault index_of registry (operations ops) depth workers fault → IsSuppliedFault index_of registry batch depth workers (InBatch fault)
   limit_fault batch_fault.Workers limit f = f
   limit_fault batch_fault.Depth limit f = f
   limit_fault batch_fault.BatchTooLong limit f = rw (indexed_operations ops indices long) f
@@ -344,11 +367,11 @@ module _ (of : List ℕ → List ℕ) (registry : Registry) (ops : List Op) (ind
   limit_fault batch_fault.OutOfMemory limit f = absurd limit
 
   pub within_is : AreWorkers workers → depth ≤ MAX_DEPTH → length ops ≤ MAX_OPERATIONS → IsWithin batch depth workers
-  within_is crew shallow few = record { crew = crew; shallow = shallow; few = rw (indexed_length ops indices long) few }
+  within_is worker_count shallow few = record { worker_count = worker_count; shallow = shallow; few = rw (indexed_length ops indices long) few }
 
   -- with another index at a place
-  pub other_fault : (place : ℕ) (fault : SuppliedBatchFault) → IsWithin batch depth workers → other_from of registry 0 batch ≡ Some place
-      → IsEarliest (index_in of registry batch) registry (operations ops) place fault → IsSuppliedFault of registry batch depth workers fault
+  pub other_fault : (place : ℕ) (fault : SuppliedBatchFault) → IsWithin batch depth workers → other_from index_of registry 0 batch ≡ Some place
+      → IsEarliest (index_in index_of registry batch) registry (operations ops) place fault → IsSuppliedFault index_of registry batch depth workers fault
   other_fault place (InBatch batch_fault.Workers) within other f = absurd f
   other_fault place (InBatch batch_fault.Depth) within other f = absurd f
   other_fault place (InBatch batch_fault.BatchTooLong) within other f = absurd f
@@ -357,11 +380,12 @@ module _ (of : List ℕ → List ℕ) (registry : Registry) (ops : List Op) (ind
   other_fault place (OtherIndex position) within other f = (within, faults (Some place) other ∙ f)
 
   -- and without one
-  pub no_fault : other_from of registry 0 batch ≡ None → first_fault (index_in of registry batch) registry (operations ops) ≡ None → supplied_fault of registry batch ≡ None
+  pub no_fault : other_from index_of registry 0 batch ≡ None → first_fault (index_in index_of registry batch) registry (operations ops) ≡ None → supplied_fault index_of registry batch ≡ None
   no_fault other none = faults None other ∙ ap (λ f. earliest f None) none
 
-  pub judged_fault : (fault : BatchFault) → IsWithin batch depth workers → other_from of registry 0 batch ≡ None → IsJudgedFault (index_in of registry batch) registry (operations ops) fault
-      → IsSuppliedFault of registry batch depth workers (InBatch fault)
+  pub judged_fault : (fault : BatchFault) → IsWithin batch depth workers → other_from index_of registry 0 batch ≡ None
+      → IsJudgedFault (index_in index_of registry batch) registry (operations ops) fault
+      → IsSuppliedFault index_of registry batch depth workers (InBatch fault)
   judged_fault batch_fault.Workers within other f = absurd f
   judged_fault batch_fault.Depth within other f = absurd f
   judged_fault batch_fault.BatchTooLong within other f = absurd f
@@ -390,16 +414,17 @@ other_judged index registry ops place (batch_fault.At position fault) off f = ab
 -- ---- what an update holds
 
 -- the indices of records are those of the operations
-pub held_is : (of : List ℕ → List ℕ) (records : List Record) (ops : List Operation) → map registered_of records ≡ map bound_by ops → AreOf of (indices_in records) → indices_in records ≡ indices_by of ops
-held_is of [] [] binds held = refl
-held_is of [] (op ∷ ops) binds held = absurd (let never = binds in cc)
-held_is of (r ∷ rs) [] binds held = absurd (let never = binds in cc)
-held_is of (r ∷ rs) (op ∷ ops) binds held =
+pub held_is : (index_of : List ℕ → List ℕ) (records : List Record) (ops : List Operation)
+    → map registered_of records ≡ map bound_by ops → AreOf index_of (indices_in records) → indices_in records ≡ indices_by index_of ops
+held_is index_of [] [] binds held = refl
+held_is index_of [] (op ∷ ops) binds held = absurd (let never = binds in cc)
+held_is index_of (r ∷ rs) [] binds held = absurd (let never = binds in cc)
+held_is index_of (r ∷ rs) (op ∷ ops) binds held =
     let first : registered_of r ≡ bound_by op = cc in
     let rest : map registered_of rs ≡ map bound_by ops = cc in
     let name : r.binding.name ≡ op.name = ap (λ (b : Registered). b.name) first in
-    let index : r.index.0 ≡ of op.name = held.0 ∙ ap of name in
-    rw (name, index, held_is of rs ops rest held.1) refl
+    let index : r.index.0 ≡ index_of op.name = held.0 ∙ ap index_of name in
+    rw (name, index, held_is index_of rs ops rest held.1) refl
 
 -- ---- what an install supplies
 
@@ -414,14 +439,14 @@ put_next source records i r at =
     ∙ put-append source (indices_in (take i records)) (indices_in (r ∷ []))
 
 -- a name that has the function's index, or is among the names, has it then
-pub put_of : (of : List ℕ → List ℕ) (ps source : List Supplied) (name : List ℕ) → AreOf of ps → (supplied_index source name ≡ of name) ⊎ (is_supplied ps name ≡ true)
-    → supplied_index (put_indices source ps) name ≡ of name
-put_of of [] source name held (inl at) = at
-put_of of [] source name held (inr never) = absurd (let no = never in cc)
-put_of of (p ∷ ps) source name held known =
-    put_of of ps (put_index source p.0 p.1) name held.1
-    ((elim (bytes_eq name p.0) as (λ b. bytes_eq name p.0 ≡ b → (supplied_index (put_index source p.0 p.1) name ≡ of name) ⊎ (is_supplied ps name ≡ true)) [
-      | true ↦ λ on. inl (index_put p.0 p.1 source name ∙ rw on (held.0 ∙ ap of (sym ((bytes_eq-Decides name p.0).0 on))))
+pub put_of : (index_of : List ℕ → List ℕ) (ps source : List Supplied) (name : List ℕ) → AreOf index_of ps → (supplied_index source name ≡ index_of name) ⊎ (is_supplied ps name ≡ true)
+    → supplied_index (put_indices source ps) name ≡ index_of name
+put_of index_of [] source name held (inl at) = at
+put_of index_of [] source name held (inr never) = absurd (let no = never in cc)
+put_of index_of (p ∷ ps) source name held known =
+    put_of index_of ps (put_index source p.0 p.1) name held.1
+    ((elim (bytes_eq name p.0) as (λ b. bytes_eq name p.0 ≡ b → (supplied_index (put_index source p.0 p.1) name ≡ index_of name) ⊎ (is_supplied ps name ≡ true)) [
+      | true ↦ λ on. inl (index_put p.0 p.1 source name ∙ rw on (held.0 ∙ ap index_of (sym ((bytes_eq-Decides name p.0).0 on))))
       | false ↦ λ off. elim known [
         | inl at ↦ inl (index_put p.0 p.1 source name ∙ rw off at)
         | inr there ↦ inr (rw off at there)
@@ -439,12 +464,12 @@ has_indices (r ∷ rs) name =
     rw (same, has_indices rs name) refl
 
 -- once an update's indices are supplied, the source gives each name that the update leaves the index by which it was prepared
-pub supplied_all : (hash of : List ℕ → List ℕ) (source : List Supplied) (s : State) (p : Prepared) → Whole hash (supplied_index source) s
-    → AgreeOn (supplied_index source) of (latest_registry (history_of s)) → AreOf of (indices_in p.records.items)
-    → AgreeOn of (supplied_index (put_indices source (indices_in p.records.items))) (registry_after s p)
-supplied_all hash of source s p whole agree held name has =
+pub supplied_all : (hash index_of : List ℕ → List ℕ) (source : List Supplied) (s : State) (p : Prepared) → Whole hash (supplied_index source) s
+    → AgreeOn (supplied_index source) index_of (latest_registry (history_of s)) → AreOf index_of (indices_in p.records.items)
+    → AgreeOn index_of (supplied_index (put_indices source (indices_in p.records.items))) (registry_after s p)
+supplied_all hash index_of source s p whole agree held name has =
     let known = or_cases (has_name (latest_registry (history_of s)) name) (has_name (map registered_of p.records.items) name) (sym (leaves_name hash (supplied_index source) s p name whole) ∙ has) in
-    sym (put_of of (indices_in p.records.items) source name held (elim known [
+    sym (put_of index_of (indices_in p.records.items) source name held (elim known [
       | inl old ↦ inl (agree name old)
       | inr new ↦ inr (has_indices p.records.items name ∙ new)
     ]))

@@ -48,22 +48,22 @@ pub use Rattle.coniks_shared.specs.Lists.{Begins, last_of}
 pub use Rattle.coniks_work.specs.Grown.{IsOldMap, unchanged}
 pub use Rattle.coniks_chain.specs.Chain.{Follows, GoodChain, before_at, before_of, epoch_before, link_before}
 pub use Rattle.coniks_chain.specs.Entries.{body_bytes}
-pub use Rattle.coniks_chain.specs.declared.auditor.Before.{Before}
+pub use Rattle.coniks_chain.specs.declared.auditor.AuditorState.{AuditorState}
 pub use Rattle.coniks_chain.specs.declared.entry.Body.{Body}
-pub use Rattle.coniks_directory.specs.Batches.{IsAccepted, fault_is, kind_of, most_anew, most_nodes, operation_of, operations}
+pub use Rattle.coniks_directory.specs.Batches.{IsAccepted, fault_is, op_kind, most_anew, most_nodes, operation_of, operations}
 pub use Rattle.coniks_directory.specs.Built.{AddsFew, AreAligned, IsBuilt, IsGrowth, IsSmall, IsUpdateBy}
 pub use Rattle.coniks_directory.specs.Chain.{IsChainOf, body_of, head_at, heads_of}
-pub use Rattle.coniks_directory.specs.Directories.{HasGoodChain, HasPrepared, heads}
+pub use Rattle.coniks_directory.specs.Directories.{HasGoodChain, heads}
 pub use Rattle.coniks_directory.specs.History.{AllHaveOwnIndices, AreRising, AreUnder, IsUnder, Shown, last_number, latest_epoch, latest_nonce}
 pub use Rattle.coniks_directory.specs.History.{latest_registry, latest_version, nonce_after, numbers_of, root_at, shown_at, version_after}
 pub use Rattle.coniks_directory.specs.Holders.{HolderIs, IsHeld, IsLatestRoot, ShowsLatest}
 pub use Rattle.coniks_directory.specs.Installed.{IsEntered, IsNext, IsSigned, Leaves}
-pub use Rattle.coniks_directory.specs.Judged.{AreChangesOf, AreDrafts, AreSealed, AreSealedTo, IsDraft, IsJudged, IsJudgedFault, number_at, sealed_by}
+pub use Rattle.coniks_directory.specs.Judged.{AreChangesOf, ArePendingRecords, AreSealed, AreSealedTo, IsPendingRecord, IsJudged, IsJudgedFault, number_at, sealed_by}
 pub use Rattle.coniks_directory.specs.Lookups.{IsAcceptedAt, IsFound}
 pub use Rattle.coniks_directory.specs.Runs.{AreAccepted, AreAcceptedFrom, Batch, Run, defined, epochs_from, shown_by}
-pub use Rattle.coniks_directory.specs.State.{HoldsEpoch, IsAt, IsInstalled, IsStored, Mirrors, ShowsRegistry, State, View, Whole, history_of, last_count, registered_of, shown_of, state_of}
+pub use Rattle.coniks_directory.specs.State.{HoldsEpoch, IsEpochAt, IsInstalled, IsStored, Mirrors, ShowsRegistry, State, View, Whole, history_of, last_count, registered_of, shown_of, state_of}
 unfoldable pub use Rattle.coniks_directory.specs.State.{registry_at}
-pub use Rattle.coniks_directory.specs.Updates.{Brings, Grows, IsUpdate, IsUpdateOf, MayInstall, records_after, registry_after, shown_after, shown_next}
+pub use Rattle.coniks_directory.specs.Updates.{RotatesTo, Grows, IsUpdate, IsUpdateOf, MayInstall, records_after, registry_after, shown_after, shown_with}
 pub use Rattle.coniks_directory.specs.declared.batch.Op.{Op}
 pub use Rattle.coniks_directory.specs.declared.epochs.Epoch.{Epoch}
 pub use Rattle.coniks_directory.specs.declared.growth.Growth.{Growth}

@@ -14,12 +14,12 @@ use Rattle.coniks_directory.specs.declared.batch.OpFault.TheVariants.{NameLength
 use Rattle.coniks_directory.specs.declared.batch.BatchFault.{BatchFault}
 use Rattle.coniks_directory.specs.declared.batch.BatchFault.TheVariants.{Workers, Depth, BatchTooLong, At, OutOfMemory}
 
-abbrev pub kind_of : OpKind → Kind
-kind_of Register = register
-kind_of Change = change
+abbrev pub op_kind : OpKind → Kind
+op_kind Register = register
+op_kind Change = change
 
 abbrev pub operation_of : Op → Operation
-operation_of op = record { kind = kind_of op.kind; name = op.name; key = op.key; opening = op.opening.0 }
+operation_of op = record { kind = op_kind op.kind; name = op.name; key = op.key; opening = op.opening.0 }
 
 -- the operations of a batch
 abbrev pub operations : List Op → List Operation
@@ -38,20 +38,21 @@ abbrev pub AreWorkers : ℕ → Type 0
 AreWorkers workers = (1 ≤ workers) × (workers ≤ MAX_WORKERS)
 
 -- workers, depth and the batch's length are within their limits, and no operation is at fault
-pub record IsAccepted (of : List ℕ → List ℕ) (registry : Registry) (ops : List Operation) (depth workers : ℕ) : Type 0 where
-  pub crew : AreWorkers workers
+pub record IsAccepted (index_of : List ℕ → List ℕ) (registry : Registry) (ops : List Operation) (depth workers : ℕ) : Type 0 where
+  pub worker_count : AreWorkers workers
   pub shallow : depth ≤ MAX_DEPTH
   pub few : length ops ≤ MAX_OPERATIONS
-  pub faultless : first_fault of registry ops ≡ None
+  pub faultless : first_fault index_of registry ops ≡ None
 
 -- why a batch isn't accepted: of what applies, the first in the order of the faults; or a growth was refused
 abbrev pub IsBatchFault : (List ℕ → List ℕ) → Registry → List Operation → ℕ → ℕ → BatchFault → Type 0
-IsBatchFault of registry ops depth workers Workers = (workers ≡ 0) ⊎ (MAX_WORKERS < workers)
-IsBatchFault of registry ops depth workers Depth = AreWorkers workers × (MAX_DEPTH < depth)
-IsBatchFault of registry ops depth workers BatchTooLong = AreWorkers workers × (depth ≤ MAX_DEPTH) × (MAX_OPERATIONS < length ops)
-IsBatchFault of registry ops depth workers (At position fault) =
-    AreWorkers workers × (depth ≤ MAX_DEPTH) × (length ops ≤ MAX_OPERATIONS) × (first_fault of registry ops ≡ Some (position, fault_is fault))
-IsBatchFault of registry ops depth workers OutOfMemory = AreWorkers workers × (depth ≤ MAX_DEPTH) × (length ops ≤ MAX_OPERATIONS)
+IsBatchFault index_of registry ops depth workers Workers = (workers ≡ 0) ⊎ (MAX_WORKERS < workers)
+IsBatchFault index_of registry ops depth workers Depth = AreWorkers workers × (MAX_DEPTH < depth)
+IsBatchFault index_of registry ops depth workers BatchTooLong = AreWorkers workers × (depth ≤ MAX_DEPTH) × (MAX_OPERATIONS < length ops)
+IsBatchFault index_of registry ops depth workers (At position fault) =
+    AreWorkers workers × (depth ≤ MAX_DEPTH) × (length ops ≤ MAX_OPERATIONS)
+    × (first_fault index_of registry ops ≡ Some (position, fault_is fault))
+IsBatchFault index_of registry ops depth workers OutOfMemory = AreWorkers workers × (depth ≤ MAX_DEPTH) × (length ops ≤ MAX_OPERATIONS)
 
 -- it is one of the limits of workers, depth and length
 abbrev pub IsLimit : BatchFault → Type 0
@@ -61,12 +62,12 @@ IsLimit BatchTooLong = Unit {0}
 IsLimit (At position fault) = ⊥
 IsLimit OutOfMemory = ⊥
 
--- how many nodes an epoch takes at most, which comes after this history with so many operations; without operations it takes just so many
+-- the largest number of nodes that an epoch with this number of operations adds after this history; without operations it is exact
 abbrev pub most_nodes : List Shown → ℕ → ℕ
 most_nodes [] zero = 1
 most_nodes (shown ∷ history) zero = 0
 most_nodes history (suc n) = 512 * suc n + 1
 
--- and how many an epoch that brings a nonce takes at most, which leaves this registry
+-- the largest number of nodes that an epoch with a new nonce adds, if it leaves this registry
 abbrev pub most_anew : Registry → ℕ
 most_anew registry = 512 * length registry + 1

@@ -3,28 +3,28 @@ use Rattle.std.specs.Prelude.{◌≡◌, ℕ, List, length, map, slice_get, Opti
 use Rattle.coniks_proof.specs.declared.values.Head.{Head}
 use Rattle.coniks_chain.specs.Chain.{before_at, epoch_before, link_before}
 use Rattle.coniks_chain.specs.Entries.{link_preimage}
-use Rattle.coniks_chain.specs.declared.auditor.Before.{Before}
+use Rattle.coniks_chain.specs.declared.auditor.AuditorState.{AuditorState}
 use Rattle.coniks_chain.specs.declared.entry.Body.{Body}
 use Rattle.coniks_chain.specs.declared.entry.Entry.{Entry}
 use Rattle.coniks_directory.specs.History.{Shown, root_at}
 
 -- what the entry of an epoch says, after the entry before it (CONIKS, section 3)
-abbrev pub body_of : (List ℕ → List ℕ) → (List ℕ → List ℕ) → List ℕ → Option Before → Shown → Body
-body_of hash of policy before shown = record {
+abbrev pub body_of : (List ℕ → List ℕ) → (List ℕ → List ℕ) → List ℕ → Option AuditorState → Shown → Body
+body_of hash index_of policy before shown = record {
   version = shown.version;
   t = shown.t;
   t_prev = epoch_before before;
-  root = record { 0 = root_at hash of shown };
+  root = record { 0 = root_at hash index_of shown };
   previous = record { 0 = link_before before };
   nonce = record { 0 = shown.nonce };
   policy = policy;
 }
 
 -- one entry for each epoch, with the body of that epoch after the entry before it, and whatever signature
-pub record IsChainOf (hash of : List ℕ → List ℕ) (policy : List ℕ) (history : List Shown) (chain : List Entry) : Type 0 where
+pub record IsChainOf (hash index_of : List ℕ → List ℕ) (policy : List ℕ) (history : List Shown) (chain : List Entry) : Type 0 where
   pub long : length chain ≡ length history
   pub bodies : (k : ℕ) (shown : Shown) (entry : Entry) → slice_get history k ≡ Some shown → slice_get chain k ≡ Some entry
-      → entry.body ≡ body_of hash of policy (before_at hash None chain k) shown
+      → entry.body ≡ body_of hash index_of policy (before_at hash None chain k) shown
 
 -- the head that a chain has with this last entry
 abbrev pub head_at : (List ℕ → List ℕ) → Entry → Head

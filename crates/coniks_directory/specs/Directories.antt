@@ -4,22 +4,16 @@ use Rattle.std.specs.List.{find}
 use Rattle.coniks_chain.specs.Chain.{GoodChain, before_at}
 use Rattle.coniks_chain.specs.declared.entry.Body.{Body}
 use Rattle.coniks_chain.specs.declared.entry.Entry.{Entry}
-use Rattle.coniks_proof.specs.Batches.{Operation}
 use Rattle.coniks_proof.specs.Registry.{Registry}
 use Rattle.coniks_proof.specs.declared.paths.Proof.{Proof}
 use Rattle.coniks_proof.specs.declared.values.Head.{Head}
-use Rattle.coniks_directory.specs.Batches.{IsAccepted, IsBatchFault}
-use Rattle.coniks_directory.specs.Chain.{IsChainOf, body_of, heads_of}
+use Rattle.coniks_directory.specs.Chain.{body_of, heads_of}
 use Rattle.coniks_directory.specs.History.{Shown, latest_registry, root_at, shown_at}
-use Rattle.coniks_directory.specs.Lookups.{IsAcceptedAt, IsAcceptedUnder, IsFound, IsMissed}
+use Rattle.coniks_directory.specs.Lookups.{IsAcceptedAt, IsFound}
 use Rattle.coniks_directory.specs.State.{View, history_of}
-use Rattle.coniks_directory.specs.Supplied.{AgreeOn, IsMissedAt, MaySupply}
-use Rattle.coniks_directory.specs.Updates.{Brings, IsUpdate, IsUpdateOf}
-use Rattle.coniks_directory.specs.declared.batch.BatchFault.{BatchFault}
-use Rattle.coniks_directory.specs.declared.lookup.LookupAtFault.{LookupAtFault}
-use Rattle.coniks_directory.specs.declared.lookup.LookupFault.{LookupFault}
-use Rattle.coniks_directory.specs.declared.lookup.SignedProof.{SignedProof}
-use Rattle.coniks_directory.specs.declared.update.Prepared.{Prepared}
+use Rattle.coniks_directory.specs.Supplied.{AgreeOn}
+use Rattle.coniks_directory.specs.SuppliedBatches.{index_in, indexed}
+use Rattle.coniks_directory.specs.declared.supplied_batch.SuppliedBatch.{SuppliedBatch}
 
 -- the epochs of a directory, each with its registry
 abbrev pub history : {H X : Type 0} → View H X → List Shown
@@ -36,78 +30,42 @@ entry {H} {X} d t = find (λ (e : Entry). e.body.t == t) d.state.chain
 -- what is said of a directory by the digests of its hash and the indices of its source
 module _ {H X : Type 0} (digest : H → List ℕ → List ℕ) (index : X → List ℕ → List ℕ) (d : View H X) where
   -- the root of the epoch of exactly this number
-  abbrev pub root : ℕ → Option (List ℕ)
-  root t = option_map (root_at (digest d.hash) (index d.index)) (shown_at (history d) t)
-
-  -- its entries are those of its epochs
-  abbrev pub HasItsChain : Type 0
-  HasItsChain = IsChainOf (digest d.hash) (index d.index) d.state.policy (history d) d.state.chain
-
-  -- a lookup of a name at an epoch gives this proof
-  abbrev pub Finds : ℕ → List ℕ → Proof → Type 0
-  Finds t name proof = IsFound (digest d.hash) (index d.index) (history d) t name proof
-
-  -- the proof is accepted for the name at the epoch
-  abbrev pub Shows : ℕ → List ℕ → Proof → Type 0
-  Shows t name proof = IsAcceptedAt (digest d.hash) (index d.index) (history d) t name proof
-
-  -- the proof of a lookup is accepted under the entry that it comes with
-  abbrev pub Checks : ℕ → List ℕ → SignedProof → Type 0
-  Checks t name it = IsAcceptedUnder (digest d.hash) (index d.index) (history d) t name it
+  abbrev pub root_of_epoch : ℕ → Option (List ℕ)
+  root_of_epoch t = option_map (root_at (digest d.hash) (index d.index)) (shown_at (history d) t)
 
   -- a function of indices gives each registered name the index that the source gives it, and this name this index
-  abbrev pub Extends : List ℕ → List ℕ → (List ℕ → List ℕ) → Type 0
-  Extends name supplied of = AgreeOn (index d.index) of (registry d) × (of name ≡ supplied)
+  abbrev pub GivesIndex : List ℕ → List ℕ → (List ℕ → List ℕ) → Type 0
+  GivesIndex name supplied index_of = AgreeOn (index d.index) index_of (registry d) × (index_of name ≡ supplied)
 
   -- by each such function a lookup of the name at an epoch gives this proof
   abbrev pub FindsAt : ℕ → List ℕ → List ℕ → Proof → Type 0
-  FindsAt t name supplied proof = (of : List ℕ → List ℕ) → Extends name supplied of → IsFound (digest d.hash) of (history d) t name proof
+  FindsAt t name supplied proof = (index_of : List ℕ → List ℕ)
+      → GivesIndex name supplied index_of → IsFound (digest d.hash) index_of (history d) t name proof
 
   -- and it is accepted for the name at the epoch
   abbrev pub ShowsAt : ℕ → List ℕ → List ℕ → Proof → Type 0
-  ShowsAt t name supplied proof = (of : List ℕ → List ℕ) → Extends name supplied of → IsAcceptedAt (digest d.hash) of (history d) t name proof
+  ShowsAt t name supplied proof = (index_of : List ℕ → List ℕ) → GivesIndex name supplied index_of
+      → IsAcceptedAt (digest d.hash) index_of (history d) t name proof
 
-  -- the body of the next entry, where its epoch shows this
-  abbrev pub NextBody : Shown → Body
-  NextBody shown = body_of (digest d.hash) (index d.index) d.state.policy (before_at (digest d.hash) None d.state.chain (length d.state.chain)) shown
-
-  -- an update is one of the directory as it is, or as it was
-  abbrev pub Prepares : Prepared → Type 0
-  Prepares update = IsUpdate (digest d.hash) (index d.index) d.state update
-
-  abbrev pub HasPrepared : Prepared → Type 0
-  HasPrepared update = IsUpdateOf (digest d.hash) (index d.index) d.state update
-
--- the heads that its chain had, and that it is good under a judge of signatures
+-- the body of the next entry by a function of indices, the heads that the chain had, and that it is good by a function of verdicts
 module _ {H X : Type 0} (digest : H → List ℕ → List ℕ) where
+  abbrev pub NextBodyBy : View H X → (List ℕ → List ℕ) → Shown → Body
+  NextBodyBy d index_of shown =
+      body_of (digest d.hash) index_of d.state.policy (before_at (digest d.hash) None d.state.chain (length d.state.chain)) shown
+
   abbrev pub heads : View H X → List Head
   heads d = heads_of (digest d.hash) d.state.chain
 
   abbrev pub HasGoodChain : (List ℕ → List ℕ → Bool) → View H X → Type 0
   HasGoodChain verdict d = GoodChain (digest d.hash) verdict d.state.chain
 
--- a batch is accepted, and why one isn't
-module _ {H X : Type 0} (index : X → List ℕ → List ℕ) (d : View H X) where
-  abbrev pub Accepts : List Operation → ℕ → ℕ → Type 0
-  Accepts ops depth workers = IsAccepted (index d.index) (registry d) ops depth workers
+-- the body of the next entry, whose epoch this is
+abbrev pub NextBody : {H X : Type 0} → (H → List ℕ → List ℕ) → (X → List ℕ → List ℕ) → View H X → Shown → Body
+NextBody {H} {X} digest index d shown = NextBodyBy digest d (index d.index) shown
 
-  abbrev pub Refuses : List Operation → ℕ → ℕ → BatchFault → Type 0
-  Refuses ops depth workers fault = IsBatchFault (index d.index) (registry d) ops depth workers fault
-
-  -- an index of a name may be supplied, and why a lookup of the name at this index isn't answered
-  abbrev pub Takes : List ℕ → List ℕ → Type 0
-  Takes name supplied = MaySupply (index d.index) (registry d) name supplied
-
-  abbrev pub MissesAt : ℕ → List ℕ → List ℕ → LookupAtFault → Type 0
-  MissesAt t name supplied fault = IsMissedAt (index d.index) (history d) (registry d) t name supplied fault
-
--- an update of it brings this nonce, or none
-abbrev pub Renews : {H X : Type 0} → View H X → Option (List ℕ) → Prepared → Type 0
-Renews {H} {X} d brought update = Brings d.state brought update
-
--- why a lookup of a name at an epoch isn't answered
-abbrev pub Misses : {H X : Type 0} → View H X → ℕ → List ℕ → LookupFault → Type 0
-Misses {H} {X} d t name fault = IsMissed (history d) t name fault
+-- the indices that a batch is checked by: those that the source gives registered names, and those that come with the batch
+abbrev pub batch_index : {H X : Type 0} → (X → List ℕ → List ℕ) → View H X → SuppliedBatch → List ℕ → List ℕ
+batch_index {H} {X} index d batch = index_in (index d.index) (registry d) (indexed batch.ops.now batch.indices.now)
 
 -- it hashes and finds indices as it did
 pub record IsAlike {H X : Type 0} (d e : View H X) : Type 0 where

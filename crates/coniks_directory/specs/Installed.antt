@@ -12,22 +12,23 @@ use Rattle.coniks_directory.specs.declared.update.Prepared.{Prepared}
 
 -- the body is that of the epoch which the update makes under this number, after the entries that there are
 abbrev pub IsNext : (List ℕ → List ℕ) → (List ℕ → List ℕ) → State → Prepared → ℕ → Body → Type 0
-IsNext hash of s p t body = body ≡ body_of hash of s.policy (before_at hash None s.chain (length s.chain)) (shown_after s p t)
+IsNext hash index_of s p t body = body ≡ body_of hash index_of s.policy (before_at hash None s.chain (length s.chain)) (shown_after s p t)
 
--- where the state is a directory's, the update one of it and the link that of its last entry, the body is the next one
+-- if the state is a directory's, the update one of it and the link that of its last entry, then the body is the next one
 abbrev pub IsSigned : (List ℕ → List ℕ) → State → Prepared → ℕ → List ℕ → Body → Type 0
-IsSigned hash s p t previous body = (of : List ℕ → List ℕ) → Whole hash of s → IsUpdate hash of s p
-    → previous ≡ link_before (before_at hash None s.chain (length s.chain)) → IsNext hash of s p t body
+IsSigned hash s p t previous body = (index_of : List ℕ → List ℕ) → Whole hash index_of s → IsUpdate hash index_of s p
+    → previous ≡ link_before (before_at hash None s.chain (length s.chain)) → IsNext hash index_of s p t body
 
 -- what an install of the update under a number leaves
-pub record Leaves (hash of : List ℕ → List ℕ) (s later : State) (p : Prepared) (t : ℕ) (entry : Entry) : Type 0 where
-  pub whole : Whole hash of later
+pub record Leaves (hash index_of : List ℕ → List ℕ) (s later : State) (p : Prepared) (t : ℕ) (entry : Entry) : Type 0 where
+  pub whole : Whole hash index_of later
   pub history : history_of later ≡ history_of s ++ shown_after s p t ∷ []
   pub grows : Grows s later
   pub good : (verdict further : List ℕ → List ℕ → Bool) → ((bytes signature : List ℕ) → further bytes signature ≡ verdict bytes signature)
       → further (body_bytes entry.body) entry.signature.0 ≡ true → GoodChain hash verdict s.chain → GoodChain hash further later.chain
 
--- where the state is a directory's, the update one of it, the number a later one and the body the next one, this is an install
+-- if the state is a directory's, the update one of it, the number a later one and the body the next one, then this is an install
 abbrev pub IsEntered : (List ℕ → List ℕ) → State → State → Prepared → ℕ → Entry → Type 0
-IsEntered hash s later p t entry = (of : List ℕ → List ℕ) → Whole hash of s → IsUpdate hash of s p → latest_epoch (history_of s) < t
-    → IsNext hash of s p t entry.body → Leaves hash of s later p t entry
+IsEntered hash s later p t entry = (index_of : List ℕ → List ℕ)
+    → Whole hash index_of s → IsUpdate hash index_of s p → latest_epoch (history_of s) < t
+    → IsNext hash index_of s p t entry.body → Leaves hash index_of s later p t entry

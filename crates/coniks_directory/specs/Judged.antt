@@ -1,4 +1,4 @@
--- The operations of a batch that were judged: their records, found by index.
+-- The checked operations of a batch: their records, found by index.
 use Rattle.std.specs.Prelude.{◌≡◌, ◌+◌, ◌++◌, ℕ, List, length, map, take, drop, slice_get, Option, Some}
 use Rattle.std.specs.Ordering.{nat_cmp}
 use Rattle.std.specs.Cmp.Lexicographic.{slice_cmp}
@@ -17,8 +17,8 @@ use Rattle.coniks_directory.specs.declared.batch.BatchFault.{BatchFault}
 use Rattle.coniks_directory.specs.declared.batch.BatchFault.TheVariants.{Workers, Depth, BatchTooLong, At, OutOfMemory}
 
 -- the record's index is its name's, and name and key are within their limits
-pub record IsDraft (of : List ℕ → List ℕ) (r : Record) : Type 0 where
-  pub indexed : r.index.0 ≡ of r.binding.name
+pub record IsPendingRecord (index_of : List ℕ → List ℕ) (r : Record) : Type 0 where
+  pub indexed : r.index.0 ≡ index_of r.binding.name
   pub ranged : IsIndex r.index.0
   pub named : IsLength MAX_NAME r.binding.name
   pub keyed : IsLength MAX_KEY r.binding.key
@@ -29,7 +29,8 @@ sealed_by hash r = record r { commitment = record { 0 = commitment_to hash (regi
 
 -- these bytes are the commitment to what the record at a place binds
 abbrev pub IsCommitmentAt : (List ℕ → List ℕ) → List Record → ℕ → List ℕ → Type 0
-IsCommitmentAt hash records place bytes = (b : Registered) → slice_get (map registered_of records) place ≡ Some b → bytes ≡ commitment_to hash b
+IsCommitmentAt hash records place bytes = (b : Registered)
+    → slice_get (map registered_of records) place ≡ Some b → bytes ≡ commitment_to hash b
 
 -- the records as they were, up to a place with the commitments to their bindings
 abbrev pub AreSealedTo : (List ℕ → List ℕ) → List Record → ℕ → List Record → Type 0
@@ -44,18 +45,21 @@ abbrev pub number_at : BTreeMap (List ℕ) ℕ → List ℕ → Option ℕ
 number_at numbers index = get (slice_cmp nat_cmp) numbers index
 
 -- the records are those of the bindings, in their order, with indices of their own, and the map finds each by its index, and no other
-pub record AreDrafts (hash of : List ℕ → List ℕ) (bound : List Registered) (records : List Record) (numbers : BTreeMap (List ℕ) ℕ) : Type 0 where
+pub record ArePendingRecords (hash index_of : List ℕ → List ℕ) (bound : List Registered)
+    (records : List Record) (numbers : BTreeMap (List ℕ) ℕ) : Type 0 where
   pub binds : map registered_of records ≡ bound
-  pub drafted : (n : ℕ) (r : Record) → slice_get records n ≡ Some r → IsDraft of r
-  pub kept : (index : List ℕ) (n : ℕ) → number_at numbers index ≡ Some n → (r : Record) × (slice_get records n ≡ Some r) × (r.index.0 ≡ index)
+  pub drafted : (n : ℕ) (r : Record) → slice_get records n ≡ Some r → IsPendingRecord index_of r
+  pub kept : (index : List ℕ) (n : ℕ) → number_at numbers index ≡ Some n
+      → (r : Record) × (slice_get records n ≡ Some r) × (r.index.0 ≡ index)
   pub all : (n : ℕ) (r : Record) → slice_get records n ≡ Some r → number_at numbers r.index.0 ≡ Some n
   pub ordered : IsOrdered (slice_cmp nat_cmp) numbers
   pub counted : btree_map_len numbers ≡ length records
-  pub distinct : IsMap (entries_of hash of bound)
+  pub distinct : IsMap (entries_of hash index_of bound)
 
 -- the first `i` operations of a batch have no fault, so that its first fault is that of the others
 abbrev pub IsJudged : (List ℕ → List ℕ) → Registry → List Operation → ℕ → Type 0
-IsJudged of registry ops i = first_fault of registry ops ≡ fault_from of registry (map bound_by (take i ops)) i (drop i ops)
+IsJudged index_of registry ops i = first_fault index_of registry ops ≡
+    fault_from index_of registry (map bound_by (take i ops)) i (drop i ops)
 
 -- the entries are those of the records, which are to be stored from a place on, each once and in increasing order of index
 pub record AreChangesOf (base : ℕ) (records : List Record) (entries : List Numbered) : Type 0 where
@@ -66,8 +70,8 @@ pub record AreChangesOf (base : ℕ) (records : List Record) (entries : List Num
 
 -- the first operation at fault, and its first fault; or memory
 abbrev pub IsJudgedFault : (List ℕ → List ℕ) → Registry → List Operation → BatchFault → Type 0
-IsJudgedFault of registry ops Workers = ⊥
-IsJudgedFault of registry ops Depth = ⊥
-IsJudgedFault of registry ops BatchTooLong = ⊥
-IsJudgedFault of registry ops (At position fault) = first_fault of registry ops ≡ Some (position, fault_is fault)
-IsJudgedFault of registry ops OutOfMemory = Unit {0}
+IsJudgedFault index_of registry ops Workers = ⊥
+IsJudgedFault index_of registry ops Depth = ⊥
+IsJudgedFault index_of registry ops BatchTooLong = ⊥
+IsJudgedFault index_of registry ops (At position fault) = first_fault index_of registry ops ≡ Some (position, fault_is fault)
+IsJudgedFault index_of registry ops OutOfMemory = Unit {0}

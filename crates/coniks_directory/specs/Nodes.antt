@@ -9,14 +9,15 @@ use Rattle.coniks_directory.specs.History.{Shown, latest_registry}
 
 -- a name's index, in an entry; no count depends on the entry's commitment or record
 abbrev pub place_of : (List ℕ → List ℕ) → Registered → Numbered
-place_of of b = record { index = of b.name; commitment = []; behind = 0 }
+place_of index_of b = record { index = index_of b.name; commitment = []; behind = 0 }
 
 abbrev pub places_of : (List ℕ → List ℕ) → Registry → List Numbered
-places_of of registry = map (place_of of) registry
+places_of index_of registry = map (place_of index_of) registry
 
--- how many nodes the epoch of a batch adds after this history: those of the whole map, where every node is made anew under a nonce, else
+-- the number of nodes that the epoch of a batch adds after this history: those of the whole map if every node is hashed again, else
 -- those that the batch's operations change; without operations the first epoch adds one and a later one none
 abbrev pub epoch_nodes : (List ℕ → List ℕ) → List Shown → Option (List ℕ) → List Operation → ℕ
-epoch_nodes of history (Some nonce) ops = new_nodes 0 [] (places_of of (after (latest_registry history) ops))
-epoch_nodes of history None [] = most_nodes history 0
-epoch_nodes of history None (op ∷ ops) = new_nodes 0 (places_of of (latest_registry history)) (places_of of (map bound_by (op ∷ ops)))
+epoch_nodes index_of history (Some nonce) ops = new_nodes 0 [] (places_of index_of (after (latest_registry history) ops))
+epoch_nodes index_of history None [] = most_nodes history 0
+epoch_nodes index_of history None (op ∷ ops) = new_nodes 0
+    (places_of index_of (latest_registry history)) (places_of index_of (map bound_by (op ∷ ops)))

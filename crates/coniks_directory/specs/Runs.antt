@@ -1,4 +1,4 @@
--- Runs of public calls on a directory, each as its contract tells it, and the directory that the batches define.
+-- Runs of public calls on a directory, each by its contract, and the directory that the batches define.
 use Rattle.std.specs.Prelude.{◌≡◌, ◌<◌, ◌≤◌, ℕ, List, [], ◌∷◌, ◌++◌, length, Option, None}
 use Rattle.coniks_proof.specs.Batches.{MayFollow, Operation, after}
 use Rattle.coniks_proof.specs.Registry.{Registry}
@@ -7,24 +7,26 @@ use Rattle.coniks_directory.specs.Batches.{IsAccepted}
 use Rattle.coniks_directory.specs.History.{Shown, latest_registry, nonce_after, version_after}
 use Rattle.coniks_directory.specs.State.{State, history_of, opened as nothing}
 use Rattle.coniks_directory.specs.Supplied.{AgreeOn}
-use Rattle.coniks_directory.specs.Updates.{Brings, Grows, IsUpdate, MayInstall, base_of, registry_after, shown_after, shown_next}
+use Rattle.coniks_directory.specs.Updates.{RotatesTo, Grows, IsUpdate, MayInstall, base_of, registry_after, shown_after, shown_with}
 use Rattle.coniks_directory.specs.declared.update.Prepared.{Prepared}
 
--- a batch, the epoch that it was installed under, and the nonce that it brought, if any
+-- a batch, its epoch, and its nonce, if it has one
 pub record Batch : Type 0 where
   pub t : ℕ
-  pub brought : Option (List ℕ)
+  pub new_nonce : Option (List ℕ)
   pub ops : List Operation
 
 -- the epoch that a batch makes after one of this version, nonce and registry
 abbrev pub shown_by : ℕ → List ℕ → Registry → Batch → Shown
-shown_by version nonce registry b = record { t = b.t; version = version_after b.brought version; nonce = nonce_after b.brought nonce; registry = after registry b.ops }
+shown_by version nonce registry b =
+    record { t = b.t; version = version_after b.new_nonce version; nonce = nonce_after b.new_nonce nonce; registry = after registry b.ops }
 
 -- the epochs that batches make, one after the other, after one of this version, nonce and registry
 abbrev pub epochs_from : ℕ → List ℕ → Registry → List Batch → List Shown
 epochs_from version nonce registry [] = []
 epochs_from version nonce registry (b ∷ bs) =
-    shown_by version nonce registry b ∷ epochs_from (version_after b.brought version) (nonce_after b.brought nonce) (after registry b.ops) bs
+    shown_by version nonce registry b ∷ epochs_from (version_after b.new_nonce version)
+    (nonce_after b.new_nonce nonce) (after registry b.ops) bs
 
 -- the directory that batches define: its epochs, from version 1, the nonce of `open` and the empty registry on
 abbrev pub defined : List ℕ → List Batch → List Shown
@@ -32,39 +34,45 @@ defined nonce batches = epochs_from 1 nonce [] batches
 
 -- each batch is under a later epoch, has not too many operations, and may follow the registry before it
 abbrev pub AreAcceptedFrom : (List ℕ → List ℕ) → ℕ → Registry → List Batch → Type 0
-AreAcceptedFrom of t registry [] = Unit {0}
-AreAcceptedFrom of t registry (b ∷ bs) =
-    (t < b.t) × (length b.ops ≤ MAX_OPERATIONS) × MayFollow of registry b.ops × AreAcceptedFrom of b.t (after registry b.ops) bs
+AreAcceptedFrom index_of t registry [] = Unit {0}
+AreAcceptedFrom index_of t registry (b ∷ bs) =
+    (t < b.t) × (length b.ops ≤ MAX_OPERATIONS) × MayFollow index_of registry b.ops × AreAcceptedFrom index_of b.t (after registry b.ops) bs
 
 -- a history of accepted batches
 abbrev pub AreAccepted : (List ℕ → List ℕ) → List Batch → Type 0
-AreAccepted of batches = AreAcceptedFrom of 0 [] batches
+AreAccepted index_of batches = AreAcceptedFrom index_of 0 [] batches
 
 -- what an Ok `prepare`, or `prepare_with` of a nonce, says of its update, by the directory as it was then
-pub record IsPreparedOf (hash of : List ℕ → List ℕ) (s : State) (brought : Option (List ℕ)) (ops : List Operation) (depth workers : ℕ) (update : Prepared) : Type 0 where
-  pub is_update : IsUpdate hash of s update
-  pub brings : Brings s brought update
+pub record IsPreparedOf (hash index_of : List ℕ → List ℕ) (s : State) (new_nonce : Option (List ℕ))
+    (ops : List Operation) (depth workers : ℕ) (update : Prepared) : Type 0 where
+  pub is_update : IsUpdate hash index_of s update
+  pub rotates : RotatesTo s new_nonce update
   pub registry : registry_after s update ≡ after (latest_registry (history_of s)) ops
-  pub accepted : IsAccepted of (latest_registry (history_of s)) ops depth workers
+  pub accepted : IsAccepted index_of (latest_registry (history_of s)) ops depth workers
 
--- public calls on a directory, from `open` on, in which these batches were installed: each call as its contract tells it; the
+-- public calls on a directory, from `open` on, in which these batches were installed, each by its contract; the
 -- function of indices is the one that the directory holds at the end
 pub data Run (hash : List ℕ → List ℕ) : (List ℕ → List ℕ) → List ℕ → List ℕ → List Batch → State → Type 0 where
-  opened : (of : List ℕ → List ℕ) (nonce policy : List ℕ) → Run hash of nonce policy [] (nothing nonce policy)
+  opened : (index_of : List ℕ → List ℕ) (nonce policy : List ℕ) → Run hash index_of nonce policy [] (nothing nonce policy)
   -- a call that was refused, or that only reads
-  stayed : (of : List ℕ → List ℕ) (nonce policy : List ℕ) (batches : List Batch) (s later : State) → Run hash of nonce policy batches s → later ≡ s → Run hash of nonce policy batches later
+  stayed : (index_of : List ℕ → List ℕ) (nonce policy : List ℕ) (batches : List Batch) (s later : State)
+      → Run hash index_of nonce policy batches s → later ≡ s → Run hash index_of nonce policy batches later
   -- an index was supplied, and the registered names have those that they had
-  supplied : (of also : List ℕ → List ℕ) (nonce policy : List ℕ) (batches : List Batch) (s : State) → Run hash of nonce policy batches s → AgreeOn of also (latest_registry (history_of s))
+  supplied : (index_of also : List ℕ → List ℕ) (nonce policy : List ℕ) (batches : List Batch) (s : State)
+      → Run hash index_of nonce policy batches s → AgreeOn index_of also (latest_registry (history_of s))
       → Run hash also nonce policy batches s
-  committed : (of : List ℕ → List ℕ) (nonce policy : List ℕ) (batches : List Batch) (b : Batch) (s later : State) (depth workers published capacity : ℕ) → Run hash of nonce policy batches s
-      → b.brought ≡ None → IsAccepted of (latest_registry (history_of s)) b.ops depth workers
+  committed : (index_of : List ℕ → List ℕ) (nonce policy : List ℕ) (batches : List Batch) (b : Batch)
+      (s later : State) (depth workers published capacity : ℕ) → Run hash index_of nonce policy batches s
+      → IsAccepted index_of (latest_registry (history_of s)) b.ops depth workers
       → MayInstall s (length s.epochs) b.t published capacity
-      → history_of later ≡ history_of s ++ shown_next s b.ops b.t ∷ [] → Grows s later
-      → Run hash of nonce policy (batches ++ b ∷ []) later
+      → history_of later ≡ history_of s ++ shown_with s b.new_nonce b.ops b.t ∷ [] → Grows s later
+      → Run hash index_of nonce policy (batches ++ b ∷ []) later
   -- the update was prepared earlier, with any calls in between, and the names that it leaves have the indices that they had then
-  installed : (of then : List ℕ → List ℕ) (nonce policy : List ℕ) (batches : List Batch) (b : Batch) (earlier s later : State) (update : Prepared) (depth workers published capacity : ℕ)
-      → Run hash of nonce policy batches s
-      → IsPreparedOf hash then earlier b.brought b.ops depth workers update → AgreeOn then of (registry_after earlier update) → Grows earlier s
+  installed : (index_of then : List ℕ → List ℕ) (nonce policy : List ℕ) (batches : List Batch)
+      (b : Batch) (earlier s later : State) (update : Prepared) (depth workers published capacity : ℕ)
+      → Run hash index_of nonce policy batches s
+      → IsPreparedOf hash then earlier b.new_nonce b.ops depth workers update
+      → AgreeOn then index_of (registry_after earlier update) → Grows earlier s
       → MayInstall s (base_of update) b.t published capacity
       → history_of later ≡ history_of s ++ shown_after s update b.t ∷ [] → Grows s later
-      → Run hash of nonce policy (batches ++ b ∷ []) later
+      → Run hash index_of nonce policy (batches ++ b ∷ []) later

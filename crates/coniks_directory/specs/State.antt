@@ -11,7 +11,7 @@ use Rattle.coniks_chain.specs.declared.entry.Entry.{Entry}
 use Rattle.coniks_directory.specs.History.{Shown, AreRising, AreUnder, numbers_of, root_at, shown_at}
 use Rattle.coniks_directory.specs.Chain.{IsChainOf}
 use Rattle.coniks_directory.specs.declared.epochs.Epoch.{Epoch}
-use Rattle.coniks_directory.specs.declared.held.Held.{Held}
+use Rattle.coniks_directory.specs.declared.state.DirectoryState.{DirectoryState}
 
 -- what a directory holds; the nonce is that of `open`
 pub record State : Type 0 where
@@ -29,8 +29,15 @@ pub record View (H X : Type 0) : Type 0 where
   pub state : State
 
 -- what is seen of what a directory holds
-abbrev pub state_of : Held → State
-state_of h = record { nonce = h.nonce.0; policy = h.policy; nodes = h.tree.nodes.items; records = h.tree.records.items; epochs = h.epochs.items; chain = h.chain.items }
+abbrev pub state_of : DirectoryState → State
+state_of h = record {
+  nonce = h.nonce.0;
+  policy = h.policy;
+  nodes = h.tree.nodes.items;
+  records = h.tree.records.items;
+  epochs = h.epochs.items;
+  chain = h.chain.items;
+}
 
 -- the state of a directory that was opened
 abbrev pub opened : List ℕ → List ℕ → State
@@ -57,24 +64,25 @@ abbrev pub IsStored : List Record → Numbered → Type 0
 IsStored records e = (r : Record) × (slice_get records e.behind ≡ Some r) × (entry_of_record e.behind r ≡ e)
 
 -- the entries, with what their records bind behind them, are those of the registry
-pub record Mirrors (hash of : List ℕ → List ℕ) (records : List Record) (entries : List Numbered) (registry : Registry) : Type 0 where
+pub record Mirrors (hash index_of : List ℕ → List ℕ) (records : List Record) (entries : List Numbered) (registry : Registry) : Type 0 where
   pub stored : (e : Numbered) → IsIn e entries → IsStored records e
   pub indices : IsMap entries
-  pub names : IsMap (entries_of hash of registry)
-  pub same : SameEntries (map (backed_by (registered_at records)) entries) (entries_of hash of registry)
+  pub names : IsMap (entries_of hash index_of registry)
+  pub same : SameEntries (map (backed_by (registered_at records)) entries) (entries_of hash index_of registry)
   pub limits : AreWithin registry
 
 -- a root shows a registry
-pub record ShowsRegistry (hash of : List ℕ → List ℕ) (nonce : List ℕ) (nodes : List Node) (records : List Record) (root : ℕ) (registry : Registry) : Type 0 where
+pub record ShowsRegistry (hash index_of : List ℕ → List ℕ) (nonce : List ℕ)
+    (nodes : List Node) (records : List Record) (root : ℕ) (registry : Registry) : Type 0 where
   pub entries : List Numbered
   pub shows : Shows hash nonce nodes records root [] entries
-  pub mirrors : Mirrors hash of records entries registry
+  pub mirrors : Mirrors hash index_of records entries registry
 
 -- what is true of an epoch: its root shows its registry under its nonce
-pub record HoldsEpoch (hash of : List ℕ → List ℕ) (nodes : List Node) (records : List Record) (e : Epoch) : Type 0 where
+pub record HoldsEpoch (hash index_of : List ℕ → List ℕ) (nodes : List Node) (records : List Record) (e : Epoch) : Type 0 where
   pub known : e.root.0 < length nodes
   pub counted : e.count ≤ length records
-  pub registry : ShowsRegistry hash of e.nonce.0 nodes records e.root.0 (registry_at records e.count)
+  pub registry : ShowsRegistry hash index_of e.nonce.0 nodes records e.root.0 (registry_at records e.count)
 
 -- how many records there are after the last epoch
 abbrev pub last_count : List Epoch → ℕ
@@ -83,22 +91,22 @@ last_count (e ∷ []) = e.count
 last_count (e ∷ f ∷ es) = last_count (f ∷ es)
 
 -- what is true of what a directory holds
-pub record Whole (hash of : List ℕ → List ℕ) (s : State) : Type 0 where
-  pub held : (k : ℕ) (e : Epoch) → slice_get s.epochs k ≡ Some e → HoldsEpoch hash of s.nodes s.records e
+pub record Whole (hash index_of : List ℕ → List ℕ) (s : State) : Type 0 where
+  pub held : (k : ℕ) (e : Epoch) → slice_get s.epochs k ≡ Some e → HoldsEpoch hash index_of s.nodes s.records e
   pub last : last_count s.epochs ≡ length s.records
   pub rising : AreRising 0 (numbers_of (history_of s))
   pub under : AreUnder 1 s.nonce (history_of s)
-  pub chain : IsChainOf hash of s.policy (history_of s) s.chain
+  pub chain : IsChainOf hash index_of s.policy (history_of s) s.chain
 
 -- the epoch of exactly this number, with the entry of that number
-pub record IsAt (hash of : List ℕ → List ℕ) (s : State) (t : ℕ) (e : Epoch) (entry : Entry) : Type 0 where
-  pub holds : HoldsEpoch hash of s.nodes s.records e
+pub record IsEpochAt (hash index_of : List ℕ → List ℕ) (s : State) (t : ℕ) (e : Epoch) (entry : Entry) : Type 0 where
+  pub holds : HoldsEpoch hash index_of s.nodes s.records e
   pub shown : shown_at (history_of s) t ≡ Some (shown_of s.records e)
   pub signed : find (λ (f : Entry). f.body.t == t) s.chain ≡ Some entry
-  pub root : entry.body.root.0 ≡ root_at hash of (shown_of s.records e)
+  pub root : entry.body.root.0 ≡ root_at hash index_of (shown_of s.records e)
   pub nonce : entry.body.nonce.0 ≡ e.nonce.0
 
--- the epoch of exactly this number and its entry, or none where there is no such epoch
+-- the epoch of exactly this number and its entry, or none if there is no such epoch
 abbrev pub IsInstalled : (List ℕ → List ℕ) → (List ℕ → List ℕ) → State → ℕ → Option (Epoch × Entry) → Type 0
-IsInstalled hash of s t None = shown_at (history_of s) t ≡ None
-IsInstalled hash of s t (Some it) = IsAt hash of s t it.0 it.1
+IsInstalled hash index_of s t None = shown_at (history_of s) t ≡ None
+IsInstalled hash index_of s t (Some it) = IsEpochAt hash index_of s t it.0 it.1

@@ -14,34 +14,36 @@ use Rattle.coniks_directory.specs.declared.supplied.SupplyFault.TheVariants.{Nam
 
 -- both give each name of the registry the same index
 abbrev pub AgreeOn : (List ℕ → List ℕ) → (List ℕ → List ℕ) → Registry → Type 0
-AgreeOn of also registry = (name : List ℕ) → has_name registry name ≡ true → of name ≡ also name
+AgreeOn index_of also registry = (name : List ℕ) → has_name registry name ≡ true → index_of name ≡ also name
 
 -- the second gives the name this index, and each other name the index that the first gives it
-pub record IsSupplied (of : List ℕ → List ℕ) (name index : List ℕ) (also : List ℕ → List ℕ) : Type 0 where
+pub record IsSupplied (index_of : List ℕ → List ℕ) (name index : List ℕ) (also : List ℕ → List ℕ) : Type 0 where
   pub here : also name ≡ index
-  pub others : (other : List ℕ) → other ≢ name → also other ≡ of other
+  pub others : (other : List ℕ) → other ≢ name → also other ≡ index_of other
 
 -- the name has a name's length, and isn't registered with another index
-pub record MaySupply (of : List ℕ → List ℕ) (registry : Registry) (name index : List ℕ) : Type 0 where
+pub record MaySupply (index_of : List ℕ → List ℕ) (registry : Registry) (name index : List ℕ) : Type 0 where
   pub sized : fits MAX_NAME name ≡ true
-  pub kept : has_name registry name ≡ true → of name ≡ index
+  pub kept : has_name registry name ≡ true → index_of name ≡ index
 
 -- the name is registered with another index
 abbrev pub HasOtherIndex : (List ℕ → List ℕ) → Registry → List ℕ → List ℕ → Type 0
-HasOtherIndex of registry name index = (has_name registry name ≡ true) × (of name ≢ index)
+HasOtherIndex index_of registry name index = (has_name registry name ≡ true) × (index_of name ≢ index)
 
 -- why an index is refused: the first error that applies, in the order of the type
 abbrev pub IsSupplyFault : (List ℕ → List ℕ) → Registry → List ℕ → List ℕ → SupplyFault → Type 0
-IsSupplyFault of registry name index NameLength = fits MAX_NAME name ≡ false
-IsSupplyFault of registry name index OtherIndex = (fits MAX_NAME name ≡ true) × HasOtherIndex of registry name index
-IsSupplyFault of registry name index OutOfMemory = MaySupply of registry name index
+IsSupplyFault index_of registry name index NameLength = fits MAX_NAME name ≡ false
+IsSupplyFault index_of registry name index OtherIndex = (fits MAX_NAME name ≡ true) × HasOtherIndex index_of registry name index
+IsSupplyFault index_of registry name index OutOfMemory = MaySupply index_of registry name index
 
 -- why a lookup of a name at this index is refused: the first error that applies, in the order of the type
 abbrev pub IsMissedAt : (List ℕ → List ℕ) → List Shown → Registry → ℕ → List ℕ → List ℕ → LookupAtFault → Type 0
-IsMissedAt of history registry t name index at.UnknownEpoch = shown_at history t ≡ None
-IsMissedAt of history registry t name index at.NameLength = (is_some (shown_at history t) ≡ true) × (fits MAX_NAME name ≡ false)
-IsMissedAt of history registry t name index at.OtherIndex = (is_some (shown_at history t) ≡ true) × (fits MAX_NAME name ≡ true) × HasOtherIndex of registry name index
-IsMissedAt of history registry t name index at.OutOfMemory = (is_some (shown_at history t) ≡ true) × MaySupply of registry name index
+IsMissedAt index_of history registry t name index at.UnknownEpoch = shown_at history t ≡ None
+IsMissedAt index_of history registry t name index at.NameLength = (is_some (shown_at history t) ≡ true) × (fits MAX_NAME name ≡ false)
+IsMissedAt index_of history registry t name index at.OtherIndex = (is_some (shown_at history t) ≡ true)
+    × (fits MAX_NAME name ≡ true) × HasOtherIndex index_of registry name index
+IsMissedAt index_of history registry t name index at.OutOfMemory = (is_some (shown_at history t) ≡ true)
+    × MaySupply index_of registry name index
 
 -- a name, and the index that was supplied for it
 abbrev pub Supplied : Type 0

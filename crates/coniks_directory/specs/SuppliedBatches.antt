@@ -11,7 +11,8 @@ use Rattle.coniks_proof.specs.declared.values.TheConstants.{MAX_OPERATIONS}
 use Rattle.coniks_tree.specs.declared.table.Record.{Record}
 use Rattle.coniks_work.specs.declared.jobs.TheConstants.{MAX_DEPTH}
 use Rattle.coniks_directory.specs.Batches.{AreWorkers, IsBatchFault, fault_is, operation_of}
-use Rattle.coniks_directory.specs.State.{State}
+use Rattle.coniks_directory.specs.History.{latest_registry}
+use Rattle.coniks_directory.specs.State.{State, history_of}
 use Rattle.coniks_directory.specs.Supplied.{AgreeOn, Supplied, is_supplied, supplied_index}
 use Rattle.coniks_directory.specs.Updates.{IsUpdateOf}
 use Rattle.coniks_directory.specs.declared.batch.BatchFault.TheVariants.{Workers, Depth, BatchTooLong, At, OutOfMemory}
@@ -41,11 +42,11 @@ named_in batch = map (λ x. (x.op.name, x.index)) batch
 
 -- the index of a name among these, or the one that the function gives it
 abbrev pub given_index : List Supplied → (List ℕ → List ℕ) → List ℕ → List ℕ
-given_index named of name = if is_supplied named name then supplied_index named name else of name
+given_index named index_of name = if is_supplied named name then supplied_index named name else index_of name
 
 -- the indices that a batch is checked by: a registered name keeps its index, and another name has the one that comes with it
 abbrev pub index_in : (List ℕ → List ℕ) → Registry → List Indexed → List ℕ → List ℕ
-index_in of registry batch name = if has_name registry name then of name else given_index (named_in batch) of name
+index_in index_of registry batch name = if has_name registry name then index_of name else given_index (named_in batch) index_of name
 
 -- of the names of operations, those that aren't registered, each with the index that comes first
 pub record IsFresh (registry : Registry) (fresh named : List Supplied) : Type 0 where
@@ -55,7 +56,7 @@ pub record IsFresh (registry : Registry) (fresh named : List Supplied) : Type 0 
 
 -- the name of the operation is registered with another index
 abbrev pub has_other : (List ℕ → List ℕ) → Registry → Indexed → Bool
-has_other of registry x = has_name registry x.op.name && not (bytes_eq (of x.op.name) x.index)
+has_other index_of registry x = has_name registry x.op.name && not (bytes_eq (index_of x.op.name) x.index)
 
 -- what may be wrong with an operation that comes with an index
 pub data SuppliedFault : Type 0 where
@@ -69,27 +70,28 @@ or_other true (Some index_clash) = Some other_index
 or_other _ None = None
 or_other _ (Some fault) = Some (of_operation fault)
 
--- an operation at a place, where it has a fault
+-- an operation at a place, if it has a fault
 abbrev pub placed_fault : ℕ → Option SuppliedFault → Option (ℕ × SuppliedFault) → Option (ℕ × SuppliedFault)
 placed_fault place (Some fault) later = Some (place, fault)
 placed_fault place None later = later
 
--- what is wrong with operations by indices, where a registered name has the index that the first function gives it
-module _ (of : List ℕ → List ℕ) (registry : Registry) where
+-- the faults of operations with indices; a registered name has the index that the first function gives it
+module _ (index_of : List ℕ → List ℕ) (registry : Registry) where
   -- the first operation with a fault, from a place on, and its first fault
   abbrev pub supplied_fault_from : (List ℕ → List ℕ) → List Registered → ℕ → List Indexed → Option (ℕ × SuppliedFault)
   supplied_fault_from index earlier place [] = None
   supplied_fault_from index earlier place (x ∷ xs) =
-      placed_fault place (or_other (has_other of registry x) (fault_of index registry earlier x.op)) (supplied_fault_from index (earlier ++ bound_by x.op ∷ []) (place + 1) xs)
+      placed_fault place (or_other (has_other index_of registry x) (fault_of index registry earlier x.op))
+      (supplied_fault_from index (earlier ++ bound_by x.op ∷ []) (place + 1) xs)
 
   -- the first operation of a batch with a fault, and its first fault
   abbrev pub supplied_fault : List Indexed → Option (ℕ × SuppliedFault)
-  supplied_fault batch = supplied_fault_from (index_in of registry batch) [] 0 batch
+  supplied_fault batch = supplied_fault_from (index_in index_of registry batch) [] 0 batch
 
   -- the place of the first operation whose name is registered with another index, from a place on
   abbrev pub other_from : ℕ → List Indexed → Option ℕ
   other_from place [] = None
-  other_from place (x ∷ xs) = if has_other of registry x then Some place else other_from (place + 1) xs
+  other_from place (x ∷ xs) = if has_other index_of registry x then Some place else other_from (place + 1) xs
 
 -- the error of the operation at a place, unless another index comes before it at a second place
 abbrev pub earlier_of : ℕ → Fault → ℕ → ℕ × SuppliedFault
@@ -114,28 +116,34 @@ supplied_fault_is (OtherIndex position) = Some (position, other_index)
 
 -- an error is the first of those of the operations and of another index at a place, or an allocation failed
 abbrev pub IsEarliest : (List ℕ → List ℕ) → Registry → List Operation → ℕ → SuppliedBatchFault → Type 0
-IsEarliest of registry ops place (Batch OutOfMemory) = Unit {0}
-IsEarliest of registry ops place (Batch Workers) = ⊥
-IsEarliest of registry ops place (Batch Depth) = ⊥
-IsEarliest of registry ops place (Batch BatchTooLong) = ⊥
-IsEarliest of registry ops place (Batch (At position fault)) = earliest (first_fault of registry ops) (Some place) ≡ Some (position, of_operation (fault_is fault))
-IsEarliest of registry ops place (OtherIndex position) = earliest (first_fault of registry ops) (Some place) ≡ Some (position, other_index)
+IsEarliest index_of registry ops place (Batch OutOfMemory) = Unit {0}
+IsEarliest index_of registry ops place (Batch Workers) = ⊥
+IsEarliest index_of registry ops place (Batch Depth) = ⊥
+IsEarliest index_of registry ops place (Batch BatchTooLong) = ⊥
+IsEarliest index_of registry ops place (Batch (At position fault)) = earliest
+    (first_fault index_of registry ops) (Some place) ≡ Some (position, of_operation (fault_is fault))
+IsEarliest index_of registry ops place (OtherIndex position) = earliest
+    (first_fault index_of registry ops) (Some place) ≡ Some (position, other_index)
 
 -- workers, depth and the batch's length are within their limits
 pub record IsWithin (batch : List Indexed) (depth workers : ℕ) : Type 0 where
-  pub crew : AreWorkers workers
+  pub worker_count : AreWorkers workers
   pub shallow : depth ≤ MAX_DEPTH
   pub few : length batch ≤ MAX_OPERATIONS
 
 -- why such a batch isn't accepted: the first error that applies, in the order of the type, or an allocation failed
 abbrev pub IsSuppliedFault : (List ℕ → List ℕ) → Registry → List Indexed → ℕ → ℕ → SuppliedBatchFault → Type 0
-IsSuppliedFault of registry batch depth workers (Batch Workers) = IsBatchFault of registry (operations_of batch) depth workers Workers
-IsSuppliedFault of registry batch depth workers (Batch Depth) = IsBatchFault of registry (operations_of batch) depth workers Depth
-IsSuppliedFault of registry batch depth workers (Batch BatchTooLong) = IsBatchFault of registry (operations_of batch) depth workers BatchTooLong
-IsSuppliedFault of registry batch depth workers (Batch (At position fault)) =
-    IsWithin batch depth workers × (supplied_fault of registry batch ≡ Some (position, of_operation (fault_is fault)))
-IsSuppliedFault of registry batch depth workers (Batch OutOfMemory) = IsWithin batch depth workers
-IsSuppliedFault of registry batch depth workers (OtherIndex position) = IsWithin batch depth workers × (supplied_fault of registry batch ≡ Some (position, other_index))
+IsSuppliedFault index_of registry batch depth workers (Batch Workers) =
+    IsBatchFault index_of registry (operations_of batch) depth workers Workers
+IsSuppliedFault index_of registry batch depth workers (Batch Depth) =
+    IsBatchFault index_of registry (operations_of batch) depth workers Depth
+IsSuppliedFault index_of registry batch depth workers (Batch BatchTooLong) =
+    IsBatchFault index_of registry (operations_of batch) depth workers BatchTooLong
+IsSuppliedFault index_of registry batch depth workers (Batch (At position fault)) =
+    IsWithin batch depth workers × (supplied_fault index_of registry batch ≡ Some (position, of_operation (fault_is fault)))
+IsSuppliedFault index_of registry batch depth workers (Batch OutOfMemory) = IsWithin batch depth workers
+IsSuppliedFault index_of registry batch depth workers (OtherIndex position) = IsWithin batch depth workers
+    × (supplied_fault index_of registry batch ≡ Some (position, other_index))
 
 -- the indices with this one for a name, in the order of the names, each name once
 abbrev pub put_index : List Supplied → List ℕ → List ℕ → List Supplied
@@ -155,16 +163,16 @@ indices_of update = indices_in update.records.items
 
 -- the names of the operations, with their indices in the batch
 abbrev pub indices_by : (List ℕ → List ℕ) → List Operation → List Supplied
-indices_by of ops = map (λ (op : Operation). (op.name, of op.name)) ops
+indices_by index_of ops = map (λ (op : Operation). (op.name, index_of op.name)) ops
 
 -- each of the names has the index that the function gives it
 abbrev pub AreOf : (List ℕ → List ℕ) → List Supplied → Type 0
-AreOf of [] = Unit {0}
-AreOf of (x ∷ xs) = (x.1 ≡ of x.0) × AreOf of xs
+AreOf index_of [] = Unit {0}
+AreOf index_of (x ∷ xs) = (x.1 ≡ index_of x.0) × AreOf index_of xs
 
 -- the update holds the indices of its names, and by a function that gives these, and each registered name its index, it was prepared from a
 -- directory in this state or an earlier one
-pub record IsSuppliedUpdate (hash of : List ℕ → List ℕ) (registry : Registry) (s : State) (p : Prepared) (index : List ℕ → List ℕ) : Type 0 where
-  pub agree : AgreeOn of index registry
+pub record IsSuppliedUpdate (hash index_of : List ℕ → List ℕ) (s : State) (p : Prepared) (index : List ℕ → List ℕ) : Type 0 where
+  pub agree : AgreeOn index_of index (latest_registry (history_of s))
   pub update : IsUpdateOf hash index s p
   pub held : AreOf index (indices_of p)

@@ -1,9 +1,10 @@
 -- Updates that were prepared, and what an install of one leaves.
-use Rattle.std.specs.Prelude.{◌≡◌, ◌≢◌, ◌<◌, ◌≤◌, ℕ, List, [], ◌++◌, length, Option, None}
+use Rattle.std.specs.Prelude.{◌≡◌, ◌≢◌, ◌<◌, ◌≤◌, ◌+◌, ℕ, List, [], ◌++◌, length, Option, None}
 use Rattle.coniks_proof.specs.Batches.{Operation, after}
 use Rattle.coniks_proof.specs.Registry.{Registry}
 use Rattle.coniks_chain.specs.Entries.{body_bytes}
 use Rattle.coniks_chain.specs.declared.entry.Body.{Body}
+use Rattle.coniks_chain.specs.declared.entry.Entry.{Entry}
 use Rattle.coniks_chain.specs.declared.entry.Signature.{Signature}
 use Rattle.coniks_tree.specs.Table.{Numbered, Extends}
 use Rattle.coniks_tree.specs.Parts.{Stands, Fits, Placed}
@@ -38,31 +39,31 @@ registry_after s p = registry_at (records_after s p) (length (records_after s p)
 abbrev pub shown_after : State → Prepared → ℕ → Shown
 shown_after s p t = record { t = t; version = p.version; nonce = p.nonce.0; registry = registry_after s p }
 
--- the epoch that a commit of a batch makes under a number
-abbrev pub shown_next : State → List Operation → ℕ → Shown
-shown_next s ops t = record {
+-- the epoch that a commit of a batch makes under a number, with a new nonce or with the latest
+abbrev pub shown_with : State → Option (List ℕ) → List Operation → ℕ → Shown
+shown_with s new_nonce ops t = record {
   t = t;
-  version = latest_version 1 (history_of s);
-  nonce = latest_nonce s.nonce (history_of s);
+  version = version_after new_nonce (latest_version 1 (history_of s));
+  nonce = nonce_after new_nonce (latest_nonce s.nonce (history_of s));
   registry = after (latest_registry (history_of s)) ops;
 }
 
--- the update brings this nonce and version 2, or it keeps the latest nonce and version
-pub record Brings (s : State) (brought : Option (List ℕ)) (p : Prepared) : Type 0 where
-  pub version : p.version ≡ version_after brought (latest_version 1 (history_of s))
-  pub nonce : p.nonce.0 ≡ nonce_after brought (latest_nonce s.nonce (history_of s))
+-- the update rotates the nonce to this one and has version 2, or it keeps the latest nonce and version
+pub record RotatesTo (s : State) (new_nonce : Option (List ℕ)) (p : Prepared) : Type 0 where
+  pub version : p.version ≡ version_after new_nonce (latest_version 1 (history_of s))
+  pub nonce : p.nonce.0 ≡ nonce_after new_nonce (latest_nonce s.nonce (history_of s))
 
 -- the update was prepared from a directory in this state
-pub record IsUpdate (hash of : List ℕ → List ℕ) (s : State) (p : Prepared) : Type 0 where
+pub record IsUpdate (hash index_of : List ℕ → List ℕ) (s : State) (p : Prepared) : Type 0 where
   pub base : p.base ≡ length s.epochs
   pub counted : last_count s.epochs ≡ length s.records
-  pub brought : Option (List ℕ)
-  pub brings : Brings s brought p
+  pub new_nonce : Option (List ℕ)
+  pub rotates : RotatesTo s new_nonce p
   pub fits : Fits (length s.nodes) 0 p.part
   pub placed : Placed (records_after s p) p.part
   pub entries : List Numbered
   pub stands : Stands hash p.nonce.0 s.nodes s.records p.part [] entries
-  pub mirrors : Mirrors hash of (records_after s p) entries (registry_after s p)
+  pub mirrors : Mirrors hash index_of (records_after s p) entries (registry_after s p)
 
 -- the second state is a later one of the same directory
 pub record Grows (s t : State) : Type 0 where
@@ -77,12 +78,13 @@ pub record Grows (s t : State) : Type 0 where
   pub still : more_epochs ≡ [] → more_records ≡ []
 
 -- the update was prepared from this directory, in this state or an earlier one
-pub record IsUpdateOf (hash of : List ℕ → List ℕ) (s : State) (p : Prepared) : Type 0 where
+pub record IsUpdateOf (hash index_of : List ℕ → List ℕ) (s : State) (p : Prepared) : Type 0 where
   pub earlier : State
   pub grows : Grows earlier s
-  pub update : IsUpdate hash of earlier p
+  pub update : IsUpdate hash index_of earlier p
 
--- an update that was prepared when there were `base` epochs may be installed under the number t, with so many heads on a board of this capacity
+-- an update that was prepared when there were `base` epochs may be installed
+-- under the number t, with so many heads on a board of this capacity
 pub record MayInstall (s : State) (base t published capacity : ℕ) : Type 0 where
   pub fresh : base ≡ length s.epochs
   pub later : latest_epoch (history_of s) < t
@@ -91,12 +93,13 @@ pub record MayInstall (s : State) (base t published capacity : ℕ) : Type 0 whe
 -- why an update is refused: of what applies, the first in the order of the faults
 abbrev pub IsRefused : State → ℕ → ℕ → ℕ → ℕ → InstallFault → Type 0
 IsRefused s base t published capacity (Stale latest) = (latest ≡ latest_epoch (history_of s)) × (base ≢ length s.epochs)
-IsRefused s base t published capacity (EpochNotLater latest) = (latest ≡ latest_epoch (history_of s)) × (base ≡ length s.epochs) × (t ≤ latest)
+IsRefused s base t published capacity (EpochNotLater latest) = (latest ≡ latest_epoch (history_of s))
+    × (base ≡ length s.epochs) × (t ≤ latest)
 IsRefused s base t published capacity BoardFull = (base ≡ length s.epochs) × (latest_epoch (history_of s) < t) × (published ≡ capacity)
 IsRefused s base t published capacity OutOfMemory = MayInstall s base t published capacity
 IsRefused s base t published capacity SignerRefused = MayInstall s base t published capacity
 
--- how often the signer refused in an install that answered this fault
+-- the number of refusals of the signer in an install that returned this fault
 abbrev pub refusals : InstallFault → ℕ
 refusals (Stale latest) = 0
 refusals (EpochNotLater latest) = 0
@@ -114,16 +117,21 @@ LeavesSigner signs body old new SignerRefused = signs old (body_bytes body) None
 
 -- why a batch isn't committed: it isn't accepted, or its update is refused, which is never stale
 abbrev pub IsCommitFault : (List ℕ → List ℕ) → State → List Operation → ℕ → ℕ → ℕ → ℕ → ℕ → CommitFault → Type 0
-IsCommitFault of s ops depth workers t published capacity (Batch fault) = IsBatchFault of (latest_registry (history_of s)) ops depth workers fault
-IsCommitFault of s ops depth workers t published capacity (Install fault) =
-    IsAccepted of (latest_registry (history_of s)) ops depth workers × IsRefused s (length s.epochs) t published capacity fault
+IsCommitFault index_of s ops depth workers t published capacity (Batch fault) =
+    IsBatchFault index_of (latest_registry (history_of s)) ops depth workers fault
+IsCommitFault index_of s ops depth workers t published capacity (Install fault) =
+    IsAccepted index_of (latest_registry (history_of s)) ops depth workers × IsRefused s (length s.epochs) t published capacity fault
+
+-- the signer refused this many times, made no signature, and has the last entry that it had
+abbrev pub HasRefused : {S : Type 0} → (made refused : S → ℕ) → (last : S → Option Entry) → S → S → ℕ → Type 0
+HasRefused made refused last old new times = (made new ≡ made old) × (refused new ≡ refused old + times) × (last new ≡ last old)
 
 -- what a refused commit leaves of its signer: a batch that isn't accepted leaves it as it was
 abbrev pub CommitLeavesSigner : {S : Type 0} → (S → List ℕ → Option Signature → S → Type 0) → Body → S → S → CommitFault → Type 0
 CommitLeavesSigner signs body old new (Batch fault) = new ≡ old
 CommitLeavesSigner signs body old new (Install fault) = LeavesSigner signs body old new fault
 
--- how often the signer refused in a commit that answered this fault
+-- the number of refusals of the signer in a commit that returned this fault
 abbrev pub commit_refusals : CommitFault → ℕ
 commit_refusals (Batch fault) = 0
 commit_refusals (Install fault) = refusals fault

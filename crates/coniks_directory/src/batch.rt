@@ -1,4 +1,4 @@
-//! Operations on the registry, and why a batch of them isn't accepted.
+//! Operations on the registry, and the errors of a batch.
 
 ghost use Rattle.std.specs.Prelude.{◌≤◌, List, ℕ, IfErr, OnOk, length};
 ghost use Rattle.coniks_proof.specs.Registry.{Registry};
@@ -8,7 +8,7 @@ use coniks_proof::{Bytes, MAX_KEY, MAX_NAME, MAX_OPERATIONS, Opening};
 use coniks_work::{MAX_DEPTH, MAX_WORKERS};
 use thiserror::Error;
 
-/// Whether an operation registers a new name or changes the key of one that is there.
+/// The kind of an operation: it registers a new name, or changes the key of a registered one.
 #[derive(Clone, Copy, Debug, PartialEq, Eq)]
 pub enum OpKind {
     Register,
@@ -23,11 +23,11 @@ pub struct Op {
     pub name: Bytes,
     /// 1 to `MAX_KEY` bytes.
     pub key: Bytes,
-    /// What opens the commitment to the name and the key.
+    /// The opening of the commitment to the name and the key.
     pub opening: Opening,
 }
 
-/// What is wrong with an operation: of what applies, the first in this order.
+/// The error of an operation. If several apply, the first in declaration order is returned.
 #[derive(Clone, Copy, Debug, Drop, PartialEq, Eq, Error)]
 pub enum OpFault {
     #[error("the name is empty or longer than {} bytes", MAX_NAME)]
@@ -44,8 +44,9 @@ pub enum OpFault {
     IndexClash,
 }
 
-/// Why a batch isn't accepted: of what applies, the first in this order. `OutOfMemory` may come in place of the fault of
-/// an operation.
+/// The error of a batch. If several apply, the first in declaration order is returned.
+///
+/// `OutOfMemory` can also replace the error of an operation.
 #[derive(Clone, Copy, Debug, Drop, PartialEq, Eq, Error)]
 pub enum BatchFault {
     #[error("the number of workers isn't 1 to {}", MAX_WORKERS)]
@@ -54,19 +55,24 @@ pub enum BatchFault {
     Depth,
     #[error("there are more than {} operations", MAX_OPERATIONS)]
     BatchTooLong,
-    /// The first operation at fault, counted from 0, and its first fault.
+    /// The position of the first operation that has an error, counted from 0, and its first error.
     #[error("operation {position}: {fault}")]
     At { position: usize, fault: OpFault },
     #[error("out of memory")]
     OutOfMemory,
 }
 
-/// Whether workers, depth and the batch's length are within their limits.
+/// Checks that the workers, the split depth and the batch's length are within their limits.
+///
+/// # Errors
+///
+/// `Workers`, `Depth` or `BatchTooLong`, the first that applies.
 pub(crate) fn within_limits(ops: &[Op], depth: usize, workers: usize) -> Result<(), BatchFault>
     ensures workers { OnOk result (AreWorkers workers) }
     ensures depth { OnOk result (depth ≤ MAX_DEPTH) }
     ensures few { OnOk result (length ops.now ≤ MAX_OPERATIONS) }
-    ensures refused { IfErr result (λ fault. (of : List ℕ → List ℕ) (registry : Registry) → IsBatchFault of registry (operations ops.now) depth workers fault) }
+    ensures refused { IfErr result
+        (λ fault. (index_of : List ℕ → List ℕ) (registry : Registry) → IsBatchFault index_of registry (operations ops.now) depth workers fault) }
     ensures limit { IfErr result IsLimit }
 {
     if workers == 0 || workers > MAX_WORKERS {

@@ -1,17 +1,17 @@
-//! The changes of a batch that was judged.
+//! The changes of a checked batch.
 
 ghost use Rattle.std.specs.Prelude.{◌≡◌, ◌<◌, ◌+◌, ◌^◌, All, List, ℕ, IfOk, length};
 ghost use Rattle.std.specs.BTreeMap.{values};
 ghost use Rattle.coniks_proof.specs.Registry.{Registered};
-ghost use Rattle.coniks_tree.specs.Parts.{entries_of, entry_of_change};
+ghost use Rattle.coniks_tree.specs.Parts.{entries_in, entry_of_change};
 ghost use Rattle.coniks_tree.specs.Table.{entry_of_record};
-ghost use Rattle.coniks_directory.specs.Judged.{AreChangesOf, AreDrafts};
+ghost use Rattle.coniks_directory.specs.Judged.{AreChangesOf, ArePendingRecords};
 
-use crate::drafts::Drafts;
+use crate::pending::PendingRecords;
 use coniks_tree::{Change, Record, RecordNo};
 use std::alloc::{AllocError, Global};
 
-/// The change that puts a record into the tree, which is to stand at a place.
+/// Returns the change that stores a record in the tree, for a record at this position.
 fn change_to(place: usize, new: &Record) -> Change
     ensures { entry_of_change result ≡ entry_of_record place new.now }
 {
@@ -22,20 +22,23 @@ fn change_to(place: usize, new: &Record) -> Change
     }
 }
 
-/// The changes that put the records into the tree, in increasing order of index. The records are to be stored from `base` on.
+/// Returns the changes that store the records in the tree, in increasing order of index.
+///
+/// The records are stored from position `base` on.
 pub(crate) fn changes_of(
     alloc: Global,
     base: usize,
-    drafts: &Drafts,
+    pending: &PendingRecords,
 ) -> Result<Vec<Change>, AllocError>
-    requires numbered { All (λ n. n < length drafts.now.records.items) (values drafts.now.numbers) }
-    requires fits { base + length drafts.now.records.items < 2 ^ 64 }
-    ensures { IfOk result (λ changes. (hash of : List ℕ → List ℕ) (bound : List Registered) → AreDrafts hash of bound drafts.now.records.items drafts.now.numbers
-        → AreChangesOf base drafts.now.records.items (entries_of changes.items)) }
+    requires numbered { All (λ n. n < length pending.now.records.items) (values pending.now.numbers) }
+    requires fits { base + length pending.now.records.items < 2 ^ 64 }
+    ensures { IfOk result (λ changes. (hash index_of : List ℕ → List ℕ) (bound : List Registered)
+        → ArePendingRecords hash index_of bound pending.now.records.items pending.now.numbers
+        → AreChangesOf base pending.now.records.items (entries_in changes.items)) }
 {
-    let mut changes = Vec::with_capacity(alloc, drafts.records.len())?;
-    for &number in drafts.numbers.values() {
-        changes.push(change_to(base + number, &drafts.records[number]))?;
+    let mut changes = Vec::with_capacity(alloc, pending.records.len())?;
+    for &number in pending.numbers.values() {
+        changes.push(change_to(base + number, &pending.records[number]))?;
     }
     Ok(changes)
 }

@@ -5,19 +5,23 @@ ghost use Rattle.coniks_chain.specs.Entries.{body_bytes};
 ghost use Rattle.coniks_proof.specs.Batches.{after};
 ghost use Rattle.coniks_proof.specs.Registry.{has_name};
 ghost use Rattle.coniks_tree.specs.Parts.{KeepsNone};
-ghost use Rattle.coniks_directory.specs.Batches.{most_anew, most_nodes, operations};
-ghost use Rattle.coniks_directory.specs.Directories.{Accepts, Checks, Finds, FindsAt, HasGoodChain, HasItsChain, HasPrepared, IsAlike, Misses, MissesAt, NextBody, Prepares, Refuses, Renews, Shows, ShowsAt, Takes, entry, heads, history, registry, root};
-ghost use Rattle.coniks_directory.specs.History.{AllHaveOwnIndices, AreRising, AreUnder, numbers_of};
+ghost use Rattle.coniks_directory.specs.Batches.{IsAccepted, IsBatchFault, most_anew, most_nodes, operations};
+ghost use Rattle.coniks_directory.specs.Chain.{IsChainOf};
+ghost use Rattle.coniks_directory.specs.Directories.{FindsAt, HasGoodChain, IsAlike, NextBody, NextBodyBy, ShowsAt, batch_index, entry, heads, history, registry, root_of_epoch};
+ghost use Rattle.coniks_directory.specs.History.{AllHaveOwnIndices, AreRising, AreUnder, nonce_bytes, numbers_of};
+ghost use Rattle.coniks_directory.specs.Lookups.{IsAcceptedAt, IsAcceptedUnder, IsFound, IsMissed};
+ghost use Rattle.coniks_directory.specs.Supplied.{IsMissedAt, MaySupply};
+ghost use Rattle.coniks_directory.specs.Updates.{HasRefused, IsUpdate, IsUpdateOf, RotatesTo};
 
 use crate::batch::{BatchFault, Op, within_limits};
-use crate::held::Held;
+use crate::conflicts::{holder_at, is_of};
 use crate::install::{enter, head_of, last_link, make_body, may_install, put_head, signed};
 use crate::judge::judged;
 use crate::lengths::{is_length, is_name};
 use crate::lookup::{LookupAtFault, LookupFault, SignedProof};
-use crate::preparing::update_on;
+use crate::preparing::{Build, Origin, update_on};
 use crate::source::IndexSource;
-use crate::stand::{holder_at, is_of};
+use crate::state::DirectoryState;
 use crate::supplied::{SuppliedIndices, SupplyFault, SupplyIndex};
 use crate::supplied_batch::{
     BatchIndices, SuppliedBatch, SuppliedBatchFault, earlier_of, supply_all,
@@ -31,15 +35,17 @@ use std::alloc::{AllocError, Global};
 use std::marker::Model;
 use std::thread::Threads;
 
-/// Names bound to keys, epoch by epoch. Contracts see it as its hash, its index source and its state: the nonce of `open`,
-/// the policy, the nodes and records of the tree that all epochs share, the epochs and the chain. Its history is the list
-/// of its epochs with their registries.
+/// Names bound to keys, epoch by epoch.
+///
+/// Contracts see a directory as its hash, its index source and its state. The state contains the nonce of `open`, the
+/// policy, the nodes and records of the tree that all epochs share, the epochs and the chain. The history is the list of
+/// the epochs with their registries.
 #[derive(Drop)]
 pub struct Directory<H: Hash32, X: IndexSource> {
     alloc: Global,
     h: H,
     source: X,
-    held: Held,
+    held: DirectoryState,
 }
 
 impl<H: Hash32, X: IndexSource> Model for Directory<H, X> {
@@ -57,8 +63,10 @@ impl<H: Hash32, X: IndexSource> Directory<H, X> {
     ghost use Rattle.coniks_directory.specs.History.{latest_epoch};
     ghost use Rattle.coniks_directory.specs.State.{opened};
 
-    /// A directory with no epochs and no names, whose trees are hashed under this nonce until an update brings another,
-    /// and whose entries name this policy. It takes no memory.
+    /// Opens a directory without epochs and names.
+    ///
+    /// Its trees are hashed under this nonce until an update rotates it. Its entries contain this policy. Allocates
+    /// nothing.
     pub fn open(alloc: Global, h: H, source: X, nonce: Nonce, policy: [u8; 32]) -> Self
         ensures { result ≡ record { hash = h; index = source; state = opened nonce.0 policy } }
     {
@@ -66,21 +74,21 @@ impl<H: Hash32, X: IndexSource> Directory<H, X> {
             alloc,
             h,
             source,
-            held: Held::new(alloc, nonce, policy),
+            held: DirectoryState::new(alloc, nonce, policy),
         }
     }
 
-    /// How many nodes the tree holds.
+    /// Returns the number of nodes that the tree holds.
     pub fn nodes(&self) -> usize
         ensures { result ≡ length self.now.state.nodes }
     {
         self.held.tree.nodes()
     }
 
-    /// The entries, one for each epoch, which is what an auditor asks for.
+    /// Returns the signed tree roots (STRs), one entry for each epoch, which an auditor verifies.
     pub fn chain(&self) -> &[Entry]
         ensures value { result.now ≡ self.now.state.chain }
-        ensures of_history { HasItsChain H.digest_of X.index_of self.now }
+        ensures of_history { IsChainOf (H.digest_of self.now.hash) (X.index_of self.now.index) self.now.state.policy (history self.now) self.now.state.chain }
         ensures rising { AreRising 0 (numbers_of (history self.now)) }
         ensures under { AreUnder 1 self.now.state.nonce (history self.now) }
         ensures names { AllHaveOwnIndices (X.index_of self.now.index) (history self.now) }
@@ -95,8 +103,9 @@ impl<H: Hash32, X: IndexSource> Directory<H, X> {
         self.held.latest()
     }
 
-    /// Returns the link of the latest entry, or 32 zero bytes before the first. The publisher has published just the heads of
-    /// the directory's chain.
+    /// Returns the link of the latest entry, or 32 zero bytes before the first.
+    ///
+    /// The publisher has published exactly the heads of the directory's chain.
     pub fn latest_link(&self, publisher: &Publisher) -> Digest
         requires { publisher.now.heads ≡ heads H.digest_of self.now }
         ensures { result.0 ≡ link_before (before_at (H.digest_of self.now.hash) None self.now.state.chain (length self.now.state.chain)) }
@@ -105,9 +114,9 @@ impl<H: Hash32, X: IndexSource> Directory<H, X> {
         last_link(publisher)
     }
 
-    /// The root of an epoch, where one was installed under exactly this number.
+    /// Returns the root of an epoch, if one was installed under exactly this number.
     pub fn root_at(&self, t: u64) -> Option<Digest>
-        ensures { option_map (λ (r : Digest). r.0) result ≡ root H.digest_of X.index_of self.now t }
+        ensures { option_map (λ (r : Digest). r.0) result ≡ root_of_epoch H.digest_of X.index_of self.now t }
     {
         match self.held.installed(t) {
             Some((epoch, _)) => Some(self.held.tree.node_hash(epoch.root)),
@@ -115,26 +124,41 @@ impl<H: Hash32, X: IndexSource> Directory<H, X> {
         }
     }
 
-    /// The path to a name's index in the tree of an epoch, which shows the name's key or its absence (CONIKS, section
-    /// 3.1). It waits for nobody. A refusal leaves the directory as it was, and the same call can be made again.
+    /// Returns the presence or absence proof for a name in the tree of an epoch (CONIKS, section 3.1).
+    ///
+    /// The proof is the authentication path to the name's index. The call waits for no other thread. After an error the
+    /// directory is unchanged, and the same call can be made again.
+    ///
+    /// # Errors
+    ///
+    /// If several apply, the first in this order is returned.
+    ///
+    /// - `UnknownEpoch` if no epoch was installed under exactly this number.
+    /// - `NameLength` if the name is empty or longer than `MAX_NAME` bytes.
+    /// - `OutOfMemory` if an allocation fails.
     pub fn lookup(&self, t: u64, name: &[u8]) -> Result<Proof, LookupFault>
-        ensures ok { IfOk result (Finds H.digest_of X.index_of self.now t name.now) }
-        ensures accepted { IfOk result (Shows H.digest_of X.index_of self.now t name.now) }
-        ensures missed { IfErr result (Misses self.now t name.now) }
+        ensures ok { IfOk result (IsFound (H.digest_of self.now.hash) (X.index_of self.now.index) (history self.now) t name.now) }
+        ensures accepted { IfOk result (IsAcceptedAt (H.digest_of self.now.hash) (X.index_of self.now.index) (history self.now) t name.now) }
+        ensures missed { IfErr result (IsMissed (history self.now) t name.now) }
     {
         Ok(self.signed_lookup(t, name)?.proof)
     }
 
-    /// What `lookup` answers, with the epoch's entry, which holds the root and the nonce that the proof is checked against,
-    /// and the name's index: under that root and nonce and at that index, `coniks_proof::check` accepts the proof. It waits
-    /// for nobody.
+    /// Looks up a name as `lookup` does, and returns the epoch's entry and the name's index with the proof.
+    ///
+    /// The entry contains the root and the nonce. `coniks_proof::check` accepts the proof under that root and nonce and
+    /// at that index. The call waits for no other thread.
+    ///
+    /// # Errors
+    ///
+    /// The errors of `lookup`, in the same order.
     pub fn signed_lookup(&self, t: u64, name: &[u8]) -> Result<SignedProof, LookupFault>
         ensures entry { IfOk result (λ it. entry self.now t ≡ Some it.entry) }
         ensures index { IfOk result (λ it. it.index.0 ≡ X.index_of self.now.index name.now) }
-        ensures ok { IfOk result (λ it. Finds H.digest_of X.index_of self.now t name.now it.proof) }
-        ensures accepted { IfOk result (λ it. Shows H.digest_of X.index_of self.now t name.now it.proof) }
-        ensures checks { IfOk result (Checks H.digest_of X.index_of self.now t name.now) }
-        ensures missed { IfErr result (Misses self.now t name.now) }
+        ensures ok { IfOk result (λ it. IsFound (H.digest_of self.now.hash) (X.index_of self.now.index) (history self.now) t name.now it.proof) }
+        ensures accepted { IfOk result (λ it. IsAcceptedAt (H.digest_of self.now.hash) (X.index_of self.now.index) (history self.now) t name.now it.proof) }
+        ensures checks { IfOk result (IsAcceptedUnder (H.digest_of self.now.hash) (X.index_of self.now.index) (history self.now) t name.now) }
+        ensures missed { IfErr result (IsMissed (history self.now) t name.now) }
     {
         let Some((epoch, entry)) = self.held.installed(t) else {
             return Err(LookupFault::UnknownEpoch);
@@ -182,7 +206,7 @@ impl<H: Hash32, X: IndexSource> Directory<H, X> {
         is_of(holder_at(&self.held.tree, root, index), name)
     }
 
-    /// Returns whether the name is registered once the update is installed.
+    /// Returns whether the name is registered after an install of the update.
     pub fn is_registered_after(&self, update: &Prepared, name: &[u8]) -> bool
         ensures { result ≡ has_name (registry_after self.now.state update.now) name.now }
     {
@@ -199,18 +223,33 @@ impl<H: Hash32, X: IndexSource> Directory<H, X> {
         own.0 != index.0 && self.is_registered_at(&own, name)
     }
 
-    /// Looks up a name at an index that comes with the call, and stores nothing. The proof is the one that `lookup` returns
-    /// if the source gives the name this index. It waits for nobody.
+    /// Looks up a name at an index that comes with the call, and stores nothing.
+    ///
+    /// The proof is the one that `lookup` returns if the source gives the name this index. The call waits for no other
+    /// thread.
+    ///
+    /// # Errors
+    ///
+    /// If several apply, the first in this order is returned.
+    ///
+    /// - `UnknownEpoch` if no epoch was installed under exactly this number.
+    /// - `NameLength` if the name is empty or longer than `MAX_NAME` bytes.
+    /// - `OtherIndex` if the name is registered with another index.
+    /// - `OutOfMemory` if an allocation fails.
     pub fn lookup_at(&self, t: u64, name: &[u8], index: Index) -> Result<Proof, LookupAtFault>
-        ensures may { OnOk result (Takes X.index_of self.now name.now index.0) }
+        ensures may { OnOk result (MaySupply (X.index_of self.now.index) (registry self.now) name.now index.0) }
         ensures ok { IfOk result (FindsAt H.digest_of X.index_of self.now t name.now index.0) }
         ensures accepted { IfOk result (ShowsAt H.digest_of X.index_of self.now t name.now index.0) }
-        ensures missed { IfErr result (MissesAt X.index_of self.now t name.now index.0) }
+        ensures missed { IfErr result (IsMissedAt (X.index_of self.now.index) (history self.now) (registry self.now) t name.now index.0) }
     {
         Ok(self.signed_lookup_at(t, name, index)?.proof)
     }
 
     /// Looks up a name as `lookup_at` does, and returns the epoch's entry and the index with the proof.
+    ///
+    /// # Errors
+    ///
+    /// The errors of `lookup_at`, in the same order.
     pub fn signed_lookup_at(
         &self,
         t: u64,
@@ -219,10 +258,10 @@ impl<H: Hash32, X: IndexSource> Directory<H, X> {
     ) -> Result<SignedProof, LookupAtFault>
         ensures entry { IfOk result (λ it. entry self.now t ≡ Some it.entry) }
         ensures index { IfOk result (λ it. it.index ≡ supplied) }
-        ensures may { OnOk result (Takes X.index_of self.now name.now supplied.0) }
+        ensures may { OnOk result (MaySupply (X.index_of self.now.index) (registry self.now) name.now supplied.0) }
         ensures ok { IfOk result (λ it. FindsAt H.digest_of X.index_of self.now t name.now supplied.0 it.proof) }
         ensures accepted { IfOk result (λ it. ShowsAt H.digest_of X.index_of self.now t name.now supplied.0 it.proof) }
-        ensures missed { IfErr result (MissesAt X.index_of self.now t name.now supplied.0) }
+        ensures missed { IfErr result (IsMissedAt (X.index_of self.now.index) (history self.now) (registry self.now) t name.now supplied.0) }
     {
         let Some((epoch, signed)) = self.held.installed(t) else {
             return Err(LookupAtFault::UnknownEpoch);
@@ -248,16 +287,26 @@ impl<H: Hash32, X: SupplyIndex> Directory<H, X> {
     ghost use Rattle.coniks_directory.specs.Supplied.{AgreeOn, IsSupplied, IsSupplyFault};
     ghost use Rattle.coniks_directory.specs.Updates.{registry_after};
 
-    /// Supplies the index of a name, which the name has from then on. A registered name keeps its index and can be supplied
-    /// it again; all that is installed stays as it is. After an error nothing has changed.
+    /// Supplies the index of a name, which the name has from then on.
     ///
-    /// A prepared update can still be installed, unless it binds the name and was prepared under another index of it.
+    /// A registered name keeps its index and can be supplied it again. All that is installed is unchanged. A prepared
+    /// update can still be installed, unless it binds the name and was prepared under another index of it.
+    ///
+    /// # Errors
+    ///
+    /// If several apply, the first in this order is returned. After an error nothing has changed.
+    ///
+    /// - `NameLength` if the name is empty or longer than `MAX_NAME` bytes.
+    /// - `OtherIndex` if the name is registered with another index.
+    /// - `OutOfMemory` if an allocation fails.
     pub fn supply(&mut self, name: &[u8], index: Index) -> Result<(), SupplyFault>
         ensures supplied { OnOk result (IsSupplied (X.index_of self.old.index) name.now index.0 (X.index_of self.new.index)) }
-        ensures may { OnOk result (Takes X.index_of self.old name.now index.0) }
+        ensures may { OnOk result (MaySupply (X.index_of self.old.index) (registry self.old) name.now index.0) }
         ensures agree { AgreeOn (X.index_of self.old.index) (X.index_of self.new.index) (registry self.old) }
-        ensures updates { OnOk result ((update : Prepared) → (has_name (registry_after self.old.state update) name.now ≡ true → X.index_of self.old.index name.now ≡ index.0)
-            → HasPrepared H.digest_of X.index_of self.old update → HasPrepared H.digest_of X.index_of self.new update) }
+        ensures updates { OnOk result ((update : Prepared)
+            → (has_name (registry_after self.old.state update) name.now ≡ true → X.index_of self.old.index name.now ≡ index.0)
+            → IsUpdateOf (H.digest_of self.old.hash) (X.index_of self.old.index) self.old.state update
+            → IsUpdateOf (H.digest_of self.new.hash) (X.index_of self.new.index) self.new.state update) }
         ensures state { self.new.state ≡ self.old.state }
         ensures hash { self.new.hash ≡ self.old.hash }
         ensures refused { IfErr result (IsSupplyFault (X.index_of self.old.index) (registry self.old) name.now index.0) }
@@ -279,13 +328,25 @@ impl<H: Hash32, X: SupplyIndex> Directory<H, X> {
 impl<H: Hash32, X: IndexSource> Directory<H, X> {
     ghost use Rattle.coniks_directory.specs.Updates.{Grows, IsRefused, LeavesSigner, MayInstall, base_of, nodes_added, refusals, shown_after};
 
-    /// Installs an update under a later epoch: attaches its tree, has its entry signed, stores the entry in the chain and
-    /// publishes the head. All memory is allocated before the signer is asked, and after that nothing can fail. It waits for
-    /// nobody.
+    /// Installs an update under a later epoch, and returns the epoch's entry.
     ///
-    /// The update was prepared from this directory, the publisher is the board's and has published just the heads of this
-    /// directory's chain, and the signer's counts are below 2^64 - 1. A refusal changes neither the directory nor the
-    /// board, and hands the update back.
+    /// Attaches the update's tree, asks the signer to sign its entry, stores the entry in the chain and publishes the
+    /// head. All memory is allocated before the signer is asked, and nothing can fail after that. The call waits for no
+    /// other thread.
+    ///
+    /// The update was prepared from this directory. The publisher is the board's, and has published exactly the heads of
+    /// this directory's chain. The signer's counts are below 2^64 - 1.
+    ///
+    /// # Errors
+    ///
+    /// If several apply, the first in this order is returned, with the update. An error changes neither the directory nor
+    /// the board.
+    ///
+    /// - `Stale` if an epoch was installed after the update was prepared.
+    /// - `EpochNotLater` if `t` is not later than the latest epoch, or is 0 before the first.
+    /// - `BoardFull` if the board has no room for another head.
+    /// - `OutOfMemory` if an allocation fails.
+    /// - `SignerRefused` if the signer returns no signature.
     #[tactic(auto, using(crate::proofs::FreshLemmas::growth))]
     pub fn install<S: Sign>(
         &mut self,
@@ -295,16 +356,20 @@ impl<H: Hash32, X: IndexSource> Directory<H, X> {
         publisher: &mut Publisher,
         board: &Board,
     ) -> Result<Entry, (InstallFault, Prepared)>
-        requires update { HasPrepared H.digest_of X.index_of self.old update }
+        requires update { IsUpdateOf (H.digest_of self.old.hash) (X.index_of self.old.index) self.old.state update }
         requires made { S.made_of signer.old < 2 ^ 64 - 1 }
         requires refused { S.refused_of signer.old < 2 ^ 64 - 1 }
         requires table { publisher.old.table ≡ board.now.table }
         requires published { publisher.old.heads ≡ heads H.digest_of self.old }
+
+        // What is installed.
         ensures history { OnOk result (history self.new ≡ history self.old ++ shown_after self.old.state update t ∷ []) }
         ensures chain { IfOk result (λ entry. self.new.state.chain ≡ self.old.state.chain ++ entry ∷ []) }
         ensures nodes { OnOk result (length self.new.state.nodes ≡ length self.old.state.nodes + nodes_added update) }
         ensures body { IfOk result (λ entry. entry.body ≡ NextBody H.digest_of X.index_of self.old (shown_after self.old.state update t)) }
         ensures may { OnOk result (MayInstall self.old.state (base_of update) t (length publisher.old.heads) board.now.capacity) }
+        ensures same { IsAlike self.new self.old }
+        ensures grows { Grows self.old.state self.new.state }
 
         // The one signature that the signer made is the one that is stored in the chain.
         ensures made { OnOk result ((S.made_of signer.new ≡ S.made_of signer.old + 1) × (S.refused_of signer.new ≡ S.refused_of signer.old)) }
@@ -314,17 +379,17 @@ impl<H: Hash32, X: IndexSource> Directory<H, X> {
         ensures good { HasGoodChain H.digest_of (S.verdict_of signer.old) self.old → HasGoodChain H.digest_of (S.verdict_of signer.new) self.new }
         ensures verdicts_kept { (bytes signature : List ℕ) → S.verdict_of signer.new bytes signature ≡ S.verdict_of signer.old bytes signature }
 
+        // The heads on the board.
         ensures heads { publisher.new.heads ≡ heads H.digest_of self.new }
         ensures table { publisher.new.table ≡ publisher.old.table }
-        ensures same { IsAlike self.new self.old }
-        ensures grows { Grows self.old.state self.new.state }
 
+        // An error.
         ensures refused { IfErr result (λ r. IsRefused self.old.state (base_of update) t (length publisher.old.heads) board.now.capacity r.0) }
         ensures unchanged { OnErr result ((self.new ≡ self.old) × (publisher.new ≡ publisher.old)) }
         ensures handed_back { IfErr result (λ r. r.1 ≡ update) }
-        ensures unsigned { IfErr result (λ r. (S.made_of signer.new ≡ S.made_of signer.old) × (S.refused_of signer.new ≡ S.refused_of signer.old + refusals r.0)
-            × (S.last_of signer.new ≡ S.last_of signer.old)) }
-        ensures unasked { IfErr result (λ r. LeavesSigner S.signs (NextBody H.digest_of X.index_of self.old (shown_after self.old.state update t)) signer.old signer.new r.0) }
+        ensures unsigned { IfErr result (λ r. HasRefused S.made_of S.refused_of S.last_of signer.old signer.new (refusals r.0)) }
+        ensures unasked { IfErr result
+            (λ r. LeavesSigner S.signs (NextBody H.digest_of X.index_of self.old (shown_after self.old.state update t)) signer.old signer.new r.0) }
     {
         let (published, capacity) = (publisher.published(), board.capacity());
         if let Err(fault) = may_install(&self.held, update.base, t, published, capacity) {
@@ -343,17 +408,30 @@ impl<H: Hash32, X: IndexSource> Directory<H, X> {
 }
 
 impl<H: Hash32 + Sync, X: IndexSource> Directory<H, X> {
+    ghost use Rattle.coniks_directory.specs.Built.{AddsFew};
     ghost use Rattle.coniks_directory.specs.Nodes.{epoch_nodes};
-    ghost use Rattle.coniks_directory.specs.Updates.{CommitLeavesSigner, Grows, IsCommitFault, MayInstall, commit_refusals, nodes_added, registry_after, shown_next};
+    ghost use Rattle.coniks_directory.specs.Updates.{CommitLeavesSigner, Grows, IsCommitFault, MayInstall, commit_refusals, nodes_added, registry_after, shown_with};
 
-    /// Judges a batch and makes its update, which `install` puts in: the epoch's tree with the changed paths made anew and
-    /// all else shared with the epochs before. The directory is only read, so others may look up meanwhile. It may wait,
-    /// as it joins its workers.
+    /// Checks a batch and prepares its update, which `install` installs.
     ///
-    /// `workers` is 1 to `coniks_work::MAX_WORKERS`, and `depth`, the length in bits of the prefixes that are built apart, 0
-    /// to `coniks_work::MAX_DEPTH`. The update is the same for every choice of them. After a refusal nothing is left of the
-    /// batch, and the same call can be made again. The epoch keeps the latest one's nonce and the version of its entry; the
-    /// first has the nonce of `open` and version 1.
+    /// The epoch's tree has new nodes on the changed paths, and shares all others with the epochs before. The call only
+    /// reads the directory, so other threads can look up names meanwhile. It can wait, because it joins its worker
+    /// threads.
+    ///
+    /// `workers` is 1 to `coniks_work::MAX_WORKERS`. The split depth `depth`, the length in bits of the prefixes that are
+    /// built apart, is 0 to `coniks_work::MAX_DEPTH`. The update is the same for every choice of them. The epoch keeps
+    /// the latest epoch's nonce and the version of its entry. The first epoch has the nonce of `open` and version 1.
+    ///
+    /// # Errors
+    ///
+    /// If several apply, the first in this order is returned. `OutOfMemory` can also replace `At`. After an error nothing
+    /// of the batch is kept, and the same call can be made again.
+    ///
+    /// - `Workers` if `workers` is not 1 to `coniks_work::MAX_WORKERS`.
+    /// - `Depth` if `depth` is more than `coniks_work::MAX_DEPTH`.
+    /// - `BatchTooLong` if the batch has more than `MAX_OPERATIONS` operations.
+    /// - `At` if an operation has an error; it contains the position of the first such operation and its first error.
+    /// - `OutOfMemory` if an allocation fails.
     pub fn prepare<G: Gate + Sync, R: Threads + Sync>(
         &self,
         rt: &R,
@@ -362,35 +440,33 @@ impl<H: Hash32 + Sync, X: IndexSource> Directory<H, X> {
         workers: usize,
         gate: &G,
     ) -> Result<Prepared, BatchFault>
-        ensures update { IfOk result (Prepares H.digest_of X.index_of self.now) }
-        ensures keeps { IfOk result (Renews self.now None) }
+        ensures update { IfOk result (IsUpdate (H.digest_of self.now.hash) (X.index_of self.now.index) self.now.state) }
+        ensures keeps { IfOk result (RotatesTo self.now.state None) }
         ensures registry { IfOk result (λ p. registry_after self.now.state p ≡ after (registry self.now) (operations ops.now)) }
         ensures nodes { IfOk result (λ p. nodes_added p ≡ epoch_nodes (X.index_of self.now.index) (history self.now) None (operations ops.now)) }
         ensures few { IfOk result (λ p. nodes_added p ≤ most_nodes (history self.now) (length ops.now)) }
         ensures none { IfOk result (λ p. length ops.now ≡ 0 → nodes_added p ≡ most_nodes (history self.now) 0) }
-        ensures accepted { OnOk result (Accepts X.index_of self.now (operations ops.now) depth workers) }
-        ensures refused { IfErr result (Refuses X.index_of self.now (operations ops.now) depth workers) }
+        ensures accepted { OnOk result (IsAccepted (X.index_of self.now.index) (registry self.now) (operations ops.now) depth workers) }
+        ensures refused { IfErr result (IsBatchFault (X.index_of self.now.index) (registry self.now) (operations ops.now) depth workers) }
     {
-        within_limits(ops, depth, workers)?;
-        Ok(update_on(
+        let build = Build {
             rt,
-            self.alloc,
-            &self.h,
-            &self.source,
-            &self.held,
-            None,
-            ops,
             depth,
             workers,
             gate,
-        )?)
+        };
+        self.prepared(&build, None, ops)
     }
 
-    /// What `prepare` makes, under a nonce that the update brings: every node of the epoch's tree is made anew under it, by
-    /// the same workers, and nothing is shared with the epochs before, also where the nonce is the latest one's. Commitments
-    /// don't name the nonce and are kept. The epoch's entry and all later ones are of version 2.
+    /// Prepares an update as `prepare` does, with the epoch's tree rehashed under a new nonce.
     ///
-    /// Judged as `prepare` judges: with the same limits and faults in the same order.
+    /// Every node of the tree is new, and none is shared with the epochs before, even if the nonce equals the latest one.
+    /// The same worker threads build it. Commitments do not contain the nonce and are kept. The epoch's entry and all
+    /// later ones have version 2.
+    ///
+    /// # Errors
+    ///
+    /// The errors of `prepare`, with the same limits and in the same order.
     pub fn prepare_with<G: Gate + Sync, R: Threads + Sync>(
         &self,
         rt: &R,
@@ -400,32 +476,60 @@ impl<H: Hash32 + Sync, X: IndexSource> Directory<H, X> {
         workers: usize,
         gate: &G,
     ) -> Result<Prepared, BatchFault>
-        ensures update { IfOk result (Prepares H.digest_of X.index_of self.now) }
-        ensures renews { IfOk result (Renews self.now (Some nonce.0)) }
+        ensures update { IfOk result (IsUpdate (H.digest_of self.now.hash) (X.index_of self.now.index) self.now.state) }
+        ensures rotates { IfOk result (RotatesTo self.now.state (Some nonce.0)) }
         ensures registry { IfOk result (λ p. registry_after self.now.state p ≡ after (registry self.now) (operations ops.now)) }
         ensures nodes { IfOk result (λ p. nodes_added p ≡ epoch_nodes (X.index_of self.now.index) (history self.now) (Some nonce.0) (operations ops.now)) }
         ensures few { IfOk result (λ p. nodes_added p ≤ most_anew (after (registry self.now) (operations ops.now))) }
         ensures anew { IfOk result (λ p. KeepsNone p.part) }
-        ensures accepted { OnOk result (Accepts X.index_of self.now (operations ops.now) depth workers) }
-        ensures refused { IfErr result (Refuses X.index_of self.now (operations ops.now) depth workers) }
+        ensures accepted { OnOk result (IsAccepted (X.index_of self.now.index) (registry self.now) (operations ops.now) depth workers) }
+        ensures refused { IfErr result (IsBatchFault (X.index_of self.now.index) (registry self.now) (operations ops.now) depth workers) }
     {
-        within_limits(ops, depth, workers)?;
-        Ok(update_on(
+        let build = Build {
             rt,
-            self.alloc,
-            &self.h,
-            &self.source,
-            &self.held,
-            Some(nonce),
-            ops,
             depth,
             workers,
             gate,
-        )?)
+        };
+        self.prepared(&build, Some(nonce), ops)
     }
 
-    /// Prepares a batch and installs its update: `prepare`, then `install`. A refused update is dropped, and directory and
-    /// board are as they were. It may wait, as `prepare` may. The conditions of `install` are its own.
+    /// Prepares the update of a batch, under a new nonce or under the latest one.
+    fn prepared<G: Gate + Sync, R: Threads + Sync>(
+        &self,
+        build: &Build<'_, G, R>,
+        nonce: Option<Nonce>,
+        ops: &[Op],
+    ) -> Result<Prepared, BatchFault>
+        ensures update { IfOk result (IsUpdate (H.digest_of self.now.hash) (X.index_of self.now.index) self.now.state) }
+        ensures rotates { IfOk result (RotatesTo self.now.state (nonce_bytes nonce)) }
+        ensures registry { IfOk result (λ p. registry_after self.now.state p ≡ after (registry self.now) (operations ops.now)) }
+        ensures nodes { IfOk result (λ p. nodes_added p ≡ epoch_nodes (X.index_of self.now.index) (history self.now) (nonce_bytes nonce) (operations ops.now)) }
+        ensures few { IfOk result (AddsFew self.now.state (nonce_bytes nonce) ops.now) }
+        ensures accepted { OnOk result (IsAccepted (X.index_of self.now.index) (registry self.now) (operations ops.now) build.now.depth build.now.workers) }
+        ensures refused { IfErr result (IsBatchFault (X.index_of self.now.index) (registry self.now) (operations ops.now) build.now.depth build.now.workers) }
+    {
+        within_limits(ops, build.depth, build.workers)?;
+        let origin = Origin {
+            alloc: self.alloc,
+            h: &self.h,
+            source: &self.source,
+            held: &self.held,
+        };
+        Ok(update_on(build, &origin, nonce, ops)?)
+    }
+
+    /// Prepares a batch and installs its update.
+    ///
+    /// The call is `prepare`, then `install`. It can wait, as `prepare` can. It has the preconditions of `install` on
+    /// signer, publisher and board.
+    ///
+    /// # Errors
+    ///
+    /// After an error the update is dropped, and the directory and the board are unchanged.
+    ///
+    /// - `Batch` with the error of `prepare`.
+    /// - `Install` with the error of `install`.
     #[tactic(auto, using(crate::proofs::FreshLemmas::growth))]
     pub fn commit<S: Sign, G: Gate + Sync, R: Threads + Sync>(
         &mut self,
@@ -443,12 +547,16 @@ impl<H: Hash32 + Sync, X: IndexSource> Directory<H, X> {
         requires refused { S.refused_of signer.old < 2 ^ 64 - 1 }
         requires table { publisher.old.table ≡ board.now.table }
         requires published { publisher.old.heads ≡ heads H.digest_of self.old }
-        ensures history { OnOk result (history self.new ≡ history self.old ++ shown_next self.old.state (operations ops.now) t ∷ []) }
+
+        // What is installed.
+        ensures history { OnOk result (history self.new ≡ history self.old ++ shown_with self.old.state None (operations ops.now) t ∷ []) }
         ensures chain { IfOk result (λ entry. self.new.state.chain ≡ self.old.state.chain ++ entry ∷ []) }
         ensures nodes { OnOk result (length self.new.state.nodes ≤ length self.old.state.nodes + most_nodes (history self.old) (length ops.now)) }
         ensures none { OnOk result (length ops.now ≡ 0 → length self.new.state.nodes ≡ length self.old.state.nodes + most_nodes (history self.old) 0) }
-        ensures accepted { OnOk result (Accepts X.index_of self.old (operations ops.now) depth workers) }
+        ensures accepted { OnOk result (IsAccepted (X.index_of self.old.index) (registry self.old) (operations ops.now) depth workers) }
         ensures may { OnOk result (MayInstall self.old.state (length self.old.state.epochs) t (length publisher.old.heads) board.now.capacity) }
+        ensures same { IsAlike self.new self.old }
+        ensures grows { Grows self.old.state self.new.state }
 
         // The one signature that the signer made is the one that is stored in the chain.
         ensures made { OnOk result ((S.made_of signer.new ≡ S.made_of signer.old + 1) × (S.refused_of signer.new ≡ S.refused_of signer.old)) }
@@ -458,18 +566,89 @@ impl<H: Hash32 + Sync, X: IndexSource> Directory<H, X> {
         ensures good { HasGoodChain H.digest_of (S.verdict_of signer.old) self.old → HasGoodChain H.digest_of (S.verdict_of signer.new) self.new }
         ensures verdicts_kept { (bytes signature : List ℕ) → S.verdict_of signer.new bytes signature ≡ S.verdict_of signer.old bytes signature }
 
+        // The heads on the board.
         ensures heads { publisher.new.heads ≡ heads H.digest_of self.new }
         ensures table { publisher.new.table ≡ publisher.old.table }
+
+        // An error.
+        ensures refused { IfErr result
+            (IsCommitFault (X.index_of self.old.index) self.old.state (operations ops.now) depth workers t (length publisher.old.heads) board.now.capacity) }
+        ensures unchanged { OnErr result ((self.new ≡ self.old) × (publisher.new ≡ publisher.old)) }
+        ensures unsigned { IfErr result (λ fault. HasRefused S.made_of S.refused_of S.last_of signer.old signer.new (commit_refusals fault)) }
+        ensures unasked { IfErr result
+            (CommitLeavesSigner S.signs (NextBody H.digest_of X.index_of self.old (shown_with self.old.state None (operations ops.now) t))
+            signer.old signer.new) }
+    {
+        self.commit_with(
+            rt, None, ops, depth, workers, gate, t, signer, publisher, board,
+        )
+    }
+
+    /// Prepares a batch and installs its update, as `commit` does, with an optional new nonce.
+    ///
+    /// If there is a nonce, the update is that of `prepare_with`, else that of `prepare`.
+    ///
+    /// # Errors
+    ///
+    /// The errors of `commit`, in the same cases.
+    #[tactic(auto, using(crate::proofs::CommitLemmas::commits))]
+    pub fn commit_with<S: Sign, G: Gate + Sync, R: Threads + Sync>(
+        &mut self,
+        rt: &R,
+        nonce: Option<Nonce>,
+        ops: &[Op],
+        depth: usize,
+        workers: usize,
+        gate: &G,
+        t: u64,
+        signer: &mut S,
+        publisher: &mut Publisher,
+        board: &Board,
+    ) -> Result<Entry, CommitFault>
+        requires made { S.made_of signer.old < 2 ^ 64 - 1 }
+        requires refused { S.refused_of signer.old < 2 ^ 64 - 1 }
+        requires table { publisher.old.table ≡ board.now.table }
+        requires published { publisher.old.heads ≡ heads H.digest_of self.old }
+
+        // What is installed.
+        ensures history { OnOk result (history self.new ≡ history self.old ++ shown_with self.old.state (nonce_bytes nonce) (operations ops.now) t ∷ []) }
+        ensures chain { IfOk result (λ entry. self.new.state.chain ≡ self.old.state.chain ++ entry ∷ []) }
+        ensures nodes { OnOk result (length self.new.state.nodes ≡ length self.old.state.nodes + epoch_nodes
+            (X.index_of self.old.index) (history self.old) (nonce_bytes nonce) (operations ops.now)) }
+        ensures few { OnOk result (nonce ≡ None → length self.new.state.nodes ≤ length self.old.state.nodes + most_nodes (history self.old) (length ops.now)) }
+        ensures accepted { OnOk result (IsAccepted (X.index_of self.old.index) (registry self.old) (operations ops.now) depth workers) }
+        ensures may { OnOk result (MayInstall self.old.state (length self.old.state.epochs) t (length publisher.old.heads) board.now.capacity) }
         ensures same { IsAlike self.new self.old }
         ensures grows { Grows self.old.state self.new.state }
 
-        ensures refused { IfErr result (IsCommitFault (X.index_of self.old.index) self.old.state (operations ops.now) depth workers t (length publisher.old.heads) board.now.capacity) }
+        // The one signature that the signer made is the one that is stored in the chain.
+        ensures made { OnOk result ((S.made_of signer.new ≡ S.made_of signer.old + 1) × (S.refused_of signer.new ≡ S.refused_of signer.old)) }
+        ensures signed { IfOk result (λ entry. S.last_of signer.new ≡ Some entry) }
+        ensures asked { IfOk result (λ entry. S.signs signer.old (body_bytes entry.body) (Some entry.signature) signer.new) }
+        ensures verdict { IfOk result (λ entry. S.verdict_of signer.new (body_bytes entry.body) entry.signature.0 ≡ true) }
+        ensures good { HasGoodChain H.digest_of (S.verdict_of signer.old) self.old → HasGoodChain H.digest_of (S.verdict_of signer.new) self.new }
+        ensures verdicts_kept { (bytes signature : List ℕ) → S.verdict_of signer.new bytes signature ≡ S.verdict_of signer.old bytes signature }
+
+        // The heads on the board.
+        ensures heads { publisher.new.heads ≡ heads H.digest_of self.new }
+        ensures table { publisher.new.table ≡ publisher.old.table }
+
+        // An error.
+        ensures refused { IfErr result
+            (IsCommitFault (X.index_of self.old.index) self.old.state (operations ops.now) depth workers t (length publisher.old.heads) board.now.capacity) }
         ensures unchanged { OnErr result ((self.new ≡ self.old) × (publisher.new ≡ publisher.old)) }
-        ensures unsigned { IfErr result (λ fault. (S.made_of signer.new ≡ S.made_of signer.old) × (S.refused_of signer.new ≡ S.refused_of signer.old + commit_refusals fault)
-            × (S.last_of signer.new ≡ S.last_of signer.old)) }
-        ensures unasked { IfErr result (CommitLeavesSigner S.signs (NextBody H.digest_of X.index_of self.old (shown_next self.old.state (operations ops.now) t)) signer.old signer.new) }
+        ensures unsigned { IfErr result (λ fault. HasRefused S.made_of S.refused_of S.last_of signer.old signer.new (commit_refusals fault)) }
+        ensures unasked { IfErr result
+            (CommitLeavesSigner S.signs (NextBody H.digest_of X.index_of self.old (shown_with self.old.state (nonce_bytes nonce) (operations ops.now) t))
+            signer.old signer.new) }
     {
-        let update = match self.prepare(rt, ops, depth, workers, gate) {
+        let build = Build {
+            rt,
+            depth,
+            workers,
+            gate,
+        };
+        let update = match self.prepared(&build, nonce, ops) {
             Ok(update) => update,
             Err(fault) => return Err(CommitFault::Batch(fault)),
         };
@@ -482,17 +661,19 @@ impl<H: Hash32 + Sync, X: IndexSource> Directory<H, X> {
 
 impl<H: Hash32> Directory<H, SuppliedIndices> {
     ghost use Rattle.std.specs.Prelude.{length};
-    ghost use Rattle.coniks_chain.specs.Chain.{before_at};
-    ghost use Rattle.coniks_directory.specs.Chain.{body_of};
     ghost use Rattle.coniks_directory.specs.Supplied.{AgreeOn, supplied_index};
     ghost use Rattle.coniks_directory.specs.SuppliedBatches.{IsSuppliedUpdate, indices_of, put_indices};
     ghost use Rattle.coniks_directory.specs.Updates.{Grows, IsRefused, LeavesSigner, MayInstall, base_of, nodes_added, refusals, registry_after, shown_after};
 
-    /// Supplies the indices of an update's names, which the update holds, and installs it as `install` does. A name is
-    /// registered from then on, and keeps its index.
+    /// Supplies the indices of an update's names and installs the update, as `install` does.
     ///
-    /// After an error nothing is installed or published. If the error is `OutOfMemory` or `SignerRefused`, some of the
-    /// update's indices may be supplied, and the same update can be installed again.
+    /// The update contains the indices. A name is registered from then on, and keeps its index.
+    ///
+    /// # Errors
+    ///
+    /// The errors of `install`, in the same order and with the update. After an error nothing is installed or published.
+    /// After `OutOfMemory` or `SignerRefused`, some of the update's indices may be supplied, and the same update can be
+    /// installed again.
     #[tactic(auto, using(crate::proofs::FreshLemmas::growth))]
     pub fn install_supplied<S: Sign>(
         &mut self,
@@ -502,22 +683,28 @@ impl<H: Hash32> Directory<H, SuppliedIndices> {
         publisher: &mut Publisher,
         board: &Board,
     ) -> Result<Entry, (InstallFault, Prepared)>
-        requires update { (index : List ℕ → List ℕ) × IsSuppliedUpdate (H.digest_of self.old.hash) (supplied_index self.old.index) (registry self.old) self.old.state update index }
+        requires update { (index : List ℕ → List ℕ) × IsSuppliedUpdate (H.digest_of self.old.hash) (supplied_index self.old.index) self.old.state update index }
         requires made { S.made_of signer.old < 2 ^ 64 - 1 }
         requires refused { S.refused_of signer.old < 2 ^ 64 - 1 }
         requires table { publisher.old.table ≡ board.now.table }
         requires published { publisher.old.heads ≡ heads H.digest_of self.old }
+
+        // What is installed.
         ensures history { OnOk result (history self.new ≡ history self.old ++ shown_after self.old.state update t ∷ []) }
         ensures chain { IfOk result (λ entry. self.new.state.chain ≡ self.old.state.chain ++ entry ∷ []) }
         ensures nodes { OnOk result (length self.new.state.nodes ≡ length self.old.state.nodes + nodes_added update) }
-        ensures body { IfOk result (λ entry. (index : List ℕ → List ℕ) → IsSuppliedUpdate (H.digest_of self.old.hash) (supplied_index self.old.index) (registry self.old) self.old.state update index
-            → entry.body ≡ body_of (H.digest_of self.old.hash) index self.old.state.policy (before_at (H.digest_of self.old.hash) None self.old.state.chain (length self.old.state.chain)) (shown_after self.old.state update t)) }
+        ensures body { IfOk result (λ entry. (index : List ℕ → List ℕ)
+            → IsSuppliedUpdate (H.digest_of self.old.hash) (supplied_index self.old.index) self.old.state update index
+            → entry.body ≡ NextBodyBy H.digest_of self.old index (shown_after self.old.state update t)) }
         ensures may { OnOk result (MayInstall self.old.state (base_of update) t (length publisher.old.heads) board.now.capacity) }
+        ensures hash { self.new.hash ≡ self.old.hash }
+        ensures grows { Grows self.old.state self.new.state }
 
         // The update's names have their indices from then on, and the registered ones keep theirs.
         ensures indices { OnOk result (self.new.index ≡ put_indices self.old.index (indices_of update)) }
         ensures kept { AgreeOn (supplied_index self.old.index) (supplied_index self.new.index) (registry self.old) }
-        ensures given { OnOk result ((index : List ℕ → List ℕ) → IsSuppliedUpdate (H.digest_of self.old.hash) (supplied_index self.old.index) (registry self.old) self.old.state update index
+        ensures given { OnOk result ((index : List ℕ → List ℕ)
+            → IsSuppliedUpdate (H.digest_of self.old.hash) (supplied_index self.old.index) self.old.state update index
             → AgreeOn index (supplied_index self.new.index) (registry_after self.old.state update)) }
 
         // The one signature that the signer made is the one that is stored in the chain.
@@ -528,18 +715,18 @@ impl<H: Hash32> Directory<H, SuppliedIndices> {
         ensures good { HasGoodChain H.digest_of (S.verdict_of signer.old) self.old → HasGoodChain H.digest_of (S.verdict_of signer.new) self.new }
         ensures verdicts_kept { (bytes signature : List ℕ) → S.verdict_of signer.new bytes signature ≡ S.verdict_of signer.old bytes signature }
 
+        // The heads on the board.
         ensures heads { publisher.new.heads ≡ heads H.digest_of self.new }
         ensures table { publisher.new.table ≡ publisher.old.table }
-        ensures hash { self.new.hash ≡ self.old.hash }
-        ensures grows { Grows self.old.state self.new.state }
 
+        // An error.
         ensures refused { IfErr result (λ r. IsRefused self.old.state (base_of update) t (length publisher.old.heads) board.now.capacity r.0) }
         ensures unchanged { OnErr result ((self.new.state ≡ self.old.state) × (publisher.new ≡ publisher.old)) }
         ensures handed_back { IfErr result (λ r. r.1 ≡ update) }
-        ensures unsigned { IfErr result (λ r. (S.made_of signer.new ≡ S.made_of signer.old) × (S.refused_of signer.new ≡ S.refused_of signer.old + refusals r.0)
-            × (S.last_of signer.new ≡ S.last_of signer.old)) }
-        ensures unasked { IfErr result (λ r. (index : List ℕ → List ℕ) → IsSuppliedUpdate (H.digest_of self.old.hash) (supplied_index self.old.index) (registry self.old) self.old.state update index
-            → LeavesSigner S.signs (body_of (H.digest_of self.old.hash) index self.old.state.policy (before_at (H.digest_of self.old.hash) None self.old.state.chain (length self.old.state.chain)) (shown_after self.old.state update t)) signer.old signer.new r.0) }
+        ensures unsigned { IfErr result (λ r. HasRefused S.made_of S.refused_of S.last_of signer.old signer.new (refusals r.0)) }
+        ensures unasked { IfErr result
+            (λ r. (index : List ℕ → List ℕ) → IsSuppliedUpdate (H.digest_of self.old.hash) (supplied_index self.old.index) self.old.state update index
+            → LeavesSigner S.signs (NextBodyBy H.digest_of self.old index (shown_after self.old.state update t)) signer.old signer.new r.0) }
     {
         let (published, capacity) = (publisher.published(), board.capacity());
         if let Err(fault) = may_install(&self.held, update.base, t, published, capacity) {
@@ -555,34 +742,38 @@ impl<H: Hash32> Directory<H, SuppliedIndices> {
 impl<H: Hash32, X: IndexSource> Directory<H, X> {
     ghost use Rattle.std.specs.Prelude.{not, ◌&&◌};
     ghost use Rattle.std.specs.Str.{bytes_eq};
-    ghost use Rattle.coniks_chain.specs.Chain.{before_at};
-    ghost use Rattle.coniks_directory.specs.Chain.{body_of};
     ghost use Rattle.coniks_directory.specs.State.{Whole};
     ghost use Rattle.coniks_directory.specs.Supplied.{AgreeOn, Supplied};
     ghost use Rattle.coniks_directory.specs.SuppliedBatches.{IsEarliest, IsFresh, given_index, index_in, indexed, other_from};
-    ghost use Rattle.coniks_directory.specs.Updates.{IsUpdate, shown_after};
+    ghost use Rattle.coniks_directory.specs.Updates.{shown_after};
 
-    /// Returns the body that an install of an update under the number `t` asks the signer to sign. The update was prepared
-    /// from the directory as it is, and the publisher has published just the heads of its chain.
+    /// Returns the body that an install of the update under the number `t` asks the signer to sign.
+    ///
+    /// The update was prepared from the directory as it is. The publisher has published exactly the heads of the
+    /// directory's chain.
     pub fn next_body(&self, update: &Prepared, t: u64, publisher: &Publisher) -> Body
         requires update { (index : List ℕ → List ℕ) × IsUpdate (H.digest_of self.now.hash) index self.now.state update.now }
         requires published { publisher.now.heads ≡ heads H.digest_of self.now }
-        ensures { (index : List ℕ → List ℕ) → AgreeOn (X.index_of self.now.index) index (registry self.now) → IsUpdate (H.digest_of self.now.hash) index self.now.state update.now
-            → result ≡ body_of (H.digest_of self.now.hash) index self.now.state.policy (before_at (H.digest_of self.now.hash) None self.now.state.chain (length self.now.state.chain)) (shown_after self.now.state update.now t) }
+        ensures { (index : List ℕ → List ℕ) → AgreeOn (X.index_of self.now.index) index (registry self.now)
+            → IsUpdate (H.digest_of self.now.hash) index self.now.state update.now
+            → result ≡ NextBodyBy H.digest_of self.now index (shown_after self.now.state update.now t) }
     {
         make_body(&self.held, &self.h, update, t, last_link(publisher))
     }
 
-    /// Adds the index that comes with an operation, unless its name is registered or an earlier operation has the name. Returns
-    /// whether the name is registered with another index.
+    /// Adds the index that comes with an operation, unless its name is registered or an earlier operation has the name.
+    ///
+    /// Returns whether the name is registered with another index.
     fn add_fresh(
         &self,
         fresh: &mut SuppliedIndices,
         name: &[u8],
         index: Index,
     ) -> Result<bool, AllocError>
-        ensures fresh { OnOk result ((named : List Supplied) → IsFresh (registry self.now) fresh.old named → IsFresh (registry self.now) fresh.new (named ++ (name.now, index.0) ∷ [])) }
-        ensures other { IfOk result (λ is_other. is_other ≡ has_name (registry self.now) name.now && not (bytes_eq (X.index_of self.now.index name.now) index.0)) }
+        ensures fresh { OnOk result ((named : List Supplied) → IsFresh (registry self.now) fresh.old named
+            → IsFresh (registry self.now) fresh.new (named ++ (name.now, index.0) ∷ [])) }
+        ensures other { IfOk result (λ is_other. is_other ≡ has_name (registry self.now)
+            name.now && not (bytes_eq (X.index_of self.now.index name.now) index.0)) }
     {
         let own = self.source.index(name);
         if self.is_registered_at(&own, name) {
@@ -592,16 +783,19 @@ impl<H: Hash32, X: IndexSource> Directory<H, X> {
         Ok(false)
     }
 
-    /// The indices that a batch is checked by, and the place of the first operation whose name is registered with another
-    /// index, if there is one. A registered name keeps its index, and another name has the one that comes with it. If the
-    /// batch has a name twice, its first index counts.
+    /// Returns the indices that a batch is checked by, and the position of the first operation with another index, if
+    /// any.
+    ///
+    /// Such an operation has a name that is registered with an index other than its own. A registered name keeps its
+    /// index, and another name has the one that comes with it. If the batch has a name twice, its first index counts.
     fn indices_with(
         &self,
         batch: &SuppliedBatch<'_>,
     ) -> Result<(BatchIndices<'_, X>, Option<usize>), AllocError>
         requires { length batch.now.ops.now ≡ length batch.now.indices.now }
-        ensures indices { IfOk result (λ it. given_index it.0.fresh (X.index_of it.0.source.now) ≡ index_in (X.index_of self.now.index) (registry self.now) (indexed batch.now.ops.now batch.now.indices.now)) }
-        ensures other { IfOk result (λ it. it.1 ≡ other_from (X.index_of self.now.index) (registry self.now) 0 (indexed batch.now.ops.now batch.now.indices.now)) }
+        ensures indices { IfOk result (λ it. given_index it.0.fresh (X.index_of it.0.source.now) ≡ batch_index X.index_of self.now batch.now) }
+        ensures other { IfOk result (λ it. it.1 ≡ other_from (X.index_of self.now.index)
+            (registry self.now) 0 (indexed batch.now.ops.now batch.now.indices.now)) }
     {
         let mut fresh = SuppliedIndices::new(self.alloc);
         let mut other = None;
@@ -617,8 +811,9 @@ impl<H: Hash32, X: IndexSource> Directory<H, X> {
         Ok((indices, other))
     }
 
-    /// Why a batch isn't accepted if this place is the first with another index: the first error of the operations, unless
-    /// that index comes before it.
+    /// Returns the error of a batch if this position is the first with another index.
+    ///
+    /// It is the first error of the operations, unless that index comes before it.
     fn fault_or_other(
         &self,
         indices: &BatchIndices<'_, X>,
@@ -640,17 +835,21 @@ impl<H: Hash32, X: IndexSource> Directory<H, X> {
 }
 
 impl<H: Hash32 + Sync, X: IndexSource> Directory<H, X> {
-    ghost use Rattle.coniks_directory.specs.Batches.{IsAccepted};
     ghost use Rattle.coniks_directory.specs.Nodes.{epoch_nodes};
-    ghost use Rattle.coniks_directory.specs.SuppliedBatches.{IsSuppliedFault, IsSuppliedUpdate, IsWithin, index_in, indexed, indices_by, indices_of, supplied_fault};
-    ghost use Rattle.coniks_directory.specs.Updates.{IsUpdate, nodes_added, registry_after};
+    ghost use Rattle.coniks_directory.specs.SuppliedBatches.{IsSuppliedFault, IsSuppliedUpdate, IsWithin, indexed, indices_by, indices_of, supplied_fault};
+    ghost use Rattle.coniks_directory.specs.Updates.{nodes_added, registry_after};
 
-    /// Prepares a batch whose operations come with the indices of their names, as `prepare` and `prepare_with` do. Nothing is
-    /// stored: `install_supplied` supplies the indices, so a batch that is refused or never installed leaves none. A new
-    /// name is registered at the index that comes with its operation, whatever the source has for it.
+    /// Prepares a batch whose operations come with the indices of their names, as `prepare` and `prepare_with` do.
     ///
-    /// There are as many indices as operations. If a name is registered with another index, the error is `OtherIndex`,
-    /// unless an earlier operation has an error, or this one has one that comes before `IndexClash`.
+    /// Nothing is stored. `install_supplied` supplies the indices, so a batch that is refused or never installed leaves
+    /// none. A new name is registered at the index that comes with its operation, whatever index the source has for it.
+    /// There are as many indices as operations.
+    ///
+    /// # Errors
+    ///
+    /// - `Batch` with the errors of `prepare`, in the same order. `OutOfMemory` can also replace `OtherIndex`.
+    /// - `OtherIndex` if a name is registered with another index; it contains the position of the first such operation.
+    ///   An earlier operation's error comes first. So does an error of this operation that comes before `IndexClash`.
     pub fn prepare_supplied<G: Gate + Sync, R: Threads + Sync>(
         &self,
         rt: &R,
@@ -660,16 +859,21 @@ impl<H: Hash32 + Sync, X: IndexSource> Directory<H, X> {
         gate: &G,
     ) -> Result<Prepared, SuppliedBatchFault>
         requires { length batch.now.ops.now ≡ length batch.now.indices.now }
-        ensures update { IfOk result (λ p. IsUpdate (H.digest_of self.now.hash) (index_in (X.index_of self.now.index) (registry self.now) (indexed batch.now.ops.now batch.now.indices.now)) self.now.state p) }
-        ensures installable { IfOk result (λ p. IsSuppliedUpdate (H.digest_of self.now.hash) (X.index_of self.now.index) (registry self.now) self.now.state p (index_in (X.index_of self.now.index) (registry self.now) (indexed batch.now.ops.now batch.now.indices.now))) }
-        ensures brings { IfOk result (Renews self.now (option_map (λ (n : Nonce). n.0) batch.now.nonce)) }
+        ensures update { IfOk result (λ p. IsUpdate (H.digest_of self.now.hash) (batch_index X.index_of self.now batch.now) self.now.state p) }
+        ensures installable { IfOk result
+            (λ p. IsSuppliedUpdate (H.digest_of self.now.hash) (X.index_of self.now.index) self.now.state p (batch_index X.index_of self.now batch.now)) }
+        ensures rotates { IfOk result (RotatesTo self.now.state (nonce_bytes batch.now.nonce)) }
         ensures registry { IfOk result (λ p. registry_after self.now.state p ≡ after (registry self.now) (operations batch.now.ops.now)) }
-        ensures indices { IfOk result (λ p. indices_of p ≡ indices_by (index_in (X.index_of self.now.index) (registry self.now) (indexed batch.now.ops.now batch.now.indices.now)) (operations batch.now.ops.now)) }
-        ensures nodes { IfOk result (λ p. nodes_added p ≡ epoch_nodes (index_in (X.index_of self.now.index) (registry self.now) (indexed batch.now.ops.now batch.now.indices.now)) (history self.now) (option_map (λ (n : Nonce). n.0) batch.now.nonce) (operations batch.now.ops.now)) }
-        ensures accepted { OnOk result (IsAccepted (index_in (X.index_of self.now.index) (registry self.now) (indexed batch.now.ops.now batch.now.indices.now)) (registry self.now) (operations batch.now.ops.now) depth workers) }
+        ensures indices { IfOk result (λ p. indices_of p ≡ indices_by (batch_index X.index_of self.now batch.now) (operations batch.now.ops.now)) }
+        ensures nodes { IfOk result (λ p. nodes_added p ≡ epoch_nodes (batch_index X.index_of self.now batch.now)
+            (history self.now) (nonce_bytes batch.now.nonce) (operations batch.now.ops.now)) }
+        ensures accepted { OnOk result
+            (IsAccepted (batch_index X.index_of self.now batch.now) (registry self.now) (operations batch.now.ops.now) depth workers) }
         ensures within { OnOk result (IsWithin (indexed batch.now.ops.now batch.now.indices.now) depth workers) }
-        ensures faultless { OnOk result (supplied_fault (X.index_of self.now.index) (registry self.now) (indexed batch.now.ops.now batch.now.indices.now) ≡ None) }
-        ensures refused { IfErr result (IsSuppliedFault (X.index_of self.now.index) (registry self.now) (indexed batch.now.ops.now batch.now.indices.now) depth workers) }
+        ensures faultless { OnOk result
+            (supplied_fault (X.index_of self.now.index) (registry self.now) (indexed batch.now.ops.now batch.now.indices.now) ≡ None) }
+        ensures refused { IfErr result
+            (IsSuppliedFault (X.index_of self.now.index) (registry self.now) (indexed batch.now.ops.now batch.now.indices.now) depth workers) }
     {
         let _ = &self.held;
         if let Err(fault) = within_limits(batch.ops, depth, workers) {
@@ -681,18 +885,19 @@ impl<H: Hash32 + Sync, X: IndexSource> Directory<H, X> {
         if let Some(position) = other {
             return Err(self.fault_or_other(&indices, batch.ops, position));
         }
-        match update_on(
+        let build = Build {
             rt,
-            self.alloc,
-            &self.h,
-            &indices,
-            &self.held,
-            batch.nonce,
-            batch.ops,
             depth,
             workers,
             gate,
-        ) {
+        };
+        let origin = Origin {
+            alloc: self.alloc,
+            h: &self.h,
+            source: &indices,
+            held: &self.held,
+        };
+        match update_on(&build, &origin, batch.nonce, batch.ops) {
             Ok(update) => Ok(update),
             Err(fault) => Err(SuppliedBatchFault::Batch(fault)),
         }

@@ -1,9 +1,9 @@
-//! What an epoch's tree grows from, and by which changes.
+//! The root that an epoch's tree grows from, and the changes.
 
 ghost use Rattle.std.specs.Prelude.{◌≡◌, ◌++◌, ◌<◌, ◌≤◌, [], List, ℕ, IfOk, IfSome, None, OnOk, length};
 ghost use Rattle.coniks_proof.specs.Changes.{overwritten};
 ghost use Rattle.coniks_tree.specs.Entries.{Lists, in_order};
-ghost use Rattle.coniks_tree.specs.Parts.{AllPlaced, entries_of};
+ghost use Rattle.coniks_tree.specs.Parts.{AllPlaced, entries_in};
 ghost use Rattle.coniks_tree.specs.Table.{Extends, Numbered};
 ghost use Rattle.coniks_tree.specs.declared.table.Record.{Record};
 ghost use Rattle.coniks_work.specs.Grown.{IsOldMap};
@@ -13,15 +13,16 @@ use coniks_proof::MAX_LEVEL;
 use coniks_tree::{Change, OutOfMemory, Root, Tree, sides};
 use std::alloc::{AllocError, Global};
 
-/// The root that a tree grows from, none for nothing, and the changes.
+/// The root that a tree grows from, or `None` for the empty map, and the changes.
 #[derive(Drop)]
 pub(crate) struct Growth {
     pub(crate) root: Option<Root>,
     pub(crate) changes: Vec<Change>,
 }
 
-/// Puts entries that are overwritten by changes at the end of a list, in the order of their indices. Entries and changes
-/// are in that order, under one prefix of `level` bits.
+/// Appends entries that are overwritten by changes to a list, in the order of their indices.
+///
+/// Entries and changes are in that order, under one prefix of `level` bits.
 fn overlay(
     level: usize,
     entries: &[Change],
@@ -29,9 +30,10 @@ fn overlay(
     all: &mut Vec<Change>,
 ) -> Result<(), AllocError>
     requires { level ≤ 256 }
-    ensures lists { OnOk result (AreAligned level (entries_of entries.now) (entries_of changes.now)
-        → entries_of all.new.items ≡ entries_of all.old.items ++ in_order level (overwritten (entries_of entries.now) (entries_of changes.now))) }
-    ensures placed { OnOk result ((records : List Record) → AllPlaced records entries.now → AllPlaced records changes.now → AllPlaced records all.old.items → AllPlaced records all.new.items) }
+    ensures lists { OnOk result (AreAligned level (entries_in entries.now) (entries_in changes.now)
+        → entries_in all.new.items ≡ entries_in all.old.items ++ in_order level (overwritten (entries_in entries.now) (entries_in changes.now))) }
+    ensures placed { OnOk result ((records : List Record) → AllPlaced records entries.now
+        → AllPlaced records changes.now → AllPlaced records all.old.items → AllPlaced records all.new.items) }
 {
     if changes.is_empty() {
         return Ok(all.extend_from_slice(entries)?);
@@ -46,7 +48,7 @@ fn overlay(
     Ok(())
 }
 
-/// The entries under a root, none where there is no root.
+/// Returns the entries under a root, or none if there is no root.
 fn entries_under(alloc: Global, tree: &Tree, root: Option<Root>) -> Result<Vec<Change>, OutOfMemory>
     requires { IfSome root (λ r. r.0 < length tree.now.nodes.items) }
     ensures placed { IfOk result (λ entries. (all : List Record) → Extends tree.now.records.items all → AllPlaced all entries.items) }
@@ -59,7 +61,9 @@ fn entries_under(alloc: Global, tree: &Tree, root: Option<Root>) -> Result<Vec<C
     }
 }
 
-/// The growth by a batch's changes from the latest root, or where it is anew, by the whole changed map from nothing.
+/// Returns the growth by a batch's changes from the latest root.
+///
+/// For a rehashed tree it is the growth by the whole changed map from the empty map.
 pub(crate) fn growth_of(
     alloc: Global,
     tree: &Tree,

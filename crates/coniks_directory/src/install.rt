@@ -12,17 +12,18 @@ ghost use Rattle.coniks_directory.specs.State.{State, state_of};
 ghost use Rattle.coniks_directory.specs.Updates.{IsRefused, LeavesSigner, MayInstall, nodes_added, refusals};
 
 use crate::epochs::Epoch;
-use crate::held::Held;
+use crate::state::DirectoryState;
 use crate::update::{InstallFault, Prepared};
 use coniks_chain::{Body, Entry, Sign, link};
 use coniks_proof::{Digest, Hash32, Head};
 use coniks_shared::{Board, Publisher};
 use coniks_tree::OutOfMemory;
 
-/// Why an update that was prepared when there were `base` epochs isn't installed under a number, if `published` heads are on a
-/// board of this capacity.
+/// Checks that an update can be installed under a number.
+///
+/// There were `base` epochs when it was prepared, and `published` heads are on a board of this capacity.
 pub(crate) fn may_install(
-    held: &Held,
+    held: &DirectoryState,
     base: usize,
     t: u64,
     published: usize,
@@ -45,10 +46,11 @@ pub(crate) fn may_install(
     Ok(())
 }
 
-/// The link of the last entry, which the last published head holds; 32 zero bytes where there is none.
+/// Returns the link of the last entry, which the last published head contains, or 32 zero bytes if there is none.
 #[tactic(auto, using(crate::proofs::HeadLemmas::last_links))]
 pub(crate) fn last_link(publisher: &Publisher) -> Digest
-    ensures { (hash : List ℕ → List ℕ) (chain : List Entry) → publisher.now.heads ≡ heads_of hash chain → result.0 ≡ link_before (before_at hash None chain (length chain)) }
+    ensures { (hash : List ℕ → List ℕ) (chain : List Entry) → publisher.now.heads ≡ heads_of hash chain
+        → result.0 ≡ link_before (before_at hash None chain (length chain)) }
 {
     match publisher.last() {
         Some(head) => head.link,
@@ -56,8 +58,8 @@ pub(crate) fn last_link(publisher: &Publisher) -> Digest
     }
 }
 
-/// Makes room for an update's nodes and records, and for one more epoch and entry.
-fn make_room(held: &mut Held, update: &Prepared) -> Result<(), OutOfMemory>
+/// Reserves room for an update's nodes and records, and for one more epoch and entry.
+fn make_room(held: &mut DirectoryState, update: &Prepared) -> Result<(), OutOfMemory>
     requires { Fits (length held.old.tree.nodes.items) 0 update.now.part }
     ensures same { state_of held.new ≡ state_of held.old }
     ensures nodes { OnOk result (length held.new.tree.nodes.items + node_count update.now.part ≤ vec_capacity held.new.tree.nodes) }
@@ -71,9 +73,9 @@ fn make_room(held: &mut Held, update: &Prepared) -> Result<(), OutOfMemory>
     Ok(())
 }
 
-/// What the entry says of the epoch that an update makes under a number, where the entry before it has this link.
+/// Returns the body of the epoch that an update makes under a number, if the entry before it has this link.
 pub(crate) fn make_body<H: Hash32>(
-    held: &Held,
+    held: &DirectoryState,
     h: &H,
     update: &Prepared,
     t: u64,
@@ -93,10 +95,11 @@ pub(crate) fn make_body<H: Hash32>(
     }
 }
 
-/// Makes room for an update, and gives the signed entry of the epoch that it makes under a number, where the entry before
-/// it has this link. Nothing is signed where there is no room.
+/// Reserves room for an update, and returns the signed entry of the epoch that it makes under a number.
+///
+/// The entry before it has this link. The signer is not asked if there is no room.
 pub(crate) fn signed<H: Hash32, S: Sign>(
-    held: &mut Held,
+    held: &mut DirectoryState,
     h: &H,
     update: &Prepared,
     t: u64,
@@ -115,12 +118,15 @@ pub(crate) fn signed<H: Hash32, S: Sign>(
     ensures made { OnOk result ((S.made_of signer.new ≡ S.made_of signer.old + 1) × (S.refused_of signer.new ≡ S.refused_of signer.old)) }
     ensures last { IfOk result (λ entry. S.last_of signer.new ≡ Some entry) }
     ensures asked { IfOk result (λ entry. S.signs signer.old (body_bytes entry.body) (Some entry.signature) signer.new) }
-    ensures unasked { IfErr result (λ fault. (wanted : Body) → ((body : Body) → IsSigned (H.digest_of h.now) (state_of held.old) update.now t previous.0 body → body ≡ wanted)
+    ensures unasked { IfErr result
+        (λ fault. (wanted : Body) → ((body : Body) → IsSigned (H.digest_of h.now) (state_of held.old) update.now t previous.0 body → body ≡ wanted)
         → LeavesSigner S.signs wanted signer.old signer.new fault) }
     ensures verdict { IfOk result (λ entry. S.verdict_of signer.new (body_bytes entry.body) entry.signature.0 ≡ true) }
     ensures verdicts_kept { (bytes signature : List ℕ) → S.verdict_of signer.new bytes signature ≡ S.verdict_of signer.old bytes signature }
-    ensures refused { IfErr result (λ fault. (s : State) (base published capacity : ℕ) → MayInstall s base t published capacity → IsRefused s base t published capacity fault) }
-    ensures unsigned { IfErr result (λ fault. (S.made_of signer.new ≡ S.made_of signer.old) × (S.refused_of signer.new ≡ S.refused_of signer.old + refusals fault)
+    ensures refused { IfErr result
+        (λ fault. (s : State) (base published capacity : ℕ) → MayInstall s base t published capacity → IsRefused s base t published capacity fault) }
+    ensures unsigned { IfErr result
+        (λ fault. (S.made_of signer.new ≡ S.made_of signer.old) × (S.refused_of signer.new ≡ S.refused_of signer.old + refusals fault)
         × (S.last_of signer.new ≡ S.last_of signer.old)) }
 {
     if make_room(held, update).is_err() {
@@ -134,7 +140,7 @@ pub(crate) fn signed<H: Hash32, S: Sign>(
     }
 }
 
-/// The head of a chain that ends with this entry.
+/// Returns the head of a chain that ends with this entry.
 pub(crate) fn head_of<H: Hash32>(h: &H, entry: &Entry) -> Head
     ensures { result ≡ head_at (H.digest_of h.now) entry.now }
 {
@@ -153,7 +159,7 @@ pub(crate) fn put_head(publisher: &mut Publisher, board: &Board, head: Head)
     let _ = publisher.publish(board, head);
 }
 
-/// Puts an epoch at the end, for which there is room.
+/// Appends an epoch, for which there is room.
 fn put_epoch(epochs: &mut Vec<Epoch>, epoch: Epoch)
     requires { vec_len epochs.old < vec_capacity epochs.old }
     ensures { epochs.new.items ≡ epochs.old.items ++ epoch ∷ [] }
@@ -161,7 +167,7 @@ fn put_epoch(epochs: &mut Vec<Epoch>, epoch: Epoch)
     let _ = epochs.push(epoch);
 }
 
-/// Puts an entry at the end, for which there is room.
+/// Appends an entry, for which there is room.
 fn put_entry(chain: &mut Vec<Entry>, entry: Entry)
     requires { vec_len chain.old < vec_capacity chain.old }
     ensures { chain.new.items ≡ chain.old.items ++ entry ∷ [] }
@@ -170,7 +176,13 @@ fn put_entry(chain: &mut Vec<Entry>, entry: Entry)
 }
 
 /// Attaches an update, for which there is room, and adds its epoch and its entry.
-pub(crate) fn enter<H: Hash32>(held: &mut Held, h: &H, update: Prepared, t: u64, entry: Entry)
+pub(crate) fn enter<H: Hash32>(
+    held: &mut DirectoryState,
+    h: &H,
+    update: Prepared,
+    t: u64,
+    entry: Entry,
+)
     requires fits { Fits (length held.old.tree.nodes.items) 0 update.part }
     requires placed { Placed (held.old.tree.records.items ++ update.records.items) update.part }
     requires nodes { length held.old.tree.nodes.items + node_count update.part ≤ vec_capacity held.old.tree.nodes }

@@ -8,7 +8,7 @@ ghost use Rattle.coniks_directory.specs.Batches.{fault_is, operation_of};
 use crate::batch::{Op, OpFault};
 use coniks_proof::{MAX_KEY, MAX_NAME};
 
-/// Whether there are from 1 to `most` bytes.
+/// Returns whether there are 1 to `most` bytes.
 pub(crate) fn is_length(bytes: &[u8], most: usize) -> bool
     ensures value { result ≡ fits most bytes.now }
     ensures holds { result ≡ true → IsLength most bytes.now }
@@ -16,7 +16,7 @@ pub(crate) fn is_length(bytes: &[u8], most: usize) -> bool
     !bytes.is_empty() && bytes.len() <= most
 }
 
-/// Whether there are from 1 to `MAX_NAME` bytes, as a name has.
+/// Returns whether there are 1 to `MAX_NAME` bytes, as a name has.
 pub(crate) fn is_name(bytes: &[u8]) -> bool
     ensures value { result ≡ fits MAX_NAME bytes.now }
     ensures holds { result ≡ true → IsLength MAX_NAME bytes.now }
@@ -24,10 +24,10 @@ pub(crate) fn is_name(bytes: &[u8]) -> bool
     is_length(bytes, MAX_NAME)
 }
 
-/// The fault of an operation's lengths: the name's before the key's.
+/// Returns the error of an operation's lengths, the name's before the key's.
 pub(crate) fn length_fault(op: &Op) -> Option<OpFault>
-    ensures fault { IfSome result (λ fault. (of : List ℕ → List ℕ) (registry : Registry) (before : List Registered)
-        → fault_of of registry before (operation_of op.now) ≡ Some (fault_is fault)) }
+    ensures fault { IfSome result (λ fault. (index_of : List ℕ → List ℕ) (registry : Registry) (before : List Registered)
+        → fault_of index_of registry before (operation_of op.now) ≡ Some (fault_is fault)) }
     ensures named { result ≡ None → fits MAX_NAME op.now.name ≡ true }
     ensures keyed { result ≡ None → fits MAX_KEY op.now.key ≡ true }
     ensures lengths { result ≡ None → IsLength MAX_NAME op.now.name × IsLength MAX_KEY op.now.key }

@@ -1,12 +1,14 @@
-//! The directory of a CONIKS service: names bound to keys, epoch by epoch, with a signed chain of roots and proofs of
-//! presence and absence (Melara, Blankstein, Bonneau, Felten, Freedman: CONIKS, USENIX Security 2015, sections 3 and 4).
+//! The directory of a CONIKS service: names bound to keys, epoch by epoch.
 //!
-//! A batch of operations is judged and its epoch's tree is built by `prepare`, with several workers, while the directory
-//! is only read. `install` puts the update in: all growth comes before the signature, and after it nothing can fail. Each
-//! epoch stays: `lookup`, `root_at` and `chain` answer from the epoch asked. An epoch may bring a new nonce, under which
-//! every node is made anew, by `prepare_with`.
+//! It has a signed chain of roots, presence proofs and absence proofs (Melara, Blankstein, Bonneau, Felten, Freedman:
+//! CONIKS, USENIX Security 2015, sections 3 and 4).
 //!
-//! Hash, source of indices and signer are the user's own, and the publisher is that of a board (`coniks_shared`):
+//! `prepare` checks a batch of operations and builds its epoch's tree with several worker threads, and only reads the
+//! directory. `install` installs the update. It allocates all memory before it asks for the signature, and nothing can
+//! fail after that. Every epoch is kept: `lookup`, `root_at` and `chain` return what was installed for an epoch.
+//! `prepare_with` rotates the nonce, and rehashes the tree under the new nonce.
+//!
+//! You provide the hash, the index source and the signer. The publisher is that of a board (`coniks_shared`):
 //!
 //! ```rust
 //! let mut signer = Signer::new(DemoKey { key: [8; 32] });
@@ -24,8 +26,8 @@
 //! }
 //! ```
 //!
-//! Each epoch stays. A proof for a name at an epoch, and the root that it leads to; `library_example` has the whole
-//! program:
+//! A lookup returns the proof for a name at an epoch. `root_at` returns the root that the proof leads to.
+//! `library_example` contains the whole program:
 //!
 //! ```rust
 //! let proof = provider.directory.lookup(epoch, asked)?;
@@ -60,20 +62,20 @@
 
 pub mod batch;
 mod changes;
+mod conflicts;
 pub mod directory;
-mod drafts;
 pub mod epochs;
 mod growth;
-mod held;
 mod install;
 mod judge;
 pub mod laws;
 mod lengths;
 pub mod lookup;
+mod pending;
 mod preparing;
 mod sealing;
 pub mod source;
-mod stand;
+mod state;
 pub mod supplied;
 pub mod supplied_batch;
 pub mod update;

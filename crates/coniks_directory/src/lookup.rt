@@ -1,11 +1,12 @@
-//! What a lookup answers, and why one isn't answered.
+//! The result of a lookup, and its errors.
 
 use coniks_chain::Entry;
 use coniks_proof::{Index, MAX_NAME, Proof};
 use thiserror::Error;
 
-/// What a client checks a proof against, with the proof: the entry of the epoch asked, which holds nonce and root, and the
-/// name's index.
+/// A proof with the entry of its epoch and the name's index.
+///
+/// A client checks the proof against the entry's root and nonce and against the index.
 #[derive(Drop)]
 pub struct SignedProof {
     pub entry: Entry,
@@ -13,7 +14,7 @@ pub struct SignedProof {
     pub proof: Proof,
 }
 
-/// Why a lookup isn't answered: of what applies, the first in this order.
+/// The error of a lookup. If several apply, the first in declaration order is returned.
 #[derive(Clone, Copy, Debug, Drop, PartialEq, Eq, Error)]
 pub enum LookupFault {
     /// No epoch was installed under exactly this number.
@@ -22,12 +23,12 @@ pub enum LookupFault {
     /// The name is empty or longer than `MAX_NAME` bytes.
     #[error("the name is empty or longer than {} bytes", MAX_NAME)]
     NameLength,
-    /// A growth was refused.
+    /// An allocation failed.
     #[error("out of memory")]
     OutOfMemory,
 }
 
-/// Why a lookup of a name at an index is refused: the first error that applies, in this order.
+/// The error of a lookup of a name at an index. If several apply, the first in declaration order is returned.
 #[derive(Clone, Copy, Debug, Drop, PartialEq, Eq, Error)]
 pub enum LookupAtFault {
     /// No epoch was installed under exactly this number.

@@ -1,111 +1,130 @@
 //! The update of a batch.
 
-ghost use Rattle.std.specs.Prelude.{◌≡◌, ◌<◌, ◌≤◌, ◌-◌, ◌^◌, All, IfErr, IfOk, IfSome, List, ℕ, None, OnOk, false, length, map, option_map};
+ghost use Rattle.std.specs.Prelude.{◌≡◌, ◌<◌, ◌≤◌, ◌-◌, ◌^◌, All, IfErr, IfOk, IfSome, List, ℕ, None, OnOk, false, length, map};
 ghost use Rattle.std.specs.BTreeMap.{values};
 ghost use Rattle.coniks_proof.specs.Batches.{Operation, bound_by, first_fault};
 ghost use Rattle.coniks_proof.specs.Registry.{Registry};
 ghost use Rattle.coniks_tree.specs.Parts.{Fits, node_count};
 ghost use Rattle.coniks_directory.specs.Batches.{AreWorkers, operations};
 ghost use Rattle.coniks_directory.specs.Built.{IsBuilt, IsUpdateBy};
-ghost use Rattle.coniks_directory.specs.History.{latest_registry, nonce_after, version_after};
+ghost use Rattle.coniks_directory.specs.History.{latest_registry, nonce_after, nonce_bytes, version_after};
 ghost use Rattle.coniks_directory.specs.Holders.{ShowsLatest};
-ghost use Rattle.coniks_directory.specs.Judged.{AreDrafts, AreSealed, IsJudgedFault};
+ghost use Rattle.coniks_directory.specs.Judged.{ArePendingRecords, AreSealed, IsJudgedFault};
 ghost use Rattle.coniks_directory.specs.State.{Whole, history_of, state_of};
 
 use crate::batch::{BatchFault, Op};
 use crate::changes::changes_of;
-use crate::drafts::Drafts;
 use crate::growth::growth_of;
-use crate::held::Held;
 use crate::judge::judged;
+use crate::pending::PendingRecords;
 use crate::source::IndexSource;
+use crate::state::DirectoryState;
 use crate::update::Prepared;
 use coniks_proof::{Hash32, MAX_OPERATIONS, Nonce};
-use coniks_tree::{OutOfMemory, Part, Root, Tree};
-use coniks_work::{Gate, MAX_DEPTH, build};
+use coniks_tree::{OutOfMemory, Part, Root};
+use coniks_work::{Gate, MAX_DEPTH};
 use std::alloc::Global;
 use std::thread::Threads;
 
-/// The version of an epoch's entry after one of this version, where the epoch may bring a nonce.
-fn version_after(brought: Option<Nonce>, latest: u8) -> u8
-    ensures { result ≡ version_after (option_map (λ (n : Nonce). n.0) brought) latest }
+/// The origin of an update: the hash, the source of the names' indices, and the directory's state.
+#[derive(Drop)]
+pub(crate) struct Origin<'a, H: Hash32, X: IndexSource> {
+    pub(crate) alloc: Global,
+    pub(crate) h: &'a H,
+    pub(crate) source: &'a X,
+    pub(crate) held: &'a DirectoryState,
+}
+
+/// The way in which an epoch's tree is built: the worker threads, the gate before each job, and the split depth.
+#[derive(Drop)]
+pub(crate) struct Build<'a, G: Gate + Sync, R: Threads + Sync> {
+    pub(crate) rt: &'a R,
+    pub(crate) depth: usize,
+    pub(crate) workers: usize,
+    pub(crate) gate: &'a G,
+}
+
+/// Returns the version of an epoch's entry after one of this version, with an optional new nonce.
+fn version_after(new_nonce: Option<Nonce>, latest: u8) -> u8
+    ensures { result ≡ version_after (nonce_bytes new_nonce) latest }
 {
-    match brought {
+    match new_nonce {
         Some(_) => 2,
         None => latest,
     }
 }
 
-/// The nonce of an epoch after one under this nonce, where the epoch may bring one.
-fn nonce_after(brought: Option<Nonce>, latest: Nonce) -> Nonce
-    ensures { result.0 ≡ nonce_after (option_map (λ (n : Nonce). n.0) brought) latest.0 }
+/// Returns the nonce of an epoch after one under this nonce, with an optional new one.
+fn nonce_after(new_nonce: Option<Nonce>, latest: Nonce) -> Nonce
+    ensures { result.0 ≡ nonce_after (nonce_bytes new_nonce) latest.0 }
 {
-    match brought {
+    match new_nonce {
         Some(nonce) => nonce,
         None => latest,
     }
 }
 
-/// The part of the operations that were judged: what the root shows, or the empty map where there is none, overwritten by
-/// their changes. Where it is made anew, nothing of the root is kept.
-fn part_of<H: Hash32 + Sync, G: Gate + Sync, R: Threads + Sync>(
-    rt: &R,
-    alloc: Global,
-    h: &H,
-    drafts: &Drafts,
-    tree: &Tree,
+/// Returns the part of the checked operations.
+///
+/// It is the map under the root, or the empty map if there is none, overwritten by their changes. If it is made anew,
+/// nothing of the root is kept.
+fn part_of<H: Hash32 + Sync, X: IndexSource, G: Gate + Sync, R: Threads + Sync>(
+    build: &Build<'_, G, R>,
+    origin: &Origin<'_, H, X>,
+    pending: &PendingRecords,
     root: Option<Root>,
     is_anew: bool,
     nonce: &Nonce,
-    depth: usize,
-    workers: usize,
-    gate: &G,
 ) -> Result<Part, OutOfMemory>
-    requires numbered { All (λ n. n < length drafts.now.records.items) (values drafts.now.numbers) }
-    requires root { IfSome root (λ r. r.0 < length tree.now.nodes.items) }
-    requires depth { depth ≤ MAX_DEPTH }
-    requires workers { AreWorkers workers }
-    ensures { IfOk result (λ part. (of : List ℕ → List ℕ) (latest : List ℕ) (registry : Registry) (ops : List Operation) → (is_anew ≡ false → latest ≡ nonce.now.0)
-        → ShowsLatest (H.digest_of h.now) of latest tree.now.nodes.items tree.now.records.items root registry
-        → AreDrafts (H.digest_of h.now) of (map bound_by ops) drafts.now.records.items drafts.now.numbers → AreSealed (H.digest_of h.now) drafts.now.records.items → first_fault of registry ops ≡ None
-        → IsBuilt (H.digest_of h.now) of nonce.now.0 tree.now.nodes.items tree.now.records.items root registry ops is_anew part drafts.now.records.items) }
+    requires numbered { All (λ n. n < length pending.now.records.items) (values pending.now.numbers) }
+    requires root { IfSome root (λ r. r.0 < length origin.now.held.now.tree.nodes.items) }
+    requires depth { build.now.depth ≤ MAX_DEPTH }
+    requires workers { AreWorkers build.now.workers }
+    ensures { IfOk result (λ part. (index_of : List ℕ → List ℕ) (latest : List ℕ) (registry : Registry) (ops : List Operation)
+        → (is_anew ≡ false → latest ≡ nonce.now.0)
+        → ShowsLatest (H.digest_of origin.now.h.now) index_of latest origin.now.held.now.tree.nodes.items origin.now.held.now.tree.records.items root registry
+        → ArePendingRecords (H.digest_of origin.now.h.now) index_of (map bound_by ops) pending.now.records.items pending.now.numbers
+        → AreSealed (H.digest_of origin.now.h.now) pending.now.records.items → first_fault index_of registry ops ≡ None
+        → IsBuilt (H.digest_of origin.now.h.now) index_of nonce.now.0 origin.now.held.now.tree.nodes.items
+        origin.now.held.now.tree.records.items root registry ops is_anew part pending.now.records.items) }
 {
-    let changes = changes_of(alloc, tree.records(), drafts)?;
-    let growth = growth_of(alloc, tree, root, is_anew, changes)?;
-    Ok(build(
-        rt,
+    let Origin { alloc, held, .. } = *origin;
+    let changes = changes_of(alloc, held.tree.records(), pending)?;
+    let growth = growth_of(alloc, &held.tree, root, is_anew, changes)?;
+    Ok(coniks_work::build(
+        build.rt,
         alloc,
-        h,
+        origin.h,
         nonce,
-        tree,
+        &held.tree,
         growth.root,
         &growth.changes,
-        depth,
-        workers,
-        gate,
+        build.depth,
+        build.workers,
+        build.gate,
     )?)
 }
 
-/// The update of a part that was built of the records. It is `OutOfMemory` where no memory could hold the part's nodes.
+/// Returns the update of a part that was built of the records, or `OutOfMemory` if no memory could hold the part's nodes.
 fn update_of(
-    held: &Held,
+    held: &DirectoryState,
     version: u8,
     nonce: Nonce,
     part: Part,
-    drafts: Drafts,
+    pending: PendingRecords,
 ) -> Result<Prepared, OutOfMemory>
     requires fits { Fits (length held.now.tree.nodes.items) 0 part }
     ensures base { IfOk result (λ p. p.base ≡ length (state_of held.now).epochs) }
     ensures version { IfOk result (λ p. p.version ≡ version) }
     ensures nonce { IfOk result (λ p. p.nonce ≡ nonce) }
     ensures part { IfOk result (λ p. p.part ≡ part) }
-    ensures records { IfOk result (λ p. p.records ≡ drafts.records) }
+    ensures records { IfOk result (λ p. p.records ≡ pending.records) }
 {
     let new_nodes = held.tree.new_nodes(&part);
     if new_nodes == usize::MAX {
         return Err(OutOfMemory);
     }
-    let Drafts { records, .. } = drafts;
+    let PendingRecords { records, .. } = pending;
     Ok(Prepared {
         base: held.count(),
         version,
@@ -116,48 +135,40 @@ fn update_of(
     })
 }
 
-/// The update of a batch, which may bring a nonce, on what a directory holds. The batch is judged before any node is made.
-/// Workers, depth and the batch's length are within their limits.
+/// Prepares the update of a batch, with a new nonce or under the latest one.
+///
+/// The batch is checked before any node is made. Workers, split depth and the batch's length are within their limits.
 pub(crate) fn update_on<H: Hash32 + Sync, X: IndexSource, G: Gate + Sync, R: Threads + Sync>(
-    rt: &R,
-    alloc: Global,
-    h: &H,
-    source: &X,
-    held: &Held,
-    brought: Option<Nonce>,
+    build: &Build<'_, G, R>,
+    origin: &Origin<'_, H, X>,
+    new_nonce: Option<Nonce>,
     ops: &[Op],
-    depth: usize,
-    workers: usize,
-    gate: &G,
 ) -> Result<Prepared, BatchFault>
-    requires whole { Whole (H.digest_of h.now) (X.index_of source.now) (state_of held.now) }
+    requires whole { Whole (H.digest_of origin.now.h.now) (X.index_of origin.now.source.now) (state_of origin.now.held.now) }
     requires few { length ops.now ≤ MAX_OPERATIONS }
-    requires depth { depth ≤ MAX_DEPTH }
-    requires workers { AreWorkers workers }
-    ensures update { IfOk result (IsUpdateBy (H.digest_of h.now) (X.index_of source.now) (state_of held.now) (option_map (λ (n : Nonce). n.0) brought) ops.now) }
-    ensures faultless { OnOk result (first_fault (X.index_of source.now) (latest_registry (history_of (state_of held.now))) (operations ops.now) ≡ None) }
-    ensures fault { IfErr result (IsJudgedFault (X.index_of source.now) (latest_registry (history_of (state_of held.now))) (operations ops.now)) }
+    requires depth { build.now.depth ≤ MAX_DEPTH }
+    requires workers { AreWorkers build.now.workers }
+    ensures update { IfOk result (IsUpdateBy (H.digest_of origin.now.h.now)
+        (X.index_of origin.now.source.now) (state_of origin.now.held.now) (nonce_bytes new_nonce) ops.now) }
+    ensures faultless { OnOk result
+        (first_fault (X.index_of origin.now.source.now) (latest_registry (history_of (state_of origin.now.held.now))) (operations ops.now) ≡ None) }
+    ensures fault { IfErr result (IsJudgedFault (X.index_of origin.now.source.now)
+        (latest_registry (history_of (state_of origin.now.held.now))) (operations ops.now)) }
 {
-    let root = held.latest_root();
-    let version = version_after(brought, held.latest_version());
-    let nonce = nonce_after(brought, held.latest_nonce());
-    let drafts = judged(alloc, h, source, &held.tree, root, ops)?;
-    let Ok(part) = part_of(
-        rt,
+    let Origin {
         alloc,
         h,
-        &drafts,
-        &held.tree,
-        root,
-        brought.is_some(),
-        &nonce,
-        depth,
-        workers,
-        gate,
-    ) else {
+        source,
+        held,
+    } = *origin;
+    let root = held.latest_root();
+    let version = version_after(new_nonce, held.latest_version());
+    let nonce = nonce_after(new_nonce, held.latest_nonce());
+    let pending = judged(alloc, h, source, &held.tree, root, ops)?;
+    let Ok(part) = part_of(build, origin, &pending, root, new_nonce.is_some(), &nonce) else {
         return Err(BatchFault::OutOfMemory);
     };
-    match update_of(held, version, nonce, part, drafts) {
+    match update_of(held, version, nonce, part, pending) {
         Ok(update) => Ok(update),
         Err(_) => Err(BatchFault::OutOfMemory),
     }

@@ -1,4 +1,4 @@
-//! The commitments of a batch's records: by fours, and what is left over one by one.
+//! The commitments of a batch's records, four at a time, and the rest one by one.
 
 ghost use Rattle.std.specs.Prelude.{◌≡◌, ◌+◌, ◌*◌, ◌/◌, ◌<◌, ◌≤◌, List, ℕ, Some, length, map, slice_get};
 ghost use Rattle.coniks_proof.specs.Preimages.{commitment_preimage};
@@ -6,10 +6,10 @@ ghost use Rattle.coniks_proof.specs.Registry.{AreWithin, Registered};
 ghost use Rattle.coniks_directory.specs.Judged.{AreSealedTo, IsCommitmentAt, sealed_by};
 ghost use Rattle.coniks_directory.specs.State.{registered_of};
 
-use coniks_proof::{CommitmentPreimage, Digest, Hash32, commit_four, commit_hash};
+use coniks_proof::{CommitmentPreimage, Digest, Hash32, commit_hash, commit_hash_four};
 use coniks_tree::Record;
 
-/// What the commitment of the record at a place is the hash of.
+/// Returns the preimage of the commitment of the record at a position.
 fn preimage_at(records: &[Record], place: usize) -> CommitmentPreimage<'_>
     requires there { place < length records.now }
     requires within { AreWithin (map registered_of records.now) }
@@ -23,7 +23,7 @@ fn preimage_at(records: &[Record], place: usize) -> CommitmentPreimage<'_>
     )
 }
 
-/// The commitment of the record at a place.
+/// Returns the commitment of the record at a position.
 fn commitment_at<H: Hash32>(h: &H, records: &[Record], place: usize) -> Digest
     requires there { place < length records.now }
     requires within { AreWithin (map registered_of records.now) }
@@ -38,7 +38,7 @@ fn commitment_at<H: Hash32>(h: &H, records: &[Record], place: usize) -> Digest
     )
 }
 
-/// Puts its commitment into the record at a place.
+/// Stores its commitment in the record at a position.
 fn put(records: &mut [Record], place: usize, commitment: Digest)
     requires { place < length records.old }
     ensures binds { map registered_of records.new ≡ map registered_of records.old }
@@ -48,14 +48,14 @@ fn put(records: &mut [Record], place: usize, commitment: Digest)
     records[place].commitment = commitment;
 }
 
-/// Seals four records from a place on.
+/// Stores the commitments of four records from a position on.
 fn seal_four<H: Hash32>(h: &H, records: &mut [Record], place: usize)
     requires there { place + 4 ≤ length records.old }
     requires within { AreWithin (map registered_of records.old) }
     ensures binds { map registered_of records.new ≡ map registered_of records.old }
     ensures sealed { (all : List Record) → AreSealedTo (H.digest_of h.now) all place records.old → AreSealedTo (H.digest_of h.now) all (place + 4) records.new }
 {
-    let (a, b, c, d) = commit_four(
+    let (a, b, c, d) = commit_hash_four(
         h,
         &preimage_at(records, place),
         &preimage_at(records, place + 1),
@@ -68,7 +68,7 @@ fn seal_four<H: Hash32>(h: &H, records: &mut [Record], place: usize)
     put(records, place + 3, d);
 }
 
-/// Seals the first `groups` groups of four.
+/// Stores the commitments of the first `groups` groups of four.
 fn seal_groups<H: Hash32>(h: &H, records: &mut [Record], groups: usize)
     requires there { 4 * groups ≤ length records.old }
     requires within { AreWithin (map registered_of records.old) }
@@ -80,7 +80,7 @@ fn seal_groups<H: Hash32>(h: &H, records: &mut [Record], groups: usize)
     }
 }
 
-/// Seals the records from a place on.
+/// Stores the commitments of the records from a position on.
 fn seal_rest<H: Hash32>(h: &H, records: &mut [Record], from: usize)
     requires there { from ≤ length records.old }
     requires within { AreWithin (map registered_of records.old) }
@@ -92,7 +92,7 @@ fn seal_rest<H: Hash32>(h: &H, records: &mut [Record], from: usize)
     }
 }
 
-/// Puts its commitment into each record.
+/// Stores its commitment in each record.
 pub(crate) fn seal_all<H: Hash32>(h: &H, records: &mut [Record])
     requires { AreWithin (map registered_of records.old) }
     ensures { records.new ≡ map (sealed_by (H.digest_of h.now)) records.old }

@@ -1,24 +1,24 @@
-//! Where the indices of names come from.
+//! The source of the indices of names.
 
 ghost use Rattle.std.specs.Prelude.{◌≡◌, List, ℕ};
 
 use coniks_proof::Index;
 
-/// Gives each name its index: a function of the name.
+/// Gives each name its index, which is a function of the name.
 ///
-/// A provider has a verifiable unpredictable function here (CONIKS, section 3; RFC 9381 has such functions), so that an
-/// index tells nobody which name it is of. Its type holds the key; `index_of` is the definition of the function's first 32
-/// bytes under that key, and `index` computes them. If another process computes them, `SuppliedIndices` holds those that
-/// were supplied to it.
+/// A provider uses a verifiable random function (VRF, RFC 9381) here, so that an index does not reveal its name. CONIKS,
+/// section 3, calls it verifiable unpredictable function. The type holds the key. `index_of` defines the first 32 bytes
+/// of the function's output under that key, and `index` computes them. If another process computes them, use
+/// `SuppliedIndices`, which holds the indices that were supplied to it.
 ///
-/// The function's own proof, that an index is the name's, isn't asked for here and is contained in no path. The provider gives it
-/// beside the directory's proof, by a method of its own, and the client hands the index that it has verified to `check` or
-/// `Monitor::new`. One source serves a directory for good: under another key its names would have other indices.
+/// The VRF proof, that an index is the name's, is not part of an authentication path. The provider returns it next to the
+/// directory's proof, by a method of its own. The client passes the index that it has verified to `check` or
+/// `Monitor::new`. A directory has one source permanently, because names have other indices under another key.
 pub trait IndexSource {
     /// The index of a name.
     ghost index_of: { Self → List ℕ → List ℕ };
 
-    /// The index of a name. A directory asks for names of 1 to `MAX_NAME` bytes alone.
+    /// Returns the index of a name. A directory asks only for names of 1 to `MAX_NAME` bytes.
     fn index(&self, name: &[u8]) -> Index
         ensures { result.0 ≡ index_of self.now name.now };
 }

@@ -1,4 +1,4 @@
-//! Indices that another process computes, and the caller supplies after `open`.
+//! Indices that another process computes, and that the caller supplies after `open`.
 
 ghost use Rattle.std.specs.Prelude.{◌≡◌, IfSome, None, OnErr, OnOk, [], false, true};
 ghost use Rattle.coniks_directory.specs.Supplied.{IsSupplied, is_supplied, supplied_index};
@@ -13,18 +13,23 @@ use thiserror::Error;
 
 /// A source to which the caller supplies indices.
 pub trait SupplyIndex: IndexSource {
-    /// Stores the index of a name, in place of an earlier one. After an error nothing has changed.
+    /// Stores the index of a name, and replaces an earlier one.
+    ///
+    /// # Errors
+    ///
+    /// `AllocError` if an allocation fails. After an error nothing has changed.
     fn supply(&mut self, name: &[u8], index: Index) -> Result<(), AllocError>
         ensures supplied { OnOk result (IsSupplied (Self.index_of self.old) name.now index.0 (Self.index_of self.new)) }
         ensures unchanged { OnErr result (self.new ≡ self.old) };
 }
 
-/// An index source that holds the indices that were supplied to it. Contracts see it as a list of names with their indices,
-/// in the order of the names.
+/// An index source that holds the indices that were supplied to it.
 ///
-/// `prepare_supplied` takes batches that come with the indices of their names. For `prepare`, supply the index of each name
-/// before a batch registers it; `has` says whether that was done. A name without an index counts as having 32 zero bytes, and
-/// is registered at that index for good.
+/// Contracts see it as a list of names with their indices, in the order of the names.
+///
+/// `prepare_supplied` takes batches that come with the indices of their names. For `prepare`, supply the index of each
+/// name before a batch registers it; `has` returns whether that was done. A name without an index counts as having 32
+/// zero bytes, and is registered at that index permanently.
 #[derive(Drop)]
 pub struct SuppliedIndices {
     alloc: Global,
@@ -79,7 +84,7 @@ impl SuppliedIndices {
         }
     }
 
-    /// Returns for how many names an index was supplied.
+    /// Returns the number of names that have an index.
     pub fn count(&self) -> usize
         ensures { result ≡ length self.now }
     {
@@ -87,6 +92,10 @@ impl SuppliedIndices {
     }
 
     /// Stores the index of a name that has none. A name that has one keeps it.
+    ///
+    /// # Errors
+    ///
+    /// `AllocError` if an allocation fails.
     pub(crate) fn supply_first(&mut self, name: &[u8], index: Index) -> Result<(), AllocError>
         ensures kept { OnOk result (is_supplied self.old name.now ≡ true → self.new ≡ self.old) }
         ensures put { OnOk result (is_supplied self.old name.now ≡ false → self.new ≡ put_index self.old name.now index.0) }
@@ -124,7 +133,7 @@ impl SupplyIndex for SuppliedIndices {
     }
 }
 
-/// Why an index is refused: the first error that applies, in this order.
+/// The error of `supply`. If several apply, the first in declaration order is returned.
 #[derive(Clone, Copy, Debug, Drop, PartialEq, Eq, Error)]
 pub enum SupplyFault {
     /// The name is empty or longer than `MAX_NAME` bytes.

@@ -12,7 +12,7 @@ use coniks_tree::Record;
 use std::alloc::{AllocError, Global};
 use thiserror::Error;
 
-/// A batch whose operations come with the indices of their names, as another process computed them.
+/// A batch whose operations come with the indices of their names, which another process computed.
 #[derive(Clone, Copy)]
 pub struct SuppliedBatch<'a> {
     /// The nonce under which the epoch's tree is rehashed, if any.
@@ -23,19 +23,21 @@ pub struct SuppliedBatch<'a> {
     pub indices: &'a [Index],
 }
 
-/// Why a batch that comes with its indices isn't accepted.
+/// The error of a batch that comes with its indices.
 #[derive(Clone, Copy, Debug, Drop, PartialEq, Eq, Error)]
 pub enum SuppliedBatchFault {
     /// The error of the batch or of one of its operations.
     #[error("{0}")]
     Batch(BatchFault),
-    /// The first operation at fault, counted from 0, has a name with another index. Of an operation's errors it comes after
+    /// An operation has a name that is registered with another index.
+    ///
+    /// It contains the position of the first such operation, counted from 0. Of an operation's errors it comes after
     /// `NameUnknown` and before `IndexClash`.
     #[error("operation {position}: the name has another index")]
     OtherIndex { position: usize },
 }
 
-/// The indices that come with a batch, and for other names those of a source.
+/// The indices that come with a batch, and those of a source for all other names.
 #[derive(Drop)]
 pub(crate) struct BatchIndices<'a, X: IndexSource> {
     pub(crate) source: &'a X,
@@ -66,7 +68,11 @@ pub(crate) fn earlier_of(position: usize, fault: OpFault, place: usize) -> Suppl
     SuppliedBatchFault::OtherIndex { position: place }
 }
 
-/// Supplies the indices that records hold to their names.
+/// Supplies the indices that records contain to their names.
+///
+/// # Errors
+///
+/// `AllocError` if an allocation fails. Some of the indices may then be supplied.
 pub(crate) fn supply_all(source: &mut SuppliedIndices, records: &[Record]) -> Result<(), AllocError>
     ensures put { OnOk result (source.new ≡ put_indices source.old (indices_in records.now)) }
     ensures some { (n : ℕ) × (source.new ≡ put_indices source.old (indices_in (take n records.now))) }

@@ -1,4 +1,4 @@
-//! Updates that were prepared, and why one isn't installed.
+//! Prepared updates, and the errors of an install.
 
 ghost use Rattle.std.specs.Prelude.{◌≡◌};
 ghost use Rattle.coniks_tree.specs.Parts.{node_count};
@@ -8,11 +8,12 @@ use coniks_proof::Nonce;
 use coniks_tree::{Part, Record};
 use thiserror::Error;
 
-/// What `prepare` made of a batch: the new tree and the new records, for the directory that it was prepared from, as long
-/// as no epoch is installed in between.
+/// An update that `prepare` made of a batch: the new tree and the new records.
+///
+/// It is for the directory that it was prepared from, until another epoch is installed there.
 #[derive(Drop)]
 pub struct Prepared {
-    /// How many epochs there were.
+    /// The number of epochs when the update was prepared.
     pub(crate) base: usize,
     /// The version of the entry.
     pub(crate) version: u8,
@@ -30,15 +31,17 @@ impl Prepared {
     ghost use Rattle.coniks_directory.specs.Updates.{nodes_added};
     ghost use Rattle.coniks_proof.specs.Registry.{has_name};
 
-    /// How many nodes an install of the update adds, empty nodes and the root included: for b operations, b at least 1, at
-    /// most `512 * b + 1`; without operations one as the first epoch, and none later.
+    /// Returns the number of nodes that an install of the update adds, empty nodes and the root included.
+    ///
+    /// An update of b operations, b at least 1, adds at most `512 * b + 1` nodes. Without operations it adds one node as
+    /// the first epoch, and none later.
     pub fn new_nodes(&self) -> usize
         ensures { result ≡ nodes_added self.now }
     {
         self.new_nodes
     }
 
-    /// Whether one of the batch's operations is on the name.
+    /// Returns whether one of the batch's operations is on the name.
     pub fn binds(&self, name: &[u8]) -> bool
         ensures { result ≡ has_name (map registered_of self.now.records.items) name.now }
     {
@@ -51,27 +54,27 @@ impl Prepared {
     }
 }
 
-/// Why an update isn't installed: of what applies, the first in this order.
+/// The error of an install. If several apply, the first in declaration order is returned.
 #[derive(Clone, Copy, Debug, Drop, PartialEq, Eq, Error)]
 pub enum InstallFault {
-    /// An epoch was installed since the update was prepared.
+    /// An epoch was installed after the update was prepared.
     #[error("the update is stale: the latest epoch is {latest}")]
     Stale { latest: u64 },
-    /// The epoch isn't later than the latest one, or than 0 where there is none.
+    /// The epoch is not later than the latest one, or is 0 if there is none.
     #[error("the epoch isn't later than {latest}")]
     EpochNotLater { latest: u64 },
-    /// As many heads are published as the board takes.
+    /// The board has no room for another head.
     #[error("the board is full")]
     BoardFull,
-    /// A growth was refused.
+    /// An allocation failed.
     #[error("out of memory")]
     OutOfMemory,
-    /// The signer gave no signature.
+    /// The signer returned no signature.
     #[error("the signer refused")]
     SignerRefused,
 }
 
-/// Why a batch isn't committed: the fault of the part that refused it.
+/// The error of a commit: that of the batch or that of the install.
 #[derive(Clone, Copy, Debug, Drop, PartialEq, Eq, Error)]
 pub enum CommitFault {
     #[error("the batch is refused: {0}")]

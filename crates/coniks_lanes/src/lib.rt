@@ -1,8 +1,8 @@
 //! SHA-256 (FIPS 180-4) of four messages at once, each in a lane of four words.
 //!
-//! What a message's hash is, the kit's `sha2` defines, and this crate has no definition of it beside that one. Four
-//! messages of two blocks go through the rounds together, in the processor's vectors of 16 bytes where it has them.
-//! `TwoBlocks::of` takes the pieces of a message, and `hash_four` four such messages.
+//! The kit's `sha2` defines the hash of a message; this crate has no definition of its own. Four messages of two blocks are
+//! hashed together, in the processor's vectors of 16 bytes if it has them. `TwoBlocks::of` takes the pieces of a message, and
+//! `hash_four` four such messages.
 #![tactic(auto)]
 
 pub mod hashing;

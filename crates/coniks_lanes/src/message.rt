@@ -31,9 +31,10 @@ impl Model for TwoBlocks {
 }
 
 impl TwoBlocks {
-    /// The pieces, taken as one message; none where that has fewer or more bytes.
+    /// Joins the pieces to one message. None if it has fewer or more bytes.
     pub fn of(pieces: &[&[u8]]) -> Option<TwoBlocks>
-        ensures { MatchOption result (IsTwoBlocks (flat_map (λ piece. piece.now) pieces.now) → ⊥) (λ message. message ≡ flat_map (λ piece. piece.now) pieces.now) }
+        ensures { MatchOption result (IsTwoBlocks (flat_map (λ piece. piece.now) pieces.now) → ⊥)
+            (λ message. message ≡ flat_map (λ piece. piece.now) pieces.now) }
     {
         let mut bytes = [0u8; 128];
         let length = gather(pieces, &mut bytes)?;
@@ -61,8 +62,8 @@ impl TwoBlocks {
     }
 }
 
-/// Puts the pieces one after another at the front of the bytes, which are zeros, and says how many they are; none where
-/// that is more than a message of two blocks has.
+/// Writes the pieces one after another to the front of the bytes, which are zeros, and returns how many they are; None if
+/// they are more than a message of two blocks.
 fn gather(pieces: &[&[u8]], bytes: &mut [u8; 128]) -> Option<usize>
     requires { bytes.old ≡ replicate 128 0 }
     ensures { MatchOption result (MAX_TWO_BLOCKS < length (flat_map (λ piece. piece.now) pieces.now))
@@ -79,7 +80,7 @@ fn gather(pieces: &[&[u8]], bytes: &mut [u8; 128]) -> Option<usize>
     Some(size)
 }
 
-/// The two blocks of a message that stands at the front of the bytes.
+/// Returns the two blocks of the message at the front of the bytes.
 fn padded(bytes: [u8; 128], size: usize) -> [u8; 128]
     requires least { MIN_TWO_BLOCKS ≤ size }
     requires most { size ≤ MAX_TWO_BLOCKS }

@@ -75,7 +75,7 @@ pub(crate) fn choose(x: Four, y: Four, z: Four) -> Four
     xor(and(x, y), and(not(x), z))
 }
 
-/// Maj, by one and: where y and z differ it is x, and else y.
+/// Maj, with one and: it is x if y and z differ, else y.
 #[inline(always)]
 pub(crate) fn majority(x: Four, y: Four, z: Four) -> Four
     ensures { (j : ℕ) → j < 4 → slice_index result j ≡ maj (slice_index x j) (slice_index y j) (slice_index z j) }

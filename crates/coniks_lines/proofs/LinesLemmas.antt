@@ -20,7 +20,8 @@ rest_after-append held (x ∷ xs) ys = rest_step held xs ys x (nat_eq x 10) (res
 whole_step : (held xs ys : List ℕ) (x : ℕ) (t : Bool)
     → whole_after [] (xs ++ ys) ≡ whole_after [] xs ++ whole_after (rest_after [] xs) ys
     → whole_after (held ++ x ∷ []) (xs ++ ys) ≡ whole_after (held ++ x ∷ []) xs ++ whole_after (rest_after (held ++ x ∷ []) xs) ys
-    → cond t (held ∷ whole_after [] (xs ++ ys)) (whole_after (held ++ x ∷ []) (xs ++ ys)) ≡ cond t (held ∷ whole_after [] xs) (whole_after (held ++ x ∷ []) xs) ++ whole_after (cond t (rest_after [] xs) (rest_after (held ++ x ∷ []) xs)) ys
+    → cond t (held ∷ whole_after [] (xs ++ ys)) (whole_after (held ++ x ∷ []) (xs ++ ys)) ≡ cond t (held ∷ whole_after [] xs)
+    (whole_after (held ++ x ∷ []) xs) ++ whole_after (cond t (rest_after [] xs) (rest_after (held ++ x ∷ []) xs)) ys
 whole_step held xs ys x true e f = ap (λ (ls : List (List ℕ)). held ∷ ls) e
 whole_step held xs ys x false e f = f
 

@@ -16,7 +16,8 @@ and_assoc : (a b c : Bool) → (a && (b && c)) ≡ ((a && b) && c)
 and_assoc true b c = refl
 and_assoc false b c = refl
 
-pub all_accepted-append : {S : Type 0} (answer : S → List ℕ → Answer S) (s : S) (xs ys : List (List ℕ)) → all_accepted answer s (xs ++ ys) ≡ (all_accepted answer s xs && all_accepted answer (state_after answer s xs) ys)
+pub all_accepted-append : {S : Type 0} (answer : S → List ℕ → Answer S) (s : S) (xs ys : List (List ℕ))
+    → all_accepted answer s (xs ++ ys) ≡ (all_accepted answer s xs && all_accepted answer (state_after answer s xs) ys)
 all_accepted-append answer s [] ys = refl
 all_accepted-append answer s (x ∷ xs) ys =
     ap (λ (b : Bool). (answer s x).accepted && b) (all_accepted-append answer (answer s x).state xs ys)

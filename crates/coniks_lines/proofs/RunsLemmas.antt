@@ -192,7 +192,8 @@ module _ {S : Type 0} (answer : S → List ℕ → Answer S) where
 
   -- a flush that failed after the answer to a line
   pub stops_at_flush : (t : S) (line bytes : List ℕ) (old mid new : Sink) (still : Source)
-      → bytes ≡ (answer t line).text ++ 10 ∷ [] → Appends old bytes mid → mid.flushes ≡ old.flushes → WritesOn old mid → Keeps mid.written new.written → new.flushes ≡ mid.flushes → new.failed ≡ mid.failed + 1
+      → bytes ≡ (answer t line).text ++ 10 ∷ [] → Appends old bytes mid → mid.flushes ≡ old.flushes
+      → WritesOn old mid → Keeps mid.written new.written → new.flushes ≡ mid.flushes → new.failed ≡ mid.failed + 1
       → StopsFor answer t (line ∷ []) still still old new Write
   stops_at_flush t line bytes old mid new still is wrote before on kept flushed failed = (
     record {
@@ -218,14 +219,16 @@ module _ {S : Type 0} (answer : S → List ℕ → Answer S) where
   not_still still (ends, inr reads) = absurd (omega (arith, reads))
 
   -- what a fault says, after other lines were answered, and with more lines after them
-  because-then : (e : RunFault) (still : Source) (old mid new : Sink) (left left' : List (List ℕ)) (part : List ℕ) → WritesOn old mid → Because e still still mid new left part → Because e still still old new left' part
+  because-then : (e : RunFault) (still : Source) (old mid new : Sink) (left left' : List (List ℕ)) (part : List ℕ)
+      → WritesOn old mid → Because e still still mid new left part → Because e still still old new left' part
   because-then Read still old mid new left left' part on h = absurd (not_still still h.0)
   because-then Write still old mid new left left' part on h = (refl, CannotWrite-then old mid new on h.1)
   because-then OutOfMemory still old mid new left left' part on h = (refl, (WritesOn-then old mid new on h.1.0, h.1.1))
   because-then NoBoard still old mid new left left' part on h = h
 
   -- what a fault says where the source went on before
-  because-read : (e : RunFault) (from from' : Source) (old new : Sink) (left : List (List ℕ)) (part : List ℕ) → from'.failed ≡ from.failed → Because e from from old new left part → Because e from from' old new left part
+  because-read : (e : RunFault) (from from' : Source) (old new : Sink) (left : List (List ℕ)) (part : List ℕ)
+      → from'.failed ≡ from.failed → Because e from from old new left part → Because e from from' old new left part
   because-read Read from from' old new left part on h = absurd (not_still from h.0)
   because-read Write from from' old new left part on h = (on, h.1)
   because-read OutOfMemory from from' old new left part on h = (on, h.1)
@@ -233,7 +236,8 @@ module _ {S : Type 0} (answer : S → List ℕ → Answer S) where
 
   -- a fault among later lines, after the first ones were answered
   pub StopsFor-then : (s : S) (xs ys : List (List ℕ)) (still : Source) (old mid new : Sink) (e : RunFault) → WritesOn old mid
-      → Appends old (replies answer s xs) mid → mid.flushes ≡ count_after old.flushes xs → StopsFor answer (state_after answer s xs) ys still still mid new e → StopsFor answer s (xs ++ ys) still still old new e
+      → Appends old (replies answer s xs) mid → mid.flushes ≡ count_after old.flushes xs
+      → StopsFor answer (state_after answer s xs) ys still still mid new e → StopsFor answer s (xs ++ ys) still still old new e
   unfolding Stops-then
   StopsFor-then s xs ys still old mid new e on wrote flushed h =
       (Stops-then s xs ys old mid new wrote flushed h.0, because-then e still old mid new h.0.left h.0.left h.0.part on h.1)
@@ -355,7 +359,8 @@ module _ {S : Type 0} (answer : S → List ℕ → Answer S) where
       let same : first ++ line ∷ [] ≡ lines_of bytes = sym (lines_of-last line bytes some p.rest_is) in
       let moved : AnswersLine answer from line mid new u accepted = subst (λ (z : S). AnswersLine answer z line mid new u accepted) p.state_is q in
       let both : Appends old (replies answer s (first ++ line ∷ [])) new =
-      subst (λ (r : List ℕ). Appends old r new) (sym (replies-append answer s first (line ∷ []))) (Appends-then old mid new (replies answer s first) (replies answer from (line ∷ [])) p.written moved.written) in
+      subst (λ (r : List ℕ). Appends old r new) (sym (replies-append answer s first (line ∷ [])))
+      (Appends-then old mid new (replies answer s first) (replies answer from (line ∷ [])) p.written moved.written) in
       let goes : u ≡ state_after answer s (first ++ line ∷ []) = moved.state_is ∙ sym (state_after-append answer s first (line ∷ [])) in
       let holds : (a && accepted) ≡ all_accepted answer s (first ++ line ∷ []) =
       ap (λ (b : Bool). b && accepted) p.all_is
@@ -429,7 +434,8 @@ module _ {S : Type 0} (answer : S → List ℕ → Answer S) where
             let more = whole_after (rest_after [] h.bytes) rest ++ last_line (rest_after [] (h.bytes ++ rest)) in
             let lines : h.lines ++ more ≡ lines_of (h.bytes ++ rest) = ap (λ (ls : List (List ℕ)). ls ++ more) are ∙ lines_of-split h.bytes rest in
             subst (λ (ls : List (List ℕ)). WritesPart (replies answer s ls) to to') lines
-            (subst (λ (r : List ℕ). WritesPart r to to') (sym (replies-append answer s h.lines more)) (WritesPart-longer (replies answer s h.lines) (replies answer (state_after answer s h.lines) more) to to' wrote))
+            (subst (λ (r : List ℕ). WritesPart r to to') (sym (replies-append answer s h.lines more))
+            (WritesPart-longer (replies answer s h.lines) (replies answer (state_after answer s h.lines) more) to to' wrote))
         by_lines (inr ended) =
             let is = (taken_front input from from' h.bytes told h.read).1.0 in
             let none : h.bytes ≡ h.bytes ++ rest = sym (ap (λ (r : List ℕ). h.bytes ++ r) (none_left-is rest from' is ended.0.none_left) ∙ append-nil h.bytes) in

@@ -1,14 +1,14 @@
--- What a machine answers to lines, one after another.
+-- What a machine replies to lines, one after another.
 use Rattle.std.specs.Prelude.{ℕ, List, [], ◌∷◌, ◌++◌, ◌&&◌, Bool, true}
 use Rattle.coniks_lines.specs.Lines.{lines_of}
 
--- the answer to a line: its text, whether the line was accepted, and the state after it
+-- the reply to a line: its text, whether the line was accepted, and the state after it
 pub record Answer (S : Type 0) : Type 0 where
   pub text : List ℕ
   pub accepted : Bool
   pub state : S
 
--- the texts that answer lines, each with a newline
+-- the replies to lines, each with a newline
 abbrev pub replies : {S : Type 0} → (S → List ℕ → Answer S) → S → List (List ℕ) → List ℕ
 replies answer s [] = []
 replies answer s (line ∷ lines) = (answer s line).text ++ 10 ∷ replies answer (answer s line).state lines

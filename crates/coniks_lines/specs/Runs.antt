@@ -1,4 +1,4 @@
--- What stands after a run of a machine over the lines of a source.
+-- The state of streams and machine after a run over the lines of a source.
 use Rattle.std.specs.Prelude.{◌≡◌, ◌⊎◌, ℕ, ◌+◌, ◌%◌, ◌^◌, ◌++◌, List, [], ◌∷◌, take, Bool}
 use Rattle.coniks_lines.specs.Known.{Source, Sink, Takes, Appends, HasNoneLeft, next_count}
 use Rattle.coniks_lines.specs.Lines.{whole_after, rest_after, whole_lines, lines_of}
@@ -22,7 +22,7 @@ pub record WritesOn (old new : Sink) : Type 0 where
   pub none_failed : new.failed ≡ old.failed
   pub not_stalled : new.stalls ≡ old.stalls
 
--- the source has come to its end: one read answered 0, and no byte is left, where that is told
+-- the source is at its end: one read returned 0, and no byte is left, if that is known
 pub record ComesToEnd (old new : Source) : Type 0 where
   pub ended : new.ends ≡ next_count old.ends
   pub none_left : HasNoneLeft new
@@ -31,7 +31,7 @@ pub record ComesToEnd (old new : Source) : Type 0 where
 abbrev pub CannotWrite : Sink → Sink → Type 0
 CannotWrite old new = (new.failed ≡ old.failed + 1) ⊎ (new.stalls ≡ next_count old.stalls)
 
--- no read answered 0, and one failed, or there were 2^63
+-- no read returned 0, and one failed, or there were 2^63
 abbrev pub CannotRead : Source → Source → Type 0
 CannotRead old new = (new.ends ≡ old.ends) × ((new.failed ≡ old.failed + 1) ⊎ (new.reads ≡ (old.reads + 2 ^ 63) % 2 ^ 64))
 
@@ -40,16 +40,19 @@ abbrev pub count_after : ℕ → List (List ℕ) → ℕ
 count_after n [] = n
 count_after n (line ∷ lines) = count_after (next_count n) lines
 
--- the machine answered this line, and one flush followed
-pub record AnswersLine {S : Type 0} (answer : S → List ℕ → Answer S) (start : S) (line : List ℕ) (old new : Sink) (state : S) (accepted : Bool) : Type 0 where
+-- the machine replied to this line, and one flush followed
+pub record AnswersLine {S : Type 0} (answer : S → List ℕ → Answer S) (start : S)
+    (line : List ℕ) (old new : Sink) (state : S) (accepted : Bool) : Type 0 where
   pub written : Appends old ((answer start line).text ++ 10 ∷ []) new
   pub state_is : state ≡ (answer start line).state
   pub accepted_is : accepted ≡ (answer start line).accepted
   pub flushed : new.flushes ≡ next_count old.flushes
   pub writes_on : WritesOn old new
 
--- the machine answered each whole line of the bytes, whose first one begins with `held`, with a flush for each, and `rest` is what stands after them
-pub record AnswersWhole {S : Type 0} (answer : S → List ℕ → Answer S) (start : S) (held bytes : List ℕ) (old new : Sink) (state : S) (rest : List ℕ) (all : Bool) : Type 0 where
+-- the machine answered each whole line of the bytes, whose first one begins with
+-- `held`, with a flush for each, and `rest` is what stands after them
+pub record AnswersWhole {S : Type 0} (answer : S → List ℕ → Answer S) (start : S)
+    (held bytes : List ℕ) (old new : Sink) (state : S) (rest : List ℕ) (all : Bool) : Type 0 where
   pub written : Appends old (replies answer start (whole_after held bytes)) new
   pub state_is : state ≡ state_after answer start (whole_after held bytes)
   pub rest_is : rest ≡ rest_after held bytes
@@ -57,15 +60,17 @@ pub record AnswersWhole {S : Type 0} (answer : S → List ℕ → Answer S) (sta
   pub flushes_is : new.flushes ≡ count_after old.flushes (whole_after held bytes)
   pub writes_on : WritesOn old new
 
--- the machine answered each line of the bytes, with a flush for each
-pub record AnswersAll {S : Type 0} (answer : S → List ℕ → Answer S) (start : S) (bytes : List ℕ) (old new : Sink) (state : S) (all : Bool) : Type 0 where
+-- the machine replied to each line of the bytes, with a flush for each
+pub record AnswersAll {S : Type 0} (answer : S → List ℕ → Answer S) (start : S)
+    (bytes : List ℕ) (old new : Sink) (state : S) (all : Bool) : Type 0 where
   pub written : Appends old (output answer start bytes) new
   pub state_is : state ≡ state_after answer start (lines_of bytes)
   pub all_is : all ≡ all_accepted answer start (lines_of bytes)
   pub flushes_is : new.flushes ≡ count_after old.flushes (lines_of bytes)
   pub writes_on : WritesOn old new
 
--- how far a run came over these lines: those that it answered, each with a flush, those that it did not, and what was written of the next answer
+-- how far a run came over these lines: those that it answered, each with a
+-- flush, those that it did not, and what was written of the next answer
 pub record Stops {S : Type 0} (answer : S → List ℕ → Answer S) (start : S) (lines : List (List ℕ)) (old new : Sink) : Type 0 where
   pub done : List (List ℕ)
   pub left : List (List ℕ)
@@ -75,7 +80,7 @@ pub record Stops {S : Type 0} (answer : S → List ℕ → Answer S) (start : S)
   pub written : Appends old (replies answer start done ++ part) new
   pub flushes_is : new.flushes ≡ count_after old.flushes done
 
--- what each fault says of the streams, of the lines that were not answered, and of what was written of the next answer
+-- what each fault means for the streams, for the lines without a reply, and for the written part of the next reply
 abbrev pub Because : RunFault → Source → Source → Sink → Sink → List (List ℕ) → List ℕ → Type 0
 Because Read from from' to to' left part = CannotRead from from' × (WritesOn to to' × ((left ≡ []) × (part ≡ [])))
 Because Write from from' to to' left part = (from'.failed ≡ from.failed) × CannotWrite to to'
@@ -84,10 +89,12 @@ Because NoBoard from from' to to' left part = ⊥
 
 -- a fault stopped the run at these lines
 abbrev pub StopsFor : {S : Type 0} → (S → List ℕ → Answer S) → S → List (List ℕ) → Source → Source → Sink → Sink → RunFault → Type 0
-StopsFor answer start lines from from' to to' fault = (run : Stops answer start lines to to') × Because fault from from' to to' run.left run.part
+StopsFor answer start lines from from' to to' fault = (run : Stops answer start lines to to')
+    × Because fault from from' to to' run.left run.part
 
--- a run that came to its source's end: each line of all that was read is answered
-pub record EndsWell {S : Type 0} (answer : S → List ℕ → Answer S) (start : S) (from from' : Source) (to to' : Sink) (state : S) (all : Bool) : Type 0 where
+-- a run that came to its source's end: each line that was read has its reply
+pub record EndsWell {S : Type 0} (answer : S → List ℕ → Answer S) (start : S)
+    (from from' : Source) (to to' : Sink) (state : S) (all : Bool) : Type 0 where
   pub bytes : List ℕ
   pub read : Takes from bytes from'
   pub at_end : ComesToEnd from from'
@@ -99,7 +106,8 @@ abbrev pub AreRead : Source → Source → List ℕ → List (List ℕ) → Type
 AreRead from from' bytes lines = (lines ≡ whole_lines bytes) ⊎ (ComesToEnd from from' × (lines ≡ lines_of bytes))
 
 -- a run that a fault ended: the bytes that it read, their lines, and how far it came over these
-pub record EndsBadly {S : Type 0} (answer : S → List ℕ → Answer S) (start : S) (from from' : Source) (to to' : Sink) (fault : RunFault) : Type 0 where
+pub record EndsBadly {S : Type 0} (answer : S → List ℕ → Answer S) (start : S)
+    (from from' : Source) (to to' : Sink) (fault : RunFault) : Type 0 where
   pub bytes : List ℕ
   pub lines : List (List ℕ)
   pub read : Takes from bytes from'

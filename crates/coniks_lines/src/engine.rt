@@ -1,4 +1,4 @@
-//! The engine: a machine that answers lines, and the loop that feeds it.
+//! The engine: a machine that answers lines, and the loop that passes lines to it.
 ghost use Rattle.std.specs.Prelude.{◌≡◌, ℕ, ◌+◌, ◌<◌, ◌^◌, ◌++◌, ◌∷◌, [], List, length, take, IfOk, OnOk, OnErr, IfErr, Some};
 ghost use Rattle.coniks_lines.specs.Known.{Source, Appends};
 ghost use Rattle.coniks_lines.specs.Lines.{whole_after};
@@ -11,38 +11,39 @@ use crate::fault::RunFault;
 use memchr::memchr;
 use std::alloc::{AllocError, Global};
 
-/// What ends a line.
+/// The byte that ends a line.
 const NEWLINE: u8 = b'\n';
 
-/// How many bytes a read asks for.
+/// The number of bytes that a read asks for.
 const CHUNK: usize = 64 * 1024;
 
-/// A run gives up after so many reads.
+/// The largest number of reads of a run.
 const MAX_READS: u64 = 1 << 63;
 
-/// A machine that answers one line at a time.
+/// A machine that replies to one line at a time.
 ///
-/// Contracts see a machine as a state and a function, `answer`, that gives for a state and a line
-/// the text of the answer, whether the line was accepted, and the state after it.
+/// Contracts see a machine as a state and a function `answer`. For a state and a line the function returns the text of
+/// the answer, whether the line was accepted, and the next state.
 pub trait LineMachine {
-    /// What the answer to a line depends on.
+    /// The context that the answer to a line depends on.
     ghost State: { Type 0 };
 
     /// The state of the machine.
     ghost state: { Self → State };
 
-    /// The answer to a line: its text, whether the line was accepted, and the state after it.
+    /// The answer to a line: its text, whether the line was accepted, and the next state.
     ghost answer: { State → List ℕ → Answer State };
 
-    /// What a step needs that its machine can't hold, as that threads may share a type's values.
+    /// A precondition of `step` that the machine cannot contain, for example that threads can share a type's values.
     ghost Needs: { Type 0 };
 
-    /// Adds the answer's text to `out`, without a newline, and tells whether the line was accepted.
-    /// The line comes without its newline.
+    /// Appends the answer's text to `out`, without a newline, and returns whether the line was accepted.
+    ///
+    /// The line has no newline at its end.
     ///
     /// # Errors
     ///
-    /// `AllocError` where memory is refused: `out` and the machine's state are then open.
+    /// `AllocError` if an allocation fails. `out` and the machine's state are then unspecified.
     fn step(&mut self, line: &[u8], out: &mut Vec<u8>) -> Result<bool, AllocError>
         requires needs { Needs }
         ensures text { OnOk result (out.new.items ≡ out.old.items ++ (answer (state self.old) line.now).text) }
@@ -50,25 +51,24 @@ pub trait LineMachine {
         ensures state { OnOk result (state self.new ≡ (answer (state self.old) line.now).state) };
 }
 
-/// Answers the lines of the reader one after another, each by the text of its answer, a newline and
-/// a flush, until a read answers 0. Tells whether each line was accepted.
+/// Answers the lines of the reader one after another, until a read returns 0, and returns whether each line was accepted.
 ///
-/// A line is what stands before a newline, a carriage return included; what stands after the last
-/// newline is a line where it has at least one byte. A line that is refused is answered like any
-/// other, and the run goes on. The reader is read 64 KiB at a time. A line may have any length that
-/// memory holds: one that lies whole in what one read gave isn't copied, another is copied once.
+/// Writes the text of each answer and a newline, then flushes. A line consists of the bytes before a newline, a carriage
+/// return included. The bytes after the last newline are a line if there is at least one. A refused line is answered like
+/// any other, and the run continues.
 ///
-/// The `failures` of both streams must be below 2^64 - 1, and what the machine needs must hold.
+/// The reader is read 64 KiB at a time. The length of a line is limited only by memory. A line that one read returned
+/// whole is not copied, and any other is copied once. The `failures` of both streams are below 2^64 - 1, and the
+/// machine's `Needs` hold.
 ///
 /// # Errors
 ///
-/// The run ends at the first fault, which is told for no other reason.
+/// The run ends at the first error, and returns an error in no other case.
 ///
-/// - `Read` where a read failed, or 2^63 reads met no end: each line read with its newline is answered.
-/// - `Write` where a write or a flush failed or a write took 0 bytes: of the lines read the first ones are
-///   answered, and a beginning of the next answer was written.
-/// - `OutOfMemory` where memory was refused: of the lines read the first ones are answered, and no more
-///   was written.
+/// - `Read` if a read failed, or 2^63 reads met no end. Each line read with its newline is answered.
+/// - `Write` if a write or a flush failed or a write took 0 bytes. Of the lines read the first ones are answered, and a
+///   prefix of the next answer was written.
+/// - `OutOfMemory` if an allocation failed. Of the lines read the first ones are answered, and no more was written.
 pub fn run_lines<M: LineMachine, R: ByteIn, W: ByteOut>(
     alloc: Global,
     machine: &mut M,
@@ -86,8 +86,8 @@ pub fn run_lines<M: LineMachine, R: ByteIn, W: ByteOut>(
         (R.source reader.old) (R.source reader.new)
         (W.sink writer.old) (W.sink writer.new)) }
 
-    // Where the reader tells its bytes: after Ok each of them is answered,
-    // and after a fault a beginning of what answers them was written.
+    // If the reader's bytes are known: after Ok each of them is answered, and after an error a prefix of their answers
+    // was written.
     ensures all_of { (input : List ℕ) → (R.source reader.old).left ≡ Some input
         → IfOk result (AnswersAll M.answer (M.state machine.old) input
         (W.sink writer.old) (W.sink writer.new)
@@ -102,7 +102,7 @@ pub fn run_lines<M: LineMachine, R: ByteIn, W: ByteOut>(
     read_lines(alloc, machine, reader, writer, &mut buffer)
 }
 
-/// The loop of `run_lines`: reads into the buffer, and answers the lines that end in what was read.
+/// Reads into the buffer, and answers the lines that end in the bytes read: the loop of `run_lines`.
 fn read_lines<M: LineMachine, R: ByteIn, W: ByteOut>(
     alloc: Global,
     machine: &mut M,
@@ -142,7 +142,7 @@ fn read_lines<M: LineMachine, R: ByteIn, W: ByteOut>(
     Err(RunFault::Read)
 }
 
-/// Answers each line that ends in the chunk, and holds what stands after the last newline.
+/// Answers each line that ends in the chunk, and holds the bytes after the last newline.
 fn take_chunk<M: LineMachine, W: ByteOut>(
     machine: &mut M,
     chunk: &[u8],
@@ -171,8 +171,9 @@ fn take_chunk<M: LineMachine, W: ByteOut>(
     Ok(all)
 }
 
-/// Answers the line that is held and ends with this part, and then holds nothing. A line of which
-/// nothing was held is answered as it stands, with no copy.
+/// Answers the line that is held and ends with this part, and then holds nothing.
+///
+/// A line of which nothing was held is answered without a copy.
 fn end_line<M: LineMachine, W: ByteOut>(
     machine: &mut M,
     part: &[u8],
@@ -200,7 +201,7 @@ fn end_line<M: LineMachine, W: ByteOut>(
     Ok(accepted)
 }
 
-/// Answers one line: its text, a newline and a flush. `out` is a buffer, whatever it held before.
+/// Answers one line: its text, a newline and a flush. `out` is a buffer with any contents.
 fn answer_line<M: LineMachine, W: ByteOut>(
     machine: &mut M,
     line: &[u8],
@@ -229,13 +230,13 @@ fn answer_line<M: LineMachine, W: ByteOut>(
     Ok(accepted)
 }
 
-/// Writes all the bytes, by as many writes as that takes, and doesn't flush.
+/// Writes all the bytes, with as many writes as needed, and does not flush.
 ///
-/// The writer's `failures` must be below 2^64 - 1.
+/// The writer's `failures` are below 2^64 - 1.
 ///
 /// # Errors
 ///
-/// `Write` where a write failed or took 0 bytes: a beginning of the bytes was written.
+/// `Write` if a write failed or took 0 bytes. A prefix of the bytes was written.
 pub fn write_all<W: ByteOut>(writer: &mut W, bytes: &[u8]) -> Result<(), RunFault>
     requires { (W.sink writer.old).failed + 1 < 2 ^ 64 }
     ensures ok { OnOk result (Appends (W.sink writer.old) bytes.now (W.sink writer.new)) }

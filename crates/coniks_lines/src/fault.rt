@@ -1,8 +1,8 @@
-//! Why a run ends.
+//! The errors of a run.
 
 use thiserror::Error;
 
-/// Why a run ended before its reader did.
+/// The error of a run that ended before its reader.
 #[derive(Clone, Copy, Debug, PartialEq, Eq, Drop, Error)]
 pub enum RunFault {
     /// A read failed, or 2^63 reads met no end.
@@ -11,10 +11,10 @@ pub enum RunFault {
     /// A write or a flush failed, or a write took 0 bytes.
     #[error("write failed")]
     Write,
-    /// Memory was refused.
+    /// An allocation failed.
     #[error("out of memory")]
     OutOfMemory,
-    /// A run that publishes on a board could have none. `run_lines` itself doesn't answer it.
+    /// The board of a run that publishes could not be allocated. `run_lines` never returns it.
     #[error("no board")]
     NoBoard,
 }

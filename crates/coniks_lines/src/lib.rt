@@ -1,6 +1,7 @@
-//! Streams of bytes, and one engine that reads lines from one, lets a machine answer each, and writes the answers to another.
+//! Streams of bytes, and an engine over them.
 //!
-//! A machine that repeats lines, and refuses empty ones:
+//! The engine reads lines from one stream, passes each to a machine, and writes the answers to another stream. A machine
+//! that repeats lines, and refuses empty ones:
 //!
 //! ```rust
 //! impl LineMachine for Echo {
@@ -19,7 +20,7 @@
 //! }
 //! ```
 //!
-//! It answers three lines, from memory to memory. `SystemIn` and `SystemOut` are the standard streams:
+//! It replies to three lines, from memory to memory. `SystemIn` and `SystemOut` are the standard streams:
 //!
 //! ```rust
 //! let mut reader = MemoryIn::new(Vec::from_slice(alloc, b"one\n\nthree\n")?);

@@ -1,11 +1,12 @@
-//! Bytes in memory, which contracts see.
+//! Streams of bytes in memory, which contracts see.
 ghost use Rattle.std.specs.Prelude.{◌≡◌, ◌≤◌, [], Some, vec_len, drop};
 
 use crate::bytes::{ByteIn, ByteOut, Failed};
 use std::alloc::Global;
 
-/// Reads bytes from memory, and tells contracts those that are left. A read never fails, and gives as
-/// many bytes as there are and the buffer holds.
+/// A reader of bytes in memory, whose remaining bytes contracts see.
+///
+/// A read never fails. It returns as many bytes as are left and fit in the buffer.
 #[derive(Drop)]
 pub struct MemoryIn {
     bytes: Vec<u8>,
@@ -16,7 +17,7 @@ pub struct MemoryIn {
 }
 
 impl MemoryIn {
-    /// A reader of these bytes.
+    /// Returns a reader of these bytes.
     pub fn new(bytes: Vec<u8>) -> Self
         ensures left { (⟦<MemoryIn as ByteIn>⟧.source result).left ≡ Some bytes.items }
         ensures failed { (⟦<MemoryIn as ByteIn>⟧.source result).failed ≡ 0 }
@@ -52,8 +53,9 @@ impl ByteIn for MemoryIn {
     }
 }
 
-/// Keeps the bytes that are written, and tells them to contracts. A write takes them all, or fails where
-/// memory is refused; a flush never fails.
+/// A writer to memory, whose written bytes contracts see.
+///
+/// A write takes all bytes, or fails if an allocation fails. A flush never fails.
 #[derive(Drop)]
 pub struct MemoryOut {
     bytes: Vec<u8>,
@@ -62,7 +64,7 @@ pub struct MemoryOut {
 }
 
 impl MemoryOut {
-    /// A writer with no bytes yet. This takes no memory.
+    /// Returns a writer without bytes. Allocates nothing.
     pub fn new(alloc: Global) -> Self
         ensures written { (⟦<MemoryOut as ByteOut>⟧.sink result).written ≡ Some [] }
         ensures failed { (⟦<MemoryOut as ByteOut>⟧.sink result).failed ≡ 0 }
@@ -74,7 +76,7 @@ impl MemoryOut {
         }
     }
 
-    /// The bytes that were written, from the first one on.
+    /// Returns the bytes that were written, from the first one on.
     pub fn bytes(&self) -> &[u8]
         ensures { (⟦<MemoryOut as ByteOut>⟧.sink self.now).written ≡ Some result.now }
     {

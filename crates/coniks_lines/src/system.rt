@@ -1,11 +1,12 @@
-//! Streams over readers and writers of std. Contracts know of their bytes what these tell.
+//! Streams over readers and writers of std. Contracts know their bytes as far as the readers and writers specify them.
 ghost use Rattle.std.specs.Prelude.{◌≡◌};
 
 use crate::bytes::{ByteIn, ByteOut, Failed};
 use std::io::{Read, Write};
 
-/// Reads from a reader of std, as standard input: `SystemIn::new(rt.stdin())`. A read that a signal
-/// cuts short before its first byte is one that failed.
+/// A source over a reader of std, for example standard input: `SystemIn::new(rt.stdin())`.
+///
+/// A read that a signal interrupts before its first byte is a failed read.
 #[derive(Drop)]
 pub struct SystemIn<R> {
     reader: R,
@@ -15,7 +16,7 @@ pub struct SystemIn<R> {
 }
 
 impl<R: Read + Drop> SystemIn<R> {
-    /// A source of the reader's bytes, told where the reader tells them, of which no read has failed yet.
+    /// Returns a source of the reader's bytes, without failed reads. Its bytes are known if the reader specifies them.
     pub fn new(reader: R) -> Self
         ensures left { (⟦<SystemIn<R> as ByteIn>⟧.source result).left ≡ R.remaining reader }
         ensures failed { (⟦<SystemIn<R> as ByteIn>⟧.source result).failed ≡ 0 }
@@ -51,8 +52,10 @@ impl<R: Read + Drop> ByteIn for SystemIn<R> {
     }
 }
 
-/// Writes to a writer of std, as standard output and error: `SystemOut::new(rt.stdout())`,
-/// `SystemOut::new(rt.stderr())`. A write that a signal cuts short before its first byte is one that failed.
+/// A sink over a writer of std, for example standard output or error.
+///
+/// Use `SystemOut::new(rt.stdout())` or `SystemOut::new(rt.stderr())`. A write that a signal interrupts before its first
+/// byte is a failed write.
 #[derive(Drop)]
 pub struct SystemOut<W> {
     writer: W,
@@ -62,7 +65,7 @@ pub struct SystemOut<W> {
 }
 
 impl<W: Write + Drop> SystemOut<W> {
-    /// A sink for the writer, with the bytes that it tells, of which no write or flush has failed yet.
+    /// Returns a sink for the writer, with the bytes that the writer specifies, without failed writes and flushes.
     pub fn new(writer: W) -> Self
         ensures written { (⟦<SystemOut<W> as ByteOut>⟧.sink result).written ≡ W.contents writer }
         ensures failed { (⟦<SystemOut<W> as ByteOut>⟧.sink result).failed ≡ 0 }

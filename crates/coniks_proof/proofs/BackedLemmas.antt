@@ -1,4 +1,4 @@
--- Nodes and paths don't depend on what stands behind the commitments.
+-- Nodes and paths do not depend on what the commitments commit to.
 use Rattle.std.proofs.Common.{◌≡◌, ℕ, zero, suc, ◌-◌, List, [], ◌∷◌, length, Bool, true, false, refl, ap, ◌∙◌, not, map, cond}
 use Rattle.std.specs.List.{filter}
 use Rattle.coniks_proof.specs.Bits.{bit_at, turns, child}

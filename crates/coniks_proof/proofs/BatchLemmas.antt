@@ -16,12 +16,12 @@ use Rattle.coniks_proof.proofs.NameLemmas.{clash_found, clash_made, eq_apart, eq
 -- ---- an operation without fault
 
 -- none of the faults applies to the operation, after earlier ones bound these
-pub record IsClear (of : List ℕ → List ℕ) (registry : Registry) (earlier : List Registered) (op : Operation) : Type 0 where
+pub record IsClear (index_of : List ℕ → List ℕ) (registry : Registry) (earlier : List Registered) (op : Operation) : Type 0 where
   pub named : fits MAX_NAME op.name ≡ true
   pub keyed : fits MAX_KEY op.key ≡ true
   pub once : has_name earlier op.name ≡ false
   pub kind : kind_fault op.kind (has_name registry op.name) ≡ None
-  pub apart : clashes of (registry ++ earlier) op.name ≡ false
+  pub apart : clashes index_of (registry ++ earlier) op.name ≡ false
 
 if_none : (b : Bool) (x : Fault) (rest : Option Fault) → (if b then Some x else rest) ≡ None → (b ≡ false) × (rest ≡ None)
 if_none true x rest h = absurd (let never = h in cc)
@@ -31,17 +31,17 @@ else_none : (o p : Option Fault) → or_else o p ≡ None → (o ≡ None) × (p
 else_none (Some x) p h = absurd (let never = h in cc)
 else_none None p h = (refl, h)
 
-pub clear_of : (of : List ℕ → List ℕ) (registry : Registry) (earlier : List Registered) (op : Operation) → fault_of of registry earlier op ≡ None → IsClear of registry earlier op
-clear_of of registry earlier op none =
+pub clear_of : (index_of : List ℕ → List ℕ) (registry : Registry) (earlier : List Registered) (op : Operation) → fault_of index_of registry earlier op ≡ None → IsClear index_of registry earlier op
+clear_of index_of registry earlier op none =
     let a = if_none (not (fits MAX_NAME op.name)) name_length _ none in
     let b = if_none (not (fits MAX_KEY op.key)) key_length _ a.1 in
     let c = if_none (has_name earlier op.name) name_twice _ b.1 in
     let d = else_none (kind_fault op.kind (has_name registry op.name)) _ c.1 in
-    let e = if_none (clashes of (registry ++ earlier) op.name) index_clash None d.1 in
+    let e = if_none (clashes index_of (registry ++ earlier) op.name) index_clash None d.1 in
     record { named = not-false (fits MAX_NAME op.name) a.0; keyed = not-false (fits MAX_KEY op.key) b.0; once = c.0; kind = d.0; apart = e.0 }
 
-none_of : (of : List ℕ → List ℕ) (registry : Registry) (earlier : List Registered) (op : Operation) → IsClear of registry earlier op → fault_of of registry earlier op ≡ None
-none_of of registry earlier op c = rw (c.named, c.keyed, c.once, c.kind, c.apart) refl
+none_of : (index_of : List ℕ → List ℕ) (registry : Registry) (earlier : List Registered) (op : Operation) → IsClear index_of registry earlier op → fault_of index_of registry earlier op ≡ None
+none_of index_of registry earlier op c = rw (c.named, c.keyed, c.once, c.kind, c.apart) refl
 
 pub placed_none : (place : ℕ) (fault : Option Fault) (later : Option (ℕ × Fault)) → placed place fault later ≡ None → (fault ≡ None) × (later ≡ None)
 placed_none place (Some x) later h = absurd (let never = h in cc)
@@ -74,49 +74,49 @@ other_name x y off = eq_apart y x (λ same. let on = eq_same x y (sym same) in c
 -- ---- indices of their own
 
 -- one more name, with which no other has its index
-module _ (of : List ℕ → List ℕ) (names : Registry) (b : Registered) where
+module _ (index_of : List ℕ → List ℕ) (names : Registry) (b : Registered) where
   of_last : (x : List ℕ) → has_name (names ++ b ∷ []) x ≡ true → (has_name names x ≡ true) ⊎ (b.name ≡ x)
   of_last x has = elim (or_cases (has_name names x) (bytes_eq b.name x || false) (sym (has_name-append names (b ∷ []) x) ∙ has)) [
     | inl old ↦ inl old
     | inr new ↦ elim (or_cases (bytes_eq b.name x) false new) [ inl on ↦ inr ((bytes_eq-Decides b.name x).0 on) | inr never ↦ absurd (let h = never in cc) ]
   ]
 
-  no_clash : clashes of names b.name ≡ false → (x : List ℕ) → has_name names x ≡ true → of x ≡ of b.name → x ≡ b.name
+  no_clash : clashes index_of names b.name ≡ false → (x : List ℕ) → has_name names x ≡ true → index_of x ≡ index_of b.name → x ≡ b.name
   no_clash off x has at =
       (elim (bytes_eq x b.name) as (λ v. bytes_eq x b.name ≡ v → x ≡ b.name) [
         | true ↦ λ on. (bytes_eq-Decides x b.name).0 on
-        | false ↦ λ differ. absurd (let on = clash_made of names b.name (record { other = x; at = at; there = has; apart = λ same. let on = eq_same x b.name same in cc }) in cc)
+        | false ↦ λ differ. absurd (let on = clash_made index_of names b.name (record { other = x; at = at; there = has; apart = λ same. let on = eq_same x b.name same in cc }) in cc)
       ]) refl
 
-  one_more : HaveOwnIndices of names → clashes of names b.name ≡ false → HaveOwnIndices of (names ++ b ∷ [])
+  one_more : HaveOwnIndices index_of names → clashes index_of names b.name ≡ false → HaveOwnIndices index_of (names ++ b ∷ [])
   one_more own off x y has_x has_y at = elim (of_last x has_x) [
     | inl old_x ↦ elim (of_last y has_y) [
       | inl old_y ↦ own x y old_x old_y at
-      | inr new_y ↦ no_clash off x old_x (at ∙ ap of (sym new_y)) ∙ new_y
+      | inr new_y ↦ no_clash off x old_x (at ∙ ap index_of (sym new_y)) ∙ new_y
     ]
     | inr new_x ↦ elim (of_last y has_y) [
-      | inl old_y ↦ sym (no_clash off y old_y (sym at ∙ ap of (sym new_x)) ∙ new_x)
+      | inl old_y ↦ sym (no_clash off y old_y (sym at ∙ ap index_of (sym new_x)) ∙ new_x)
       | inr new_y ↦ sym new_x ∙ new_y
     ]
   ]
 
 -- ---- the operations of a batch in turn
 
-module _ (of : List ℕ → List ℕ) (registry : Registry) where
+module _ (index_of : List ℕ → List ℕ) (registry : Registry) where
   -- each operation is clear after those before it
   abbrev AreClear : List Registered → List Operation → Type 0
   AreClear earlier [] = Unit {0}
-  AreClear earlier (op ∷ ops) = IsClear of registry earlier op × AreClear (earlier ++ bound_by op ∷ []) ops
+  AreClear earlier (op ∷ ops) = IsClear index_of registry earlier op × AreClear (earlier ++ bound_by op ∷ []) ops
 
-  clear_from : (earlier : List Registered) (place : ℕ) (ops : List Operation) → fault_from of registry earlier place ops ≡ None → AreClear earlier ops
+  clear_from : (earlier : List Registered) (place : ℕ) (ops : List Operation) → fault_from index_of registry earlier place ops ≡ None → AreClear earlier ops
   clear_from earlier place [] none = tt
   clear_from earlier place (op ∷ ops) none =
-      let both = placed_none place (fault_of of registry earlier op) _ none in
-      (clear_of of registry earlier op both.0, clear_from (earlier ++ bound_by op ∷ []) (place + 1) ops both.1)
+      let both = placed_none place (fault_of index_of registry earlier op) _ none in
+      (clear_of index_of registry earlier op both.0, clear_from (earlier ++ bound_by op ∷ []) (place + 1) ops both.1)
 
-  none_from : (earlier : List Registered) (place : ℕ) (ops : List Operation) → AreClear earlier ops → fault_from of registry earlier place ops ≡ None
+  none_from : (earlier : List Registered) (place : ℕ) (ops : List Operation) → AreClear earlier ops → fault_from index_of registry earlier place ops ≡ None
   none_from earlier place [] clear = refl
-  none_from earlier place (op ∷ ops) clear = rw (none_of of registry earlier op clear.0) (none_from (earlier ++ bound_by op ∷ []) (place + 1) ops clear.1)
+  none_from earlier place (op ∷ ops) clear = rw (none_of index_of registry earlier op clear.0) (none_from (earlier ++ bound_by op ∷ []) (place + 1) ops clear.1)
 
   -- ---- from each to all
 
@@ -146,25 +146,27 @@ module _ (of : List ℕ → List ℕ) (registry : Registry) where
   once_of earlier (op ∷ ops) clear =
       (not_again (earlier ++ bound_by op ∷ []) ops op.name clear.1 (has_last earlier (bound_by op)), once_of (earlier ++ bound_by op ∷ []) ops clear.1)
 
-  own_of : (earlier : List Registered) (ops : List Operation) → AreClear earlier ops → HaveOwnIndices of (registry ++ earlier) → HaveOwnIndices of (registry ++ (earlier ++ map bound_by ops))
-  own_of earlier [] clear own = subst (λ bs. HaveOwnIndices of (registry ++ bs)) (sym (append-nil earlier)) own
+  own_of : (earlier : List Registered) (ops : List Operation) → AreClear earlier ops
+      → HaveOwnIndices index_of (registry ++ earlier) → HaveOwnIndices index_of (registry ++ (earlier ++ map bound_by ops))
+  own_of earlier [] clear own = subst (λ bs. HaveOwnIndices index_of (registry ++ bs)) (sym (append-nil earlier)) own
   own_of earlier (op ∷ ops) clear own =
       let b = bound_by op in
-      subst (λ bs. HaveOwnIndices of (registry ++ bs)) (append_assoc earlier (b ∷ []) (map bound_by ops))
-      (own_of (earlier ++ b ∷ []) ops clear.1 (subst (HaveOwnIndices of) (append_assoc registry earlier (b ∷ [])) (one_more of (registry ++ earlier) b own clear.0.apart)))
+      subst (λ bs. HaveOwnIndices index_of (registry ++ bs)) (append_assoc earlier (b ∷ []) (map bound_by ops))
+      (own_of (earlier ++ b ∷ []) ops clear.1 (subst (HaveOwnIndices index_of) (append_assoc registry earlier (b ∷ [])) (one_more index_of (registry ++ earlier) b own clear.0.apart)))
 
   -- ---- from all to each
 
-  apart_of : (names : Registry) (name : List ℕ) → ((x : List ℕ) → has_name names x ≡ true → of x ≡ of name → x ≡ name) → clashes of names name ≡ false
-  apart_of names name own = false_from_ne_true (clashes of names name) (λ on. let c = clash_found of names name on in c.apart (own c.other c.there c.at))
+  apart_of : (names : Registry) (name : List ℕ) → ((x : List ℕ) → has_name names x ≡ true → index_of x ≡ index_of name → x ≡ name) → clashes index_of names name ≡ false
+  apart_of names name own = false_from_ne_true (clashes index_of names name) (λ on. let c = clash_found index_of names name on in c.apart (own c.other c.there c.at))
 
-  clear_all : (earlier : List Registered) (ops : List Operation) → AreWithin (map bound_by ops) → AreOnce (map bound_by ops) → ((op : Operation) → IsIn op ops → Suits op.kind (has_name registry op.name))
-      → ((op : Operation) → IsIn op ops → has_name earlier op.name ≡ false) → HaveOwnIndices of (registry ++ (earlier ++ map bound_by ops)) → AreClear earlier ops
+  clear_all : (earlier : List Registered) (ops : List Operation) → AreWithin (map bound_by ops)
+      → AreOnce (map bound_by ops) → ((op : Operation) → IsIn op ops → Suits op.kind (has_name registry op.name))
+      → ((op : Operation) → IsIn op ops → has_name earlier op.name ≡ false) → HaveOwnIndices index_of (registry ++ (earlier ++ map bound_by ops)) → AreClear earlier ops
   clear_all earlier [] within once kinds new own = tt
   clear_all earlier (op ∷ ops) within once kinds new own =
       let b = bound_by op in
       let whole : registry ++ (earlier ++ map bound_by (op ∷ ops)) ≡ (registry ++ earlier) ++ map bound_by (op ∷ ops) = sym (append_assoc registry earlier (map bound_by (op ∷ ops))) in
-      let own' : HaveOwnIndices of ((registry ++ earlier) ++ map bound_by (op ∷ ops)) = subst (HaveOwnIndices of) whole own in
+      let own' : HaveOwnIndices index_of ((registry ++ earlier) ++ map bound_by (op ∷ ops)) = subst (HaveOwnIndices index_of) whole own in
       let old : (x : List ℕ) → has_name (registry ++ earlier) x ≡ true → has_name ((registry ++ earlier) ++ map bound_by (op ∷ ops)) x ≡ true =
       λ x has. has_name-append (registry ++ earlier) (map bound_by (op ∷ ops)) x ∙ or_left (has_name (registry ++ earlier) x) (has_name (map bound_by (op ∷ ops)) x) has in
       let here : has_name ((registry ++ earlier) ++ map bound_by (op ∷ ops)) op.name ≡ true =
@@ -178,7 +180,7 @@ module _ (of : List ℕ → List ℕ) (registry : Registry) where
           apart = apart_of (registry ++ earlier) op.name (λ x has at. own' x op.name (old x has) here at);
         },
         clear_all (earlier ++ b ∷ []) ops within.2 once.1 (λ o there. kinds o (inr there)) (later_new op ops once.0 new)
-            (subst (λ bs. HaveOwnIndices of (registry ++ bs)) (sym (append_assoc earlier (b ∷ []) (map bound_by ops))) own),
+            (subst (λ bs. HaveOwnIndices index_of (registry ++ bs)) (sym (append_assoc earlier (b ∷ []) (map bound_by ops))) own),
       )
     where
       bound_there : (o : Operation) (os : List Operation) → IsIn o os → IsIn (bound_by o) (map bound_by os)
@@ -189,27 +191,27 @@ module _ (of : List ℕ → List ℕ) (registry : Registry) where
       later_new : (op : Operation) (ops : List Operation) → has_name (map bound_by ops) op.name ≡ false → ((o : Operation) → IsIn o (op ∷ ops) → has_name earlier o.name ≡ false)
           → (o : Operation) → IsIn o ops → has_name (earlier ++ bound_by op ∷ []) o.name ≡ false
       later_new op ops once new o there = false_from_ne_true (has_name (earlier ++ bound_by op ∷ []) o.name) (λ has.
-          elim (of_last of earlier (bound_by op) o.name has) [
+          elim (of_last index_of earlier (bound_by op) o.name has) [
             | inl old ↦ let off = new o (inr there) in cc
             | inr same ↦ let has_op : has_name (map bound_by ops) op.name ≡ true = has_of (map bound_by ops) op.name (bound_by o) (bound_there o ops there) (sym same) in cc
           ])
 
   -- the words of the definition say that no operation is at fault
-  pub may_follow : (ops : List Operation) → HaveOwnIndices of registry → first_fault of registry ops ≡ None → MayFollow of registry ops
+  pub may_follow : (ops : List Operation) → HaveOwnIndices index_of registry → first_fault index_of registry ops ≡ None → MayFollow index_of registry ops
   may_follow ops own none =
       let clear = clear_from [] 0 ops none in
       record {
         within = within_of [] ops clear;
         once = once_of [] ops clear;
         kinds = kinds_of [] ops clear;
-        apart = own_of [] ops clear (subst (HaveOwnIndices of) (sym (append-nil registry)) own);
+        apart = own_of [] ops clear (subst (HaveOwnIndices index_of) (sym (append-nil registry)) own);
       }
 
-  pub faultless : (ops : List Operation) → MayFollow of registry ops → first_fault of registry ops ≡ None
+  pub faultless : (ops : List Operation) → MayFollow index_of registry ops → first_fault index_of registry ops ≡ None
   faultless ops may = none_from [] 0 ops (clear_all [] ops may.within may.once may.kinds (λ op there. refl) may.apart)
 
   -- what it leaves has indices of its own again
-  pub own_after : (ops : List Operation) → MayFollow of registry ops → HaveOwnIndices of (after registry ops)
+  pub own_after : (ops : List Operation) → MayFollow index_of registry ops → HaveOwnIndices index_of (after registry ops)
   own_after ops may x y has_x has_y at = may.apart x y (among x has_x) (among y has_y) at
     where
       among : (name : List ℕ) → has_name (after registry ops) name ≡ true → has_name (registry ++ map bound_by ops) name ≡ true
@@ -222,8 +224,10 @@ module _ (of : List ℕ → List ℕ) (registry : Registry) where
           ]
 
 -- a registry whose entries are a map has indices of its own
-pub own_of_map : (hash of : List ℕ → List ℕ) (registry : Registry) → IsMap (entries_of hash of registry) → HaveOwnIndices of registry
-own_of_map hash of registry map x y has_x has_y at =
+pub own_of_map : (hash index_of : List ℕ → List ℕ) (registry : Registry) → IsMap (entries_of hash index_of registry) → HaveOwnIndices index_of registry
+own_of_map hash index_of registry map x y has_x has_y at =
     let m = named_of registry x has_x in
     let n = named_of registry y has_y in
-    sym m.named ∙ ap (λ (e : Entry Registered). e.behind.name) (same_entry (entries_of hash of registry) (entry_of hash of m.bound) (entry_of hash of n.bound) map (entry_in hash of m.bound registry m.there) (entry_in hash of n.bound registry n.there) (ap of m.named ∙ at ∙ ap of (sym n.named))) ∙ n.named
+    sym m.named ∙ ap (λ (e : Entry Registered). e.behind.name)
+    (same_entry (entries_of hash index_of registry) (entry_of hash index_of m.bound) (entry_of hash index_of n.bound) map
+    (entry_in hash index_of m.bound registry m.there) (entry_in hash index_of n.bound registry n.there) (ap index_of m.named ∙ at ∙ ap index_of (sym n.named))) ∙ n.named

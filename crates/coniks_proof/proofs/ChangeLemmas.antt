@@ -82,7 +82,8 @@ unfolding AreInOrder InOrderWithin
 in_order-split k es short h =
     let here : 256 - k ≡ suc (255 - k) = omega arith in
     let below : 256 - suc k ≡ 255 - k = omega arith in
-    let all : (es ≡ half false k es ++ half true k es) × InOrderWithin (255 - k) (suc k) (half false k es) × InOrderWithin (255 - k) (suc k) (half true k es) = subst (λ n. InOrderWithin n k es) here h in
+    let all : (es ≡ half false k es ++ half true k es) × InOrderWithin (255 - k) (suc k) (half false k es)
+    × InOrderWithin (255 - k) (suc k) (half true k es) = subst (λ n. InOrderWithin n k es) here h in
     record {
       parts = all.0;
       left = subst (λ n. InOrderWithin n (suc k) (half false k es)) (sym below) all.1;

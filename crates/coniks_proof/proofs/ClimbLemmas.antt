@@ -30,9 +30,11 @@ climbs-few : {B : Type 0} (hash : List ℕ → List ℕ) (nonce : List ℕ) (p :
 climbs-few hash nonce p j es none end = rw (none, end) refl
 
 -- what is climbed below a level is the node of the side on the way
-climb-below : {B : Type 0} (hash : List ℕ → List ℕ) (nonce : List ℕ) (p : List Bool) (j : List ℕ) (es : List (Entry B)) (b : Bool) → bit_at j (length p) ≡ b → Climbs hash nonce (child p b) j (half b (length p) es)
+climb-below : {B : Type 0} (hash : List ℕ → List ℕ) (nonce : List ℕ) (p : List Bool) (j : List ℕ) (es : List (Entry B)) (b : Bool)
+    → bit_at j (length p) ≡ b → Climbs hash nonce (child p b) j (half b (length p) es)
     → let ss = siblings hash nonce (child p b) j (half b (length p) es) in
-    climb hash j (suc (length p)) ss (node hash nonce (onwards (child p (bit_at j (length p))) j (length ss)) (end_of (child p b) j (half b (length p) es))) ≡ node hash nonce (child p b) (half b (length p) es)
+    climb hash j (suc (length p)) ss (node hash nonce (onwards (child p (bit_at j (length p))) j (length ss)) (end_of (child p b) j (half b (length p) es))) ≡
+    node hash nonce (child p b) (half b (length p) es)
 climb-below hash nonce p j es b is ih =
     let ss = siblings hash nonce (child p b) j (half b (length p) es) in
     let at : (k : ℕ) (c : Bool) → List ℕ = λ k c. climb hash j k ss (node hash nonce (onwards (child p c) j (length ss)) (end_of (child p b) j (half b (length p) es))) in

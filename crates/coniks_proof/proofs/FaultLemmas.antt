@@ -1,4 +1,4 @@
--- A proof is accepted exactly where it has no fault.
+-- A proof is accepted if and only if it has no fault.
 use Rattle.std.proofs.Common.{◌≡◌, ◌≢◌, ◌<◌, ◌≤◌, ◌⊎◌, ℕ, zero, suc, List, [], ◌∷◌, length, Bool, true, false, refl, sym, arith, inl, inr, Option}
 use Rattle.std.specs.Str.{bytes_eq}
 use Rattle.std.proofs.lemmas.Slice.Eq.{bytes_eq-Decides}
@@ -41,7 +41,8 @@ fits-no_fault index name level (Here here key o) RootMismatch fits has = has
 pub accepts-no_fault : (hash : List ℕ → List ℕ) (nonce root index name : List ℕ) (proof : Proof) (answer : Option (List ℕ)) (fault : CheckFault)
     → Accepts hash nonce root index name proof answer → Has hash nonce root index name proof fault → ⊥
 accepts-no_fault hash nonce root index name proof answer TooDeep ok has = let depth = ok.well_formed.depth in omega arith
-accepts-no_fault hash nonce root index name proof answer NameLength ok has = let given = ok.well_formed.name_given in let fits = ok.well_formed.name_fits in elim has [ inl none ↦ omega arith | inr long ↦ omega arith ]
+accepts-no_fault hash nonce root index name proof answer NameLength ok has = let given = ok.well_formed.name_given in
+    let fits = ok.well_formed.name_fits in elim has [ inl none ↦ omega arith | inr long ↦ omega arith ]
 accepts-no_fault hash nonce root index name proof answer RootMismatch ok has = has ok.root_met
 accepts-no_fault hash nonce root index name proof answer KeyLength ok has = fits-no_fault index name (length proof.siblings) proof.end KeyLength ok.well_formed.end_fits has
 accepts-no_fault hash nonce root index name proof answer WrongName ok has = fits-no_fault index name (length proof.siblings) proof.end WrongName ok.well_formed.end_fits has
@@ -93,7 +94,8 @@ at_most m n never = elim (cases_lt m n) [ inl less ↦ absurd (never less) | inr
 
 end_sound : (index name : List ℕ) (level : ℕ) (end : End) → ((fault : CheckFault) → EndHas index name level end fault → ⊥) → EndFits index name level end
 end_sound index name level Empty none = tt
-end_sound index name level (Other other c) none = (none OtherIsSame, elim (same_bits (first_bits other.0 level) (first_bits index level)) [ inl same ↦ same | inr apart ↦ absurd (none OtherOffPath apart) ])
+end_sound index name level (Other other c) none =
+    (none OtherIsSame, elim (same_bits (first_bits other.0 level) (first_bits index level)) [ inl same ↦ same | inr apart ↦ absurd (none OtherOffPath apart) ])
 end_sound index name level (Here here key o) none =
     (stable here name (none WrongName), some_there (length key) (λ e. none KeyLength (inl e)), at_most MAX_KEY (length key) (λ e. none KeyLength (inr e)))
 

@@ -48,7 +48,8 @@ end_of-in (suc h) p j (x ∷ y ∷ es) e full apart is =
     (sym (end_of-inner p j (x ∷ y ∷ es) b refl short many) ∙ is))
 
 -- the entry of an index stands at the end of the way to it
-pub end_of-present : {B : Type 0} (h : ℕ) (p : List Bool) (j : List ℕ) (es : List (Entry B)) (e : Entry B) → length p + h ≡ 256 → AreApart (length p) es → e.index ≡ j → IsIn e es → end_of p j es ≡ e ∷ []
+pub end_of-present : {B : Type 0} (h : ℕ) (p : List Bool) (j : List ℕ) (es : List (Entry B)) (e : Entry B)
+    → length p + h ≡ 256 → AreApart (length p) es → e.index ≡ j → IsIn e es → end_of p j es ≡ e ∷ []
 end_of-present h p j [] e full apart same in_es = absurd in_es
 end_of-present h p j (x ∷ []) e full apart same (inl here) = end_of-leaf p j x ∙ ap (λ y. y ∷ []) here
 end_of-present h p j (x ∷ []) e full apart same (inr there) = absurd there
@@ -84,7 +85,8 @@ alike-half k j b (e ∷ es) is alike =
     ]) refl
 
 -- what stands at the end of the way agrees with the index as far as the way goes
-pub end_of-alike : {B : Type 0} (hash : List ℕ → List ℕ) (nonce : List ℕ) (h : ℕ) (p : List Bool) (j : List ℕ) (es : List (Entry B)) → length p + h ≡ 256 → AreApart (length p) es → BeginAlike (length p) (bit_at j) es
+pub end_of-alike : {B : Type 0} (hash : List ℕ → List ℕ) (nonce : List ℕ) (h : ℕ) (p : List Bool) (j : List ℕ) (es : List (Entry B))
+    → length p + h ≡ 256 → AreApart (length p) es → BeginAlike (length p) (bit_at j) es
     → BeginAlike (length p + length (siblings hash nonce p j es)) (bit_at j) (end_of p j es)
 end_of-alike hash nonce h p j [] full apart alike = rw (siblings-empty _ hash nonce p j, end_of-empty p j) tt
 end_of-alike hash nonce h p j (x ∷ []) full apart alike =
@@ -106,7 +108,8 @@ end_of-alike hash nonce (suc h) p j (x ∷ y ∷ es) full apart alike =
     (subst (λ k. BeginAlike k (bit_at j) (end_of (child p b) j (half b (length p) (x ∷ y ∷ es)))) longer below)
 
 -- at most 256 siblings
-pub length-siblings : {B : Type 0} (hash : List ℕ → List ℕ) (nonce : List ℕ) (h : ℕ) (p : List Bool) (j : List ℕ) (es : List (Entry B)) → length p + h ≡ 256 → AreApart (length p) es → length (siblings hash nonce p j es) ≤ h
+pub length-siblings : {B : Type 0} (hash : List ℕ → List ℕ) (nonce : List ℕ) (h : ℕ) (p : List Bool) (j : List ℕ) (es : List (Entry B))
+    → length p + h ≡ 256 → AreApart (length p) es → length (siblings hash nonce p j es) ≤ h
 length-siblings hash nonce h p j [] full apart = rw (siblings-empty _ hash nonce p j) (omega arith)
 length-siblings hash nonce h p j (x ∷ []) full apart = rw (siblings-leaf hash nonce p j x) (omega arith)
 length-siblings hash nonce zero p j (x ∷ y ∷ es) full apart =
@@ -155,44 +158,48 @@ length-digests (s ∷ ss) = ap suc (length-digests ss)
 -- ---- the path in a registry's tree
 
 -- what stands at the end of a way is a binding's entry
-at_end : (hash of : List ℕ → List ℕ) (registry : Registry) (j : List ℕ) (e : Entry Registered) → IsMap (entries_of hash of registry)
-    → end_of [] j (entries_of hash of registry) ≡ e ∷ [] → (entry_of hash of e.behind ≡ e) × IsIn e.behind registry
-at_end hash of registry j e map is = in_entries hash of e registry (end_of-in 256 [] j (entries_of hash of registry) e refl (IsMap-apart (entries_of hash of registry) map) is)
+at_end : (hash index_of : List ℕ → List ℕ) (registry : Registry) (j : List ℕ) (e : Entry Registered) → IsMap (entries_of hash index_of registry)
+    → end_of [] j (entries_of hash index_of registry) ≡ e ∷ [] → (entry_of hash index_of e.behind ≡ e) × IsIn e.behind registry
+at_end hash index_of registry j e map is = in_entries hash index_of e registry (end_of-in 256 [] j (entries_of hash index_of registry) e refl (IsMap-apart (entries_of hash index_of registry) map) is)
 
 -- the hash of the path's end is the node's
-end_node : (hash of : List ℕ → List ℕ) (nonce j : List ℕ) (registry : Registry) (n : ℕ) (a : End) → IsMap (entries_of hash of registry) → EndIs j (end_of [] j (entries_of hash of registry)) a
-    → node hash nonce (onwards [] j n) (end_of [] j (entries_of hash of registry)) ≡ hash (end_preimage hash nonce j n a)
-end_node hash of nonce j registry n Empty map is = ap (node hash nonce (onwards [] j n)) is ∙ node-empty _ hash nonce (onwards [] j n) ∙ ap (λ p. hash (empty_preimage nonce p)) (onwards_root j n)
-end_node hash of nonce j registry n (Other other c) map is =
+end_node : (hash index_of : List ℕ → List ℕ) (nonce j : List ℕ) (registry : Registry) (n : ℕ) (a : End)
+    → IsMap (entries_of hash index_of registry) → EndIs j (end_of [] j (entries_of hash index_of registry)) a
+    → node hash nonce (onwards [] j n) (end_of [] j (entries_of hash index_of registry)) ≡ hash (end_preimage hash nonce j n a)
+end_node hash index_of nonce j registry n Empty map is = ap (node hash nonce (onwards [] j n)) is ∙
+    node-empty _ hash nonce (onwards [] j n) ∙ ap (λ p. hash (empty_preimage nonce p)) (onwards_root j n)
+end_node hash index_of nonce j registry n (Other other c) map is =
     let size : length (onwards [] j n) ≡ n = ap length (onwards_root j n) ∙ length-first_bits j n in
     ap (node hash nonce (onwards [] j n)) is.1.1 ∙ node-leaf hash nonce (onwards [] j n) (record { index = other.0; commitment = c.0; behind = is.1.0 })
     ∙ ap (λ l. hash (leaf_preimage nonce other.0 l c.0)) size
-end_node hash of nonce j registry n (Here name key o) map is =
+end_node hash index_of nonce j registry n (Here name key o) map is =
     let size : length (onwards [] j n) ≡ n = ap length (onwards_root j n) ∙ length-first_bits j n in
     let b : Registered = record { name = name; key = key; opening = o.0 } in
     let e : Entry Registered = record { index = j; commitment = is.0; behind = b } in
-    let own : entry_of hash of b ≡ e = (at_end hash of registry j e map is.1).0 in
+    let own : entry_of hash index_of b ≡ e = (at_end hash index_of registry j e map is.1).0 in
     let sealed : is.0 ≡ commitment_to hash b = ap (λ (x : Entry Registered). x.commitment) (sym own) in
     ap (node hash nonce (onwards [] j n)) is.1 ∙ node-leaf hash nonce (onwards [] j n) e
     ∙ ap (λ l. hash (leaf_preimage nonce j l is.0)) size ∙ ap (λ c. hash (leaf_preimage nonce j n c)) sealed
 
 -- the path carries the root up
-pub path_root : (hash of : List ℕ → List ℕ) (nonce : List ℕ) (registry : Registry) (j : List ℕ) (proof : Proof) → IsMap (entries_of hash of registry) → IsPath hash nonce (entries_of hash of registry) j proof
-    → hash (preimage hash nonce j 0 proof.siblings proof.end) ≡ root_of hash of nonce registry
-path_root hash of nonce registry j proof map path =
-    let es = entries_of hash of registry in
+pub path_root : (hash index_of : List ℕ → List ℕ) (nonce : List ℕ) (registry : Registry) (j : List ℕ) (proof : Proof)
+    → IsMap (entries_of hash index_of registry) → IsPath hash nonce (entries_of hash index_of registry) j proof
+    → hash (preimage hash nonce j 0 proof.siblings proof.end) ≡ root_of hash index_of nonce registry
+path_root hash index_of nonce registry j proof map path =
+    let es = entries_of hash index_of registry in
     let ss = siblings hash nonce [] j es in
     let size : 0 + length proof.siblings ≡ length ss = zero-add _ ∙ sym (length-digests proof.siblings) ∙ ap length path.siblings_are in
     preimage-climb hash nonce j 0 proof.siblings proof.end
     ∙ ap (λ l. climb hash j 0 (digests proof.siblings) (hash (end_preimage hash nonce j l proof.end))) size
     ∙ ap (λ ds. climb hash j 0 ds (hash (end_preimage hash nonce j (length ss) proof.end))) path.siblings_are
-    ∙ ap (climb hash j 0 ss) (sym (end_node hash of nonce j registry (length ss) proof.end map path.end_is))
+    ∙ ap (climb hash j 0 ss) (sym (end_node hash index_of nonce j registry (length ss) proof.end map path.end_is))
     ∙ climbs hash nonce 256 [] j es refl (IsMap-apart es map)
 
-pub path_depth : (hash of : List ℕ → List ℕ) (nonce : List ℕ) (registry : Registry) (j : List ℕ) (proof : Proof) → IsMap (entries_of hash of registry) → IsPath hash nonce (entries_of hash of registry) j proof
-    → length proof.siblings ≡ length (siblings hash nonce [] j (entries_of hash of registry)) × (length proof.siblings ≤ 256)
-path_depth hash of nonce registry j proof map path =
-    let es = entries_of hash of registry in
+pub path_depth : (hash index_of : List ℕ → List ℕ) (nonce : List ℕ) (registry : Registry) (j : List ℕ) (proof : Proof)
+    → IsMap (entries_of hash index_of registry) → IsPath hash nonce (entries_of hash index_of registry) j proof
+    → length proof.siblings ≡ length (siblings hash nonce [] j (entries_of hash index_of registry)) × (length proof.siblings ≤ 256)
+path_depth hash index_of nonce registry j proof map path =
+    let es = entries_of hash index_of registry in
     let size : length proof.siblings ≡ length (siblings hash nonce [] j es) = sym (length-digests proof.siblings) ∙ ap length path.siblings_are in
     let few = length-siblings hash nonce 256 [] j es refl (IsMap-apart es map) in
     (size, omega (arith, few, size))
@@ -214,59 +221,60 @@ one_differs : {B : Type 0} (e : Entry B) → (let es : List (Entry B) = e ∷ []
 one_differs e same = cc
 
 -- the binding of the name, if it has one, stands at the end of the way
-stands_there : (hash of : List ℕ → List ℕ) (registry : Registry) (name : List ℕ) (b : Registered) → IsMap (entries_of hash of registry) → bound_to registry name ≡ Some b
-    → end_of [] (of name) (entries_of hash of registry) ≡ entry_of hash of b ∷ []
-stands_there hash of registry name b map found =
+stands_there : (hash index_of : List ℕ → List ℕ) (registry : Registry) (name : List ℕ) (b : Registered) → IsMap (entries_of hash index_of registry) → bound_to registry name ≡ Some b
+    → end_of [] (index_of name) (entries_of hash index_of registry) ≡ entry_of hash index_of b ∷ []
+stands_there hash index_of registry name b map found =
     let is = bound_in registry name b found in
-    end_of-present 256 [] (of name) (entries_of hash of registry) (entry_of hash of b) refl (IsMap-apart (entries_of hash of registry) map) (ap of is.1) (entry_in hash of b registry is.0)
+    end_of-present 256 [] (index_of name) (entries_of hash index_of registry) (entry_of hash index_of b) refl
+    (IsMap-apart (entries_of hash index_of registry) map) (ap index_of is.1) (entry_in hash index_of b registry is.0)
 
 -- what the end says
 record SaysOf (name : List ℕ) (index : List ℕ) (level : ℕ) (a : End) (key : Option (List ℕ)) : Type 0 where
   fits : EndFits index name level a
   said : answer_of a ≡ key
 
-says : (hash of : List ℕ → List ℕ) (nonce : List ℕ) (registry : Registry) (name : List ℕ) (n : ℕ) (a : End) (found : Option Registered)
-    → IsMap (entries_of hash of registry) → AreWithin registry → n ≡ length (siblings hash nonce [] (of name) (entries_of hash of registry))
-    → (has_name registry name ≡ false → IsFree of registry (of name))
-    → bound_to registry name ≡ found → EndIs (of name) (end_of [] (of name) (entries_of hash of registry)) a
-    → SaysOf name (of name) n a (key_of registry name)
-says hash of nonce registry name n Empty None map all size alone found is = record { fits = tt; said = rw found refl }
-says hash of nonce registry name n Empty (Some b) map all size alone found is =
-    absurd (one_differs (entry_of hash of b) (sym (stands_there hash of registry name b map found) ∙ is))
-says hash of nonce registry name n (Other other c) None map all size alone found is = record {
-  fits = (is.0, other_on_path hash nonce (entries_of hash of registry) (of name) n (record { index = other.0; commitment = c.0; behind = is.1.0 }) map size is.1.1);
+says : (hash index_of : List ℕ → List ℕ) (nonce : List ℕ) (registry : Registry) (name : List ℕ) (n : ℕ) (a : End) (found : Option Registered)
+    → IsMap (entries_of hash index_of registry) → AreWithin registry → n ≡ length (siblings hash nonce [] (index_of name) (entries_of hash index_of registry))
+    → (has_name registry name ≡ false → IsFree index_of registry (index_of name))
+    → bound_to registry name ≡ found → EndIs (index_of name) (end_of [] (index_of name) (entries_of hash index_of registry)) a
+    → SaysOf name (index_of name) n a (key_of registry name)
+says hash index_of nonce registry name n Empty None map all size alone found is = record { fits = tt; said = rw found refl }
+says hash index_of nonce registry name n Empty (Some b) map all size alone found is =
+    absurd (one_differs (entry_of hash index_of b) (sym (stands_there hash index_of registry name b map found) ∙ is))
+says hash index_of nonce registry name n (Other other c) None map all size alone found is = record {
+  fits = (is.0, other_on_path hash nonce (entries_of hash index_of registry) (index_of name) n (record { index = other.0; commitment = c.0; behind = is.1.0 }) map size is.1.1);
   said = rw found refl;
 }
-says hash of nonce registry name n (Other other c) (Some b) map all size alone found is =
-    let same = first_same (record { index = other.0; commitment = c.0; behind = is.1.0 }) (entry_of hash of b) (sym is.1.1 ∙ stands_there hash of registry name b map found) in
-    absurd (is.0 (ap (λ (x : Entry Registered). x.index) same ∙ ap of (bound_in registry name b found).1))
-says hash of nonce registry name n (Here held key o) None map all size alone none is =
+says hash index_of nonce registry name n (Other other c) (Some b) map all size alone found is =
+    let same = first_same (record { index = other.0; commitment = c.0; behind = is.1.0 }) (entry_of hash index_of b) (sym is.1.1 ∙ stands_there hash index_of registry name b map found) in
+    absurd (is.0 (ap (λ (x : Entry Registered). x.index) same ∙ ap index_of (bound_in registry name b found).1))
+says hash index_of nonce registry name n (Here held key o) None map all size alone none is =
     let b : Registered = record { name = held; key = key; opening = o.0 } in
-    let own = at_end hash of registry (of name) (record { index = of name; commitment = is.0; behind = b }) map is.1 in
-    let at : of held ≡ of name = ap (λ (x : Entry Registered). x.index) own.0 in
+    let own = at_end hash index_of registry (index_of name) (record { index = index_of name; commitment = is.0; behind = b }) map is.1 in
+    let at : index_of held ≡ index_of name = ap (λ (x : Entry Registered). x.index) own.0 in
     let free : has_name registry held ≡ false = alone (unnamed registry name none) held at in
     let has : has_name registry held ≡ true = named_in b registry own.1 in
     cc
-says hash of nonce registry name n (Here held key o) (Some x) map all size alone some is =
+says hash index_of nonce registry name n (Here held key o) (Some x) map all size alone some is =
     let b : Registered = record { name = held; key = key; opening = o.0 } in
-    let e : Entry Registered = record { index = of name; commitment = is.0; behind = b } in
-    let own = at_end hash of registry (of name) e map is.1 in
-    let same : x ≡ b = ap (λ (y : Entry Registered). y.behind) (first_same (entry_of hash of x) e (sym (stands_there hash of registry name x map some) ∙ is.1)) in
+    let e : Entry Registered = record { index = index_of name; commitment = is.0; behind = b } in
+    let own = at_end hash index_of registry (index_of name) e map is.1 in
+    let same : x ≡ b = ap (λ (y : Entry Registered). y.behind) (first_same (entry_of hash index_of x) e (sym (stands_there hash index_of registry name x map some) ∙ is.1)) in
     let bound : bound_to registry name ≡ Some b = some ∙ ap Some same in
     let good = within b registry all own.1 in
     record { fits = ((bound_in registry name b bound).1, good.1.0, good.1.1); said = rw bound refl }
 
 -- the path to a name's index is accepted with exactly what the name is bound to; of a name that is bound to nothing no registered
 -- name may have the index
-pub path_accepted : (hash of : List ℕ → List ℕ) (nonce root : List ℕ) (registry : Registry) (name : List ℕ) (proof : Proof)
-    → IsMap (entries_of hash of registry) → AreWithin registry → root ≡ root_of hash of nonce registry → IsPath hash nonce (entries_of hash of registry) (of name) proof
-    → (has_name registry name ≡ false → IsFree of registry (of name)) → IsLength 255 name
-    → Accepts hash nonce root (of name) name proof (key_of registry name)
-path_accepted hash of nonce root registry name proof map all root-is path alone fits =
-    let deep = path_depth hash of nonce registry (of name) proof map path in
-    let end = says hash of nonce registry name (length proof.siblings) proof.end (bound_to registry name) map all deep.0 alone refl path.end_is in
+pub path_accepted : (hash index_of : List ℕ → List ℕ) (nonce root : List ℕ) (registry : Registry) (name : List ℕ) (proof : Proof)
+    → IsMap (entries_of hash index_of registry) → AreWithin registry → root ≡ root_of hash index_of nonce registry → IsPath hash nonce (entries_of hash index_of registry) (index_of name) proof
+    → (has_name registry name ≡ false → IsFree index_of registry (index_of name)) → IsLength 255 name
+    → Accepts hash nonce root (index_of name) name proof (key_of registry name)
+path_accepted hash index_of nonce root registry name proof map all root-is path alone fits =
+    let deep = path_depth hash index_of nonce registry (index_of name) proof map path in
+    let end = says hash index_of nonce registry name (length proof.siblings) proof.end (bound_to registry name) map all deep.0 alone refl path.end_is in
     record {
       well_formed = record { depth = deep.1; name_given = fits.0; name_fits = fits.1; end_fits = end.fits };
-      root_met = path_root hash of nonce registry (of name) proof map path ∙ sym root-is;
+      root_met = path_root hash index_of nonce registry (index_of name) proof map path ∙ sym root-is;
       answered = end.said;
     }

@@ -207,7 +207,8 @@ same_as_one {B} e (f ∷ g ∷ fs) map same =
 two_not_one : {B : Type 0} (e f g : Entry B) (es : List (Entry B)) → (let xs : List (Entry B) = e ∷ f ∷ es in xs ≡ g ∷ []) → ⊥
 two_not_one e f g es same = let long = ap length same in omega arith
 
-node_below-same : {B : Type 0} (hash : List ℕ → List ℕ) (nonce : List ℕ) (h : ℕ) (p : List Bool) (es fs : List (Entry B)) → IsMap es → IsMap fs → SameEntries es fs → node_below hash nonce h p es ≡ node_below hash nonce h p fs
+node_below-same : {B : Type 0} (hash : List ℕ → List ℕ) (nonce : List ℕ) (h : ℕ) (p : List Bool) (es fs : List (Entry B))
+    → IsMap es → IsMap fs → SameEntries es fs → node_below hash nonce h p es ≡ node_below hash nonce h p fs
 unfolding node_below
 node_below-same hash nonce h p [] fs me mf same = ap (node_below hash nonce h p) (sym (same_as_none fs same))
 node_below-same hash nonce h p (e ∷ []) fs me mf same = ap (node_below hash nonce h p) (sym (same_as_one e fs mf same))
@@ -216,7 +217,8 @@ node_below-same hash nonce h p (e ∷ d ∷ es) (f ∷ []) me mf same = absurd (
 node_below-same hash nonce zero p (e ∷ d ∷ es) (f ∷ g ∷ fs) me mf same = refl
 node_below-same hash nonce (suc h) p (e ∷ d ∷ es) (f ∷ g ∷ fs) me mf same =
     let at : (b : Bool) → node_below hash nonce h (child p b) (half b (length p) (e ∷ d ∷ es)) ≡ node_below hash nonce h (child p b) (half b (length p) (f ∷ g ∷ fs)) =
-    λ b. node_below-same hash nonce h (child p b) (half b (length p) (e ∷ d ∷ es)) (half b (length p) (f ∷ g ∷ fs)) (IsMap-filter (λ x. turns b (length p) x.index) (e ∷ d ∷ es) me) (IsMap-filter (λ x. turns b (length p) x.index) (f ∷ g ∷ fs) mf)
+    λ b. node_below-same hash nonce h (child p b) (half b (length p) (e ∷ d ∷ es)) (half b (length p) (f ∷ g ∷ fs))
+    (IsMap-filter (λ x. turns b (length p) x.index) (e ∷ d ∷ es) me) (IsMap-filter (λ x. turns b (length p) x.index) (f ∷ g ∷ fs) mf)
     (SameEntries-filter (λ x. turns b (length p) x.index) (e ∷ d ∷ es) (f ∷ g ∷ fs) same) in
     ap (λ x. hash (inner_preimage x (node_below hash nonce h (child p true) (half true (length p) (e ∷ d ∷ es))))) (at false)
     ∙ ap (λ x. hash (inner_preimage (node_below hash nonce h (child p false) (half false (length p) (f ∷ g ∷ fs))) x)) (at true)
@@ -237,15 +239,18 @@ siblings_below-same hash nonce zero p j (e ∷ d ∷ es) (f ∷ g ∷ fs) me mf 
 siblings_below-same hash nonce (suc h) p j (e ∷ d ∷ es) (f ∷ g ∷ fs) me mf same =
     let b = bit_at j (length p) in
     let c = not b in
-    let beside = node-same hash nonce (child p c) (half c (length p) (e ∷ d ∷ es)) (half c (length p) (f ∷ g ∷ fs)) (IsMap-filter (λ x. turns c (length p) x.index) (e ∷ d ∷ es) me) (IsMap-filter (λ x. turns c (length p) x.index) (f ∷ g ∷ fs) mf)
+    let beside = node-same hash nonce (child p c) (half c (length p) (e ∷ d ∷ es)) (half c (length p) (f ∷ g ∷ fs))
+    (IsMap-filter (λ x. turns c (length p) x.index) (e ∷ d ∷ es) me) (IsMap-filter (λ x. turns c (length p) x.index) (f ∷ g ∷ fs) mf)
     (SameEntries-filter (λ x. turns c (length p) x.index) (e ∷ d ∷ es) (f ∷ g ∷ fs) same) in
-    let below = siblings_below-same hash nonce h (child p b) j (half b (length p) (e ∷ d ∷ es)) (half b (length p) (f ∷ g ∷ fs)) (IsMap-filter (λ x. turns b (length p) x.index) (e ∷ d ∷ es) me) (IsMap-filter (λ x. turns b (length p) x.index) (f ∷ g ∷ fs) mf)
+    let below = siblings_below-same hash nonce h (child p b) j (half b (length p) (e ∷ d ∷ es)) (half b (length p) (f ∷ g ∷ fs))
+    (IsMap-filter (λ x. turns b (length p) x.index) (e ∷ d ∷ es) me) (IsMap-filter (λ x. turns b (length p) x.index) (f ∷ g ∷ fs) mf)
     (SameEntries-filter (λ x. turns b (length p) x.index) (e ∷ d ∷ es) (f ∷ g ∷ fs) same) in
     ap (λ x. x ∷ siblings_below hash nonce h (child p b) j (half b (length p) (e ∷ d ∷ es))) beside
     ∙ ap (λ xs. node hash nonce (child p c) (half c (length p) (f ∷ g ∷ fs)) ∷ xs) below
 
 -- so do the siblings of a path
-pub siblings-same : {B : Type 0} (hash : List ℕ → List ℕ) (nonce : List ℕ) (p : List Bool) (j : List ℕ) (es fs : List (Entry B)) → IsMap es → IsMap fs → SameEntries es fs → siblings hash nonce p j es ≡ siblings hash nonce p j fs
+pub siblings-same : {B : Type 0} (hash : List ℕ → List ℕ) (nonce : List ℕ) (p : List Bool) (j : List ℕ) (es fs : List (Entry B))
+    → IsMap es → IsMap fs → SameEntries es fs → siblings hash nonce p j es ≡ siblings hash nonce p j fs
 unfolding siblings
 siblings-same hash nonce p j es fs me mf same = siblings_below-same hash nonce (256 - length p) p j es fs me mf same
 
@@ -258,7 +263,8 @@ end_below-same h p j (e ∷ d ∷ es) (f ∷ []) me mf same = absurd (two_not_on
 end_below-same zero p j (e ∷ d ∷ es) (f ∷ g ∷ fs) me mf same = refl
 end_below-same (suc h) p j (e ∷ d ∷ es) (f ∷ g ∷ fs) me mf same =
     let b = bit_at j (length p) in
-    end_below-same h (child p b) j (half b (length p) (e ∷ d ∷ es)) (half b (length p) (f ∷ g ∷ fs)) (IsMap-filter (λ x. turns b (length p) x.index) (e ∷ d ∷ es) me) (IsMap-filter (λ x. turns b (length p) x.index) (f ∷ g ∷ fs) mf)
+    end_below-same h (child p b) j (half b (length p) (e ∷ d ∷ es)) (half b (length p) (f ∷ g ∷ fs))
+    (IsMap-filter (λ x. turns b (length p) x.index) (e ∷ d ∷ es) me) (IsMap-filter (λ x. turns b (length p) x.index) (f ∷ g ∷ fs) mf)
     (SameEntries-filter (λ x. turns b (length p) x.index) (e ∷ d ∷ es) (f ∷ g ∷ fs) same)
 
 -- and what stands at its end

@@ -45,7 +45,8 @@ alike_ends hash nonce index level (Here n k o) (Here m l r) c d p q same =
 -- one of the ends has no commitment, and the answers differ
 pub ends_differ : (hash : List ℕ → List ℕ) (nonce index : List ℕ) (level : ℕ) (a b : End) (c d : Option Digest)
     → CommitmentIs hash a c → CommitmentIs hash b d → length index ≡ 32 → IsSized a → IsSized b → KeepsOff index a → KeepsOff index b → answer_of a ≢ answer_of b
-    → (let none : Option Digest = None in (c ≡ none → end_preimage hash nonce index level a ≢ end_preimage hash nonce index level b) × (d ≡ none → end_preimage hash nonce index level a ≢ end_preimage hash nonce index level b))
+    → (let none : Option Digest = None in (c ≡ none → end_preimage hash nonce index level a ≢ end_preimage hash nonce index level b)
+    × (d ≡ none → end_preimage hash nonce index level a ≢ end_preimage hash nonce index level b))
 ends_differ hash nonce index level Empty Empty c d p q size sa sb ka kb differ = absurd (differ refl)
 ends_differ hash nonce index level Empty (Other o e) c d p q size sa sb ka kb differ = absurd (differ refl)
 ends_differ hash nonce index level (Other o e) Empty c d p q size sa sb ka kb differ = absurd (differ refl)
@@ -88,7 +89,8 @@ in_commitments hash nonce index level [] a [] b none none' size sa sb la lb ka k
 in_commitments hash nonce index level [] a (t ∷ ts) b none none' size sa sb la lb ka kb differ same = absurd (omega arith)
 in_commitments hash nonce index level (s ∷ ss) a ts b none none' size sa sb la lb ka kb differ same = absurd (omega arith)
 
-pub place_below : (hash : List ℕ → List ℕ) (nonce index : List ℕ) (level : ℕ) (rs : List Digest) (s : Digest) (ss : List Digest) (a : End) (us : List Digest) (t : Digest) (ts : List Digest) (b : End) (place : Place)
+pub place_below : (hash : List ℕ → List ℕ) (nonce index : List ℕ) (level : ℕ) (rs : List Digest) (s : Digest)
+    (ss : List Digest) (a : End) (us : List Digest) (t : Digest) (ts : List Digest) (b : End) (place : Place)
     → rs ≡ s ∷ ss → us ≡ t ∷ ts → length s.0 ≡ length t.0 → preimage hash nonce index level rs a ≡ preimage hash nonce index level us b
     → PartsAt hash nonce index (level + 1) ss a ts b place → PartsAt hash nonce index level rs a us b place
 place_below hash nonce index level rs s ss a us t ts b (Level l xs ys) some_a some_b size same below =
@@ -97,14 +99,16 @@ place_below hash nonce index level rs s ss a us t ts b Commitments some_a some_b
     rw (some_a, some_b) (parts_below hash nonce index level s ss a t ts b _ _ size (rw (some_a, some_b) at same) below)
 
 -- interior nodes of one level: the same bytes exactly where siblings and hashes below are the same
-pub nodes_same : (hash : List ℕ → List ℕ) (nonce index : List ℕ) (level : ℕ) (rs : List Digest) (s : Digest) (ss : List Digest) (a : End) (us : List Digest) (t : Digest) (ts : List Digest) (b : End) (u v : Digest)
+pub nodes_same : (hash : List ℕ → List ℕ) (nonce index : List ℕ) (level : ℕ) (rs : List Digest) (s : Digest)
+    (ss : List Digest) (a : End) (us : List Digest) (t : Digest) (ts : List Digest) (b : End) (u v : Digest)
     → rs ≡ s ∷ ss → us ≡ t ∷ ts → u.0 ≡ hash (preimage hash nonce index (level + 1) ss a) → v.0 ≡ hash (preimage hash nonce index (level + 1) ts b)
     → (s ≡ t) × (u ≡ v) → preimage hash nonce index level rs a ≡ preimage hash nonce index level us b
 nodes_same hash nonce index level rs s ss a us t ts b u v some_a some_b u-is v-is same =
     rw (some_a, some_b) (ap (λ (z : Digest). joined (bit_at index level) z.0 (hash (preimage hash nonce index (level + 1) ss a))) same.0
     ∙ ap (joined (bit_at index level) t.0) (sym u-is ∙ ap (λ (z : Digest). z.0) same.1 ∙ v-is))
 
-pub same_nodes : (hash : List ℕ → List ℕ) (nonce index : List ℕ) (level : ℕ) (rs : List Digest) (s : Digest) (ss : List Digest) (a : End) (us : List Digest) (t : Digest) (ts : List Digest) (b : End) (u v : Digest)
+pub same_nodes : (hash : List ℕ → List ℕ) (nonce index : List ℕ) (level : ℕ) (rs : List Digest) (s : Digest)
+    (ss : List Digest) (a : End) (us : List Digest) (t : Digest) (ts : List Digest) (b : End) (u v : Digest)
     → rs ≡ s ∷ ss → us ≡ t ∷ ts → u.0 ≡ hash (preimage hash nonce index (level + 1) ss a) → v.0 ≡ hash (preimage hash nonce index (level + 1) ts b)
     → length s.0 ≡ length t.0 → preimage hash nonce index level rs a ≡ preimage hash nonce index level us b → (s ≡ t) × (u ≡ v)
 same_nodes hash nonce index level rs s ss a us t ts b u v some_a some_b u-is v-is size same =

@@ -100,79 +100,86 @@ overlaid-append registry (x ∷ xs) ys = overlaid-append (rebound registry x) xs
 
 -- ---- maps
 
-IsNew-kept : (hash of : List ℕ → List ℕ) (f : Registered → Bool) (index : List ℕ) (bs : Registry) → IsNew index (entries_of hash of bs) → IsNew index (entries_of hash of (filter f bs))
-IsNew-kept hash of f index [] new = tt
-IsNew-kept hash of f index (b ∷ bs) new = elim (f b) as (λ v. IsNew index (entries_of hash of (cond v (b ∷ filter f bs) (filter f bs)))) [
-  | true ↦ (new.0, IsNew-kept hash of f index bs new.1)
-  | false ↦ IsNew-kept hash of f index bs new.1
+IsNew-kept : (hash index_of : List ℕ → List ℕ) (f : Registered → Bool) (index : List ℕ) (bs : Registry)
+    → IsNew index (entries_of hash index_of bs) → IsNew index (entries_of hash index_of (filter f bs))
+IsNew-kept hash index_of f index [] new = tt
+IsNew-kept hash index_of f index (b ∷ bs) new = elim (f b) as (λ v. IsNew index (entries_of hash index_of (cond v (b ∷ filter f bs) (filter f bs)))) [
+  | true ↦ (new.0, IsNew-kept hash index_of f index bs new.1)
+  | false ↦ IsNew-kept hash index_of f index bs new.1
 ]
 
-IsMap-kept : (hash of : List ℕ → List ℕ) (f : Registered → Bool) (bs : Registry) → IsMap (entries_of hash of bs) → IsMap (entries_of hash of (filter f bs))
-IsMap-kept hash of f [] map = tt
-IsMap-kept hash of f (b ∷ bs) map = elim (f b) as (λ v. IsMap (entries_of hash of (cond v (b ∷ filter f bs) (filter f bs)))) [
-  | true ↦ (map.0, IsNew-kept hash of f (of b.name) bs map.1, IsMap-kept hash of f bs map.2)
-  | false ↦ IsMap-kept hash of f bs map.2
+IsMap-kept : (hash index_of : List ℕ → List ℕ) (f : Registered → Bool) (bs : Registry) → IsMap (entries_of hash index_of bs) → IsMap (entries_of hash index_of (filter f bs))
+IsMap-kept hash index_of f [] map = tt
+IsMap-kept hash index_of f (b ∷ bs) map = elim (f b) as (λ v. IsMap (entries_of hash index_of (cond v (b ∷ filter f bs) (filter f bs)))) [
+  | true ↦ (map.0, IsNew-kept hash index_of f (index_of b.name) bs map.1, IsMap-kept hash index_of f bs map.2)
+  | false ↦ IsMap-kept hash index_of f bs map.2
 ]
 
-IsNew-one_more : (hash of : List ℕ → List ℕ) (index : List ℕ) (bs : Registry) (b : Registered) → IsNew index (entries_of hash of bs) → index ≢ of b.name → IsNew index (entries_of hash of (bs ++ b ∷ []))
-IsNew-one_more hash of index [] b new apart = (apart, tt)
-IsNew-one_more hash of index (c ∷ bs) b new apart = (new.0, IsNew-one_more hash of index bs b new.1 apart)
+IsNew-one_more : (hash index_of : List ℕ → List ℕ) (index : List ℕ) (bs : Registry) (b : Registered)
+    → IsNew index (entries_of hash index_of bs) → index ≢ index_of b.name → IsNew index (entries_of hash index_of (bs ++ b ∷ []))
+IsNew-one_more hash index_of index [] b new apart = (apart, tt)
+IsNew-one_more hash index_of index (c ∷ bs) b new apart = (new.0, IsNew-one_more hash index_of index bs b new.1 apart)
 
-pub IsMap-one_more : (hash of : List ℕ → List ℕ) (bs : Registry) (b : Registered) → IsMap (entries_of hash of bs) → IsIndex (of b.name) → ((c : Registered) → IsIn c bs → of c.name ≢ of b.name)
-    → IsMap (entries_of hash of (bs ++ b ∷ []))
-IsMap-one_more hash of [] b map index apart = (index, tt, tt)
-IsMap-one_more hash of (c ∷ bs) b map index apart =
-    (map.0, IsNew-one_more hash of (of c.name) bs b map.1 (apart c (inl refl)), IsMap-one_more hash of bs b map.2 index (λ d there. apart d (inr there)))
+pub IsMap-one_more : (hash index_of : List ℕ → List ℕ) (bs : Registry) (b : Registered) → IsMap (entries_of hash index_of bs)
+    → IsIndex (index_of b.name) → ((c : Registered) → IsIn c bs → index_of c.name ≢ index_of b.name)
+    → IsMap (entries_of hash index_of (bs ++ b ∷ []))
+IsMap-one_more hash index_of [] b map index apart = (index, tt, tt)
+IsMap-one_more hash index_of (c ∷ bs) b map index apart =
+    (map.0, IsNew-one_more hash index_of (index_of c.name) bs b map.1 (apart c (inl refl)), IsMap-one_more hash index_of bs b map.2 index (λ d there. apart d (inr there)))
 
 -- a registry that is rebound at an index of which no other name is, is a map
-pub IsMap-rebound : (hash of : List ℕ → List ℕ) (registry : Registry) (b : Registered) → IsMap (entries_of hash of registry) → IsIndex (of b.name)
-    → ((c : Registered) → IsIn c registry → c.name ≢ b.name → of c.name ≢ of b.name) → IsMap (entries_of hash of (rebound registry b))
-IsMap-rebound hash of registry b map index apart =
+pub IsMap-rebound : (hash index_of : List ℕ → List ℕ) (registry : Registry) (b : Registered) → IsMap (entries_of hash index_of registry) → IsIndex (index_of b.name)
+    → ((c : Registered) → IsIn c registry → c.name ≢ b.name → index_of c.name ≢ index_of b.name) → IsMap (entries_of hash index_of (rebound registry b))
+IsMap-rebound hash index_of registry b map index apart =
     let kept : Registered → Bool = λ x. not (bytes_eq x.name b.name) in
-    IsMap-one_more hash of (filter kept registry) b (IsMap-kept hash of kept registry map) index
+    IsMap-one_more hash index_of (filter kept registry) b (IsMap-kept hash index_of kept registry map) index
     (λ c there. apart c (of_filter c kept registry there) (not_named b c (passes c kept registry there)))
 
 -- ---- clashes
 
 -- another name with the index
-pub record Clash (of : List ℕ → List ℕ) (registry : Registry) (name : List ℕ) : Type 0 where
+pub record Clash (index_of : List ℕ → List ℕ) (registry : Registry) (name : List ℕ) : Type 0 where
   pub other : List ℕ
-  pub at : of other ≡ of name
+  pub at : index_of other ≡ index_of name
   pub there : has_name registry other ≡ true
   pub apart : other ≢ name
 
-clash_test : (of : List ℕ → List ℕ) (b : Registered) (name : List ℕ) → bytes_eq (of b.name) (of name) && not (bytes_eq b.name name) ≡ true → (of b.name ≡ of name) × (b.name ≢ name)
-clash_test of b name on =
-    (elim (bytes_eq (of b.name) (of name)) as (λ v. bytes_eq (of b.name) (of name) ≡ v → v && not (bytes_eq b.name name) ≡ true → (of b.name ≡ of name) × (b.name ≢ name)) [
-      | true ↦ λ same h. ((bytes_eq-Decides (of b.name) (of name)).0 same, λ is. let here = eq_same b.name name is in cc)
+clash_test : (index_of : List ℕ → List ℕ) (b : Registered) (name : List ℕ)
+    → bytes_eq (index_of b.name) (index_of name) && not (bytes_eq b.name name) ≡ true → (index_of b.name ≡ index_of name) × (b.name ≢ name)
+clash_test index_of b name on =
+    (elim (bytes_eq (index_of b.name) (index_of name)) as
+    (λ v. bytes_eq (index_of b.name) (index_of name) ≡ v → v && not (bytes_eq b.name name) ≡ true → (index_of b.name ≡ index_of name) × (b.name ≢ name)) [
+      | true ↦ λ same h. ((bytes_eq-Decides (index_of b.name) (index_of name)).0 same, λ is. let here = eq_same b.name name is in cc)
       | false ↦ λ _ h. absurd (let never = h in cc)
     ]) refl on
 
-pub clash_found : (of : List ℕ → List ℕ) (registry : Registry) (name : List ℕ) → clashes of registry name ≡ true → Clash of registry name
-clash_found of [] name h = absurd (let never = h in cc)
-clash_found of (b ∷ bs) name h = elim (or_cases (bytes_eq (of b.name) (of name) && not (bytes_eq b.name name)) (clashes of bs name) h) [
-  | inl here ↦ let t = clash_test of b name here in record { other = b.name; at = t.0; there = named_in b (b ∷ bs) (inl refl); apart = t.1 }
-  | inr later ↦ let c = clash_found of bs name later in record { other = c.other; at = c.at; there = ap (λ v. bytes_eq b.name c.other || v) c.there ∙ or_right (bytes_eq b.name c.other); apart = c.apart }
+pub clash_found : (index_of : List ℕ → List ℕ) (registry : Registry) (name : List ℕ) → clashes index_of registry name ≡ true → Clash index_of registry name
+clash_found index_of [] name h = absurd (let never = h in cc)
+clash_found index_of (b ∷ bs) name h = elim (or_cases (bytes_eq (index_of b.name) (index_of name) && not (bytes_eq b.name name)) (clashes index_of bs name) h) [
+  | inl here ↦ let t = clash_test index_of b name here in record { other = b.name; at = t.0; there = named_in b (b ∷ bs) (inl refl); apart = t.1 }
+  | inr later ↦ let c = clash_found index_of bs name later in
+      record { other = c.other; at = c.at; there = ap (λ v. bytes_eq b.name c.other || v) c.there ∙ or_right (bytes_eq b.name c.other); apart = c.apart }
 ]
 
-pub clash_of : (of : List ℕ → List ℕ) (registry : Registry) (name : List ℕ) (b : Registered) → IsIn b registry → of b.name ≡ of name → b.name ≢ name → clashes of registry name ≡ true
-clash_of of [] name b there at apart = absurd there
-clash_of of (c ∷ cs) name b (inl here) at apart =
-    let on : bytes_eq (of c.name) (of name) ≡ true = eq_same (of c.name) (of name) (ap (λ (x : Registered). of x.name) here ∙ at) in
+pub clash_of : (index_of : List ℕ → List ℕ) (registry : Registry) (name : List ℕ) (b : Registered)
+    → IsIn b registry → index_of b.name ≡ index_of name → b.name ≢ name → clashes index_of registry name ≡ true
+clash_of index_of [] name b there at apart = absurd there
+clash_of index_of (c ∷ cs) name b (inl here) at apart =
+    let on : bytes_eq (index_of c.name) (index_of name) ≡ true = eq_same (index_of c.name) (index_of name) (ap (λ (x : Registered). index_of x.name) here ∙ at) in
     let off : bytes_eq c.name name ≡ false = eq_apart c.name name (λ same. apart (ap (λ (x : Registered). x.name) (sym here) ∙ same)) in
     rw (on, off) refl
-clash_of of (c ∷ cs) name b (inr later) at apart =
-    let later' = clash_of of cs name b later at apart in
-    ap (λ v. (bytes_eq (of c.name) (of name) && not (bytes_eq c.name name)) || v) later' ∙ or_right (bytes_eq (of c.name) (of name) && not (bytes_eq c.name name))
+clash_of index_of (c ∷ cs) name b (inr later) at apart =
+    let later' = clash_of index_of cs name b later at apart in
+    ap (λ v. (bytes_eq (index_of c.name) (index_of name) && not (bytes_eq c.name name)) || v) later' ∙ or_right (bytes_eq (index_of c.name) (index_of name) && not (bytes_eq c.name name))
 
-pub clash_made : (of : List ℕ → List ℕ) (registry : Registry) (name : List ℕ) → Clash of registry name → clashes of registry name ≡ true
-clash_made of registry name c =
+pub clash_made : (index_of : List ℕ → List ℕ) (registry : Registry) (name : List ℕ) → Clash index_of registry name → clashes index_of registry name ≡ true
+clash_made index_of registry name c =
     let n = named_of registry c.other c.there in
-    clash_of of registry name n.bound n.there (ap of n.named ∙ c.at) (λ same. c.apart (sym n.named ∙ same))
+    clash_of index_of registry name n.bound n.there (ap index_of n.named ∙ c.at) (λ same. c.apart (sym n.named ∙ same))
 
 -- the clashes with two lists are those with either
-pub clashes-append : (of : List ℕ → List ℕ) (xs ys : List Registered) (name : List ℕ) → clashes of (xs ++ ys) name ≡ clashes of xs name || clashes of ys name
-clashes-append of [] ys name = refl
-clashes-append of (x ∷ xs) ys name =
-    let here = bytes_eq (of x.name) (of name) && not (bytes_eq x.name name) in
-    ap (λ v. here || v) (clashes-append of xs ys name) ∙ sym (or_assoc here (clashes of xs name) (clashes of ys name))
+pub clashes-append : (index_of : List ℕ → List ℕ) (xs ys : List Registered) (name : List ℕ) → clashes index_of (xs ++ ys) name ≡ clashes index_of xs name || clashes index_of ys name
+clashes-append index_of [] ys name = refl
+clashes-append index_of (x ∷ xs) ys name =
+    let here = bytes_eq (index_of x.name) (index_of name) && not (bytes_eq x.name name) in
+    ap (λ v. here || v) (clashes-append index_of xs ys name) ∙ sym (or_assoc here (clashes index_of xs name) (clashes index_of ys name))

@@ -33,7 +33,8 @@ node-inner hash nonce p es short many =
     let right : 256 - length (child p true) ≡ 255 - length p = omega (arith, length-child p true) in
     ap (λ h. node_below hash nonce h p es) here ∙ node_below-inner hash nonce (255 - length p) p es many
     ∙ ap (λ h. hash (inner_preimage (node_below hash nonce h (child p false) (half false (length p) es)) (node_below hash nonce (255 - length p) (child p true) (half true (length p) es)))) (sym left)
-    ∙ ap (λ h. hash (inner_preimage (node_below hash nonce (256 - length (child p false)) (child p false) (half false (length p) es)) (node_below hash nonce h (child p true) (half true (length p) es)))) (sym right)
+    ∙ ap (λ h. hash (inner_preimage (node_below hash nonce (256 - length (child p false)) (child p false) (half false (length p) es))
+    (node_below hash nonce h (child p true) (half true (length p) es)))) (sym right)
 
 siblings_below-inner : {B : Type 0} (hash : List ℕ → List ℕ) (nonce : List ℕ) (h : ℕ) (p : List Bool) (j : List ℕ) (es : List (Entry B)) (b : Bool) → bit_at j (length p) ≡ b → 2 ≤ length es
     → siblings_below hash nonce (suc h) p j es ≡ node hash nonce (child p (not b)) (half (not b) (length p) es) ∷ siblings_below hash nonce h (child p b) j (half b (length p) es)
@@ -60,13 +61,15 @@ pub siblings-leaf : {B : Type 0} (hash : List ℕ → List ℕ) (nonce : List �
 unfolding siblings siblings_below
 siblings-leaf hash nonce p j e = refl
 
-end_below-inner : {B : Type 0} (h : ℕ) (p : List Bool) (j : List ℕ) (es : List (Entry B)) (b : Bool) → bit_at j (length p) ≡ b → 2 ≤ length es → end_below (suc h) p j es ≡ end_below h (child p b) j (half b (length p) es)
+end_below-inner : {B : Type 0} (h : ℕ) (p : List Bool) (j : List ℕ) (es : List (Entry B)) (b : Bool)
+    → bit_at j (length p) ≡ b → 2 ≤ length es → end_below (suc h) p j es ≡ end_below h (child p b) j (half b (length p) es)
 unfolding end_below
 end_below-inner h p j [] b is many = absurd (omega arith)
 end_below-inner h p j (e ∷ []) b is many = absurd (omega arith)
 end_below-inner h p j (e ∷ f ∷ es) b is many = ap (λ c. end_below h (child p c) j (half c (length p) (e ∷ f ∷ es))) is
 
-pub end_of-inner : {B : Type 0} (p : List Bool) (j : List ℕ) (es : List (Entry B)) (b : Bool) → bit_at j (length p) ≡ b → length p < 256 → 2 ≤ length es → end_of p j es ≡ end_of (child p b) j (half b (length p) es)
+pub end_of-inner : {B : Type 0} (p : List Bool) (j : List ℕ) (es : List (Entry B)) (b : Bool)
+    → bit_at j (length p) ≡ b → length p < 256 → 2 ≤ length es → end_of p j es ≡ end_of (child p b) j (half b (length p) es)
 unfolding end_of
 end_of-inner p j es b is short many =
     let here : 256 - length p ≡ suc (255 - length p) = omega arith in

@@ -1,4 +1,4 @@
--- Indices of a map are in increasing order exactly where they are in the order of their bits.
+-- Indices of a map are in increasing order if and only if they are in the order of their bits.
 use Rattle.std.proofs.Common.{◌≡◌, ◌≢◌, ℕ, zero, suc, ◌+◌, ◌-◌, ◌*◌, ◌/◌, ◌%◌, ◌^◌, ◌==◌, ◌<◌, List, [], ◌∷◌, ◌++◌, Bool, true, false, refl, sym, ap, subst, ◌∙◌, arith, not, cond, slice_index, inl, inr}
 use Rattle.std.specs.Int as int
 use Rattle.std.proofs.Math.Nat.{pow-suc}
@@ -82,7 +82,8 @@ AreIncreasing-filter f (e ∷ es) up = elim (f e) as (λ b. AreIncreasing (cond 
 ]
 
 -- after an entry that goes right all go right
-all_right_after : {B : Type 0} (k : ℕ) (bits : ℕ → Bool) (x : List ℕ) (es : List (Entry B)) → k < 256 → IsIndex x → ((i : ℕ) → i < k → bit_at x i ≡ bits i) → bit_at x k ≡ true → AllAfter x es → AreIncreasing es → BeginAlike k bits es
+all_right_after : {B : Type 0} (k : ℕ) (bits : ℕ → Bool) (x : List ℕ) (es : List (Entry B)) → k < 256 → IsIndex x
+    → ((i : ℕ) → i < k → bit_at x i ≡ bits i) → bit_at x k ≡ true → AllAfter x es → AreIncreasing es → BeginAlike k bits es
     → (half false k es ≡ []) × (half true k es ≡ es)
 all_right_after k bits x [] short ix alike right after up each = (refl, refl)
 all_right_after k bits x (e ∷ es) short ix alike right after up each =
@@ -119,7 +120,8 @@ AreIncreasing-in_order es map up = in_order_within 256 0 (λ _. false) es refl m
 
 -- an index that comes before another is another
 before_apart : (x y : List ℕ) → IsBefore x y → x ≢ y
-before_apart x y before same = let small : slice_index x before.place < slice_index x before.place = subst (λ z. slice_index x before.place < slice_index z before.place) (sym same) before.smaller in absurd (omega (arith, small))
+before_apart x y before same = let small : slice_index x before.place < slice_index x before.place = subst
+    (λ z. slice_index x before.place < slice_index z before.place) (sym same) before.smaller in absurd (omega (arith, small))
 
 after_new : {B : Type 0} (index : List ℕ) (es : List (Entry B)) → AllAfter index es → IsNew index es
 after_new index [] after = tt

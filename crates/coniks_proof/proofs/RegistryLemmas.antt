@@ -8,17 +8,18 @@ use Rattle.coniks_proof.specs.Entries.{Entry, IsIn}
 use Rattle.coniks_proof.specs.Registry.{Registered, Registry, has_name, bound_to, entry_of, entries_of, IsLength, AreWithin}
 
 -- an entry of a registry's map is that of the binding behind it
-pub in_entries : (hash of : List ℕ → List ℕ) (e : Entry Registered) (registry : Registry) → IsIn e (entries_of hash of registry) → (entry_of hash of e.behind ≡ e) × IsIn e.behind registry
-in_entries hash of e [] there = absurd there
-in_entries hash of e (b ∷ bs) (inl here) =
+pub in_entries : (hash index_of : List ℕ → List ℕ) (e : Entry Registered) (registry : Registry)
+    → IsIn e (entries_of hash index_of registry) → (entry_of hash index_of e.behind ≡ e) × IsIn e.behind registry
+in_entries hash index_of e [] there = absurd there
+in_entries hash index_of e (b ∷ bs) (inl here) =
     let same : b ≡ e.behind = ap (λ (x : Entry Registered). x.behind) here in
-    (ap (entry_of hash of) (sym same) ∙ here, inl same)
-in_entries hash of e (b ∷ bs) (inr later) = let ih = in_entries hash of e bs later in (ih.0, inr ih.1)
+    (ap (entry_of hash index_of) (sym same) ∙ here, inl same)
+in_entries hash index_of e (b ∷ bs) (inr later) = let ih = in_entries hash index_of e bs later in (ih.0, inr ih.1)
 
-pub entry_in : (hash of : List ℕ → List ℕ) (b : Registered) (registry : Registry) → IsIn b registry → IsIn (entry_of hash of b) (entries_of hash of registry)
-entry_in hash of b [] there = absurd there
-entry_in hash of b (x ∷ xs) (inl here) = inl (ap (entry_of hash of) here)
-entry_in hash of b (x ∷ xs) (inr later) = inr (entry_in hash of b xs later)
+pub entry_in : (hash index_of : List ℕ → List ℕ) (b : Registered) (registry : Registry) → IsIn b registry → IsIn (entry_of hash index_of b) (entries_of hash index_of registry)
+entry_in hash index_of b [] there = absurd there
+entry_in hash index_of b (x ∷ xs) (inl here) = inl (ap (entry_of hash index_of) here)
+entry_in hash index_of b (x ∷ xs) (inr later) = inr (entry_in hash index_of b xs later)
 
 -- what a name is bound to is in the registry, under the name
 pub bound_in : (registry : Registry) (name : List ℕ) (b : Registered) → bound_to registry name ≡ Some b → IsIn b registry × (b.name ≡ name)

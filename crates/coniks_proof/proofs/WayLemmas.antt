@@ -1,4 +1,4 @@
--- The path to an index, level by level: what lies beside it and where it ends.
+-- The path to an index, level by level: its siblings and its end.
 use Rattle.std.proofs.Common.{◌≡◌, ℕ, zero, suc, ◌+◌, ◌<◌, ◌≤◌, List, [], ◌∷◌, length, Bool, not, Option, Some, refl, sym, ap, subst, ◌∙◌, arith}
 use Rattle.std.specs.List.{slice_get}
 use Rattle.coniks_proof.specs.Bits.{bit_at, child, first_bits}
@@ -47,7 +47,8 @@ module _ {B : Type 0} (hash : List ℕ → List ℕ) (nonce index : List ℕ) (e
   sides_above n s ss end first rest (suc l) less = let here : suc n + l ≡ n + suc l = omega arith in rest.sides l (omega arith) ∙ ap (λ k. beside (first_bits index k) k) here
 
   -- one level above
-  above : (n : ℕ) (s : List ℕ) (ss : List (List ℕ)) (end : List (Entry B)) → 2 ≤ length (under (first_bits index n) entries) → Some s ≡ beside (first_bits index n) n → IsWay (suc n) ss end → IsWay n (s ∷ ss) end
+  above : (n : ℕ) (s : List ℕ) (ss : List (List ℕ)) (end : List (Entry B)) → 2 ≤ length (under (first_bits index n) entries)
+      → Some s ≡ beside (first_bits index n) n → IsWay (suc n) ss end → IsWay n (s ∷ ss) end
   above n s ss end many first rest =
       let here : suc n + length ss ≡ n + suc (length ss) = omega arith in
       record {

@@ -7,7 +7,7 @@ use Rattle.std.proofs.Math.Seq.{drop-append_seam}
 use Rattle.std.proofs.lemmas.Nat.{be_bytes_2, be_bytes_4, from_be_bytes-to_be_bytes_2, from_be_bytes-to_be_bytes_4}
 use Rattle.std.proofs.lemmas.List.{length-append, length-drop, length-map, length-take-le, take-append-drop, take_more}
 use Rattle.coniks_proof.proofs.PreimageLemmas.{be2_same, commitment_same, split_same}
-use Rattle.coniks_proof.specs.Borrowed.{digest_of}
+use Rattle.coniks_proof.specs.ProofRefs.{digest_of}
 use Rattle.coniks_proof.specs.Proofs.{Accepts, EndFits}
 use Rattle.coniks_proof.specs.Wire.{AreSized, EndHas, FrontHas, HasRoom, IsEndOf, IsFirstFault, IsFront, IsWire, IsWritable, IsWritableEnd, WireHas, after_key, after_name, count_in, end_bytes, end_in, key_length, kind_of, long_length, name_length, order, short_length, sibling_bytes}
 use Rattle.coniks_proof.specs.declared.values.Digest.{Digest}
@@ -213,7 +213,11 @@ empty-read rest = record {
 other-read : (a rest : List ℕ) → length a ≡ 64 → EndRead (a ++ rest) 1 rest
 other-read a rest size = record {
   none = none;
-  follow = λ has. elim has [ inl empty ↦ absurd (omega (arith, empty.0)) | inr others ↦ elim others [ inl other ↦ subst (λ ys. 0 < length ys) left other.1 | inr here ↦ absurd (omega (arith, here.0)) ] ];
+  follow = λ has. elim has [
+    | inl empty ↦ absurd (omega (arith, empty.0))
+    | inr others ↦ elim others
+        [ inl other ↦ subst (λ ys. 0 < length ys) left other.1 | inr here ↦ absurd (omega (arith, here.0)) ]
+  ];
   more = λ some. inr (inl (refl, subst (λ ys. 0 < length ys) (sym left) some));
 }
   where
@@ -236,7 +240,11 @@ here-read : (xs o named keyed rest name key : List ℕ) → xs ≡ o ++ named �
     → keyed ≡ to_be_bytes w32 (length key) ++ key ++ rest → length key < 2 ^ 32 → EndRead xs 2 rest
 here-read xs o named keyed rest name key whole size named_is short keyed_is long = record {
   none = none;
-  follow = λ has. elim has [ inl empty ↦ absurd (omega (arith, empty.0)) | inr others ↦ elim others [ inl other ↦ absurd (omega (arith, other.0)) | inr here ↦ subst (λ ys. 0 < length ys) left here.1 ] ];
+  follow = λ has. elim has [
+    | inl empty ↦ absurd (omega (arith, empty.0))
+    | inr others ↦ elim others
+        [ inl other ↦ absurd (omega (arith, other.0)) | inr here ↦ subst (λ ys. 0 < length ys) left here.1 ]
+  ];
   more = λ some. inr (inr (refl, subst (λ ys. 0 < length ys) (sym left) some));
 }
   where
@@ -431,10 +439,13 @@ same_proof p q siblings end = ap (λ ds. record { siblings = ds; end = p.end }) 
 -- bytes are those of one proof at most
 pub wire_same : (bytes : List ℕ) (p q : Proof) → IsWire bytes p → IsWire bytes q → p ≡ q
 wire_same bytes p q wp wq =
-    let both = same_first (kind_of p.end) (kind_of q.end) (to_be_bytes w16 (length p.siblings) ++ sibling_bytes p.siblings ++ end_bytes p.end) (to_be_bytes w16 (length q.siblings) ++ sibling_bytes q.siblings ++ end_bytes q.end) (sym wp.same ∙ wq.same) in
-    let counts = split_same (to_be_bytes w16 (length p.siblings)) (to_be_bytes w16 (length q.siblings)) (sibling_bytes p.siblings ++ end_bytes p.end) (sibling_bytes q.siblings ++ end_bytes q.end) refl both.1 in
+    let both = same_first (kind_of p.end) (kind_of q.end) (to_be_bytes w16 (length p.siblings) ++ sibling_bytes p.siblings ++ end_bytes p.end)
+    (to_be_bytes w16 (length q.siblings) ++ sibling_bytes q.siblings ++ end_bytes q.end) (sym wp.same ∙ wq.same) in
+    let counts = split_same (to_be_bytes w16 (length p.siblings)) (to_be_bytes w16 (length q.siblings))
+    (sibling_bytes p.siblings ++ end_bytes p.end) (sibling_bytes q.siblings ++ end_bytes q.end) refl both.1 in
     let many = be2_same (length p.siblings) (length q.siblings) wp.writable.few wq.writable.few counts.0 in
-    let size : length (sibling_bytes p.siblings) ≡ length (sibling_bytes q.siblings) = length-sibling_bytes p.siblings wp.writable.sized ∙ ap (λ n. n * 32) many ∙ sym (length-sibling_bytes q.siblings wq.writable.sized) in
+    let size : length (sibling_bytes p.siblings) ≡ length (sibling_bytes q.siblings) = length-sibling_bytes
+    p.siblings wp.writable.sized ∙ ap (λ n. n * 32) many ∙ sym (length-sibling_bytes q.siblings wq.writable.sized) in
     let parts = split_same (sibling_bytes p.siblings) (sibling_bytes q.siblings) (end_bytes p.end) (end_bytes q.end) size counts.1 in
     let siblings = same_siblings p.siblings q.siblings wp.writable.sized wq.writable.sized many parts.0 in
     let end = same_end p.end q.end wp.writable.end wq.writable.end both.0 parts.1 in

@@ -40,7 +40,7 @@ fits most bytes = nat_lt 0 (length bytes) && nat_le (length bytes) most
 
 -- another name among these has the name's index
 abbrev pub clashes : (List ℕ → List ℕ) → List Registered → List ℕ → Bool
-clashes of bound name = list_any (λ b. bytes_eq (of b.name) (of name) && not (bytes_eq b.name name)) bound
+clashes index_of bound name = list_any (λ b. bytes_eq (index_of b.name) (index_of name) && not (bytes_eq b.name name)) bound
 
 -- the fault of an operation of a kind, on a name that is present or not
 abbrev pub kind_fault : Kind → Bool → Option Fault
@@ -56,29 +56,29 @@ or_else None other = other
 
 -- the first fault that applies to an operation, after earlier operations of its batch bound these
 abbrev pub fault_of : (List ℕ → List ℕ) → Registry → List Registered → Operation → Option Fault
-fault_of of registry earlier op =
+fault_of index_of registry earlier op =
     if not (fits MAX_NAME op.name) then Some name_length
     else (if not (fits MAX_KEY op.key) then Some key_length
     else (if has_name earlier op.name then Some name_twice
     else or_else (kind_fault op.kind (has_name registry op.name))
-    (if clashes of (registry ++ earlier) op.name then Some index_clash else None)))
+    (if clashes index_of (registry ++ earlier) op.name then Some index_clash else None)))
 
--- an operation at a place, where it has a fault
+-- an operation at a place, if it has a fault
 abbrev pub placed : ℕ → Option Fault → Option (ℕ × Fault) → Option (ℕ × Fault)
 placed place (Some fault) later = Some (place, fault)
 placed place None later = later
 
 -- the first operation with a fault, from a place on, and its first fault
 abbrev pub fault_from : (List ℕ → List ℕ) → Registry → List Registered → ℕ → List Operation → Option (ℕ × Fault)
-fault_from of registry earlier place [] = None
-fault_from of registry earlier place (op ∷ ops) =
-    placed place (fault_of of registry earlier op) (fault_from of registry (earlier ++ bound_by op ∷ []) (place + 1) ops)
+fault_from index_of registry earlier place [] = None
+fault_from index_of registry earlier place (op ∷ ops) =
+    placed place (fault_of index_of registry earlier op) (fault_from index_of registry (earlier ++ bound_by op ∷ []) (place + 1) ops)
 
 -- the first operation of a batch with a fault, and its first fault
 abbrev pub first_fault : (List ℕ → List ℕ) → Registry → List Operation → Option (ℕ × Fault)
-first_fault of registry ops = fault_from of registry [] 0 ops
+first_fault index_of registry ops = fault_from index_of registry [] 0 ops
 
--- no name stands twice
+-- no name occurs twice
 abbrev pub AreOnce : List Registered → Type 0
 AreOnce [] = Unit {0}
 AreOnce (b ∷ bs) = (has_name bs b.name ≡ false) × AreOnce bs
@@ -88,10 +88,10 @@ abbrev pub Suits : Kind → Bool → Type 0
 Suits register present = present ≡ false
 Suits change present = present ≡ true
 
--- the batch may follow the registry: names and keys are within their limits, no name stands twice, each registered name is
+-- the batch may follow the registry: names and keys are within their limits, no name occurs twice, each registered name is
 -- absent and each changed one present, and no two names of registry and batch have one index
-pub record MayFollow (of : List ℕ → List ℕ) (registry : Registry) (ops : List Operation) : Type 0 where
+pub record MayFollow (index_of : List ℕ → List ℕ) (registry : Registry) (ops : List Operation) : Type 0 where
   pub within : AreWithin (map bound_by ops)
   pub once : AreOnce (map bound_by ops)
   pub kinds : (op : Operation) → IsIn op ops → Suits op.kind (has_name registry op.name)
-  pub apart : HaveOwnIndices of (registry ++ map bound_by ops)
+  pub apart : HaveOwnIndices index_of (registry ++ map bound_by ops)

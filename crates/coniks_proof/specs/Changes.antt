@@ -16,7 +16,8 @@ overwritten entries changes = changes ++ filter (λ e. not (has_index changes e.
 -- the entries part within this many bits from a level on
 unfoldable pub ApartWithin : {B : Type 0} → ℕ → ℕ → List (Entry B) → Type 0
 ApartWithin zero level entries = length entries ≤ 1
-ApartWithin (suc height) level entries = ApartWithin height (suc level) (half false level entries) × ApartWithin height (suc level) (half true level entries)
+ApartWithin (suc height) level entries = ApartWithin height (suc level) (half false level entries)
+    × ApartWithin height (suc level) (half true level entries)
 
 -- no two entries, all under one prefix of `level` bits, have the same bits
 unfoldable pub AreApart : {B : Type 0} → ℕ → List (Entry B) → Type 0
@@ -33,7 +34,7 @@ InOrderWithin (suc height) level entries =
 unfoldable pub AreInOrder : {B : Type 0} → ℕ → List (Entry B) → Type 0
 AreInOrder level entries = InOrderWithin (256 - level) level entries
 
--- x comes before y: at the first byte where they differ it is the smaller
+-- x is before y: at the first byte that differs, x has the smaller one
 pub record IsBefore (x y : List ℕ) : Type 0 where
   pub place : ℕ
   pub within : place < 32

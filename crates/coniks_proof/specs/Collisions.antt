@@ -1,4 +1,4 @@
--- Collisions of a hash, and where two proofs show one.
+-- Collisions of a hash, and the place at which two proofs contain one.
 use Rattle.std.specs.Prelude.{◌≡◌, ◌≢◌, ℕ, ◌+◌, List, [], ◌∷◌, ◌++◌, length}
 use Rattle.coniks_proof.specs.Preimages.{commitment_preimage}
 use Rattle.coniks_proof.specs.Proofs.{end_preimage, preimage, Accepts, answer_of}
@@ -12,7 +12,7 @@ pub record IsCollision (hash : List ℕ → List ℕ) (x y : List ℕ) : Type 0 
   pub differ : x ≢ y
   pub same_hash : hash x ≡ hash y
 
--- the byte list of which an end's commitment is the hash
+-- the byte list whose hash is an end's commitment
 abbrev pub sealed : End → List ℕ
 sealed Empty = []
 sealed (Other other commitment) = []
@@ -31,7 +31,7 @@ hashed hash nonce index level [] end = hashed_at_end hash nonce index level end
 hashed hash nonce index level (sibling ∷ siblings) end =
     preimage hash nonce index level (sibling ∷ siblings) end ∷ hashed hash nonce index (level + 1) siblings end
 
--- x and y stand at one place of the two lists, which are the same before it
+-- x and y are at one place of the two lists, which are equal before it
 pub record FirstDiffer (xs ys : List (List ℕ)) (x y : List ℕ) : Type 0 where
   pub before : List (List ℕ)
   pub after_x : List (List ℕ)
@@ -46,7 +46,7 @@ pub record Disagree (hash : List ℕ → List ℕ) (nonce root index name_a : Li
   pub right : Accepts hash nonce root index name_b b (answer_of b.end)
   pub differ : answer_of a.end ≢ answer_of b.end
 
--- the end's own index, where it has one, isn't the asked one
+-- the end's own index, if it has one, is not the index asked for
 abbrev pub KeepsOff : List ℕ → End → Type 0
 KeepsOff index Empty = Unit {0}
 KeepsOff index (Other other commitment) = other.0 ≢ index
@@ -58,7 +58,9 @@ IsSized Empty = Unit {0}
 IsSized (Other other commitment) = length other.0 ≡ 32
 IsSized (Here name key opening) = length opening.0 ≡ 32
 
--- what two paths from one level tell: the first two of the hashed byte lists that differ
-pub record Parts (hash : List ℕ → List ℕ) (nonce index : List ℕ) (level : ℕ) (siblings_a : List Digest) (a : End) (siblings_b : List Digest) (b : End) (x y : List ℕ) : Type 0 where
+-- the first two hashed byte lists of two paths from one level that differ
+pub record Parts (hash : List ℕ → List ℕ) (nonce index : List ℕ) (level : ℕ)
+    (siblings_a : List Digest) (a : End) (siblings_b : List Digest) (b : End) (x y : List ℕ) : Type 0 where
   pub place : FirstDiffer (hashed hash nonce index level siblings_a a) (hashed hash nonce index level siblings_b b) x y
-  pub same_hash : hash (preimage hash nonce index level siblings_a a) ≡ hash (preimage hash nonce index level siblings_b b) → hash x ≡ hash y
+  pub same_hash : hash (preimage hash nonce index level siblings_a a) ≡ hash (preimage hash nonce index level siblings_b b)
+      → hash x ≡ hash y

@@ -2,7 +2,7 @@
 use Rattle.std.specs.Prelude.{◌≡◌, ◌⊎◌, ℕ, suc, List, [], ◌∷◌, Bool, filter}
 use Rattle.coniks_proof.specs.Bits.{turns}
 
--- an index, the commitment that stands at it, and what stands behind the commitment, which no hash of a node reads
+-- an index, its commitment, and what is committed to, which no hash of a node reads
 pub record Entry (B : Type 0) : Type 0 where
   pub index : List ℕ
   pub commitment : List ℕ
@@ -10,7 +10,7 @@ pub record Entry (B : Type 0) : Type 0 where
 
 -- the entry with something else behind it
 abbrev pub backed_by : {B C : Type 0} → (B → C) → Entry B → Entry C
-backed_by of e = record { index = e.index; commitment = e.commitment; behind = of e.behind }
+backed_by f e = record { index = e.index; commitment = e.commitment; behind = f e.behind }
 
 -- one of the list is this
 abbrev pub IsIn : {T : Type 0} → T → List T → Type 0

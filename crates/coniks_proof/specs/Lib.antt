@@ -7,7 +7,7 @@ pub mod Changes
 pub mod Paths
 pub mod Maps
 pub mod Proofs
-pub mod Borrowed
+pub mod ProofRefs
 pub mod Wire
 pub mod Faults
 pub mod Collisions

@@ -12,7 +12,7 @@ abbrev pub IsNew : {B : Type 0} → List ℕ → List (Entry B) → Type 0
 IsNew index [] = Unit {0}
 IsNew index (e ∷ es) = (index ≢ e.index) × IsNew index es
 
--- each index is 32 bytes and stands once
+-- each index is 32 bytes and occurs once
 abbrev pub IsMap : {B : Type 0} → List (Entry B) → Type 0
 IsMap [] = Unit {0}
 IsMap (e ∷ es) = IsIndex e.index × IsNew e.index es × IsMap es

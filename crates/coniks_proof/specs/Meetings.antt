@@ -1,4 +1,4 @@
--- Where two ways to one index part, as a climb of both finds it.
+-- Where two paths to one index differ, as computed from both proofs.
 use Rattle.coniks_proof.specs.declared.values.TheConstants.{MAX_LEVEL}
 use Rattle.std.specs.Prelude.{◌≡◌, ◌≤◌, ℕ, ◌+◌, List, length, Option, None, MatchOption}
 use Rattle.coniks_proof.specs.Preimages.{commitment_preimage}
@@ -14,7 +14,8 @@ use Rattle.coniks_proof.specs.declared.meeting.Place.TheVariants.{Level, Commitm
 abbrev pub PartsAt : (List ℕ → List ℕ) → List ℕ → List ℕ → ℕ → List Digest → End → List Digest → End → Place → Type 0
 PartsAt hash nonce index level siblings_a a siblings_b b (Level l ss ts) =
     Parts hash nonce index level siblings_a a siblings_b b (preimage hash nonce index l ss.now a) (preimage hash nonce index l ts.now b)
-PartsAt hash nonce index level siblings_a a siblings_b b Commitments = Parts hash nonce index level siblings_a a siblings_b b (sealed a) (sealed b)
+PartsAt hash nonce index level siblings_a a siblings_b b Commitments =
+    Parts hash nonce index level siblings_a a siblings_b b (sealed a) (sealed b)
 
 -- the place is at most 256 levels deep
 abbrev pub PlaceFits : Place → Type 0

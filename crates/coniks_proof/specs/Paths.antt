@@ -1,4 +1,4 @@
--- Authentication paths (CONIKS, section 3.1): the hashes beside the way from the root to an index, and what stands where it ends.
+-- Authentication paths (CONIKS, section 3.1): the siblings from the root to an index, and the end of the path.
 use Rattle.std.specs.Prelude.{◌≡◌, ◌≢◌, ℕ, zero, suc, ◌-◌, List, [], ◌∷◌, length, Bool, not, map}
 use Rattle.coniks_proof.specs.Bits.{bit_at, child}
 use Rattle.coniks_proof.specs.Entries.{Entry, half}
@@ -18,7 +18,7 @@ siblings_below hash nonce (suc height) prefix index (e ∷ f ∷ es) =
     node hash nonce (child prefix (not bit)) (half (not bit) (length prefix) (e ∷ f ∷ es))
     ∷ siblings_below hash nonce height (child prefix bit) index (half bit (length prefix) (e ∷ f ∷ es))
 
--- the hashes beside the way to an index, from a prefix with these entries down to where at most one entry is left
+-- the siblings of the path to an index, from a prefix with these entries down to a level with at most one entry
 unfoldable pub siblings : {B : Type 0} → (List ℕ → List ℕ) → List ℕ → List Bool → List ℕ → List (Entry B) → List (List ℕ)
 siblings hash nonce prefix index entries = siblings_below hash nonce (256 - length prefix) prefix index entries
 
@@ -30,7 +30,7 @@ end_below (suc height) prefix index (e ∷ f ∷ es) =
     let bit = bit_at index (length prefix) in
     end_below height (child prefix bit) index (half bit (length prefix) (e ∷ f ∷ es))
 
--- what is left where the way to an index ends: no entry or one
+-- the entries at the end of the path to an index: none or one
 unfoldable pub end_of : {B : Type 0} → List Bool → List ℕ → List (Entry B) → List (Entry B)
 end_of prefix index entries = end_below (256 - length prefix) prefix index entries
 
@@ -47,6 +47,7 @@ abbrev pub digests : List Digest → List (List ℕ)
 digests ds = map (λ d. d.0) ds
 
 -- the proof is the path to the index in the tree over these entries
-pub record IsPath (hash : List ℕ → List ℕ) (nonce : List ℕ) (entries : List (Entry Registered)) (index : List ℕ) (proof : Proof) : Type 0 where
+pub record IsPath (hash : List ℕ → List ℕ) (nonce : List ℕ)
+    (entries : List (Entry Registered)) (index : List ℕ) (proof : Proof) : Type 0 where
   pub siblings_are : digests proof.siblings ≡ siblings hash nonce [] index entries
   pub end_is : EndIs index (end_of [] index entries) proof.end

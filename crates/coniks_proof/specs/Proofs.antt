@@ -14,9 +14,10 @@ use Rattle.coniks_proof.specs.declared.paths.Answer.TheVariants.{Key, Absent}
 abbrev pub end_preimage : (List ℕ → List ℕ) → List ℕ → List ℕ → ℕ → End → List ℕ
 end_preimage hash nonce index level Empty = empty_preimage nonce (first_bits index level)
 end_preimage hash nonce index level (Other other commitment) = leaf_preimage nonce other.0 level commitment.0
-end_preimage hash nonce index level (Here name key opening) = leaf_preimage nonce index level (hash (commitment_preimage opening.0 name key))
+end_preimage hash nonce index level (Here name key opening) = leaf_preimage
+    nonce index level (hash (commitment_preimage opening.0 name key))
 
--- an interior node over a hash on the way to an index and its sibling, where the index goes right or not
+-- an interior node over a hash on the path to an index and its sibling; the flag is whether the index goes right
 abbrev pub joined : Bool → List ℕ → List ℕ → List ℕ
 joined true sibling below = inner_preimage sibling below
 joined false sibling below = inner_preimage below sibling
@@ -33,7 +34,7 @@ LengthsFit Empty = Unit {0}
 LengthsFit (Other other commitment) = Unit {0}
 LengthsFit (Here name key opening) = (length name ≤ MAX_NAME) × (length key ≤ MAX_KEY)
 
--- the end can stand at a level on the way to the index, for the name
+-- the end is possible at a level of the path to the index, for the name
 abbrev pub EndFits : List ℕ → List ℕ → ℕ → End → Type 0
 EndFits index name level Empty = Unit {0}
 EndFits index name level (Other other commitment) = (other.0 ≢ index) × (first_bits other.0 level ≡ first_bits index level)
@@ -58,7 +59,7 @@ pub record Accepts (hash : List ℕ → List ℕ) (nonce root index name : List 
   pub root_met : hash (preimage hash nonce index 0 proof.siblings proof.end) ≡ root
   pub answered : answer_of proof.end ≡ answer
 
--- what an answer says
+-- the key of an answer, or none
 abbrev pub said : Answer → Option (List ℕ)
 said (Key key) = Some key.now
 said Absent = None

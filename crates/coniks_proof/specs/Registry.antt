@@ -42,17 +42,17 @@ overlaid registry (b ∷ bs) = overlaid (rebound registry b) bs
 abbrev pub commitment_to : (List ℕ → List ℕ) → Registered → List ℕ
 commitment_to hash b = hash (commitment_preimage b.opening b.name b.key)
 
--- the entry of a binding, where `of` gives each name its index
+-- the entry of a binding; `of` gives each name its index
 abbrev pub entry_of : (List ℕ → List ℕ) → (List ℕ → List ℕ) → Registered → Entry Registered
-entry_of hash of b = record { index = of b.name; commitment = commitment_to hash b; behind = b }
+entry_of hash index_of b = record { index = index_of b.name; commitment = commitment_to hash b; behind = b }
 
 -- the map that the tree holds of a registry
 abbrev pub entries_of : (List ℕ → List ℕ) → (List ℕ → List ℕ) → Registry → List (Entry Registered)
-entries_of hash of registry = map (entry_of hash of) registry
+entries_of hash index_of registry = map (entry_of hash index_of) registry
 
 -- the root of a registry
 abbrev pub root_of : (List ℕ → List ℕ) → (List ℕ → List ℕ) → List ℕ → Registry → List ℕ
-root_of hash of nonce registry = root hash nonce (entries_of hash of registry)
+root_of hash index_of nonce registry = root hash nonce (entries_of hash index_of registry)
 
 -- neither empty nor longer than `most`
 abbrev pub IsLength : ℕ → List ℕ → Type 0
@@ -65,8 +65,9 @@ AreWithin (b ∷ bs) = IsLength MAX_NAME b.name × IsLength MAX_KEY b.key × Are
 
 -- no name of the registry has the index
 abbrev pub IsFree : (List ℕ → List ℕ) → Registry → List ℕ → Type 0
-IsFree of registry index = (name : List ℕ) → of name ≡ index → has_name registry name ≡ false
+IsFree index_of registry index = (name : List ℕ) → index_of name ≡ index → has_name registry name ≡ false
 
 -- no two names of the registry have one index
 abbrev pub HaveOwnIndices : (List ℕ → List ℕ) → Registry → Type 0
-HaveOwnIndices of registry = (x y : List ℕ) → has_name registry x ≡ true → has_name registry y ≡ true → of x ≡ of y → x ≡ y
+HaveOwnIndices index_of registry = (x y : List ℕ) → has_name registry x ≡ true
+    → has_name registry y ≡ true → index_of x ≡ index_of y → x ≡ y

@@ -52,7 +52,7 @@ pub record IsWire (bytes : List ℕ) (proof : Proof) : Type 0 where
   pub writable : IsWritable proof
   pub same : bytes ≡ wire_form proof
 
--- how long the name and the key of an end are, 0 where it has none
+-- the lengths of the name and the key of an end, 0 if it has none
 abbrev pub name_length : End → ℕ
 name_length Empty = 0
 name_length (Other index commitment) = 0
@@ -125,7 +125,8 @@ EndHas kind bytes CutInOpening = (kind ≡ 2) × (length bytes < 32)
 EndHas kind bytes CutInName = (kind ≡ 2) × (length (drop 32 bytes) < 2 + short_length (drop 32 bytes))
 EndHas kind bytes CutInKey = (kind ≡ 2) × (length (after_name (drop 32 bytes)) < 4 + long_length (after_name (drop 32 bytes)))
 EndHas kind bytes BytesFollow =
-    ((kind ≡ 0) × (0 < length bytes)) ⊎ ((kind ≡ 1) × (0 < length (drop 64 bytes))) ⊎ ((kind ≡ 2) × (0 < length (after_key (after_name (drop 32 bytes)))))
+    ((kind ≡ 0) × (0 < length bytes)) ⊎ ((kind ≡ 1) × (0 < length (drop 64 bytes)))
+    ⊎ ((kind ≡ 2) × (0 < length (after_key (after_name (drop 32 bytes)))))
 EndHas kind bytes _ = ⊥
 
 -- the bytes have this fault

@@ -21,14 +21,18 @@ impl Model for Bytes {
 }
 
 impl Bytes {
-    /// The bytes of a vector. It takes no memory.
+    /// Wraps a vector of bytes. Allocates nothing.
     pub fn new(bytes: Vec<u8>) -> Bytes
         ensures { result ≡ bytes.items }
     {
         Bytes { bytes }
     }
 
-    /// A copy of a slice.
+    /// Copies a slice.
+    ///
+    /// # Errors
+    ///
+    /// `AllocError` if an allocation fails.
     pub fn copy_of(alloc: Global, bytes: &[u8]) -> Result<Bytes, AllocError>
         ensures { IfOk result (λ copy. copy ≡ bytes.now) }
     {
@@ -36,14 +40,14 @@ impl Bytes {
         Ok(Bytes { bytes })
     }
 
-    /// The bytes as a slice.
+    /// Returns the bytes as a slice.
     pub fn as_slice(&self) -> &[u8]
         ensures { result.now ≡ self.now }
     {
         self.bytes.as_slice()
     }
 
-    /// The vector. It takes no memory.
+    /// Returns the vector. Allocates nothing.
     pub fn into_vec(self) -> Vec<u8>
         ensures { result.items ≡ self }
     {
@@ -68,21 +72,21 @@ impl Model for Digests {
 }
 
 impl Digests {
-    /// The digests of a vector. It takes no memory.
+    /// Wraps a vector of digests. Allocates nothing.
     pub fn new(digests: Vec<Digest>) -> Digests
         ensures { result ≡ digests.items }
     {
         Digests { digests }
     }
 
-    /// The digests as a slice.
+    /// Returns the digests as a slice.
     pub fn as_slice(&self) -> &[Digest]
         ensures { result.now ≡ self.now }
     {
         self.digests.as_slice()
     }
 
-    /// The vector. It takes no memory.
+    /// Returns the vector. Allocates nothing.
     pub fn into_vec(self) -> Vec<Digest>
         ensures { result.items ≡ self }
     {

@@ -2,18 +2,18 @@
 
 ghost use Rattle.std.specs.Prelude.{◌≡◌, ◌≤◌, ◌↔◌, List, ℕ, Option, IsTrue, IfOk, IfErr, IsOkAnd, MatchOption};
 ghost use Rattle.coniks_proof.specs.Bits.{first_bits};
-ghost use Rattle.coniks_proof.specs.Borrowed.{owned};
+ghost use Rattle.coniks_proof.specs.ProofRefs.{owned};
 ghost use Rattle.coniks_proof.specs.Faults.{EndHas, Has, IsFirst};
 ghost use Rattle.coniks_proof.specs.Proofs.{Accepts, EndFits, IsWellFormed, answer_of, said};
 
 use crate::bits::bit;
-use crate::borrowed::{BorrowedEnd, BorrowedProof};
 use crate::hashing::Hash32;
 use crate::paths::{Answer, Proof, carried};
+use crate::proof_ref::{EndRef, ProofRef};
 use crate::values::{Digest, Index, MAX_KEY, MAX_LEVEL, MAX_NAME, Nonce};
 use thiserror::Error;
 
-/// Why a proof isn't accepted: of what applies, the first in this order.
+/// The error of a proof that is not accepted. If several apply, the first in declaration order is returned.
 #[derive(Clone, Copy, Debug, Drop, PartialEq, Eq, Error)]
 pub enum CheckFault {
     #[error("the proof has more than {} siblings", MAX_LEVEL)]
@@ -32,7 +32,7 @@ pub enum CheckFault {
     RootMismatch,
 }
 
-/// Two indices begin with the same bits.
+/// Returns whether two indices begin with the same bits.
 fn begin_alike(a: &Index, b: &Index, length: usize) -> bool
     requires { length ≤ MAX_LEVEL }
     ensures { IsTrue result ↔ (first_bits a.now.0 length ≡ first_bits b.now.0 length) }
@@ -45,14 +45,15 @@ fn begin_alike(a: &Index, b: &Index, length: usize) -> bool
     true
 }
 
-/// What is wrong with an end at a level.
-fn end_fault(index: &Index, name: &[u8], level: usize, end: &BorrowedEnd<'_>) -> Option<CheckFault>
+/// Returns the error of an end at a level, if any.
+fn end_fault(index: &Index, name: &[u8], level: usize, end: &EndRef<'_>) -> Option<CheckFault>
     requires { level ≤ MAX_LEVEL }
-    ensures { MatchOption result (EndFits index.now.0 name.now level (owned end.now)) (λ fault. IsFirst (EndHas index.now.0 name.now level (owned end.now)) fault) }
+    ensures { MatchOption result (EndFits index.now.0 name.now level (owned end.now))
+        (λ fault. IsFirst (EndHas index.now.0 name.now level (owned end.now)) fault) }
 {
     match end {
-        BorrowedEnd::Empty => None,
-        BorrowedEnd::Other {
+        EndRef::Empty => None,
+        EndRef::Other {
             index: other,
             commitment: _,
         } => {
@@ -64,7 +65,7 @@ fn end_fault(index: &Index, name: &[u8], level: usize, end: &BorrowedEnd<'_>) ->
                 None
             }
         }
-        BorrowedEnd::Here {
+        EndRef::Here {
             name: here,
             key,
             opening: _,
@@ -80,8 +81,8 @@ fn end_fault(index: &Index, name: &[u8], level: usize, end: &BorrowedEnd<'_>) ->
     }
 }
 
-/// What is wrong with a proof before any hash.
-fn early_fault(index: &Index, name: &[u8], proof: &BorrowedProof<'_>) -> Option<CheckFault>
+/// Returns the error that a proof has before any hash is computed, if any.
+fn early_fault(index: &Index, name: &[u8], proof: &ProofRef<'_>) -> Option<CheckFault>
     ensures { MatchOption result (IsWellFormed index.now.0 name.now proof.now)
         (λ fault. (hash : List ℕ → List ℕ) (nonce root : List ℕ) → IsFirst (Has hash nonce root index.now.0 name.now proof.now) fault) }
 {
@@ -95,12 +96,12 @@ fn early_fault(index: &Index, name: &[u8], proof: &BorrowedProof<'_>) -> Option<
     end_fault(index, name, level, &proof.end())
 }
 
-/// What an end says.
-fn answer_at<'a>(end: &BorrowedEnd<'a>) -> Answer<'a>
+/// Returns the answer that an end contains.
+fn answer_at<'a>(end: &EndRef<'a>) -> Answer<'a>
     ensures { said result ≡ answer_of (owned end.now) }
 {
     match end {
-        BorrowedEnd::Here {
+        EndRef::Here {
             name: _,
             key,
             opening: _,
@@ -109,19 +110,33 @@ fn answer_at<'a>(end: &BorrowedEnd<'a>) -> Answer<'a>
     }
 }
 
-/// What a proof that stays where it is says of a name at its index, under a root and a nonce. The end's hash is carried
-/// up along the index's bits and compared with the root; every other fault is found before anything is hashed. It takes
-/// no memory, and the stack that it takes doesn't grow with the proof.
-pub fn check_borrowed<'a, H: Hash32>(
+/// Checks a borrowed proof for a name at its index, under a root and a nonce, and returns its answer.
+///
+/// Carries the end's hash up along the index's bits and compares it with the root. Finds every error except
+/// `RootMismatch` before it computes a hash. Allocates nothing, and its stack use does not grow with the proof.
+///
+/// # Errors
+///
+/// If several apply, the first in this order is returned.
+///
+/// - `TooDeep` if the proof has more than `MAX_LEVEL` siblings.
+/// - `NameLength` if the asked name is empty or longer than `MAX_NAME` bytes.
+/// - `KeyLength` if the proof's key is empty or longer than `MAX_KEY` bytes.
+/// - `WrongName` if the proof's leaf contains another name.
+/// - `OtherIsSame` if the leaf of another index has the asked index.
+/// - `OtherOffPath` if the other index does not begin with the path's bits.
+/// - `RootMismatch` if the path does not lead to the root.
+pub fn check_ref<'a, H: Hash32>(
     h: &H,
     nonce: &Nonce,
     root: &Digest,
     index: &Index,
     name: &[u8],
-    proof: &BorrowedProof<'a>,
+    proof: &ProofRef<'a>,
 ) -> Result<Answer<'a>, CheckFault>
     ensures accepted { IfOk result (λ answer. Accepts (H.digest_of h.now) nonce.now.0 root.now.0 index.now.0 name.now proof.now (said answer)) }
-    ensures exact { (answer : Option (List ℕ)) → Accepts (H.digest_of h.now) nonce.now.0 root.now.0 index.now.0 name.now proof.now answer → IsOkAnd result (λ given. said given ≡ answer) }
+    ensures exact { (answer : Option (List ℕ)) → Accepts (H.digest_of h.now) nonce.now.0 root.now.0 index.now.0 name.now proof.now answer
+        → IsOkAnd result (λ given. said given ≡ answer) }
     ensures refused { IfErr result (λ fault. IsFirst (Has (H.digest_of h.now) nonce.now.0 root.now.0 index.now.0 name.now proof.now) fault) }
 {
     if let Some(fault) = early_fault(index, name, proof) {
@@ -134,7 +149,13 @@ pub fn check_borrowed<'a, H: Hash32>(
     Ok(answer_at(&end))
 }
 
-/// What a proof says of a name at its index, under a root and a nonce, as `check_borrowed` finds it. It takes no memory.
+/// Checks a proof for a name at its index, under a root and a nonce, and returns its answer as `check_ref` does.
+///
+/// Allocates nothing.
+///
+/// # Errors
+///
+/// The errors of `check_ref`, in the same order.
 pub fn check<'a, H: Hash32>(
     h: &H,
     nonce: &Nonce,
@@ -144,8 +165,9 @@ pub fn check<'a, H: Hash32>(
     proof: &'a Proof,
 ) -> Result<Answer<'a>, CheckFault>
     ensures accepted { IfOk result (λ answer. Accepts (H.digest_of h.now) nonce.now.0 root.now.0 index.now.0 name.now proof.now (said answer)) }
-    ensures exact { (answer : Option (List ℕ)) → Accepts (H.digest_of h.now) nonce.now.0 root.now.0 index.now.0 name.now proof.now answer → IsOkAnd result (λ given. said given ≡ answer) }
+    ensures exact { (answer : Option (List ℕ)) → Accepts (H.digest_of h.now) nonce.now.0 root.now.0 index.now.0 name.now proof.now answer
+        → IsOkAnd result (λ given. said given ≡ answer) }
     ensures refused { IfErr result (λ fault. IsFirst (Has (H.digest_of h.now) nonce.now.0 root.now.0 index.now.0 name.now proof.now) fault) }
 {
-    check_borrowed(h, nonce, root, index, name, &proof.borrowed())
+    check_ref(h, nonce, root, index, name, &proof.borrowed())
 }

@@ -8,9 +8,10 @@ use crate::bytes::Bytes;
 use crate::checker::check;
 use crate::hashing::Hash32;
 use crate::meeting::{Way, parted};
+use crate::memory::OutOfMemory;
 use crate::paths::{Answer, Proof};
 use crate::values::{Digest, Index, Nonce};
-use std::alloc::{AllocError, Global};
+use std::alloc::Global;
 
 /// Two different byte strings that have one hash.
 #[derive(Drop)]
@@ -19,7 +20,7 @@ pub struct Collision {
     pub y: Bytes,
 }
 
-/// Two answers say the same.
+/// Returns whether two answers are equal.
 fn same_answer(a: &Answer<'_>, b: &Answer<'_>) -> bool
     ensures { IsTrue result ↔ (said a.now ≡ said b.now) }
 {
@@ -30,14 +31,14 @@ fn same_answer(a: &Answer<'_>, b: &Answer<'_>) -> bool
     }
 }
 
-/// A collision of the hash, where two proofs, each with the name that it is asked for, are accepted for one root, nonce
-/// and index with different answers; else None. The byte strings are the first two that differ, from the root down, of
-/// those that the proofs hash: `x` is hashed in the first proof's path and `y` in the second's. Where no node differs
-/// they are what the two commitments are hashes of (CONIKS, section 3.1: a commitment binds the directory to one key).
+/// Returns a collision of the hash if two proofs, each with the name that it is asked for, are accepted for one root, nonce
+/// and index with different answers, and else `None`. The byte strings are the first two that differ, from the root down, of
+/// those that the proofs hash: `x` is hashed in the first proof's path and `y` in the second's. If no node differs, they
+/// are the preimages of the two commitments (CONIKS, section 3.1: a commitment binds the directory to one key).
 ///
 /// # Errors
 ///
-/// A growth was refused. Where nothing is found no memory is asked for.
+/// `OutOfMemory` if an allocation fails. If nothing is found, none is made.
 pub fn extract<H: Hash32>(
     alloc: Global,
     h: &H,
@@ -46,7 +47,7 @@ pub fn extract<H: Hash32>(
     index: &Index,
     first: (&[u8], &Proof),
     second: (&[u8], &Proof),
-) -> Result<Option<Collision>, AllocError>
+) -> Result<Option<Collision>, OutOfMemory>
     ensures exact { IfOk result (λ found. MatchOption found
         (¬ Disagree (H.digest_of h.now) nonce.now.0 root.now.0 index.now.0 first.entry.0.now first.entry.1.now second.entry.0.now second.entry.1.now)
         (λ c. Disagree (H.digest_of h.now) nonce.now.0 root.now.0 index.now.0 first.entry.0.now first.entry.1.now second.entry.0.now second.entry.1.now)) }
@@ -54,7 +55,8 @@ pub fn extract<H: Hash32>(
     ensures place { IfOk result (λ found. MatchOption found Unit (λ c. FirstDiffer
         (hashed (H.digest_of h.now) nonce.now.0 index.now.0 0 first.entry.1.now.siblings first.entry.1.now.end)
         (hashed (H.digest_of h.now) nonce.now.0 index.now.0 0 second.entry.1.now.siblings second.entry.1.now.end) c.x c.y)) }
-    ensures calm { ¬ Disagree (H.digest_of h.now) nonce.now.0 root.now.0 index.now.0 first.entry.0.now first.entry.1.now second.entry.0.now second.entry.1.now → IsOk result }
+    ensures calm { ¬ Disagree (H.digest_of h.now) nonce.now.0 root.now.0 index.now.0 first.entry.0.now first.entry.1.now second.entry.0.now second.entry.1.now
+        → IsOk result }
 {
     let (name_a, a) = first;
     let (name_b, b) = second;

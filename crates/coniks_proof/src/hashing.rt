@@ -10,16 +10,18 @@ use coniks_lanes::{TwoBlocks, hash_four};
 use sha2::{Digest as _, Sha256};
 use std::marker::Model;
 
-/// A hash of 32 bytes: a function of the message, however it is cut into pieces.
+/// A hash of 32 bytes. It is a function of the message, however the message is split into pieces.
 pub trait Hash32 {
     /// The hash of a message.
     ghost digest_of: { Self → List ℕ → List ℕ };
 
-    /// The hash of the pieces, taken as one message.
+    /// Returns the hash of the pieces, taken as one message.
     fn hash(&self, pieces: &[&[u8]]) -> Digest
         ensures { result.0 ≡ digest_of self.now (flat_map (λ piece. piece.now) pieces.now) };
 
-    /// The hashes of four messages, each in pieces. A hash that has nothing faster keeps the four calls.
+    /// Returns the hashes of four messages, each in pieces.
+    ///
+    /// A hash without a faster way calls `hash` four times.
     fn hash_four(
         &self,
         a: &[&[u8]],
@@ -65,7 +67,7 @@ impl Hash32 for Sha256Hash {
     }
 }
 
-/// The SHA-256 hashes of four messages at once, where each is two blocks with its padding.
+/// Returns the SHA-256 hashes of four messages at once, if each has two blocks with its padding.
 fn by_lanes(
     a: &[&[u8]],
     b: &[&[u8]],
@@ -85,7 +87,7 @@ fn by_lanes(
     Some((Digest(a), Digest(b), Digest(c), Digest(d)))
 }
 
-/// 32 zero bytes for everything: a hash with collisions, for tests.
+/// A hash that returns 32 zero bytes for every message: a hash with collisions, for tests.
 #[derive(Clone, Copy, Debug, Drop)]
 pub struct Flat;
 
@@ -111,7 +113,7 @@ pub(crate) const INNER_TAG: u8 = 0x49;
 /// The tag of a commitment's preimage.
 const COMMITMENT_TAG: u8 = 0x43;
 
-/// The hash of an empty node, which stands for a prefix that begins no index of the tree (CONIKS, section 3.1).
+/// Returns the hash of an empty node, which represents a prefix that begins no index of the tree (CONIKS, section 3.1).
 pub fn empty_hash<H: Hash32>(h: &H, nonce: &Nonce, prefix: &Prefix) -> Digest
     ensures { result.0 ≡ H.digest_of h.now (empty_preimage nonce.now.0 prefix.now) }
 {
@@ -119,7 +121,7 @@ pub fn empty_hash<H: Hash32>(h: &H, nonce: &Nonce, prefix: &Prefix) -> Digest
     h.hash(&[&[EMPTY_TAG], &nonce.0, prefix.bytes(), &level])
 }
 
-/// The hash of a leaf, which stands for one index of the tree, at a level of at most 256.
+/// Returns the hash of a leaf, which represents one index of the tree, at a level of at most 256.
 pub fn leaf_hash<'a, H: Hash32>(
     h: &H,
     nonce: &'a Nonce,
@@ -134,14 +136,14 @@ pub fn leaf_hash<'a, H: Hash32>(
     h.hash(&[&[LEAF_TAG], &nonce.0, &index.0, &level, &commitment.0])
 }
 
-/// The hash of an interior node over its children.
+/// Returns the hash of an interior node over its children.
 pub fn inner_hash<H: Hash32>(h: &H, left: &Digest, right: &Digest) -> Digest
     ensures { result.0 ≡ H.digest_of h.now (inner_preimage left.now.0 right.now.0) }
 {
     h.hash(&[&[INNER_TAG], &left.0, &right.0])
 }
 
-/// The byte list that a commitment is the hash of; opening, name and key stay where they are.
+/// The byte list that a commitment is the hash of. It borrows opening, name and key.
 #[derive(Drop)]
 pub struct CommitmentPreimage<'a> {
     opening: &'a Opening,
@@ -160,7 +162,7 @@ impl<'a> Model for CommitmentPreimage<'a> {
 }
 
 impl<'a> CommitmentPreimage<'a> {
-    /// The byte list for a name of at most `MAX_NAME` bytes and its key of at most `MAX_KEY`.
+    /// Returns the byte list for a name of at most `MAX_NAME` bytes and its key of at most `MAX_KEY` bytes.
     pub fn of(opening: &'a Opening, name: &'a [u8], key: &'a [u8]) -> CommitmentPreimage<'a>
         requires name { length name.now ≤ MAX_NAME }
         requires key { length key.now ≤ MAX_KEY }
@@ -175,7 +177,7 @@ impl<'a> CommitmentPreimage<'a> {
         }
     }
 
-    /// Its pieces, one after another.
+    /// Returns its pieces, one after another.
     pub(crate) fn pieces(&'a self) -> [&'a [u8]; 6]
         ensures { flat_map (λ piece. piece.now) result ≡ self.now }
     {
@@ -190,7 +192,8 @@ impl<'a> CommitmentPreimage<'a> {
     }
 }
 
-/// The commitment to a name of at most `MAX_NAME` bytes and its key of at most `MAX_KEY` (CONIKS, section 3.1).
+/// Returns the commitment to a name of at most `MAX_NAME` bytes and its key of at most `MAX_KEY` bytes (CONIKS, section
+/// 3.1).
 pub fn commit_hash<'a, H: Hash32>(
     h: &H,
     opening: &'a Opening,
@@ -204,8 +207,8 @@ pub fn commit_hash<'a, H: Hash32>(
     h.hash(&CommitmentPreimage::of(opening, name, key).pieces())
 }
 
-/// Four commitments, each of its own byte list.
-pub fn commit_four<H: Hash32>(
+/// Returns four commitments, each the hash of its own byte list.
+pub fn commit_hash_four<H: Hash32>(
     h: &H,
     a: &CommitmentPreimage,
     b: &CommitmentPreimage,

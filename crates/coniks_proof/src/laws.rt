@@ -1,4 +1,4 @@
-//! Laws of the definitions, each the contract of a function that only reads.
+//! Lemmas about the definitions, each the contract of a function that only reads.
 
 ghost use Rattle.std.specs.Prelude.{◌↔◌, ◌≡◌, ◌<◌, ◌≤◌, ◌∷◌, [], List, ℕ, Bool, None, Option, false, length, map, not, slice_get, slice_index_or};
 ghost use Rattle.coniks_proof.specs.Batches.{MayFollow, Operation, after, first_fault};
@@ -22,7 +22,7 @@ use crate::hashing::Hash32;
 use crate::paths::Proof;
 use crate::values::{Digest, Index, MAX_KEY, MAX_LEVEL, MAX_NAME, MAX_OPERATIONS, Nonce};
 
-/// The limits that callers read are those of the specification.
+/// Proves that the public limits are those of the specification.
 pub fn limits()
     ensures name { MAX_NAME ≡ longest_name }
     ensures key { MAX_KEY ≡ longest_key }
@@ -30,39 +30,43 @@ pub fn limits()
     ensures operations { MAX_OPERATIONS ≡ most_operations }
 {}
 
-/// The path to a name's index is accepted, under the root of its registry, with exactly the key that the name is bound
-/// to, or as absence where it is bound to none. For absence the premise is that no registered name has the name's index.
+/// Proves that the path to a name's index is accepted under the root of its registry.
+///
+/// The answer is exactly the key that the name is bound to, or absence if it is bound to none. For absence the premise is
+/// that no registered name has the name's index.
 pub fn path_is_accepted<H: Hash32>(h: &H, nonce: &Nonce, root: &Digest, name: &[u8], proof: &Proof)
-    ensures { (of : List ℕ → List ℕ) (registry : Registry) → IsMap (entries_of (H.digest_of h.now) of registry) → AreWithin registry
-        → root.now.0 ≡ root_of (H.digest_of h.now) of nonce.now.0 registry
-        → IsPath (H.digest_of h.now) nonce.now.0 (entries_of (H.digest_of h.now) of registry) (of name.now) proof.now
-        → (has_name registry name.now ≡ false → IsFree of registry (of name.now))
+    ensures { (index_of : List ℕ → List ℕ) (registry : Registry) → IsMap (entries_of (H.digest_of h.now) index_of registry) → AreWithin registry
+        → root.now.0 ≡ root_of (H.digest_of h.now) index_of nonce.now.0 registry
+        → IsPath (H.digest_of h.now) nonce.now.0 (entries_of (H.digest_of h.now) index_of registry) (index_of name.now) proof.now
+        → (has_name registry name.now ≡ false → IsFree index_of registry (index_of name.now))
         → IsLength MAX_NAME name.now
-        → Accepts (H.digest_of h.now) nonce.now.0 root.now.0 (of name.now) name.now proof.now (key_of registry name.now) }
+        → Accepts (H.digest_of h.now) nonce.now.0 root.now.0 (index_of name.now) name.now proof.now (key_of registry name.now) }
 {}
 
-/// What a node, its path's siblings and its path's end are doesn't depend on the order of the entries.
+/// Proves that a node, its path's siblings and its path's end do not depend on the order of the entries.
 pub fn order_is_of_no_account<T>()
     ensures node { (hash : List ℕ → List ℕ) (nonce : List ℕ) (prefix : List Bool) (es fs : List (Entry T)) → IsMap es → IsMap fs → SameEntries es fs
         → node hash nonce prefix es ≡ node hash nonce prefix fs }
-    ensures siblings { (hash : List ℕ → List ℕ) (nonce : List ℕ) (prefix : List Bool) (index : List ℕ) (es fs : List (Entry T)) → IsMap es → IsMap fs → SameEntries es fs
+    ensures siblings { (hash : List ℕ → List ℕ) (nonce : List ℕ) (prefix : List Bool) (index : List ℕ) (es fs : List (Entry T))
+        → IsMap es → IsMap fs → SameEntries es fs
         → siblings hash nonce prefix index es ≡ siblings hash nonce prefix index fs }
     ensures end { (prefix : List Bool) (index : List ℕ) (es fs : List (Entry T)) → IsMap es → IsMap fs → SameEntries es fs
         → end_of prefix index es ≡ end_of prefix index fs }
 {}
 
-/// What a node and its path's siblings are doesn't depend on what stands behind the commitments, and a path ends with
-/// what it ends with and what stands behind that.
+/// Proves that a node and its path's siblings do not depend on the data behind the commitments.
+///
+/// If the data behind the commitments is mapped, the end of a path is mapped in the same way.
 pub fn what_stands_behind_is_of_no_account<T, U>()
-    ensures node { (of : T → U) (hash : List ℕ → List ℕ) (nonce : List ℕ) (prefix : List Bool) (entries : List (Entry T))
-        → node hash nonce prefix (map (backed_by of) entries) ≡ node hash nonce prefix entries }
-    ensures siblings { (of : T → U) (hash : List ℕ → List ℕ) (nonce : List ℕ) (prefix : List Bool) (index : List ℕ) (entries : List (Entry T))
-        → siblings hash nonce prefix index (map (backed_by of) entries) ≡ siblings hash nonce prefix index entries }
-    ensures end { (of : T → U) (prefix : List Bool) (index : List ℕ) (entries : List (Entry T))
-        → end_of prefix index (map (backed_by of) entries) ≡ map (backed_by of) (end_of prefix index entries) }
+    ensures node { (f : T → U) (hash : List ℕ → List ℕ) (nonce : List ℕ) (prefix : List Bool) (entries : List (Entry T))
+        → node hash nonce prefix (map (backed_by f) entries) ≡ node hash nonce prefix entries }
+    ensures siblings { (f : T → U) (hash : List ℕ → List ℕ) (nonce : List ℕ) (prefix : List Bool) (index : List ℕ) (entries : List (Entry T))
+        → siblings hash nonce prefix index (map (backed_by f) entries) ≡ siblings hash nonce prefix index entries }
+    ensures end { (f : T → U) (prefix : List Bool) (index : List ℕ) (entries : List (Entry T))
+        → end_of prefix index (map (backed_by f) entries) ≡ map (backed_by f) (end_of prefix index entries) }
 {}
 
-/// A proof is accepted exactly where it has no fault.
+/// Proves that a proof is accepted if and only if it has no error.
 pub fn no_fault_is_accepted<H: Hash32>(
     h: &H,
     nonce: &Nonce,
@@ -75,18 +79,23 @@ pub fn no_fault_is_accepted<H: Hash32>(
         ↔ (Accepts (H.digest_of h.now) nonce.now.0 root.now.0 index.now.0 name.now proof.now (answer_of proof.now.end)) }
 {}
 
-/// A batch is without fault on a registry exactly where it may follow it, if no two names of the registry have one index;
-/// and so it is of the registry that the batch leaves, and of the empty one.
+/// Proves that a batch has no error on a registry if and only if it can follow the registry.
+///
+/// The premise is that no two names of the registry have one index. That holds again for the registry that the batch
+/// leaves, and it holds for the empty one.
 pub fn faultless_batches()
-    ensures exactly { (of : List ℕ → List ℕ) (registry : Registry) (ops : List Operation) → HaveOwnIndices of registry
-        → ((first_fault of registry ops ≡ None) ↔ MayFollow of registry ops) }
-    ensures after { (of : List ℕ → List ℕ) (registry : Registry) (ops : List Operation) → MayFollow of registry ops → HaveOwnIndices of (after registry ops) }
-    ensures first { (of : List ℕ → List ℕ) → HaveOwnIndices of [] }
-    ensures maps { (hash of : List ℕ → List ℕ) (registry : Registry) → IsMap (entries_of hash of registry) → HaveOwnIndices of registry }
+    ensures exactly { (index_of : List ℕ → List ℕ) (registry : Registry) (ops : List Operation) → HaveOwnIndices index_of registry
+        → ((first_fault index_of registry ops ≡ None) ↔ MayFollow index_of registry ops) }
+    ensures after { (index_of : List ℕ → List ℕ) (registry : Registry) (ops : List Operation)
+        → MayFollow index_of registry ops → HaveOwnIndices index_of (after registry ops) }
+    ensures first { (index_of : List ℕ → List ℕ) → HaveOwnIndices index_of [] }
+    ensures maps { (hash index_of : List ℕ → List ℕ) (registry : Registry) → IsMap (entries_of hash index_of registry) → HaveOwnIndices index_of registry }
 {}
 
-/// What callers of a tree owe follows from what they have: entries in increasing order of index are in the order of their
-/// bits, and those of a map part within 256 bits. Entries of a map in the order of their bits are in increasing order.
+/// Proves the preconditions of a tree from the properties of its entries.
+///
+/// Entries in increasing order of index are in the order of their bits. Entries of a map differ within 256 bits. Entries
+/// of a map in the order of their bits are in increasing order.
 pub fn orders<T>()
     ensures increasing { (entries : List (Entry T)) → AreIncreasing entries → AreInOrder 0 entries }
     ensures apart { (entries : List (Entry T)) → IsMap entries → AreApart 0 entries }
@@ -94,24 +103,29 @@ pub fn orders<T>()
     ensures rising { (entries : List (Entry T)) → IsMap entries → AreInOrder 0 entries → AreIncreasing entries }
 {}
 
-/// A map that is overwritten by a map is a map. Under a prefix it has what was there, overwritten by the changes there, and
-/// the entries there part within the bits that follow the prefix. So a caller of a tree or of workers has what they ask of
-/// a changed map, at every level.
+/// Proves that a map overwritten by a map is a map.
+///
+/// Under a prefix it has the entries there, overwritten by the changes there. The entries there differ within the bits
+/// that follow the prefix. So the preconditions of a tree or of worker threads hold for a changed map, at every level.
 pub fn overwritten_maps<T>()
     ensures map { (entries changes : List (Entry T)) → IsMap entries → IsMap changes → IsMap (overwritten entries changes) }
-    ensures under { (prefix : List Bool) (entries changes : List (Entry T)) → under prefix (overwritten entries changes) ≡ overwritten (under prefix entries) (under prefix changes) }
+    ensures under { (prefix : List Bool) (entries changes : List (Entry T))
+        → under prefix (overwritten entries changes) ≡ overwritten (under prefix entries) (under prefix changes) }
     ensures apart { (prefix : List Bool) (entries : List (Entry T)) → length prefix ≤ 256 → IsMap entries → AreApart (length prefix) (under prefix entries) }
 {}
 
-/// What the way to an index ends with is the entry at the index, if the map has one.
+/// Proves that the way to an index ends with the entry at the index, if the map has one.
 pub fn ends<T>()
-    ensures present { (index : List ℕ) (entries : List (Entry T)) (e : Entry T) → IsMap entries → IsIn e entries → e.index ≡ index → end_of [] index entries ≡ e ∷ [] }
+    ensures present { (index : List ℕ) (entries : List (Entry T)) (e : Entry T)
+        → IsMap entries → IsIn e entries → e.index ≡ index → end_of [] index entries ≡ e ∷ [] }
     ensures found { (index : List ℕ) (entries : List (Entry T)) (e : Entry T) → IsMap entries → end_of [] index entries ≡ e ∷ [] → IsIn e entries }
 {}
 
-/// The path to an index over a map ends at the least level at which at most one entry lies under the index's bits, with
-/// what lies there. Its sibling at each level is the node of the other side, that of the prefix with its last bit turned,
-/// over the entries under that.
+/// Proves where the path to an index over a map ends, and what its siblings are.
+///
+/// The path ends at the least level at which at most one entry is under the index's bits, with that entry if there is
+/// one. Its sibling at each level is the node of the other side, over the entries under the prefix with its last bit
+/// flipped.
 pub fn paths<T>()
     ensures ends { (hash : List ℕ → List ℕ) (nonce index : List ℕ) (entries : List (Entry T)) → IsMap entries
         → end_of [] index entries ≡ under (first_bits index (length (siblings hash nonce [] index entries))) entries }
@@ -125,17 +139,20 @@ pub fn paths<T>()
         slice_get (siblings hash nonce [] index entries) level ≡ Some (node hash nonce other_side (under other_side entries)) }
 {}
 
-/// A prefix as it is hashed is 32 bytes. Their bits are those of the prefix, and zeros after them.
+/// Proves that a prefix is hashed as 32 bytes. Their bits are those of the prefix, followed by zeros.
 pub fn digits()
     ensures bytes { (prefix : List Bool) → IsIndex (packed prefix 32) }
     ensures bits { (prefix : List Bool) (k : ℕ) → k < 256 → bit_at (packed prefix 32) k ≡ slice_index_or prefix k false }
 {}
 
-/// Reading undoes writing, whoever reads: bytes are the wire form of one proof at most, and a proof has one wire form at
-/// most. The wire form of a proof has no fault. Each accepted proof has room in one.
+/// Proves that a proof and its wire form determine each other.
+///
+/// Bytes are the wire form of at most one proof, and a proof has at most one wire form. The wire form of a proof has no
+/// error. Each accepted proof has a wire form.
 pub fn wire_forms()
     ensures one_proof { (bytes : List ℕ) (p q : Whole) → IsWire bytes p → IsWire bytes q → p ≡ q }
     ensures one_form { (bytes others : List ℕ) (p : Whole) → IsWire bytes p → IsWire others p → bytes ≡ others }
     ensures no_fault { (bytes : List ℕ) (p : Whole) (fault : WireFault) → IsWire bytes p → WireHas bytes fault → ⊥ }
-    ensures room { (hash : List ℕ → List ℕ) (nonce root index name : List ℕ) (p : Whole) (answer : Option (List ℕ)) → Accepts hash nonce root index name p answer → HasRoom p }
+    ensures room { (hash : List ℕ → List ℕ) (nonce root index name : List ℕ) (p : Whole) (answer : Option (List ℕ))
+        → Accepts hash nonce root index name p answer → HasRoom p }
 {}

@@ -1,4 +1,4 @@
-//! Where two ways to one index part: both are climbed once, and the place is found on the way up.
+//! The position at which two ways to one index differ. Both ways are climbed once, and it is found on the way up.
 
 ghost use Rattle.std.specs.Prelude.{◌≡◌, ◌≢◌, ◌+◌, ◌≤◌, ◌↔◌, ◌⊎◌, length, IsTrue, IfOk};
 ghost use Rattle.coniks_proof.specs.Collisions.{IsSized, KeepsOff, Parts};
@@ -6,22 +6,22 @@ ghost use Rattle.coniks_proof.specs.Meetings.{CommitmentIs, PartsAt, PlaceFits};
 ghost use Rattle.coniks_proof.specs.Proofs.{LengthsFit, answer_of, end_preimage, preimage};
 
 use crate::bits::bit;
-use crate::borrowed::Siblings;
 use crate::bytes::Bytes;
 use crate::hashing::{Hash32, commit_hash};
 use crate::paths::{End, carried, joined_hash};
+use crate::proof_ref::Siblings;
 use crate::strings::{level_bytes, sealed_bytes};
 use crate::values::{Digest, Index, MAX_LEVEL, Nonce, in_range};
 use std::alloc::{AllocError, Global};
 
-/// A way to an index from a level down: the siblings beside it, and what stands at its end.
+/// A way to an index from a level down: the siblings beside it, and its end.
 #[derive(Clone, Copy)]
 pub(crate) struct Way<'a> {
     pub(crate) siblings: &'a [Digest],
     pub(crate) end: &'a End,
 }
 
-/// Where two ways to one index part.
+/// The position at which two ways to one index differ.
 #[derive(Drop)]
 enum Place<'a> {
     /// At a level; the siblings are those from there down.
@@ -34,7 +34,7 @@ enum Place<'a> {
     Commitments,
 }
 
-/// The hashes of two ways at a level, and where the ways part from there down.
+/// The hashes of two ways at a level, and the position at which the ways differ from there down.
 #[derive(Drop)]
 struct Meeting<'a> {
     a: Digest,
@@ -42,7 +42,7 @@ struct Meeting<'a> {
     place: Place<'a>,
 }
 
-/// Promises that the values of 32 bytes in an end have 32 bytes.
+/// Proves that the values of 32 bytes in an end have 32 bytes.
 fn sized(end: &End)
     ensures { IsSized end.now }
 {
@@ -60,7 +60,7 @@ fn sized(end: &End)
     }
 }
 
-/// The commitment of an end that opens one.
+/// Returns the commitment of an end that opens one.
 fn commitment_of<H: Hash32>(h: &H, end: &End) -> Option<Digest>
     requires { LengthsFit end.now }
     ensures { CommitmentIs (H.digest_of h.now) end.now result }
@@ -76,7 +76,7 @@ fn commitment_of<H: Hash32>(h: &H, end: &End) -> Option<Digest>
     }
 }
 
-/// Says whether two ends at one level, of different answers, hash the same bytes: two leaves of one commitment.
+/// Returns whether two ends at one level, of different answers, hash the same bytes: two leaves of one commitment.
 fn same_ends<H: Hash32>(
     h: &H,
     nonce: &Nonce,
@@ -90,7 +90,8 @@ fn same_ends<H: Hash32>(
     requires off_a { KeepsOff index.now.0 end_a.now }
     requires off_b { KeepsOff index.now.0 end_b.now }
     requires answers { answer_of end_a.now ≢ answer_of end_b.now }
-    ensures { IsTrue result ↔ (end_preimage (H.digest_of h.now) nonce.now.0 index.now.0 level end_a.now ≡ end_preimage (H.digest_of h.now) nonce.now.0 index.now.0 level end_b.now) }
+    ensures { IsTrue result ↔ (end_preimage (H.digest_of h.now) nonce.now.0 index.now.0 level
+        end_a.now ≡ end_preimage (H.digest_of h.now) nonce.now.0 index.now.0 level end_b.now) }
 {
     in_range(&index.0);
     sized(end_a);
@@ -103,14 +104,14 @@ fn same_ends<H: Hash32>(
     }
 }
 
-/// Says whether four digests are two pairs of the same.
+/// Returns whether four digests are two pairs of equal digests.
 fn same_pairs(a: &Digest, b: &Digest, c: &Digest, d: &Digest) -> bool
     ensures { IsTrue result ↔ ((a.now ≡ b.now) × (c.now ≡ d.now)) }
 {
     *a == *b && *c == *d
 }
 
-/// Where two ways part of which one ends at this level.
+/// Returns the position at which two ways differ, if one of them ends at this level.
 fn end_place<'a, H: Hash32>(
     h: &H,
     nonce: &Nonce,
@@ -150,7 +151,7 @@ fn end_place<'a, H: Hash32>(
     here
 }
 
-/// Two ways of which one ends at this level.
+/// Compares two ways if one of them ends at this level.
 fn ending<'a, H: Hash32>(
     h: &H,
     nonce: &Nonce,
@@ -170,7 +171,8 @@ fn ending<'a, H: Hash32>(
     ensures a { result.a.0 ≡ H.digest_of h.now (preimage (H.digest_of h.now) nonce.now.0 index.now.0 level a.entry.siblings.now a.entry.end.now) }
     ensures b { result.b.0 ≡ H.digest_of h.now (preimage (H.digest_of h.now) nonce.now.0 index.now.0 level b.entry.siblings.now b.entry.end.now) }
     ensures fits { PlaceFits result.place }
-    ensures place { PartsAt (H.digest_of h.now) nonce.now.0 index.now.0 level a.entry.siblings.now a.entry.end.now b.entry.siblings.now b.entry.end.now result.place }
+    ensures place { PartsAt (H.digest_of h.now) nonce.now.0 index.now.0 level
+        a.entry.siblings.now a.entry.end.now b.entry.siblings.now b.entry.end.now result.place }
 {
     let siblings_a = Siblings::Listed(a.siblings);
     let siblings_b = Siblings::Listed(b.siblings);
@@ -200,7 +202,8 @@ fn meet<'a, H: Hash32>(
     ensures a { result.a.0 ≡ H.digest_of h.now (preimage (H.digest_of h.now) nonce.now.0 index.now.0 level a.entry.siblings.now a.entry.end.now) }
     ensures b { result.b.0 ≡ H.digest_of h.now (preimage (H.digest_of h.now) nonce.now.0 index.now.0 level b.entry.siblings.now b.entry.end.now) }
     ensures fits { PlaceFits result.place }
-    ensures place { PartsAt (H.digest_of h.now) nonce.now.0 index.now.0 level a.entry.siblings.now a.entry.end.now b.entry.siblings.now b.entry.end.now result.place }
+    ensures place { PartsAt (H.digest_of h.now) nonce.now.0 index.now.0 level
+        a.entry.siblings.now a.entry.end.now b.entry.siblings.now b.entry.end.now result.place }
 {
     let Some((first_a, rest_a)) = a.siblings.split_first() else {
         return ending(h, nonce, index, level, a, b);
@@ -240,7 +243,7 @@ fn meet<'a, H: Hash32>(
     }
 }
 
-/// The byte strings at the place where two ways from the root part, the first from the first way.
+/// Returns the byte strings at the position where two ways from the root differ, the first from the first way.
 pub(crate) fn parted<H: Hash32>(
     alloc: Global,
     h: &H,
@@ -256,7 +259,8 @@ pub(crate) fn parted<H: Hash32>(
     requires off_a { KeepsOff index.now.0 a.end.now }
     requires off_b { KeepsOff index.now.0 b.end.now }
     requires answers { answer_of a.end.now ≢ answer_of b.end.now }
-    ensures { IfOk result (λ found. Parts (H.digest_of h.now) nonce.now.0 index.now.0 0 a.entry.siblings.now a.entry.end.now b.entry.siblings.now b.entry.end.now found.0 found.1) }
+    ensures { IfOk result (λ found. Parts (H.digest_of h.now) nonce.now.0 index.now.0 0
+        a.entry.siblings.now a.entry.end.now b.entry.siblings.now b.entry.end.now found.0 found.1) }
 {
     match meet(h, nonce, index, 0, a, b).place {
         Place::Commitments => {

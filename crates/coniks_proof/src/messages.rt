@@ -1,4 +1,4 @@
-//! What is hashed for a node, kept until it is hashed, by fours.
+//! Messages that are hashed for nodes, four at a time.
 
 ghost use Rattle.std.specs.Prelude.{◌≡◌, ◌++◌, ◌∷◌, [], ◌≤◌, List, ℕ, flat_map, map, IfOk, OnOk};
 ghost use Rattle.coniks_proof.specs.Messages.{preimage_of};
@@ -10,8 +10,10 @@ use crate::values::{Digest, Index, MAX_LEVEL, Nonce};
 use std::alloc::{AllocError, Global};
 use std::collections::VecDeque;
 
-/// What is hashed for a node under a nonce: of an empty node its prefix, of a leaf its index and commitment, both with the
-/// two bytes of their level, and of an interior node the hashes of its children.
+/// The message that is hashed for a node under a nonce.
+///
+/// For an empty node it is the prefix, and for a leaf the index and the commitment, both with the two bytes of their
+/// level. For an interior node it is the hashes of its children.
 #[derive(Drop)]
 pub enum Message {
     Empty(Prefix, [u8; 2]),
@@ -20,7 +22,7 @@ pub enum Message {
 }
 
 impl Message {
-    /// The pieces that are hashed.
+    /// Returns the pieces that are hashed.
     fn pieces<'a>(&'a self, nonce: &'a Nonce) -> [&'a [u8]; 5]
         ensures { flat_map (λ piece. piece.now) result ≡ preimage_of nonce.now.0 self.now }
     {
@@ -34,7 +36,7 @@ impl Message {
     }
 }
 
-/// The message of an empty node.
+/// Returns the message of an empty node.
 pub fn empty_message(prefix: Prefix) -> Message
     ensures { (nonce : List ℕ) → preimage_of nonce result ≡ empty_preimage nonce prefix }
 {
@@ -42,7 +44,7 @@ pub fn empty_message(prefix: Prefix) -> Message
     Message::Empty(prefix, level)
 }
 
-/// The message of a leaf, at a level of at most 256.
+/// Returns the message of a leaf, at a level of at most 256.
 pub fn leaf_message(index: &Index, level: usize, commitment: &Digest) -> Message
     requires { level ≤ MAX_LEVEL }
     ensures { (nonce : List ℕ) → preimage_of nonce result ≡ leaf_preimage nonce index.now.0 level commitment.now.0 }
@@ -50,7 +52,7 @@ pub fn leaf_message(index: &Index, level: usize, commitment: &Digest) -> Message
     Message::Leaf(*index, (level as u16).to_be_bytes(), *commitment)
 }
 
-/// Puts the hashes of four messages at the end of a list.
+/// Appends the hashes of four messages to a list.
 fn hash_next<H: Hash32>(
     h: &H,
     nonce: &Nonce,
@@ -77,7 +79,13 @@ fn hash_next<H: Hash32>(
     Ok(())
 }
 
-/// The hashes of messages, in their order, four at once as long as there are four.
+/// Returns the hashes of messages, in their order.
+///
+/// Hashes four messages at once as long as four are left.
+///
+/// # Errors
+///
+/// `AllocError` if an allocation fails.
 pub fn hash_all<H: Hash32>(
     alloc: Global,
     h: &H,

@@ -2,16 +2,16 @@
 
 ghost use Rattle.std.specs.Prelude.{◌≡◌, ◌+◌, ◌<◌, ◌≤◌, length};
 ghost use Rattle.coniks_proof.specs.Bits.{bit_at};
-ghost use Rattle.coniks_proof.specs.Borrowed.{listed, owned};
+ghost use Rattle.coniks_proof.specs.ProofRefs.{listed, owned};
 ghost use Rattle.coniks_proof.specs.Proofs.{LengthsFit, end_preimage, joined, preimage};
 
 use crate::bits::{Prefix, bit};
-use crate::borrowed::{BorrowedEnd, Siblings};
 use crate::bytes::{Bytes, Digests};
 use crate::hashing::{Hash32, commit_hash, empty_hash, inner_hash, leaf_hash};
+use crate::proof_ref::{EndRef, Siblings};
 use crate::values::{Digest, Index, MAX_LEVEL, Nonce, Opening};
 
-/// What stands at the end of a path.
+/// The end of an authentication path.
 #[derive(Drop)]
 pub enum End {
     /// An empty node: no index of the tree begins with the path's bits.
@@ -21,7 +21,7 @@ pub enum End {
         index: Index,
         commitment: Digest,
     },
-    /// The leaf of the asked index, with what its commitment is opened by.
+    /// The leaf of the asked index, with the opening of its commitment.
     Here {
         name: Bytes,
         key: Bytes,
@@ -29,49 +29,49 @@ pub enum End {
     },
 }
 
-/// A proof of presence or absence: the authentication path to an index.
+/// A presence or absence proof: the authentication path to an index.
 #[derive(Drop)]
 pub struct Proof {
-    /// The siblings from the root down: the one at place `l` stands at level `l + 1`.
+    /// The siblings from the root down: the sibling at position `l` is the one at level `l + 1`.
     pub siblings: Digests,
     pub end: End,
 }
 
-/// What an accepted proof says of the asked name.
+/// The answer of an accepted proof about the asked name.
 #[derive(Clone, Copy, Debug, PartialEq, Eq)]
 pub enum Answer<'a> {
-    /// The name is bound to this key, which the proof holds.
+    /// The name is bound to this key, which the proof contains.
     Key(&'a [u8]),
     /// The name is bound to no key.
     Absent,
 }
 
-/// The hash of the end of a path, at a level.
+/// Returns the hash of the end of a path, at a level.
 fn end_hash<H: Hash32>(
     h: &H,
     nonce: &Nonce,
     index: &Index,
     level: usize,
-    end: &BorrowedEnd<'_>,
+    end: &EndRef<'_>,
 ) -> Digest
     requires level { level ≤ MAX_LEVEL }
     requires fits { LengthsFit (owned end.now) }
     ensures { result.0 ≡ H.digest_of h.now (end_preimage (H.digest_of h.now) nonce.now.0 index.now.0 level (owned end.now)) }
 {
     match end {
-        BorrowedEnd::Empty => empty_hash(h, nonce, &Prefix::of(index, level)),
-        BorrowedEnd::Other {
+        EndRef::Empty => empty_hash(h, nonce, &Prefix::of(index, level)),
+        EndRef::Other {
             index: other,
             commitment,
         } => leaf_hash(h, nonce, other, level, commitment),
-        BorrowedEnd::Here { name, key, opening } => {
+        EndRef::Here { name, key, opening } => {
             let commitment = commit_hash(h, opening, *name, *key);
             leaf_hash(h, nonce, index, level, &commitment)
         }
     }
 }
 
-/// The hash over a hash on the way to an index and its sibling.
+/// Returns the hash of a hash on the way to an index and its sibling.
 pub(crate) fn joined_hash<H: Hash32>(
     h: &H,
     goes_right: bool,
@@ -87,14 +87,16 @@ pub(crate) fn joined_hash<H: Hash32>(
     }
 }
 
-/// The hash at a level on the way to an index, carried up from the end over the siblings below, the deepest first.
+/// Returns the hash at a level on the way to an index.
+///
+/// It is carried up from the end over the siblings below, the deepest first.
 pub(crate) fn carried<H: Hash32>(
     h: &H,
     nonce: &Nonce,
     index: &Index,
     level: usize,
     siblings: &Siblings<'_>,
-    end: &BorrowedEnd<'_>,
+    end: &EndRef<'_>,
 ) -> Digest
     requires deep { level + length (listed siblings.now) ≤ MAX_LEVEL }
     requires fits { LengthsFit (owned end.now) }

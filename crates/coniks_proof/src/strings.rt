@@ -6,14 +6,14 @@ ghost use Rattle.coniks_proof.specs.Preimages.{commitment_preimage, empty_preima
 ghost use Rattle.coniks_proof.specs.Proofs.{LengthsFit, end_preimage, joined, preimage};
 
 use crate::bits::{Prefix, bit};
-use crate::borrowed::Siblings;
 use crate::bytes::Bytes;
 use crate::hashing::{CommitmentPreimage, EMPTY_TAG, Hash32, INNER_TAG, LEAF_TAG, commit_hash};
 use crate::paths::{End, carried};
+use crate::proof_ref::Siblings;
 use crate::values::{Digest, Index, MAX_KEY, MAX_LEVEL, MAX_NAME, Nonce, Opening};
 use std::alloc::{AllocError, Global};
 
-/// The pieces, one after another, with room for so many bytes from the start.
+/// Returns the pieces, one after another, with room for this number of bytes from the start.
 fn bytes_of(alloc: Global, room: usize, pieces: &[&[u8]]) -> Result<Bytes, AllocError>
     ensures { IfOk result (λ bytes. bytes ≡ flat_map (λ piece. piece.now) pieces.now) }
 {
@@ -24,7 +24,7 @@ fn bytes_of(alloc: Global, room: usize, pieces: &[&[u8]]) -> Result<Bytes, Alloc
     Ok(Bytes::new(bytes))
 }
 
-/// What an empty node is the hash of.
+/// Returns the preimage of an empty node.
 fn empty_bytes(alloc: Global, nonce: &Nonce, prefix: &Prefix) -> Result<Bytes, AllocError>
     ensures { IfOk result (λ bytes. bytes ≡ empty_preimage nonce.now.0 prefix.now) }
 {
@@ -32,7 +32,7 @@ fn empty_bytes(alloc: Global, nonce: &Nonce, prefix: &Prefix) -> Result<Bytes, A
     bytes_of(alloc, 67, &[&[EMPTY_TAG], &nonce.0, prefix.bytes(), &level])
 }
 
-/// What a leaf is the hash of.
+/// Returns the preimage of a leaf.
 fn leaf_bytes<'a>(
     alloc: Global,
     nonce: &'a Nonce,
@@ -48,7 +48,7 @@ fn leaf_bytes<'a>(
     bytes_of(alloc, 99, &pieces)
 }
 
-/// What the interior node over a hash on the way to an index and its sibling is the hash of.
+/// Returns the preimage of the interior node over a hash on the way to an index and its sibling.
 fn joined_bytes(
     alloc: Global,
     goes_right: bool,
@@ -64,7 +64,7 @@ fn joined_bytes(
     }
 }
 
-/// What a commitment is the hash of.
+/// Returns the preimage of a commitment.
 fn commitment_bytes<'a>(
     alloc: Global,
     opening: &'a Opening,
@@ -79,7 +79,7 @@ fn commitment_bytes<'a>(
     bytes_of(alloc, 39 + name.len() + key.len(), &preimage.pieces())
 }
 
-/// What an end's commitment is the hash of; no bytes where the end opens none.
+/// Returns the preimage of an end's commitment, or no bytes if the end opens none.
 pub(crate) fn sealed_bytes(alloc: Global, end: &End) -> Result<Bytes, AllocError>
     requires { LengthsFit end.now }
     ensures { IfOk result (λ bytes. bytes ≡ sealed end.now) }
@@ -92,7 +92,7 @@ pub(crate) fn sealed_bytes(alloc: Global, end: &End) -> Result<Bytes, AllocError
     }
 }
 
-/// What is hashed at the end of a path, at a level.
+/// Returns the preimage at the end of a path, at a level.
 fn end_bytes<H: Hash32>(
     alloc: Global,
     h: &H,
@@ -118,7 +118,7 @@ fn end_bytes<H: Hash32>(
     }
 }
 
-/// What is hashed at a level on the way to an index, over the siblings from there down.
+/// Returns the preimage at a level on the way to an index, over the siblings from there down.
 pub(crate) fn level_bytes<H: Hash32>(
     alloc: Global,
     h: &H,

@@ -1,14 +1,14 @@
-//! A proof in bytes: a byte string for each proof, and for each proof one.
+//! The wire form of proofs: each proof has exactly one byte string.
 
 ghost use Rattle.std.specs.Prelude.{◌≡◌, ◌+◌, ◌++◌, ◌<◌, ◌^◌, IfErr, IfNone, IfOk, IfSome, IsOkAnd, MatchOption, OnOk, length};
 ghost use Rattle.std.specs.Int.{to_be_bytes, w16, w32};
-ghost use Rattle.coniks_proof.specs.Borrowed.{listed, owned};
+ghost use Rattle.coniks_proof.specs.ProofRefs.{listed, owned};
 ghost use Rattle.coniks_proof.specs.Wire.{AreSized, EndHas, FrontHas, HasRoom, IsEndOf, IsFirstFault, IsFront, IsWire, IsWritableEnd, Refuses, WireHas, after_key, after_name, end_bytes, key_length, kind_of, long_length, name_length, short_length, sibling_bytes};
 ghost use Rattle.coniks_proof.specs.declared.wire.BytesFault.TheVariants.{OutOfMemory};
 ghost use Rattle.coniks_proof.specs.declared.paths.Proof.{Proof as Whole};
 
-use crate::borrowed::{BorrowedEnd, BorrowedProof, Siblings};
 use crate::paths::{End, Proof};
+use crate::proof_ref::{EndRef, ProofRef, Siblings};
 use crate::values::{Digest, Index, Opening, in_range};
 use std::alloc::{AllocError, Global};
 use thiserror::Error;
@@ -22,7 +22,7 @@ const OTHER_KIND: u8 = 1;
 /// The first byte of a proof that ends with the leaf of the asked index.
 const HERE_KIND: u8 = 2;
 
-/// Why bytes are no proof: of what applies, the first in this order.
+/// The error of bytes that are no proof. If several apply, the first in declaration order is returned.
 #[derive(Clone, Copy, Debug, Drop, PartialEq, Eq, Error)]
 pub enum WireFault {
     #[error("there are no bytes")]
@@ -45,7 +45,7 @@ pub enum WireFault {
     BytesFollow,
 }
 
-/// Why there are no bytes of a proof: of what applies, the first in this order.
+/// The error of a proof that has no bytes. If several apply, the first in declaration order is returned.
 #[derive(Clone, Copy, Debug, Drop, PartialEq, Eq, Error)]
 pub enum BytesFault {
     #[error("the proof has more than 65,535 siblings")]
@@ -66,7 +66,7 @@ impl From<AllocError> for BytesFault {
     }
 }
 
-/// The kind and the siblings that bytes begin with, and what follows them.
+/// Returns the kind and the siblings that bytes begin with, and the bytes after them.
 fn read_front(bytes: &[u8]) -> Result<(u8, Siblings<'_>, &[u8]), WireFault>
     ensures found { IfOk result (λ front. IsFront bytes.now front.0 (listed front.1) front.2.now) }
     ensures refused { IfErr result (λ fault. IsFirstFault (FrontHas bytes.now) fault) }
@@ -83,7 +83,7 @@ fn read_front(bytes: &[u8]) -> Result<(u8, Siblings<'_>, &[u8]), WireFault>
     Ok((*kind, Siblings::Wire(siblings.as_chunks::<32>().0), rest))
 }
 
-/// A name with its length in 2 bytes before it, and what follows.
+/// Returns a name that follows its length in 2 bytes, and the bytes after it.
 fn split_name(bytes: &[u8]) -> Option<(&[u8], &[u8])>
     ensures whole { IfSome result (λ parts. bytes.now ≡ to_be_bytes w16 (length parts.0.now) ++ parts.0.now ++ parts.1.now) }
     ensures short { IfSome result (λ parts. length parts.0.now < 2 ^ 16) }
@@ -94,7 +94,7 @@ fn split_name(bytes: &[u8]) -> Option<(&[u8], &[u8])>
     rest.split_at_checked(usize::from(u16::from_be_bytes(*length)))
 }
 
-/// A key with its length in 4 bytes before it, and what follows.
+/// Returns a key that follows its length in 4 bytes, and the bytes after it.
 fn split_key(bytes: &[u8]) -> Option<(&[u8], &[u8])>
     ensures whole { IfSome result (λ parts. bytes.now ≡ to_be_bytes w32 (length parts.0.now) ++ parts.0.now ++ parts.1.now) }
     ensures short { IfSome result (λ parts. length parts.0.now < 2 ^ 32) }
@@ -105,8 +105,8 @@ fn split_key(bytes: &[u8]) -> Option<(&[u8], &[u8])>
     rest.split_at_checked(u32::from_be_bytes(*length) as usize)
 }
 
-/// The leaf of another index that bytes begin with, and what follows.
-fn read_other(bytes: &[u8]) -> Result<(BorrowedEnd<'_>, &[u8]), WireFault>
+/// Returns the leaf of another index that bytes begin with, and the bytes after it.
+fn read_other(bytes: &[u8]) -> Result<(EndRef<'_>, &[u8]), WireFault>
     ensures found { IfOk result (λ end. IsEndOf bytes.now 1 (owned end.0) end.1.now) }
     ensures refused { IfErr result (λ fault. IsFirstFault (EndHas 1 bytes.now) fault) }
 {
@@ -116,11 +116,11 @@ fn read_other(bytes: &[u8]) -> Result<(BorrowedEnd<'_>, &[u8]), WireFault>
     let (commitment, rest) = rest.split_first_chunk::<32>().ok_or(WireFault::CutInOther)?;
     let index = Index(*index);
     let commitment = Digest(*commitment);
-    Ok((BorrowedEnd::Other { index, commitment }, rest))
+    Ok((EndRef::Other { index, commitment }, rest))
 }
 
-/// The leaf of the asked index that bytes begin with, and what follows.
-fn read_here(bytes: &[u8]) -> Result<(BorrowedEnd<'_>, &[u8]), WireFault>
+/// Returns the leaf of the asked index that bytes begin with, and the bytes after it.
+fn read_here(bytes: &[u8]) -> Result<(EndRef<'_>, &[u8]), WireFault>
     ensures found { IfOk result (λ end. IsEndOf bytes.now 2 (owned end.0) end.1.now) }
     ensures refused { IfErr result (λ fault. IsFirstFault (EndHas 2 bytes.now) fault) }
 {
@@ -130,31 +130,42 @@ fn read_here(bytes: &[u8]) -> Result<(BorrowedEnd<'_>, &[u8]), WireFault>
     let (name, rest) = split_name(rest).ok_or(WireFault::CutInName)?;
     let (key, rest) = split_key(rest).ok_or(WireFault::CutInKey)?;
     let opening = Opening(*opening);
-    Ok((BorrowedEnd::Here { name, key, opening }, rest))
+    Ok((EndRef::Here { name, key, opening }, rest))
 }
 
-/// The end of this kind that bytes begin with, and what follows.
-fn read_end(kind: u8, bytes: &[u8]) -> Result<(BorrowedEnd<'_>, &[u8]), WireFault>
+/// Returns the end of this kind that bytes begin with, and the bytes after it.
+fn read_end(kind: u8, bytes: &[u8]) -> Result<(EndRef<'_>, &[u8]), WireFault>
     requires { kind < 3 }
     ensures found { IfOk result (λ end. IsEndOf bytes.now kind (owned end.0) end.1.now) }
     ensures refused { IfErr result (λ fault. IsFirstFault (EndHas kind bytes.now) fault) }
 {
     match kind {
-        EMPTY_KIND => Ok((BorrowedEnd::Empty, bytes)),
+        EMPTY_KIND => Ok((EndRef::Empty, bytes)),
         OTHER_KIND => read_other(bytes),
         _ => read_here(bytes),
     }
 }
 
-impl<'a> BorrowedProof<'a> {
-    /// The proof whose bytes these are. The siblings, the name and the key stay in them. It takes no memory.
+impl<'a> ProofRef<'a> {
+    /// Reads the proof that has these bytes.
     ///
-    /// More than 256 siblings, and a name or a key that is empty or too long, are left to the check.
+    /// The siblings, the name and the key are borrowed from the bytes. Allocates nothing. `read` accepts more than 256
+    /// siblings, and a name or a key that is empty or too long; `check_ref` refuses them.
     ///
     /// # Errors
     ///
-    /// The bytes are no proof's.
-    pub fn read(bytes: &'a [u8]) -> Result<BorrowedProof<'a>, WireFault>
+    /// If several apply, the first in this order is returned.
+    ///
+    /// - `NoBytes` if there are no bytes.
+    /// - `UnknownKind` if the first byte is no kind of proof.
+    /// - `CutInCount` if the bytes end within the number of siblings.
+    /// - `CutInSiblings` if the bytes end within the siblings.
+    /// - `CutInOther` if the bytes end within the other index or its commitment.
+    /// - `CutInOpening` if the bytes end within the opening.
+    /// - `CutInName` if the bytes end within the name or its length.
+    /// - `CutInKey` if the bytes end within the key or its length.
+    /// - `BytesFollow` if bytes follow the proof.
+    pub fn read(bytes: &'a [u8]) -> Result<ProofRef<'a>, WireFault>
         ensures accepted { IfOk result (λ proof. IsWire bytes.now proof) }
         ensures exact { (proof : Whole) → IsWire bytes.now proof → IsOkAnd result (λ given. given ≡ proof) }
         ensures refused { IfErr result (λ fault. IsFirstFault (WireHas bytes.now) fault) }
@@ -164,11 +175,11 @@ impl<'a> BorrowedProof<'a> {
         if !rest.is_empty() {
             return Err(WireFault::BytesFollow);
         }
-        Ok(BorrowedProof::new(siblings, end))
+        Ok(ProofRef::new(siblings, end))
     }
 }
 
-/// What of a proof is too long for its bytes.
+/// Returns the error of a proof with a part that is too long for its bytes, if any.
 fn excess(proof: &Proof) -> Option<BytesFault>
     ensures { MatchOption result (HasRoom proof.now) (λ fault. Refuses proof.now fault) }
 {
@@ -193,7 +204,7 @@ fn excess(proof: &Proof) -> Option<BytesFault>
     }
 }
 
-/// The first byte of a proof with this end.
+/// Returns the first byte of a proof with this end.
 fn kind_byte(end: &End) -> u8
     ensures { result ≡ kind_of end.now }
 {
@@ -204,7 +215,7 @@ fn kind_byte(end: &End) -> u8
     }
 }
 
-/// How many bytes an end takes.
+/// Returns the number of bytes of an end.
 fn end_size(end: &End) -> usize
     requires name { name_length end.now < 2 ^ 16 }
     requires key { key_length end.now < 2 ^ 32 }
@@ -225,7 +236,7 @@ fn end_size(end: &End) -> usize
     }
 }
 
-/// Puts the siblings after the bytes.
+/// Appends the siblings to the bytes.
 fn put_siblings(bytes: &mut Vec<u8>, siblings: &[Digest]) -> Result<(), AllocError>
     ensures put { OnOk result (bytes.new.items ≡ bytes.old.items ++ sibling_bytes siblings.now) }
     ensures sized { OnOk result (AreSized siblings.now) }
@@ -237,7 +248,7 @@ fn put_siblings(bytes: &mut Vec<u8>, siblings: &[Digest]) -> Result<(), AllocErr
     Ok(())
 }
 
-/// Puts what follows the siblings after the bytes.
+/// Appends what follows the siblings to the bytes.
 fn put_end(bytes: &mut Vec<u8>, end: &End) -> Result<(), AllocError>
     requires name { name_length end.now < 2 ^ 16 }
     requires key { key_length end.now < 2 ^ 32 }
@@ -267,12 +278,18 @@ fn put_end(bytes: &mut Vec<u8>, end: &End) -> Result<(), AllocError>
 }
 
 impl Proof {
-    /// The bytes of the proof, in one allocation.
+    /// Returns the bytes of the proof, in one allocation.
+    ///
+    /// Every proof that `check` accepts has bytes.
     ///
     /// # Errors
     ///
-    /// A length has no room in the bytes that are there for it, or memory was refused. No proof that `check` accepts is
-    /// too large.
+    /// If several apply, the first in this order is returned.
+    ///
+    /// - `TooManySiblings` if the proof has more than 65,535 siblings.
+    /// - `NameTooLong` if its name is longer than 65,535 bytes.
+    /// - `KeyTooLong` if its key is longer than 4,294,967,295 bytes.
+    /// - `OutOfMemory` if an allocation fails.
     pub fn bytes(&self, alloc: Global) -> Result<Vec<u8>, BytesFault>
         ensures written { IfOk result (λ bytes. IsWire bytes.items self.now) }
         ensures refused { IfErr result (λ fault. Refuses self.now fault) }

@@ -24,10 +24,10 @@ use Rattle.coniks_directory.specs.Supplied.{Supplied, is_supplied}
 use Rattle.coniks_directory.specs.SuppliedBatches.{Indexed, indices_by, operations_of, put_index, put_indices}
 use Rattle.coniks_tool.specs.Members.{array_in, digits_in, if_there, number_in, object_in, text_in}
 use Rattle.coniks_tool.specs.Turns.{refused}
-use Rattle.coniks_provider.specs.Answers.{Outcome, not_json}
+use Rattle.coniks_provider.specs.Answers.{ProviderOutcome, not_json}
 use Rattle.coniks_provider.specs.Lines.{batch_in}
-use Rattle.coniks_provider.specs.Turns.{Batch, Opened, Pending, ProviderTurn, State, batch_read_turn, command_turn, index_for, install_on, install_turn, install_with, installed_with, open_turn, open_with, prepare_on, prepare_turn}
-use Rattle.coniks_provider.specs.Turns.{prepare_with, provider_answer, refusal, turn}
+use Rattle.coniks_provider.specs.Turns.{BatchLine, ProviderDirectory, Pending, ProviderTurn, ProviderState, batch_read_turn, provider_command_turn, index_for, install_on, install_turn, install_with, installed_with, provider_open_turn, provider_open_with, prepare_on, prepare_turn}
+use Rattle.coniks_provider.specs.Turns.{prepare_with, provider_answer, provider_refusal, provider_turn}
 use Rattle.coniks_provider.proofs.RefusedLemmas.{either}
 
 -- ---- names
@@ -115,16 +115,19 @@ has_rebound registry b name =
     ]) refl
 
 -- the names of operations are added, each name once
-has_after : (of : List ℕ → List ℕ) (registry : Registry) (ops : List Operation) (name : List ℕ) → has_name (after registry ops) name ≡ has_name registry name || is_supplied (indices_by of ops) name
-has_after of registry [] name = sym (or_false (has_name registry name))
-has_after of registry (op ∷ ops) name =
-    has_after of (rebound registry (bound_by op)) ops name
-    ∙ ap (λ b. b || is_supplied (indices_by of ops) name) (has_rebound registry (bound_by op) name ∙ ap (λ b. has_name registry name || b) (flips op.name name))
-    ∙ elim (has_name registry name) as (λ b. (b || bytes_eq name op.name) || is_supplied (indices_by of ops) name ≡ b || (bytes_eq name op.name || is_supplied (indices_by of ops) name)) [ true ↦ refl | false ↦ refl ]
+has_after : (index_of : List ℕ → List ℕ) (registry : Registry) (ops : List Operation) (name : List ℕ)
+    → has_name (after registry ops) name ≡ has_name registry name || is_supplied (indices_by index_of ops) name
+has_after index_of registry [] name = sym (or_false (has_name registry name))
+has_after index_of registry (op ∷ ops) name =
+    has_after index_of (rebound registry (bound_by op)) ops name
+    ∙ ap (λ b. b || is_supplied (indices_by index_of ops) name) (has_rebound registry (bound_by op) name ∙ ap (λ b. has_name registry name || b) (flips op.name name))
+    ∙ elim (has_name registry name) as
+    (λ b. (b || bytes_eq name op.name) || is_supplied (indices_by index_of ops) name ≡ b || (bytes_eq name op.name || is_supplied (indices_by index_of ops) name)) [ true ↦ refl | false ↦ refl ]
 
 once_after : (registry : Registry) (ops : List Operation) → AreOnce registry → AreOnce (after registry ops)
 once_after registry [] once = once
-once_after registry (op ∷ ops) once = once_after (rebound registry (bound_by op)) ops (once_with (without op.name registry) (bound_by op) (once_without registry op.name once) (none_without registry op.name))
+once_after registry (op ∷ ops) once = once_after (rebound registry (bound_by op)) ops
+    (once_with (without op.name registry) (bound_by op) (once_without registry op.name once) (none_without registry op.name))
 
 -- ---- indices in the order of their names
 
@@ -154,28 +157,31 @@ module _ (name index : List ℕ) where
 
   sorted_put : (es : List Supplied) → AreSorted es → AreSorted (put_index es name index)
   sorted_put [] sorted = (tt, tt)
-  sorted_put (e ∷ es) sorted = (elim (slice_cmp nat_cmp name e.0) as (λ o. slice_cmp nat_cmp name e.0 ≡ o → AreSorted (match_ordering o ((name, index) ∷ e ∷ es) ((e.0, index) ∷ es) (e ∷ put_index es name index))) [
-    | Less ↦ λ less. ((less, below_all name e.0 es less sorted.0), sorted)
-    | Equal ↦ λ _. (sorted.0, sorted.1)
-    | Greater ↦ λ more. (below_put e.0 es (nat_list_cmp_total.antisymm e.0 name ∙ ap ordering_reverse more) sorted.0, sorted_put es sorted.1)
-  ]) refl
+  sorted_put (e ∷ es) sorted = (elim (slice_cmp nat_cmp name e.0) as
+      (λ o. slice_cmp nat_cmp name e.0 ≡ o → AreSorted (match_ordering o ((name, index) ∷ e ∷ es) ((e.0, index) ∷ es) (e ∷ put_index es name index))) [
+        | Less ↦ λ less. ((less, below_all name e.0 es less sorted.0), sorted)
+        | Equal ↦ λ _. (sorted.0, sorted.1)
+        | Greater ↦ λ more. (below_put e.0 es (nat_list_cmp_total.antisymm e.0 name ∙ ap ordering_reverse more) sorted.0, sorted_put es sorted.1)
+      ]) refl
 
   has_put : (es : List Supplied) (other : List ℕ) → is_supplied (put_index es name index) other ≡ is_supplied es other || bytes_eq other name
   has_put [] other = or_false (bytes_eq other name)
-  has_put (e ∷ es) other = (elim (slice_cmp nat_cmp name e.0) as (λ o. slice_cmp nat_cmp name e.0 ≡ o → is_supplied (match_ordering o ((name, index) ∷ e ∷ es) ((e.0, index) ∷ es) (e ∷ put_index es name index)) other ≡ (bytes_eq other e.0 || is_supplied es other) || bytes_eq other name) [
-    | Less ↦ λ _. elim (bytes_eq other name) as (λ b. b || (bytes_eq other e.0 || is_supplied es other) ≡ (bytes_eq other e.0 || is_supplied es other) || b) [
-      | true ↦ sym (or_true (bytes_eq other e.0 || is_supplied es other))
-      | false ↦ sym (or_false (bytes_eq other e.0 || is_supplied es other))
-    ]
-    | Equal ↦ λ o.
-        let same : name ≡ e.0 = (bytes_eq-Decides name e.0).0 (sym (is_eq-slice_cmp name e.0) ∙ ap is_eq o) in
-        let on : bytes_eq other name ≡ bytes_eq other e.0 = ap (bytes_eq other) same in
-        rw on (elim (bytes_eq other e.0) as (λ b. b || is_supplied es other ≡ (b || is_supplied es other) || b) [ true ↦ refl | false ↦ sym (or_false (is_supplied es other)) ])
-    | Greater ↦ λ _. elim (bytes_eq other e.0) as (λ b. b || is_supplied (put_index es name index) other ≡ (b || is_supplied es other) || bytes_eq other name) [
-      | true ↦ refl
-      | false ↦ has_put es other
-    ]
-  ]) refl
+  has_put (e ∷ es) other = (elim (slice_cmp nat_cmp name e.0) as
+      (λ o. slice_cmp nat_cmp name e.0 ≡ o
+      → is_supplied (match_ordering o ((name, index) ∷ e ∷ es) ((e.0, index) ∷ es) (e ∷ put_index es name index)) other ≡ (bytes_eq other e.0 || is_supplied es other) || bytes_eq other name) [
+        | Less ↦ λ _. elim (bytes_eq other name) as (λ b. b || (bytes_eq other e.0 || is_supplied es other) ≡ (bytes_eq other e.0 || is_supplied es other) || b) [
+          | true ↦ sym (or_true (bytes_eq other e.0 || is_supplied es other))
+          | false ↦ sym (or_false (bytes_eq other e.0 || is_supplied es other))
+        ]
+        | Equal ↦ λ o.
+            let same : name ≡ e.0 = (bytes_eq-Decides name e.0).0 (sym (is_eq-slice_cmp name e.0) ∙ ap is_eq o) in
+            let on : bytes_eq other name ≡ bytes_eq other e.0 = ap (bytes_eq other) same in
+            rw on (elim (bytes_eq other e.0) as (λ b. b || is_supplied es other ≡ (b || is_supplied es other) || b) [ true ↦ refl | false ↦ sym (or_false (is_supplied es other)) ])
+        | Greater ↦ λ _. elim (bytes_eq other e.0) as (λ b. b || is_supplied (put_index es name index) other ≡ (b || is_supplied es other) || bytes_eq other name) [
+          | true ↦ refl
+          | false ↦ has_put es other
+        ]
+      ]) refl
 
 sorted_puts : (es ps : List Supplied) → AreSorted es → AreSorted (put_indices es ps)
 sorted_puts es [] sorted = sorted
@@ -227,65 +233,66 @@ distinct_supplied (e ∷ es) sorted = (apart_supplied e.0 es sorted.0, distinct_
 as_many : (es : List Supplied) (registry : Registry) → AreSorted es → AreOnce registry → ((name : List ℕ) → is_supplied es name ≡ has_name registry name) → length es ≡ length registry
 as_many es registry sorted once same =
     sym (length-map es (λ (e : Supplied). e.0))
-    ∙ length-from_same_keys same_bytes (supplied_names es) (names_of registry) (distinct_supplied es sorted) (distinct registry once) (λ name. among_supplied es name ∙ same name ∙ sym (among registry name))
+    ∙ length-from_same_keys same_bytes (supplied_names es) (names_of registry) (distinct_supplied es sorted)
+    (distinct registry once) (λ name. among_supplied es name ∙ same name ∙ sym (among registry name))
     ∙ length-map registry (λ (b : Registered). b.name)
 
 -- ---- what each line keeps
 
 -- the update is of a batch on the latest registry
 record IsOfBatch (registry : Registry) (p : Pending) : Type 0 where
-  of : List ℕ → List ℕ
+  index_of : List ℕ → List ℕ
   ops : List Operation
-  indices : p.indices ≡ indices_by of ops
+  indices : p.indices ≡ indices_by index_of ops
   registry_is : p.shown.registry ≡ after registry ops
 
-record IsCounted (o : Opened) : Type 0 where
+record IsCounted (o : ProviderDirectory) : Type 0 where
   names : (name : List ℕ) → is_supplied o.indices name ≡ has_name (latest_registry o.history) name
   sorted : AreSorted o.indices
   once : AreOnce (latest_registry o.history)
   pending : IfSome o.pending (IsOfBatch (latest_registry o.history))
 
-abbrev Counted : State → Type 0
+abbrev Counted : ProviderState → Type 0
 Counted s = IfSome s IsCounted
 
-open_with-counted : (s : State) (nonce policy : List ℕ) → Counted s → Counted (open_with s nonce policy).state
+open_with-counted : (s : ProviderState) (nonce policy : List ℕ) → Counted s → Counted (provider_open_with s nonce policy).state
 open_with-counted None nonce policy was = record { names = λ name. refl; sorted = tt; once = tt; pending = tt }
 open_with-counted (Some o) nonce policy was = was
 
-open-counted : (s : State) (nonce policy : Option (List ℕ)) → Counted s → Counted (open_turn s nonce policy).state
+open-counted : (s : ProviderState) (nonce policy : Option (List ℕ)) → Counted s → Counted (provider_open_turn s nonce policy).state
 open-counted s None _ was = was
 open-counted s (Some nonce) None was = was
 open-counted s (Some nonce) (Some policy) was = open_with-counted s nonce policy was
 
-prepare_on-counted : (o : Opened) (b : Batch) (why : Option Outcome) → IsCounted o → Counted (prepare_on o b why).state
+prepare_on-counted : (o : ProviderDirectory) (b : BatchLine) (why : Option ProviderOutcome) → IsCounted o → Counted (prepare_on o b why).state
 prepare_on-counted o b (Some why) was = was
 prepare_on-counted o b None was = record {
   names = was.names;
   sorted = was.sorted;
   once = was.once;
-  pending = record { of = index_for o b; ops = operations_of b.ops; indices = refl; registry_is = refl };
+  pending = record { index_of = index_for o b; ops = operations_of b.ops; indices = refl; registry_is = refl };
 }
 
-prepare_with-counted : (s : State) (b : Batch) → Counted s → Counted (prepare_with s b).state
+prepare_with-counted : (s : ProviderState) (b : BatchLine) → Counted s → Counted (prepare_with s b).state
 prepare_with-counted None b was = was
-prepare_with-counted (Some o) b was = prepare_on-counted o b (refusal o b) was
+prepare_with-counted (Some o) b was = prepare_on-counted o b (provider_refusal o b) was
 
-batch_read-counted : (s : State) (epoch : ℕ) (brought : Option (List ℕ)) (ops : Result (List Indexed) ℕ) → Counted s → Counted (batch_read_turn s epoch brought ops).state
-batch_read-counted s epoch brought (Err place) was = was
-batch_read-counted s epoch brought (Ok ops) was = prepare_with-counted s (record { epoch = epoch; brought = brought; ops = ops }) was
+batch_read-counted : (s : ProviderState) (epoch : ℕ) (new_nonce : Option (List ℕ)) (ops : Result (List Indexed) ℕ) → Counted s → Counted (batch_read_turn s epoch new_nonce ops).state
+batch_read-counted s epoch new_nonce (Err place) was = was
+batch_read-counted s epoch new_nonce (Ok ops) was = prepare_with-counted s (record { epoch = epoch; new_nonce = new_nonce; ops = ops }) was
 
-prepare-counted : (s : State) (epoch : Option ℕ) (brought : Option (Option (List ℕ))) (items : Option Items) → Counted s → Counted (prepare_turn s epoch brought items).state
+prepare-counted : (s : ProviderState) (epoch : Option ℕ) (new_nonce : Option (Option (List ℕ))) (items : Option Items) → Counted s → Counted (prepare_turn s epoch new_nonce items).state
 prepare-counted s None _ _ was = was
 prepare-counted s (Some epoch) None _ was = was
-prepare-counted s (Some epoch) (Some brought) None was = was
-prepare-counted s (Some epoch) (Some brought) (Some items) was = batch_read-counted s epoch brought (batch_in items) was
+prepare-counted s (Some epoch) (Some new_nonce) None was = was
+prepare-counted s (Some epoch) (Some new_nonce) (Some items) was = batch_read-counted s epoch new_nonce (batch_in items) was
 
 latest_end : (history : List Shown) (shown : Shown) → latest_registry (history ++ shown ∷ []) ≡ shown.registry
 latest_end [] shown = refl
 latest_end (x ∷ []) shown = refl
 latest_end (x ∷ y ∷ history) shown = latest_end (y ∷ history) shown
 
-installed-counted : (o : Opened) (p : Pending) (signature : List ℕ) → IsCounted o → IsOfBatch (latest_registry o.history) p → IsCounted (installed_with o p signature)
+installed-counted : (o : ProviderDirectory) (p : Pending) (signature : List ℕ) → IsCounted o → IsOfBatch (latest_registry o.history) p → IsCounted (installed_with o p signature)
 installed-counted o p signature was batch =
     let registry = latest_registry o.history in
     let left : latest_registry (o.history ++ p.shown ∷ []) ≡ after registry batch.ops = latest_end o.history p.shown ∙ batch.registry_is in
@@ -293,44 +300,46 @@ installed-counted o p signature was batch =
       names = λ name.
           has_puts o.indices p.indices name
           ∙ ap (λ (ps : List Supplied). is_supplied o.indices name || is_supplied ps name) batch.indices
-          ∙ ap (λ b. b || is_supplied (indices_by batch.of batch.ops) name) (was.names name)
-          ∙ sym (ap (λ (r : Registry). has_name r name) left ∙ has_after batch.of registry batch.ops name);
+          ∙ ap (λ b. b || is_supplied (indices_by batch.index_of batch.ops) name) (was.names name)
+          ∙ sym (ap (λ (r : Registry). has_name r name) left ∙ has_after batch.index_of registry batch.ops name);
       sorted = sorted_puts o.indices p.indices was.sorted;
       once = subst AreOnce (sym left) (once_after registry batch.ops was.once);
       pending = tt;
     }
 
-install_on-counted : (o : Opened) (signature : List ℕ) (pending : Option Pending) → IsCounted o → IfSome pending (IsOfBatch (latest_registry o.history)) → Counted (install_on o signature pending).state
+install_on-counted : (o : ProviderDirectory) (signature : List ℕ) (pending : Option Pending) → IsCounted o
+    → IfSome pending (IsOfBatch (latest_registry o.history)) → Counted (install_on o signature pending).state
 install_on-counted o signature None was batch = was
 install_on-counted o signature (Some p) was batch = installed-counted o p signature was batch
 
-install_with-counted : (s : State) (signature : List ℕ) → Counted s → Counted (install_with s signature).state
+install_with-counted : (s : ProviderState) (signature : List ℕ) → Counted s → Counted (install_with s signature).state
 install_with-counted None signature was = was
 install_with-counted (Some o) signature was = install_on-counted o signature o.pending was was.pending
 
-install-counted : (s : State) (signature : Option (List ℕ)) → Counted s → Counted (install_turn s signature).state
+install-counted : (s : ProviderState) (signature : Option (List ℕ)) → Counted s → Counted (install_turn s signature).state
 install-counted s None was = was
 install-counted s (Some signature) was = install_with-counted s signature was
 
-command-counted : (s : State) (d : Data) (name : Option (List ℕ)) → Counted s → Counted (command_turn s d name).state
+command-counted : (s : ProviderState) (d : Data) (name : Option (List ℕ)) → Counted s → Counted (provider_command_turn s d name).state
 command-counted s d None was = was
 command-counted s d (Some name) was =
     either (λ (t : ProviderTurn). Counted t.state) (bytes_eq name (codes "open")) _ _ (open-counted s (digits_in 32 (codes "nonce") d) (digits_in 32 (codes "policy") d) was)
-    (either (λ (t : ProviderTurn). Counted t.state) (bytes_eq name (codes "prepare")) _ _ (prepare-counted s (number_in (codes "epoch") d) (if_there (codes "nonce") d (digits_in 32 (codes "nonce") d)) (array_in (codes "ops") d) was)
+    (either (λ (t : ProviderTurn). Counted t.state) (bytes_eq name (codes "prepare")) _ _
+    (prepare-counted s (number_in (codes "epoch") d) (if_there (codes "nonce") d (digits_in 32 (codes "nonce") d)) (array_in (codes "ops") d) was)
     (either (λ (t : ProviderTurn). Counted t.state) (bytes_eq name (codes "install")) _ _ (install-counted s (digits_in 64 (codes "signature") d) was)
     (either (λ (t : ProviderTurn). Counted t.state) (bytes_eq name (codes "lookup")) _ _ was
     (either (λ (t : ProviderTurn). Counted t.state) (bytes_eq name (codes "latest")) _ _ was was))))
 
-object-counted : (s : State) (d : Option Data) → Counted s → Counted (option_map_or (λ x. command_turn s x (text_in (codes "cmd") x)) d (refused s not_json)).state
+object-counted : (s : ProviderState) (d : Option Data) → Counted s → Counted (option_map_or (λ x. provider_command_turn s x (text_in (codes "cmd") x)) d (refused s not_json)).state
 object-counted s None was = was
 object-counted s (Some d) was = command-counted s d (text_in (codes "cmd") d) was
 
-lines-counted : (s : State) (lines : List (List ℕ)) → Counted s → Counted (state_after provider_answer s lines)
+lines-counted : (s : ProviderState) (lines : List (List ℕ)) → Counted s → Counted (state_after provider_answer s lines)
 lines-counted s [] was = was
-lines-counted s (line ∷ lines) was = lines-counted (turn s line).state lines (object-counted s (object_in line) was)
+lines-counted s (line ∷ lines) was = lines-counted (provider_turn s line).state lines (object-counted s (object_in line) was)
 
 -- so `latest` tells how many names are registered
-pub all_registered : (lines : List (List ℕ)) (o : Opened) → state_after provider_answer None lines ≡ Some o → length o.indices ≡ length (latest_registry o.history)
+pub all_registered : (lines : List (List ℕ)) (o : ProviderDirectory) → state_after provider_answer None lines ≡ Some o → length o.indices ≡ length (latest_registry o.history)
 all_registered lines o is =
     let counted : IsCounted o = subst Counted is (lines-counted None lines tt) in
     as_many o.indices (latest_registry o.history) counted.sorted counted.once counted.names

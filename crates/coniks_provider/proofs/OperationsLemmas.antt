@@ -9,7 +9,7 @@ use Rattle.coniks_proof.specs.declared.values.Index.{Index}
 use Rattle.coniks_directory.specs.Batches.{operation_of}
 use Rattle.coniks_directory.specs.SuppliedBatches.{Indexed, indexed}
 use Rattle.coniks_directory.specs.declared.batch.Op.{Op}
-use Rattle.coniks_provider.specs.Lines.{batch_from, indexed_in, with_first}
+use Rattle.coniks_provider.specs.Lines.{batch_from, indexed_in, indexed_with_first}
 
 -- the same after the operations that were found
 abbrev pub after : List Indexed → Result (List Indexed) ℕ → Result (List Indexed) ℕ
@@ -30,9 +30,9 @@ indexed-more [] (y ∷ indices) op index same = absurd (let never = same in cc)
 indexed-more (x ∷ ops) [] op index same = absurd (let never = same in cc)
 indexed-more (x ∷ ops) (y ∷ indices) op index same = ap (λ (xs : List Indexed). record { op = operation_of x; index = y.0 } ∷ xs) (indexed-more ops indices op index (let less = same in omega arith))
 
-after-with_first : (found : List Indexed) (x : Indexed) (r : Result (List Indexed) ℕ) → after found (with_first x r) ≡ after (found ++ x ∷ []) r
-after-with_first found x (Ok xs) = ap Ok (sym (append_assoc found (x ∷ []) xs))
-after-with_first found x (Err place) = refl
+after-indexed_with_first : (found : List Indexed) (x : Indexed) (r : Result (List Indexed) ℕ) → after found (indexed_with_first x r) ≡ after (found ++ x ∷ []) r
+after-indexed_with_first found x (Ok xs) = ap Ok (sym (append_assoc found (x ∷ []) xs))
+after-indexed_with_first found x (Err place) = refl
 
 -- one more operation keeps the loop's invariant
 pub one_more : (vs : List Value) (i : ℕ) (v : Value) (ops ops' : List Op) (indices indices' : List Index) (op : Op) (index : Index) → i < length vs → v ≡ get_or vs i v
@@ -41,7 +41,8 @@ pub one_more : (vs : List Value) (i : ℕ) (v : Value) (ops ops' : List Op) (ind
     → batch_from 0 (items_view vs) ≡ after (indexed ops' indices') (batch_from (i + 1) (items_view (drop (i + 1) vs)))
 one_more vs i v ops ops' indices indices' op index lt is some pushed pushed_index same so_far =
     so_far ∙ (ap (λ items. after (indexed ops indices) (batch_from i items)) (here vs i v lt is)
-    ∙ (rw (← some, pushed, pushed_index, indexed-more ops indices op index same) (after-with_first (indexed ops indices) (record { op = operation_of op; index = index.0 }) (batch_from (i + 1) (items_view (drop (i + 1) vs))))))
+    ∙ (rw (← some, pushed, pushed_index, indexed-more ops indices op index same)
+    (after-indexed_with_first (indexed ops indices) (record { op = operation_of op; index = index.0 }) (batch_from (i + 1) (items_view (drop (i + 1) vs))))))
 
 -- where no element is left, what was found is what the list gives
 pub all_read : (vs : List Value) (i : ℕ) (found : List Indexed) → length vs ≤ i

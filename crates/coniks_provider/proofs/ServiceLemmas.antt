@@ -1,4 +1,4 @@
--- What an opened directory answers, in the terms of its definitions.
+-- The results of an opened directory, in the terms of its definitions.
 use Rattle.std.proofs.Common.{◌≡◌, ◌⊎◌, ◌<◌, ◌≤◌, ◌+◌, ℕ, List, [], ◌∷◌, ◌++◌, length, true, false, refl, ap, subst, ◌∙◌, arith, inl, inr, Option, Some, None, if◌then◌else◌}
 use Rattle.std.specs.Prelude.{is_some, nat_le, nat_lt, not, ◌&&◌, option_map}
 use Rattle.std.specs.Str.{bytes_eq}
@@ -23,7 +23,7 @@ use Rattle.coniks_directory.specs.Lookups.{IsFound}
 use Rattle.coniks_directory.specs.State.{history_of}
 use Rattle.coniks_directory.specs.Supplied.{AgreeOn, HasOtherIndex, MaySupply, supplied_index}
 use Rattle.coniks_directory.specs.SuppliedBatches.{Indexed, IsSuppliedFault, IsWithin, indexed, indices_of, operations_of, put_indices, supplied_fault}
-use Rattle.coniks_directory.specs.Updates.{Brings, nodes_added, registry_after, shown_after}
+use Rattle.coniks_directory.specs.Updates.{RotatesTo, nodes_added, registry_after, shown_after}
 use Rattle.coniks_directory.specs.declared.batch.BatchFault.TheVariants as batch
 use Rattle.coniks_directory.specs.declared.batch.Op.{Op}
 use Rattle.coniks_directory.specs.declared.supplied_batch.SuppliedBatchFault.{SuppliedBatchFault}
@@ -32,10 +32,10 @@ use Rattle.coniks_directory.specs.declared.update.Prepared.{Prepared}
 use Rattle.coniks_shared.specs.Lists.{last_of}
 use Rattle.coniks_tool.specs.Paths.{path_of, path_to}
 use Rattle.coniks_tool.proofs.Lemmas.{path_is}
-use Rattle.coniks_provider.specs.Answers.{Outcome, bad_index, bad_name_length, board_full, epoch_not_later, installed, looked_up, prepared, unknown_epoch}
-use Rattle.coniks_provider.specs.Limits.{most_epochs}
-use Rattle.coniks_provider.specs.Stores.{Held, IsRefusable, opened_by, pending_of, refused_as}
-use Rattle.coniks_provider.specs.Turns.{Batch, Opened, Pending, State, install_on, prepare_on, entry_at, has_other_index, index_with, lookup_at, lookup_with, number_refusal, pending_by, refusal, shown_next}
+use Rattle.coniks_provider.specs.Answers.{ProviderOutcome, bad_index, bad_name_length, board_full, epoch_not_later, installed, looked_up, prepared, unknown_epoch}
+use Rattle.coniks_provider.specs.Limits.{most_provider_epochs}
+use Rattle.coniks_provider.specs.Stores.{Held, IsRefusable, provided_by, pending_of, refused_as}
+use Rattle.coniks_provider.specs.Turns.{BatchLine, ProviderDirectory, Pending, ProviderState, install_on, prepare_on, chain_entry_at, has_other_index, index_with, provider_lookup_at, provider_lookup_with, provider_number_refusal, pending_by, provider_refusal, epoch_next}
 use Rattle.coniks_provider.specs.declared.service.Pending.{Pending as Update}
 
 -- ---- lists
@@ -57,13 +57,13 @@ indexed_operations (x ∷ ops) (y ∷ indices) same = ap (λ xs. operation_of x 
 -- ---- why a batch is refused
 
 none_crew : {n : ℕ} → AreWorkers n → (n ≡ 0) ⊎ (64 < n) → ⊥
-none_crew crew (inl zero_is) = let least = crew.0 in omega arith
-none_crew crew (inr more) = let most = crew.1 in omega arith
+none_crew parallelism (inl zero_is) = let least = parallelism.0 in omega arith
+none_crew parallelism (inr more) = let most = parallelism.1 in omega arith
 
-module _ (o : Opened) (b : Batch) (depth workers : ℕ) (crew : AreWorkers workers) (shallow : depth ≤ 12) where
+module _ (o : ProviderDirectory) (b : BatchLine) (depth workers : ℕ) (parallelism : AreWorkers workers) (shallow : depth ≤ 12) where
   -- it isn't for workers or depth
   pub refusable : (fault : SuppliedBatchFault) → IsSuppliedFault (supplied_index o.indices) (latest_registry o.history) b.ops depth workers fault → IsRefusable fault
-  refusable (OfBatch batch.Workers) f = none_crew crew f
+  refusable (OfBatch batch.Workers) f = none_crew parallelism f
   refusable (OfBatch batch.Depth) f = let deep = f.1 in omega arith
   refusable (OfBatch batch.BatchTooLong) f = tt
   refusable (OfBatch (batch.At position fault)) f = tt
@@ -73,9 +73,10 @@ module _ (o : Opened) (b : Batch) (depth workers : ℕ) (crew : AreWorkers worke
   few_on : length b.ops ≤ MAX_OPERATIONS → nat_le (length b.ops) MAX_OPERATIONS ≡ true
   few_on few = grind (arith, nat_tests)
 
-  pub refused_is : (fault : SuppliedBatchFault) (outcome : Outcome) → IsSuppliedFault (supplied_index o.indices) (latest_registry o.history) b.ops depth workers fault → refused_as fault ≡ Some outcome
-      → refusal o b ≡ Some outcome
-  refused_is (OfBatch batch.Workers) outcome f is = absurd (none_crew crew f)
+  pub refused_is : (fault : SuppliedBatchFault) (outcome : ProviderOutcome)
+      → IsSuppliedFault (supplied_index o.indices) (latest_registry o.history) b.ops depth workers fault → refused_as fault ≡ Some outcome
+      → provider_refusal o b ≡ Some outcome
+  refused_is (OfBatch batch.Workers) outcome f is = absurd (none_crew parallelism f)
   refused_is (OfBatch batch.Depth) outcome f is = absurd (let deep = f.1 in omega arith)
   refused_is (OfBatch batch.BatchTooLong) outcome f is =
       let many = f.2 in
@@ -88,37 +89,39 @@ module _ (o : Opened) (b : Batch) (depth workers : ℕ) (crew : AreWorkers worke
   refused_is (OtherIndex position) outcome f is = let on = few_on f.0.few in rw (on, f.1) is
 
   -- a batch without fault is refused for its number, if at all
-  pub number_is : IsWithin b.ops depth workers → supplied_fault (supplied_index o.indices) (latest_registry o.history) b.ops ≡ None → refusal o b ≡ number_refusal o b.epoch
+  pub number_is : IsWithin b.ops depth workers → supplied_fault (supplied_index o.indices) (latest_registry o.history) b.ops ≡ None → provider_refusal o b ≡ provider_number_refusal o b.epoch
   number_is within none = let on = few_on within.few in rw (on, none) refl
 
 -- ---- updates
 
 -- the epoch that an update makes is that of its batch
-pub shown_is : {H : Type 0} (d : Held H) (pending : Option Update) (b : Batch) (p : Prepared) → Brings d.state b.brought p → registry_after d.state p ≡ after (latest_registry (history_of d.state)) (operations_of b.ops)
-    → shown_after d.state p b.epoch ≡ shown_next (opened_by d pending) b
-shown_is {H} d pending b p brings registry = rw (brings.version, brings.nonce, registry) refl
+pub shown_is : {H : Type 0} (d : Held H) (pending : Option Update) (b : BatchLine) (p : Prepared)
+    → RotatesTo d.state b.new_nonce p → registry_after d.state p ≡ after (latest_registry (history_of d.state)) (operations_of b.ops)
+    → shown_after d.state p b.epoch ≡ epoch_next (provided_by d pending) b
+shown_is {H} d pending b p rotates registry = rw (rotates.version, rotates.nonce, registry) refl
 
 -- ---- lookups
 
 -- the indices with one more agree on the registry
 pub agree_with : {H : Type 0} (d : Held H) (pending : Option Update) (name index : List ℕ) → MaySupply (supplied_index d.index) (latest_registry (history_of d.state)) name index
-    → AgreeOn (supplied_index d.index) (index_with (opened_by d pending) name index) (latest_registry (history_of d.state))
+    → AgreeOn (supplied_index d.index) (index_with (provided_by d pending) name index) (latest_registry (history_of d.state))
 agree_with {H} d pending name index may other has = (elim (bytes_eq other name) as (λ b. bytes_eq other name ≡ b → supplied_index d.index other ≡ (if b then index else supplied_index d.index other)) [
   | true ↦ λ on. let same = (bytes_eq-Decides other name).0 on in ap (supplied_index d.index) same ∙ may.kept (subst (λ n. has_name (latest_registry (history_of d.state)) n ≡ true) same has)
   | false ↦ λ off. refl
 ]) refl
 
-pub index_here : (o : Opened) (name index : List ℕ) → index_with o name index name ≡ index
+pub index_here : (o : ProviderDirectory) (name index : List ℕ) → index_with o name index name ≡ index
 index_here o name index = let on : bytes_eq name name ≡ true = (bytes_eq-Decides name name).1 refl in rw on refl
 
 -- a name that may have this index isn't registered with another one
-pub not_other : (o : Opened) (name index : List ℕ) → MaySupply (supplied_index o.indices) (latest_registry o.history) name index → has_other_index o name index ≡ false
-not_other o name index may = (elim (has_name (latest_registry o.history) name) as (λ b. has_name (latest_registry o.history) name ≡ b → b && not (bytes_eq (supplied_index o.indices name) index) ≡ false) [
-  | true ↦ λ has. let on : bytes_eq (supplied_index o.indices name) index ≡ true = (bytes_eq-Decides (supplied_index o.indices name) index).1 (may.kept has) in rw on refl
-  | false ↦ λ _. refl
-]) refl
+pub not_other : (o : ProviderDirectory) (name index : List ℕ) → MaySupply (supplied_index o.indices) (latest_registry o.history) name index → has_other_index o name index ≡ false
+not_other o name index may = (elim (has_name (latest_registry o.history) name) as
+    (λ b. has_name (latest_registry o.history) name ≡ b → b && not (bytes_eq (supplied_index o.indices name) index) ≡ false) [
+      | true ↦ λ has. let on : bytes_eq (supplied_index o.indices name) index ≡ true = (bytes_eq-Decides (supplied_index o.indices name) index).1 (may.kept has) in rw on refl
+      | false ↦ λ _. refl
+    ]) refl
 
-pub is_other : (o : Opened) (name index : List ℕ) → HasOtherIndex (supplied_index o.indices) (latest_registry o.history) name index → has_other_index o name index ≡ true
+pub is_other : (o : ProviderDirectory) (name index : List ℕ) → HasOtherIndex (supplied_index o.indices) (latest_registry o.history) name index → has_other_index o name index ≡ true
 is_other o name index other =
     let off : bytes_eq (supplied_index o.indices name) index ≡ false = (elim (bytes_eq (supplied_index o.indices name) index) as (λ b. bytes_eq (supplied_index o.indices name) index ≡ b → b ≡ false) [
       | true ↦ λ on. absurd (other.1 ((bytes_eq-Decides (supplied_index o.indices name) index).0 on))
@@ -126,24 +129,24 @@ is_other o name index other =
     ]) refl in
     rw (other.0, off) refl
 
-module _ (o : Opened) (epoch : ℕ) (name index : List ℕ) where
-  pub missed_epoch : shown_at o.history epoch ≡ None → unknown_epoch ≡ lookup_with (Some o) epoch name index
+module _ (o : ProviderDirectory) (epoch : ℕ) (name index : List ℕ) where
+  pub missed_epoch : shown_at o.history epoch ≡ None → unknown_epoch ≡ provider_lookup_with (Some o) epoch name index
   missed_epoch none = rw none refl
 
-  pub missed_length : is_some (shown_at o.history epoch) ≡ true → fits MAX_NAME name ≡ false → bad_name_length ≡ lookup_with (Some o) epoch name index
-  missed_length there long = (elim (shown_at o.history epoch) as (λ s. is_some s ≡ true → bad_name_length ≡ lookup_at o epoch name index s) [
+  pub missed_length : is_some (shown_at o.history epoch) ≡ true → fits MAX_NAME name ≡ false → bad_name_length ≡ provider_lookup_with (Some o) epoch name index
+  missed_length there long = (elim (shown_at o.history epoch) as (λ s. is_some s ≡ true → bad_name_length ≡ provider_lookup_at o epoch name index s) [
     | None ↦ λ never. absurd (false≢true never)
     | Some shown ↦ λ _. rw long refl
   ]) there
 
-  pub missed_index : is_some (shown_at o.history epoch) ≡ true → fits MAX_NAME name ≡ true → has_other_index o name index ≡ true → bad_index ≡ lookup_with (Some o) epoch name index
-  missed_index there sized other = (elim (shown_at o.history epoch) as (λ s. is_some s ≡ true → bad_index ≡ lookup_at o epoch name index s) [
+  pub missed_index : is_some (shown_at o.history epoch) ≡ true → fits MAX_NAME name ≡ true → has_other_index o name index ≡ true → bad_index ≡ provider_lookup_with (Some o) epoch name index
+  missed_index there sized other = (elim (shown_at o.history epoch) as (λ s. is_some s ≡ true → bad_index ≡ provider_lookup_at o epoch name index s) [
     | None ↦ λ never. absurd (false≢true never)
     | Some shown ↦ λ _. rw (sized, other) refl
   ]) there
 
-  pub found_is : (entry : Entry) (proof : Proof) → entry_at o epoch ≡ Some entry → has_other_index o name index ≡ false → IsFound sha256 (index_with o name index) o.history epoch name proof
-      → looked_up entry index name (path_of proof) ≡ lookup_with (Some o) epoch name index
+  pub found_is : (entry : Entry) (proof : Proof) → chain_entry_at o epoch ≡ Some entry → has_other_index o name index ≡ false → IsFound sha256 (index_with o name index) o.history epoch name proof
+      → looked_up entry index name (path_of proof) ≡ provider_lookup_with (Some o) epoch name index
   found_is entry proof at own found =
       let here = index_here o name index in
       let path = path_is sha256 found.shown.nonce (entries_of sha256 (index_with o name index) found.shown.registry) (index_with o name index name) proof found.path in
@@ -154,23 +157,25 @@ module _ (o : Opened) (epoch : ℕ) (name index : List ℕ) where
 -- ---- an update that was prepared
 
 -- no number is refused that is later, while the board has room
-pub number_none : (o : Opened) (epoch : ℕ) → number_refusal o epoch ≡ None → (latest_epoch o.history < epoch) × (length o.chain < most_epochs)
+pub number_none : (o : ProviderDirectory) (epoch : ℕ) → provider_number_refusal o epoch ≡ None → (latest_epoch o.history < epoch) × (length o.chain < most_provider_epochs)
 number_none o epoch none =
     (elim (nat_lt (latest_epoch o.history) epoch) as (λ b. nat_lt (latest_epoch o.history) epoch ≡ b
-    → (if b then (if nat_lt (length o.chain) most_epochs then None else Some board_full) else Some (epoch_not_later (latest_epoch o.history))) ≡ None → (latest_epoch o.history < epoch) × (length o.chain < most_epochs)) [
+    → (if b then (if nat_lt (length o.chain) most_provider_epochs then None else Some board_full) else Some (epoch_not_later (latest_epoch o.history))) ≡ None
+    → (latest_epoch o.history < epoch) × (length o.chain < most_provider_epochs)) [
       | false ↦ λ _ is. absurd (let never = is in cc)
       | true ↦ λ later.
-          (elim (nat_lt (length o.chain) most_epochs) as (λ b. nat_lt (length o.chain) most_epochs ≡ b → (if b then None else Some board_full) ≡ None → (latest_epoch o.history < epoch) × (length o.chain < most_epochs)) [
+          (elim (nat_lt (length o.chain) most_provider_epochs) as
+          (λ b. nat_lt (length o.chain) most_provider_epochs ≡ b → (if b then None else Some board_full) ≡ None → (latest_epoch o.history < epoch) × (length o.chain < most_provider_epochs)) [
             | false ↦ λ _ is. absurd (let never = is in cc)
             | true ↦ λ room _. (grind (arith, nat_tests), grind (arith, nat_tests))
           ]) refl
     ]) refl none
 
-module _ {H : Type 0} (d : Held H) (was : Option Update) (b : Batch) (p : Prepared) (body : Body) (none : refusal (opened_by d was) b ≡ None)
-    (body_is : body ≡ (pending_by (opened_by d was) b).body) (shown : shown_after d.state p b.epoch ≡ shown_next (opened_by d was) b)
-    (indices : indices_of p ≡ (pending_by (opened_by d was) b).indices) (nodes : nodes_added p ≡ (pending_by (opened_by d was) b).nodes) where
-  abbrev opened : Opened
-  opened = opened_by d was
+module _ {H : Type 0} (d : Held H) (was : Option Update) (b : BatchLine) (p : Prepared) (body : Body) (none : provider_refusal (provided_by d was) b ≡ None)
+    (body_is : body ≡ (pending_by (provided_by d was) b).body) (shown : shown_after d.state p b.epoch ≡ epoch_next (provided_by d was) b)
+    (indices : indices_of p ≡ (pending_by (provided_by d was) b).indices) (nodes : nodes_added p ≡ (pending_by (provided_by d was) b).nodes) where
+  abbrev opened : ProviderDirectory
+  opened = provided_by d was
 
   abbrev update : Update
   update = record { update = p; body = body }
@@ -178,23 +183,25 @@ module _ {H : Type 0} (d : Held H) (was : Option Update) (b : Batch) (p : Prepar
   pub pending_is : pending_of d update ≡ pending_by opened b
   pending_is =
       let number : body.t ≡ b.epoch = ap (λ (x : Body). x.t) body_is in
-      let shown' : shown_after d.state p body.t ≡ shown_next opened b = ap (shown_after d.state p) number ∙ shown in
+      let shown' : shown_after d.state p body.t ≡ epoch_next opened b = ap (shown_after d.state p) number ∙ shown in
       rw (body_is, indices, nodes) (ap (λ (x : Shown). record (pending_by opened b) { shown = x }) (rw body_is at shown'))
 
-  pub prepared_reply : (n : ℕ) → n ≡ nodes_added p → prepared body n ≡ (prepare_on opened b (refusal opened b)).outcome
+  pub prepared_reply : (n : ℕ) → n ≡ nodes_added p → prepared body n ≡ (prepare_on opened b (provider_refusal opened b)).outcome
   prepared_reply n is = rw (none, body_is, is, nodes) refl
 
-  pub prepared_state : (let s : State = Some (opened_by d (Some update)) in s) ≡ (prepare_on opened b (refusal opened b)).state
-  prepared_state = rw none (ap (λ (x : Pending). let s : State = Some (record opened { pending = Some x }) in s) pending_is)
+  pub prepared_state : (let s : ProviderState = Some (provided_by d (Some update)) in s) ≡ (prepare_on opened b (provider_refusal opened b)).state
+  prepared_state = rw none (ap (λ (x : Pending). let s : ProviderState = Some (record opened { pending = Some x }) in s) pending_is)
 
 -- ---- an update that was installed
 
 module _ {H : Type 0} (d e : Held H) (p : Update) (entry : Entry) (signature : List ℕ) (is : entry ≡ signed p.body (record { 0 = signature })) where
   pub installed_reply : (pending : Option Update) → pending ≡ Some p
-      → installed entry (sha256 (link_preimage entry)) ≡ (install_on (opened_by d pending) signature (option_map (pending_of d) pending)).outcome
+      → installed entry (sha256 (link_preimage entry)) ≡ (install_on (provided_by d pending) signature (option_map (pending_of d) pending)).outcome
   installed_reply pending some = rw (some, is) refl
 
-  pub installed_state : (pending after : Option Update) → pending ≡ Some p → after ≡ None → e.state.nonce ≡ d.state.nonce → e.state.policy ≡ d.state.policy → e.index ≡ put_indices d.index (indices_of p.update)
-      → history_of e.state ≡ history_of d.state ++ shown_after d.state p.update p.body.t ∷ [] → e.state.chain ≡ d.state.chain ++ entry ∷ [] → length e.state.nodes ≡ length d.state.nodes + nodes_added p.update
-      → (let s : State = Some (opened_by e after) in s) ≡ (install_on (opened_by d pending) signature (option_map (pending_of d) pending)).state
+  pub installed_state : (pending after : Option Update) → pending ≡ Some p → after ≡ None
+      → e.state.nonce ≡ d.state.nonce → e.state.policy ≡ d.state.policy → e.index ≡ put_indices d.index (indices_of p.update)
+      → history_of e.state ≡ history_of d.state ++ shown_after d.state p.update p.body.t ∷ []
+      → e.state.chain ≡ d.state.chain ++ entry ∷ [] → length e.state.nodes ≡ length d.state.nodes + nodes_added p.update
+      → (let s : ProviderState = Some (provided_by e after) in s) ≡ (install_on (provided_by d pending) signature (option_map (pending_of d) pending)).state
   installed_state pending after some none nonce policy index history chain nodes = rw (some, none, nonce, policy, index, history, chain, nodes, is) refl

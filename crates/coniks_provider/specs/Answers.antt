@@ -15,68 +15,68 @@ use Rattle.coniks_provider.specs.declared.reply.Reply.{Reply}
 use Rattle.coniks_provider.specs.declared.reply.Reply.TheVariants as reply
 
 -- what comes of a line
-pub data Outcome : Type 0 where
+pub data ProviderOutcome : Type 0 where
   -- the directory is open
-  opened : Outcome
+  opened : ProviderOutcome
   -- an update was prepared: the body to sign, and how many nodes the epoch adds
-  prepared : (body : Body) (nodes : ℕ) → Outcome
+  prepared : (body : Body) (nodes : ℕ) → ProviderOutcome
   -- the pending update was installed: the entry that it added to the chain, and the entry's link
-  installed : (entry : Entry) (link : List ℕ) → Outcome
+  installed : (entry : Entry) (link : List ℕ) → ProviderOutcome
   -- a lookup found the path to the name's index in the tree of the epoch with this entry
-  looked_up : (entry : Entry) (index name : List ℕ) (path : Path) → Outcome
+  looked_up : (entry : Entry) (index name : List ℕ) (path : Path) → ProviderOutcome
   -- the latest epoch, its entry's link, and how many names and nodes there are
-  at_latest : (epoch : ℕ) (link : List ℕ) (names nodes : ℕ) → Outcome
+  at_latest : (epoch : ℕ) (link : List ℕ) (names nodes : ℕ) → ProviderOutcome
   -- the line isn't a JSON object
-  not_json : Outcome
+  not_json : ProviderOutcome
   -- the line has no known command
-  no_command : Outcome
+  no_command : ProviderOutcome
   -- a member is missing, of another kind or of a wrong text
-  bad_member : Member → Outcome
+  bad_member : Member → ProviderOutcome
   -- the element of `ops` at this place is no operation
-  bad_operation : (place : ℕ) → Outcome
+  bad_operation : (place : ℕ) → ProviderOutcome
   -- the directory isn't open yet
-  not_open : Outcome
+  not_open : ProviderOutcome
   -- the directory is open already
-  already_open : Outcome
+  already_open : ProviderOutcome
   -- a batch has too many operations
-  batch_too_long : Outcome
+  batch_too_long : ProviderOutcome
   -- the operation at this place is at fault
-  bad_batch : (place : ℕ) → SuppliedFault → Outcome
+  bad_batch : (place : ℕ) → SuppliedFault → ProviderOutcome
   -- the epoch isn't later than the latest one
-  epoch_not_later : (latest : ℕ) → Outcome
+  epoch_not_later : (latest : ℕ) → ProviderOutcome
   -- the board has no room for a further head
-  board_full : Outcome
+  board_full : ProviderOutcome
   -- no update is pending
-  not_prepared : Outcome
+  not_prepared : ProviderOutcome
   -- no epoch has exactly the number asked
-  unknown_epoch : Outcome
+  unknown_epoch : ProviderOutcome
   -- the name asked is empty or too long
-  bad_name_length : Outcome
+  bad_name_length : ProviderOutcome
   -- the name asked is registered with another index
-  bad_index : Outcome
+  bad_index : ProviderOutcome
 
 -- a reply, without the forms that the code gives to numbers and digests
-abbrev pub outcome_of : Reply → Outcome
-outcome_of reply.Opened = opened
-outcome_of (reply.Prepared body nodes) = prepared body nodes
-outcome_of (reply.Installed entry link) = installed entry link.0
-outcome_of (reply.LookedUp name found) = looked_up found.entry found.index.0 (string_bytes name) (path_of found.proof)
-outcome_of (reply.Latest epoch link names nodes) = at_latest epoch link.0 names nodes
-outcome_of reply.NotJson = not_json
-outcome_of reply.NoCommand = no_command
-outcome_of (reply.BadMember m) = bad_member m
-outcome_of (reply.BadOperation place) = bad_operation place
-outcome_of reply.NotOpen = not_open
-outcome_of reply.AlreadyOpen = already_open
-outcome_of reply.BatchTooLong = batch_too_long
-outcome_of (reply.BadBatch place fault) = bad_batch place (of_operation (fault_is fault))
-outcome_of (reply.OtherIndex place) = bad_batch place other_index
-outcome_of (reply.EpochNotLater latest) = epoch_not_later latest
-outcome_of reply.BoardFull = board_full
-outcome_of reply.NotPrepared = not_prepared
-outcome_of reply.UnknownEpoch = unknown_epoch
-outcome_of reply.NameLength = bad_name_length
-outcome_of reply.BadIndex = bad_index
+abbrev pub provider_outcome_of : Reply → ProviderOutcome
+provider_outcome_of reply.Opened = opened
+provider_outcome_of (reply.Prepared body nodes) = prepared body nodes
+provider_outcome_of (reply.Installed entry link) = installed entry link.0
+provider_outcome_of (reply.LookedUp name found) = looked_up found.entry found.index.0 (string_bytes name) (path_of found.proof)
+provider_outcome_of (reply.Latest epoch link names nodes) = at_latest epoch link.0 names nodes
+provider_outcome_of reply.NotJson = not_json
+provider_outcome_of reply.NoCommand = no_command
+provider_outcome_of (reply.BadMember m) = bad_member m
+provider_outcome_of (reply.BadOperation place) = bad_operation place
+provider_outcome_of reply.NotOpen = not_open
+provider_outcome_of reply.AlreadyOpen = already_open
+provider_outcome_of reply.BatchTooLong = batch_too_long
+provider_outcome_of (reply.BadBatch place fault) = bad_batch place (of_operation (fault_is fault))
+provider_outcome_of (reply.OtherIndex place) = bad_batch place other_index
+provider_outcome_of (reply.EpochNotLater latest) = epoch_not_later latest
+provider_outcome_of reply.BoardFull = board_full
+provider_outcome_of reply.NotPrepared = not_prepared
+provider_outcome_of reply.UnknownEpoch = unknown_epoch
+provider_outcome_of reply.NameLength = bad_name_length
+provider_outcome_of reply.BadIndex = bad_index
 
 -- the name of the error of an operation that comes with an index
 abbrev pub supplied_fault_name : SuppliedFault → List ℕ
@@ -94,8 +94,8 @@ prepared_data body nodes =
     (member (codes "root") (digits body.root.0) no_members)))))
 
 -- {"entry":DIGITS,"epoch":NUM,"link":DIGITS,"ok":"install","root":DIGITS}
-abbrev pub installed_data : Entry → List ℕ → Data
-installed_data entry link =
+abbrev pub provider_installed_data : Entry → List ℕ → Data
+provider_installed_data entry link =
     object
     (member (codes "entry") (digits (entry_bytes entry))
     (member (codes "epoch") (number (unsigned entry.body.t))
@@ -114,32 +114,32 @@ latest_data epoch link names nodes =
     (member (codes "ok") (string (codes "latest")) no_members)))))
 
 -- what is printed for what comes of a line
-abbrev pub reply_data : Outcome → Data
-reply_data opened = opened_data
-reply_data (prepared body nodes) = prepared_data body nodes
-reply_data (installed entry link) = installed_data entry link
-reply_data (looked_up entry index name path) = looked_up_data entry index name path
-reply_data (at_latest epoch link names nodes) = latest_data epoch link names nodes
-reply_data not_json = fault_data (codes "Json")
-reply_data no_command = fault_data (codes "Command")
-reply_data (bad_member m) = bad_member_data (member_name m)
-reply_data (bad_operation place) = bad_operation_data place
-reply_data not_open = fault_data (codes "NotOpen")
-reply_data already_open = fault_data (codes "AlreadyOpen")
-reply_data batch_too_long = fault_data (codes "BatchTooLong")
-reply_data (bad_batch place fault) = placed_fault_data (supplied_fault_name fault) place
-reply_data (epoch_not_later latest) = epoch_not_later_data latest
-reply_data board_full = fault_data (codes "BoardFull")
-reply_data not_prepared = fault_data (codes "NotPrepared")
-reply_data unknown_epoch = fault_data (codes "UnknownEpoch")
-reply_data bad_name_length = fault_data (codes "NameLength")
-reply_data bad_index = fault_data (codes "OtherIndex")
+abbrev pub provider_reply_data : ProviderOutcome → Data
+provider_reply_data opened = opened_data
+provider_reply_data (prepared body nodes) = prepared_data body nodes
+provider_reply_data (installed entry link) = provider_installed_data entry link
+provider_reply_data (looked_up entry index name path) = looked_up_data entry index name path
+provider_reply_data (at_latest epoch link names nodes) = latest_data epoch link names nodes
+provider_reply_data not_json = fault_data (codes "Json")
+provider_reply_data no_command = fault_data (codes "Command")
+provider_reply_data (bad_member m) = bad_member_data (member_name m)
+provider_reply_data (bad_operation place) = bad_operation_data place
+provider_reply_data not_open = fault_data (codes "NotOpen")
+provider_reply_data already_open = fault_data (codes "AlreadyOpen")
+provider_reply_data batch_too_long = fault_data (codes "BatchTooLong")
+provider_reply_data (bad_batch place fault) = placed_fault_data (supplied_fault_name fault) place
+provider_reply_data (epoch_not_later latest) = epoch_not_later_data latest
+provider_reply_data board_full = fault_data (codes "BoardFull")
+provider_reply_data not_prepared = fault_data (codes "NotPrepared")
+provider_reply_data unknown_epoch = fault_data (codes "UnknownEpoch")
+provider_reply_data bad_name_length = fault_data (codes "NameLength")
+provider_reply_data bad_index = fault_data (codes "OtherIndex")
 
 -- the line was accepted
-abbrev pub is_accepted : Outcome → Bool
-is_accepted opened = true
-is_accepted (prepared body nodes) = true
-is_accepted (installed entry link) = true
-is_accepted (looked_up entry index name path) = true
-is_accepted (at_latest epoch link names nodes) = true
-is_accepted _ = false
+abbrev pub is_accepted_line : ProviderOutcome → Bool
+is_accepted_line opened = true
+is_accepted_line (prepared body nodes) = true
+is_accepted_line (installed entry link) = true
+is_accepted_line (looked_up entry index name path) = true
+is_accepted_line (at_latest epoch link names nodes) = true
+is_accepted_line _ = false

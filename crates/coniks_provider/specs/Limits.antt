@@ -2,5 +2,5 @@
 use Rattle.std.specs.Prelude.{ℕ}
 
 -- the most epochs of a provider, whose board takes a head for each
-abbrev pub most_epochs : ℕ
-most_epochs = 65536
+abbrev pub most_provider_epochs : ℕ
+most_provider_epochs = 65536

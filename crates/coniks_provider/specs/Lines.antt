@@ -8,28 +8,29 @@ use Rattle.coniks_provider.specs.declared.batch.Operations.{Operations}
 
 -- the operation that an element is, and `index`, 64 digits
 abbrev pub indexed_in : Data → Option Indexed
-indexed_in element = given (operation_in element) (λ op. given (digits_in 32 (codes "index") element) (λ index. Some (record { op = op; index = index })))
+indexed_in element = given (operation_in element)
+    (λ op. given (digits_in 32 (codes "index") element) (λ index. Some (record { op = op; index = index })))
 
 -- an operation before others
-abbrev pub with_first : Indexed → Result (List Indexed) ℕ → Result (List Indexed) ℕ
-with_first x (Ok xs) = Ok (x ∷ xs)
-with_first x (Err place) = Err place
+abbrev pub indexed_with_first : Indexed → Result (List Indexed) ℕ → Result (List Indexed) ℕ
+indexed_with_first x (Ok xs) = Ok (x ∷ xs)
+indexed_with_first x (Err place) = Err place
 
 -- the operation at a place, and those after it; a place without one is at fault
-abbrev pub at_place : ℕ → Option Indexed → Result (List Indexed) ℕ → Result (List Indexed) ℕ
-at_place place None others = Err place
-at_place place (Some x) others = with_first x others
+abbrev pub indexed_at_place : ℕ → Option Indexed → Result (List Indexed) ℕ → Result (List Indexed) ℕ
+indexed_at_place place None others = Err place
+indexed_at_place place (Some x) others = indexed_with_first x others
 
 -- the operations of elements, the first of which is at this place, or the first place without one
 abbrev pub batch_from : ℕ → Items → Result (List Indexed) ℕ
 batch_from place no_items = Ok []
-batch_from place (item element others) = at_place place (indexed_in element) (batch_from (place + 1) others)
+batch_from place (item element others) = indexed_at_place place (indexed_in element) (batch_from (place + 1) others)
 
 -- the operations of an array, or the place of the first element that is none
 abbrev pub batch_in : Items → Result (List Indexed) ℕ
 batch_in elements = batch_from 0 elements
 
 -- what was read, as the definitions see it
-abbrev pub batch_read : Result Operations ℕ → Result (List Indexed) ℕ
-batch_read (Ok read) = Ok (indexed read.ops.items read.indices.items)
-batch_read (Err place) = Err place
+abbrev pub batch_line_read : Result Operations ℕ → Result (List Indexed) ℕ
+batch_line_read (Ok read) = Ok (indexed read.ops.items read.indices.items)
+batch_line_read (Err place) = Err place

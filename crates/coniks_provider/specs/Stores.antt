@@ -13,9 +13,9 @@ use Rattle.coniks_directory.specs.declared.supplied_batch.SuppliedBatchFault.{Su
 use Rattle.coniks_directory.specs.declared.supplied_batch.SuppliedBatchFault.TheVariants.{Batch as OfBatch, OtherIndex}
 use Rattle.coniks_directory.specs.Updates.{base_of, nodes_added, shown_after}
 use Rattle.coniks_shared.specs.Boards.{Boarded, BoardEnd}
-use Rattle.coniks_provider.specs.Limits.{most_epochs}
-use Rattle.coniks_provider.specs.Answers.{Outcome, bad_batch, batch_too_long}
-use Rattle.coniks_provider.specs.Turns.{Batch, Opened, Pending, State}
+use Rattle.coniks_provider.specs.Limits.{most_provider_epochs}
+use Rattle.coniks_provider.specs.Answers.{ProviderOutcome, bad_batch, batch_too_long}
+use Rattle.coniks_provider.specs.Turns.{BatchLine, ProviderDirectory, Pending, ProviderState}
 use Rattle.coniks_provider.specs.declared.batch.BatchRead.{BatchRead}
 use Rattle.coniks_provider.specs.declared.service.Pending.{Pending as Update}
 use Rattle.coniks_provider.specs.declared.service.Service.{Service}
@@ -25,16 +25,22 @@ abbrev pub Held : Type 0 → Type 0
 Held H = View H (List Supplied)
 
 -- a batch that was read
-abbrev pub batch_of : BatchRead → Batch
-batch_of b = record { epoch = b.epoch; brought = b.brought; ops = indexed b.ops.now b.indices.now }
+abbrev pub batch_line_of : BatchRead → BatchLine
+batch_line_of b = record { epoch = b.epoch; new_nonce = b.new_nonce; ops = indexed b.ops.now b.indices.now }
 
 -- an update of a directory
 abbrev pub pending_of : {H : Type 0} → Held H → Update → Pending
-pending_of {H} d p = record { body = p.body; shown = shown_after d.state p.update p.body.t; indices = indices_of p.update; nodes = nodes_added p.update }
+pending_of {H} d p = record {
+  body = p.body;
+  shown = shown_after d.state
+      p.update p.body.t;
+  indices = indices_of p.update;
+  nodes = nodes_added p.update;
+}
 
 -- what an opened directory holds
-abbrev pub opened_by : {H : Type 0} → Held H → Option Update → Opened
-opened_by {H} d pending = record {
+abbrev pub provided_by : {H : Type 0} → Held H → Option Update → ProviderDirectory
+provided_by {H} d pending = record {
   nonce = d.state.nonce;
   policy = d.state.policy;
   indices = d.index;
@@ -44,41 +50,42 @@ opened_by {H} d pending = record {
   pending = option_map (pending_of d) pending;
 }
 
-abbrev pub opened_of : Service → Opened
-opened_of s = opened_by s.directory s.pending
+abbrev pub provided_of : Service → ProviderDirectory
+provided_of s = provided_by s.directory s.pending
 
-abbrev pub state_of : Option Service → State
-state_of None = None
-state_of (Some s) = Some (opened_of s)
+abbrev pub provider_state_of : Option Service → ProviderState
+provider_state_of None = None
+provider_state_of (Some s) = Some (provided_of s)
 
 -- the update can be installed, under the number that its body has
 pub record IsPending {H : Type 0} (d : Held H) (p : Update) : Type 0 where
   pub index : List ℕ → List ℕ
-  pub supplied : IsSuppliedUpdate sha256 (supplied_index d.index) (latest_registry (history_of d.state)) d.state p.update index
+  pub supplied : IsSuppliedUpdate sha256 (supplied_index d.index) d.state p.update index
   pub fresh : base_of p.update ≡ length d.state.epochs
   pub later : latest_epoch (history_of d.state) < p.body.t
-  pub room : length d.state.chain < most_epochs
-  pub body : p.body ≡ body_of sha256 index d.state.policy (before_at sha256 None d.state.chain (length d.state.chain)) (shown_after d.state p.update p.body.t)
+  pub room : length d.state.chain < most_provider_epochs
+  pub body : p.body ≡ body_of sha256 index d.state.policy
+      (before_at sha256 None d.state.chain (length d.state.chain)) (shown_after d.state p.update p.body.t)
 
 -- the heads of the chain are those that are published, and what is pending can be installed
-pub record IsServed {H : Type 0} (published : BoardEnd) (d : Held H) (update : Option Update) : Type 0 where
+pub record IsServing {H : Type 0} (published : BoardEnd) (d : Held H) (update : Option Update) : Type 0 where
   pub heads : published.heads ≡ heads_of sha256 d.state.chain
-  pub room : length d.state.chain ≤ most_epochs
+  pub room : length d.state.chain ≤ most_provider_epochs
   pub pending : IfSome update (IsPending d)
 
 -- before a directory is opened no head is published
-abbrev pub IsServedIf : BoardEnd → Option Service → Type 0
-IsServedIf published None = published.heads ≡ []
-IsServedIf published (Some s) = IsServed published s.directory s.pending
+abbrev pub IsServingIf : BoardEnd → Option Service → Type 0
+IsServingIf published None = published.heads ≡ []
+IsServingIf published (Some s) = IsServing published s.directory s.pending
 
 -- the board is the publisher's, and what is opened is served
-pub record IsKept (board : Boarded) (published : BoardEnd) (opened : Option Service) : Type 0 where
+pub record IsProvided (board : Boarded) (published : BoardEnd) (opened : Option Service) : Type 0 where
   pub table : published.table ≡ board.table
-  pub capacity : board.capacity ≡ most_epochs
-  pub served : IsServedIf published opened
+  pub capacity : board.capacity ≡ most_provider_epochs
+  pub served : IsServingIf published opened
 
--- an error of a batch, as a reply; none where an allocation failed
-abbrev pub refused_as : SuppliedBatchFault → Option Outcome
+-- the fault of a batch, as a reply; none if an allocation failed
+abbrev pub refused_as : SuppliedBatchFault → Option ProviderOutcome
 refused_as (OfBatch batch.BatchTooLong) = Some batch_too_long
 refused_as (OfBatch (batch.At position fault)) = Some (bad_batch position (of_operation (fault_is fault)))
 refused_as (OtherIndex position) = Some (bad_batch position other_index)

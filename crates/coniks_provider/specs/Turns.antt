@@ -1,4 +1,4 @@
--- What `provider` answers to a line.
+-- What `provider` replies to a line.
 use Rattle.std.specs.Prelude.{◌≡◌, ◌==◌, ℕ, ◌+◌, List, [], ◌∷◌, ◌++◌, codes, find, length, Bool, not, ◌&&◌, nat_le, nat_lt, Option, Some, None, Result, Ok, Err, if◌then◌else◌}
 use Rattle.std.specs.Option.{option_map_or}
 use Rattle.std.specs.Str.{bytes_eq}
@@ -26,8 +26,8 @@ use Rattle.coniks_tool.specs.Members.{array_in, digits_in, if_there, number_in, 
 use Rattle.coniks_tool.specs.Paths.{path_to}
 use Rattle.coniks_tool.specs.Turns.{Turn, answer_by, refused}
 use Rattle.coniks_tool.specs.declared.lines.printing.Member.TheVariants.{Nonce, Policy, Epoch, Ops, Name, Index, Signature}
-use Rattle.coniks_provider.specs.Answers.{Outcome, already_open, bad_batch, bad_index, bad_member, bad_name_length, bad_operation, batch_too_long, board_full, epoch_not_later, installed, is_accepted, at_latest, looked_up, no_command, not_json, not_open, not_prepared, opened, prepared, reply_data, unknown_epoch}
-use Rattle.coniks_provider.specs.Limits.{most_epochs}
+use Rattle.coniks_provider.specs.Answers.{ProviderOutcome, already_open, bad_batch, bad_index, bad_member, bad_name_length, bad_operation, batch_too_long, board_full, epoch_not_later, installed, is_accepted_line, at_latest, looked_up, no_command, not_json, not_open, not_prepared, opened, prepared, provider_reply_data, unknown_epoch}
+use Rattle.coniks_provider.specs.Limits.{most_provider_epochs}
 use Rattle.coniks_provider.specs.Lines.{batch_in}
 
 -- an update that was prepared: the body to sign, the epoch that it makes, its names with their indices, and how many nodes it adds
@@ -39,7 +39,7 @@ pub record Pending : Type 0 where
 
 -- a directory that was opened: its nonce and policy, the registered names with their indices, its history with its chain, how many nodes
 -- its tree has, and the update that is pending, if one is
-pub record Opened : Type 0 where
+pub record ProviderDirectory : Type 0 where
   pub nonce : List ℕ
   pub policy : List ℕ
   pub indices : List Supplied
@@ -49,101 +49,106 @@ pub record Opened : Type 0 where
   pub pending : Option Pending
 
 -- nothing, before a line opens a directory
-abbrev pub State : Type 0
-State = Option Opened
+abbrev pub ProviderState : Type 0
+ProviderState = Option ProviderDirectory
 
 -- what comes of a line, and the state after it
 abbrev pub ProviderTurn : Type 0
-ProviderTurn = Turn Outcome State
+ProviderTurn = Turn ProviderOutcome ProviderState
 
 -- ---- open
 
 -- a directory with no epochs
-abbrev pub nothing_yet : List ℕ → List ℕ → Opened
+abbrev pub nothing_yet : List ℕ → List ℕ → ProviderDirectory
 nothing_yet nonce policy = record { nonce = nonce; policy = policy; indices = []; history = []; chain = []; nodes = 0; pending = None }
 
 -- a directory is opened once
-abbrev pub open_with : State → List ℕ → List ℕ → ProviderTurn
-open_with None nonce policy = record { outcome = opened; state = Some (nothing_yet nonce policy) }
-open_with (Some o) nonce policy = refused (Some o) already_open
+abbrev pub provider_open_with : ProviderState → List ℕ → List ℕ → ProviderTurn
+provider_open_with None nonce policy = record { outcome = opened; state = Some (nothing_yet nonce policy) }
+provider_open_with (Some o) nonce policy = refused (Some o) already_open
 
 -- `open`, by its members in the order of reading
-abbrev pub open_turn : State → Option (List ℕ) → Option (List ℕ) → ProviderTurn
-open_turn s None _ = refused s (bad_member Nonce)
-open_turn s (Some nonce) None = refused s (bad_member Policy)
-open_turn s (Some nonce) (Some policy) = open_with s nonce policy
+abbrev pub provider_open_turn : ProviderState → Option (List ℕ) → Option (List ℕ) → ProviderTurn
+provider_open_turn s None _ = refused s (bad_member Nonce)
+provider_open_turn s (Some nonce) None = refused s (bad_member Policy)
+provider_open_turn s (Some nonce) (Some policy) = provider_open_with s nonce policy
 
 -- ---- prepare
 
 -- a batch: its epoch, the nonce under which the tree is rehashed, if any, and its operations with the indices of their names
-pub record Batch : Type 0 where
+pub record BatchLine : Type 0 where
   pub epoch : ℕ
-  pub brought : Option (List ℕ)
+  pub new_nonce : Option (List ℕ)
   pub ops : List Indexed
 
 -- the epoch that a batch makes after the latest one, or after `open`
-abbrev pub shown_next : Opened → Batch → Shown
-shown_next o b =
-    shown_by (latest_version 1 o.history) (latest_nonce o.nonce o.history) (latest_registry o.history) (record { t = b.epoch; brought = b.brought; ops = operations_of b.ops })
+abbrev pub epoch_next : ProviderDirectory → BatchLine → Shown
+epoch_next o b =
+    shown_by (latest_version 1 o.history) (latest_nonce o.nonce o.history) (latest_registry o.history)
+    (record { t = b.epoch; new_nonce = b.new_nonce; ops = operations_of b.ops })
 
 -- the indices that a batch is checked by
-abbrev pub index_for : Opened → Batch → List ℕ → List ℕ
+abbrev pub index_for : ProviderDirectory → BatchLine → List ℕ → List ℕ
 index_for o b = index_in (supplied_index o.indices) (latest_registry o.history) b.ops
 
 -- the update of a batch
-abbrev pub pending_by : Opened → Batch → Pending
+abbrev pub pending_by : ProviderDirectory → BatchLine → Pending
 pending_by o b = record {
-  body = body_of sha256 (index_for o b) o.policy (before_at sha256 None o.chain (length o.chain)) (shown_next o b);
-  shown = shown_next o b;
+  body = body_of sha256 (index_for o b) o.policy (before_at sha256 None o.chain (length o.chain)) (epoch_next o b);
+  shown = epoch_next o b;
   indices = indices_by (index_for o b) (operations_of b.ops);
-  nodes = epoch_nodes (index_for o b) o.history b.brought (operations_of b.ops);
+  nodes = epoch_nodes (index_for o b) o.history b.new_nonce (operations_of b.ops);
 }
 
 -- why no update is prepared under a number: it isn't later than the latest one, else there are as many epochs as the board takes heads
-abbrev pub number_refusal : Opened → ℕ → Option Outcome
-number_refusal o epoch =
+abbrev pub provider_number_refusal : ProviderDirectory → ℕ → Option ProviderOutcome
+provider_number_refusal o epoch =
     if nat_lt (latest_epoch o.history) epoch
-    then (if nat_lt (length o.chain) most_epochs then None else Some board_full)
+    then (if nat_lt (length o.chain) most_provider_epochs then None else Some board_full)
     else Some (epoch_not_later (latest_epoch o.history))
 
 -- the first operation at fault refuses the batch, else its number may
-abbrev pub refusal_from : Opened → ℕ → Option (ℕ × SuppliedFault) → Option Outcome
-refusal_from o epoch (Some at) = Some (bad_batch at.0 at.1)
-refusal_from o epoch None = number_refusal o epoch
+abbrev pub provider_refusal_from : ProviderDirectory → ℕ → Option (ℕ × SuppliedFault) → Option ProviderOutcome
+provider_refusal_from o epoch (Some at) = Some (bad_batch at.0 at.1)
+provider_refusal_from o epoch None = provider_number_refusal o epoch
 
 -- why a batch is refused
-abbrev pub refusal : Opened → Batch → Option Outcome
-refusal o b =
+abbrev pub provider_refusal : ProviderDirectory → BatchLine → Option ProviderOutcome
+provider_refusal o b =
     if nat_le (length b.ops) MAX_OPERATIONS
-    then refusal_from o b.epoch (supplied_fault (supplied_index o.indices) (latest_registry o.history) b.ops)
+    then provider_refusal_from o b.epoch (supplied_fault (supplied_index o.indices) (latest_registry o.history) b.ops)
     else Some batch_too_long
 
 -- a batch is refused, or its update takes the place of the pending one
-abbrev pub prepare_on : Opened → Batch → Option Outcome → ProviderTurn
+abbrev pub prepare_on : ProviderDirectory → BatchLine → Option ProviderOutcome → ProviderTurn
 prepare_on o b (Some why) = refused (Some o) why
-prepare_on o b None = record { outcome = prepared (pending_by o b).body (pending_by o b).nodes; state = Some (record o { pending = Some (pending_by o b) }) }
+prepare_on o b None = record {
+  outcome = prepared (pending_by o b).body
+      (pending_by o b).nodes;
+  state = Some (record o { pending = Some (pending_by o b) });
+}
 
 -- a batch that was read
-abbrev pub prepare_with : State → Batch → ProviderTurn
+abbrev pub prepare_with : ProviderState → BatchLine → ProviderTurn
 prepare_with None b = refused None not_open
-prepare_with (Some o) b = prepare_on o b (refusal o b)
+prepare_with (Some o) b = prepare_on o b (provider_refusal o b)
 
 -- the operations were read, or one was not
-abbrev pub batch_read_turn : State → ℕ → Option (List ℕ) → Result (List Indexed) ℕ → ProviderTurn
-batch_read_turn s epoch brought (Err place) = refused s (bad_operation place)
-batch_read_turn s epoch brought (Ok ops) = prepare_with s (record { epoch = epoch; brought = brought; ops = ops })
+abbrev pub batch_read_turn : ProviderState → ℕ → Option (List ℕ) → Result (List Indexed) ℕ → ProviderTurn
+batch_read_turn s epoch new_nonce (Err place) = refused s (bad_operation place)
+batch_read_turn s epoch new_nonce (Ok ops) = prepare_with s (record { epoch = epoch; new_nonce = new_nonce; ops = ops })
 
 -- `prepare`, by its members in the order of reading; the nonce may be missing
-abbrev pub prepare_turn : State → Option ℕ → Option (Option (List ℕ)) → Option Items → ProviderTurn
-prepare_turn s None brought items = refused s (bad_member Epoch)
+abbrev pub prepare_turn : ProviderState → Option ℕ → Option (Option (List ℕ)) → Option Items → ProviderTurn
+prepare_turn s None new_nonce items = refused s (bad_member Epoch)
 prepare_turn s (Some epoch) None items = refused s (bad_member Nonce)
-prepare_turn s (Some epoch) (Some brought) None = refused s (bad_member Ops)
-prepare_turn s (Some epoch) (Some brought) (Some items) = batch_read_turn s epoch brought (batch_in items)
+prepare_turn s (Some epoch) (Some new_nonce) None = refused s (bad_member Ops)
+prepare_turn s (Some epoch) (Some new_nonce) (Some items) = batch_read_turn s epoch new_nonce (batch_in items)
 
 -- ---- install
 
 -- what the directory holds once an update is installed with a signature
-abbrev pub installed_with : Opened → Pending → List ℕ → Opened
+abbrev pub installed_with : ProviderDirectory → Pending → List ℕ → ProviderDirectory
 installed_with o p signature = record o {
   indices = put_indices o.indices p.indices;
   history = o.history ++ p.shown ∷ [];
@@ -153,7 +158,7 @@ installed_with o p signature = record o {
 }
 
 -- the pending update is installed
-abbrev pub install_on : Opened → List ℕ → Option Pending → ProviderTurn
+abbrev pub install_on : ProviderDirectory → List ℕ → Option Pending → ProviderTurn
 install_on o signature None = refused (Some o) not_prepared
 install_on o signature (Some p) = record {
   outcome = installed (signed p.body (record { 0 = signature })) (sha256 (link_preimage (signed p.body (record { 0 = signature }))));
@@ -161,85 +166,89 @@ install_on o signature (Some p) = record {
 }
 
 -- a signature that was read
-abbrev pub install_with : State → List ℕ → ProviderTurn
+abbrev pub install_with : ProviderState → List ℕ → ProviderTurn
 install_with None signature = refused None not_open
 install_with (Some o) signature = install_on o signature o.pending
 
 -- `install`, by its member
-abbrev pub install_turn : State → Option (List ℕ) → ProviderTurn
+abbrev pub install_turn : ProviderState → Option (List ℕ) → ProviderTurn
 install_turn s None = refused s (bad_member Signature)
 install_turn s (Some signature) = install_with s signature
 
 -- ---- lookup
 
 -- the entry of the epoch of exactly this number
-abbrev pub entry_at : Opened → ℕ → Option Entry
-entry_at o number = find (λ (e : Entry). e.body.t == number) o.chain
+abbrev pub chain_entry_at : ProviderDirectory → ℕ → Option Entry
+chain_entry_at o number = find (λ (e : Entry). e.body.t == number) o.chain
 
 -- the name is registered with another index
-abbrev pub has_other_index : Opened → List ℕ → List ℕ → Bool
+abbrev pub has_other_index : ProviderDirectory → List ℕ → List ℕ → Bool
 has_other_index o name index = has_name (latest_registry o.history) name && not (bytes_eq (supplied_index o.indices name) index)
 
 -- the indices of the registered names, with this one for a name
-abbrev pub index_with : Opened → List ℕ → List ℕ → List ℕ → List ℕ
+abbrev pub index_with : ProviderDirectory → List ℕ → List ℕ → List ℕ → List ℕ
 index_with o name index = supplied_index ((name, index) ∷ o.indices)
 
 -- the entry of an epoch, with the path to an index in its tree
-abbrev pub found_at : Opened → List ℕ → List ℕ → Shown → Option Entry → Outcome
+abbrev pub found_at : ProviderDirectory → List ℕ → List ℕ → Shown → Option Entry → ProviderOutcome
 found_at o name index shown None = unknown_epoch
-found_at o name index shown (Some entry) = looked_up entry index name (path_to sha256 (index_with o name index) shown.nonce shown.registry index)
+found_at o name index shown (Some entry) = looked_up entry index name
+    (path_to sha256 (index_with o name index) shown.nonce shown.registry index)
 
--- what a lookup of a name at an index is answered by, at an epoch that shows this
-abbrev pub lookup_at : Opened → ℕ → List ℕ → List ℕ → Option Shown → Outcome
-lookup_at o number name index None = unknown_epoch
-lookup_at o number name index (Some shown) =
+-- the outcome of a lookup of a name at an index, at an epoch that shows this
+abbrev pub provider_lookup_at : ProviderDirectory → ℕ → List ℕ → List ℕ → Option Shown → ProviderOutcome
+provider_lookup_at o number name index None = unknown_epoch
+provider_lookup_at o number name index (Some shown) =
     if fits MAX_NAME name
-    then (if has_other_index o name index then bad_index else found_at o name index shown (entry_at o number))
+    then (if has_other_index o name index then bad_index else found_at o name index shown (chain_entry_at o number))
     else bad_name_length
 
 -- a lookup that was read
-abbrev pub lookup_with : State → ℕ → List ℕ → List ℕ → Outcome
-lookup_with None number name index = not_open
-lookup_with (Some o) number name index = lookup_at o number name index (shown_at o.history number)
+abbrev pub provider_lookup_with : ProviderState → ℕ → List ℕ → List ℕ → ProviderOutcome
+provider_lookup_with None number name index = not_open
+provider_lookup_with (Some o) number name index = provider_lookup_at o number name index (shown_at o.history number)
 
 -- `lookup`, by its members in the order of reading
-abbrev pub lookup_outcome : State → Option ℕ → Option (List ℕ) → Option (List ℕ) → Outcome
-lookup_outcome s None name index = bad_member Epoch
-lookup_outcome s (Some epoch) None index = bad_member Name
-lookup_outcome s (Some epoch) (Some name) None = bad_member Index
-lookup_outcome s (Some epoch) (Some name) (Some index) = lookup_with s epoch name index
+abbrev pub provider_lookup_outcome : ProviderState → Option ℕ → Option (List ℕ) → Option (List ℕ) → ProviderOutcome
+provider_lookup_outcome s None name index = bad_member Epoch
+provider_lookup_outcome s (Some epoch) None index = bad_member Name
+provider_lookup_outcome s (Some epoch) (Some name) None = bad_member Index
+provider_lookup_outcome s (Some epoch) (Some name) (Some index) = provider_lookup_with s epoch name index
 
 -- ---- latest
 
 -- the latest epoch, its entry's link, and how many names and nodes there are
-abbrev pub latest_outcome : State → Outcome
+abbrev pub latest_outcome : ProviderState → ProviderOutcome
 latest_outcome None = not_open
-latest_outcome (Some o) = at_latest (latest_epoch o.history) (link_before (before_at sha256 None o.chain (length o.chain))) (length o.indices) o.nodes
+latest_outcome (Some o) = at_latest (latest_epoch o.history)
+    (link_before (before_at sha256 None o.chain (length o.chain))) (length o.indices) o.nodes
 
 -- ---- lines
 
--- an answer that leaves the state as it is
-abbrev pub reads : State → Outcome → ProviderTurn
+-- a reply that leaves the state as it is
+abbrev pub reads : ProviderState → ProviderOutcome → ProviderTurn
 reads s outcome = record { outcome = outcome; state = s }
 
 -- an object, by its command
-abbrev pub command_turn : State → Data → Option (List ℕ) → ProviderTurn
-command_turn s d None = refused s no_command
-command_turn s d (Some name) =
-    if bytes_eq name (codes "open") then open_turn s (digits_in 32 (codes "nonce") d) (digits_in 32 (codes "policy") d)
-    else (if bytes_eq name (codes "prepare") then prepare_turn s (number_in (codes "epoch") d) (if_there (codes "nonce") d (digits_in 32 (codes "nonce") d)) (array_in (codes "ops") d)
+abbrev pub provider_command_turn : ProviderState → Data → Option (List ℕ) → ProviderTurn
+provider_command_turn s d None = refused s no_command
+provider_command_turn s d (Some name) =
+    if bytes_eq name (codes "open") then provider_open_turn s (digits_in 32 (codes "nonce") d) (digits_in 32 (codes "policy") d)
+    else (if bytes_eq name (codes "prepare") then prepare_turn s (number_in (codes "epoch") d)
+    (if_there (codes "nonce") d (digits_in 32 (codes "nonce") d)) (array_in (codes "ops") d)
     else (if bytes_eq name (codes "install") then install_turn s (digits_in 64 (codes "signature") d)
-    else (if bytes_eq name (codes "lookup") then reads s (lookup_outcome s (number_in (codes "epoch") d) (text_in (codes "name") d) (digits_in 32 (codes "index") d))
+    else (if bytes_eq name (codes "lookup") then reads s
+    (provider_lookup_outcome s (number_in (codes "epoch") d) (text_in (codes "name") d) (digits_in 32 (codes "index") d))
     else (if bytes_eq name (codes "latest") then reads s (latest_outcome s)
     else refused s no_command))))
 
 -- what comes of a line
-abbrev pub turn : State → List ℕ → ProviderTurn
-turn s line = option_map_or (λ d. command_turn s d (text_in (codes "cmd") d)) (object_in line) (refused s not_json)
+abbrev pub provider_turn : ProviderState → List ℕ → ProviderTurn
+provider_turn s line = option_map_or (λ d. provider_command_turn s d (text_in (codes "cmd") d)) (object_in line) (refused s not_json)
 
--- what a line is answered by
-abbrev pub provider_answer : State → List ℕ → Answer State
-provider_answer s line = answer_by reply_data is_accepted (turn s line)
+-- the reply to a line
+abbrev pub provider_answer : ProviderState → List ℕ → Answer ProviderState
+provider_answer s line = answer_by provider_reply_data is_accepted_line (provider_turn s line)
 
 -- what a fault leaves: that of its lines; if there is no board, nothing was read or written
 abbrev pub ProviderFails : Source → Source → Sink → Sink → RunFault → Type 0

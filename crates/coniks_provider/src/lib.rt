@@ -1,7 +1,8 @@
 //! The engine of `provider`: a directory whose indices and signatures come from outside, driven by lines.
 //!
-//! A service computes the index of each name by its own verifiable random function (RFC 9381), and signs each epoch's body by
-//! its own key. Lines over memory are answered as the program `provider` answers standard input:
+//! A service computes the index of each name with its own verifiable random function (VRF, RFC 9381). It signs each
+//! epoch's body with its own key. `run_provider` answers lines over memory as the program `provider` answers standard
+//! input:
 //!
 //! ```rust
 //! let mut reader = MemoryIn::new(Vec::from_slice(alloc, LINES)?);

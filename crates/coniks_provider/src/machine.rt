@@ -7,15 +7,15 @@ ghost use Rattle.coniks_lines.specs.Machine.{output};
 ghost use Rattle.coniks_lines.specs.Runs.{AnswersAll, EndsWell, WritesPart};
 ghost use Rattle.coniks_work.specs.declared.jobs.TheConstants.{MAX_DEPTH};
 ghost use Rattle.coniks_tool.specs.Members.{array_in, digits_in, if_there, number_in, text_in};
-ghost use Rattle.coniks_provider.specs.Answers.{outcome_of};
-ghost use Rattle.coniks_provider.specs.Turns.{ProviderFails, State, command_turn, install_turn, lookup_outcome, open_turn, prepare_turn, provider_answer, turn};
+ghost use Rattle.coniks_provider.specs.Answers.{provider_outcome_of};
+ghost use Rattle.coniks_provider.specs.Turns.{ProviderFails, ProviderState, provider_command_turn, install_turn, provider_lookup_outcome, provider_open_turn, prepare_turn, provider_answer, provider_turn};
 
 use crate::batch::BatchRead;
 use crate::operations::read_operations;
 use crate::reply::Reply;
 use crate::store::Store;
 use coniks_lines::{ByteIn, ByteOut, LineMachine, RunFault, run_lines};
-use coniks_tool::Crew;
+use coniks_tool::Parallelism;
 use coniks_tool::lines::members::{
     array, bytes_of_digits, digits32, digits32_if_there, number, read_object, text,
 };
@@ -24,11 +24,11 @@ use serde_json::Value;
 use std::alloc::{AllocError, Global};
 use std::thread::Threads;
 
-/// Answers the lines of a provider, with the crew that builds its epochs.
+/// A machine that answers the lines of a provider, with the worker threads that build its epochs.
 #[derive(Drop)]
 pub(crate) struct Providing<'r, T: Threads + Sync> {
     alloc: Global,
-    crew: Crew<'r, T>,
+    parallelism: Parallelism<'r, T>,
     store: Store,
 }
 
@@ -42,8 +42,10 @@ fn signature_in(object: &Value) -> Option<[u8; 64]>
 
 impl<'r, T: Threads + Sync> Providing<'r, T> {
     fn open(&mut self, object: &Value) -> Reply
-        ensures reply { outcome_of result ≡ (open_turn self.old.store (digits_in 32 (codes "nonce") (view object.now)) (digits_in 32 (codes "policy") (view object.now))).outcome }
-        ensures state { self.new.store ≡ (open_turn self.old.store (digits_in 32 (codes "nonce") (view object.now)) (digits_in 32 (codes "policy") (view object.now))).state }
+        ensures reply { provider_outcome_of result ≡
+            (provider_open_turn self.old.store (digits_in 32 (codes "nonce") (view object.now)) (digits_in 32 (codes "policy") (view object.now))).outcome }
+        ensures state { self.new.store ≡
+            (provider_open_turn self.old.store (digits_in 32 (codes "nonce") (view object.now)) (digits_in 32 (codes "policy") (view object.now))).state }
     {
         let Some(nonce) = digits32(object, "nonce") else {
             return Reply::BadMember(Member::Nonce);
@@ -55,7 +57,7 @@ impl<'r, T: Threads + Sync> Providing<'r, T> {
     }
 
     fn prepare(&mut self, object: &Value) -> Result<Reply, AllocError>
-        ensures reply { IfOk result (λ reply. outcome_of reply ≡ (prepare_turn self.old.store (number_in (codes "epoch") (view object.now))
+        ensures reply { IfOk result (λ reply. provider_outcome_of reply ≡ (prepare_turn self.old.store (number_in (codes "epoch") (view object.now))
             (if_there (codes "nonce") (view object.now) (digits_in 32 (codes "nonce") (view object.now))) (array_in (codes "ops") (view object.now))).outcome) }
         ensures state { OnOk result (self.new.store ≡ (prepare_turn self.old.store (number_in (codes "epoch") (view object.now))
             (if_there (codes "nonce") (view object.now) (digits_in 32 (codes "nonce") (view object.now))) (array_in (codes "ops") (view object.now))).state) }
@@ -63,7 +65,7 @@ impl<'r, T: Threads + Sync> Providing<'r, T> {
         let Some(epoch) = number(object, "epoch") else {
             return Ok(Reply::BadMember(Member::Epoch));
         };
-        let Some(brought) = digits32_if_there(object, "nonce") else {
+        let Some(new_nonce) = digits32_if_there(object, "nonce") else {
             return Ok(Reply::BadMember(Member::Nonce));
         };
         let Some(elements) = array(object, "ops") else {
@@ -73,18 +75,19 @@ impl<'r, T: Threads + Sync> Providing<'r, T> {
             Ok(read) => {
                 let batch = BatchRead {
                     epoch,
-                    brought,
+                    new_nonce,
                     ops: &read.ops,
                     indices: &read.indices,
                 };
-                self.store.prepare(&self.crew, &batch)
+                self.store.prepare(&self.parallelism, &batch)
             }
             Err(place) => Ok(Reply::BadOperation(place)),
         }
     }
 
     fn install(&mut self, object: &Value) -> Result<Reply, AllocError>
-        ensures reply { IfOk result (λ reply. outcome_of reply ≡ (install_turn self.old.store (digits_in 64 (codes "signature") (view object.now))).outcome) }
+        ensures reply { IfOk result (λ reply. provider_outcome_of reply ≡
+            (install_turn self.old.store (digits_in 64 (codes "signature") (view object.now))).outcome) }
         ensures state { OnOk result (self.new.store ≡ (install_turn self.old.store (digits_in 64 (codes "signature") (view object.now))).state) }
     {
         match signature_in(object) {
@@ -94,7 +97,8 @@ impl<'r, T: Threads + Sync> Providing<'r, T> {
     }
 
     fn lookup(&self, object: &Value) -> Result<Reply, AllocError>
-        ensures { IfOk result (λ reply. outcome_of reply ≡ lookup_outcome self.now.store (number_in (codes "epoch") (view object.now)) (text_in (codes "name") (view object.now)) (digits_in 32 (codes "index") (view object.now))) }
+        ensures { IfOk result (λ reply. provider_outcome_of reply ≡ provider_lookup_outcome self.now.store
+            (number_in (codes "epoch") (view object.now)) (text_in (codes "name") (view object.now)) (digits_in 32 (codes "index") (view object.now))) }
     {
         let Some(epoch) = number(object, "epoch") else {
             return Ok(Reply::BadMember(Member::Epoch));
@@ -109,8 +113,10 @@ impl<'r, T: Threads + Sync> Providing<'r, T> {
     }
 
     fn command(&mut self, object: &Value) -> Result<Reply, AllocError>
-        ensures reply { IfOk result (λ reply. outcome_of reply ≡ (command_turn self.old.store (view object.now) (text_in (codes "cmd") (view object.now))).outcome) }
-        ensures state { OnOk result (self.new.store ≡ (command_turn self.old.store (view object.now) (text_in (codes "cmd") (view object.now))).state) }
+        ensures reply { IfOk result (λ reply. provider_outcome_of reply ≡
+            (provider_command_turn self.old.store (view object.now) (text_in (codes "cmd") (view object.now))).outcome) }
+        ensures state { OnOk result (self.new.store ≡
+            (provider_command_turn self.old.store (view object.now) (text_in (codes "cmd") (view object.now))).state) }
     {
         let Some(name) = text(object, "cmd") else {
             return Ok(Reply::NoCommand);
@@ -134,8 +140,8 @@ impl<'r, T: Threads + Sync> Providing<'r, T> {
     }
 
     fn reply(&mut self, line: &[u8]) -> Result<Reply, AllocError>
-        ensures reply { IfOk result (λ reply. outcome_of reply ≡ (turn self.old.store line.now).outcome) }
-        ensures state { OnOk result (self.new.store ≡ (turn self.old.store line.now).state) }
+        ensures reply { IfOk result (λ reply. provider_outcome_of reply ≡ (provider_turn self.old.store line.now).outcome) }
+        ensures state { OnOk result (self.new.store ≡ (provider_turn self.old.store line.now).state) }
     {
         match read_object(self.alloc, line)? {
             Some(object) => self.command(&object),
@@ -146,9 +152,9 @@ impl<'r, T: Threads + Sync> Providing<'r, T> {
 
 impl<'r, T: Threads + Sync> LineMachine for Providing<'r, T> {
     ghost use Rattle.std.specs.Thread.{IsSync};
-    ghost use Rattle.coniks_provider.specs.Turns.{State, provider_answer};
+    ghost use Rattle.coniks_provider.specs.Turns.{ProviderState, provider_answer};
 
-    ghost State = { State };
+    ghost State = { ProviderState };
 
     ghost state = { λ s. s.store };
 
@@ -163,14 +169,16 @@ impl<'r, T: Threads + Sync> LineMachine for Providing<'r, T> {
     }
 }
 
-/// Answers each line of the reader by one line and one flush, until a read returns 0: `open`, `prepare`, `install`, `lookup`
-/// and `latest` over one directory, whose epochs are built by `workers` worker threads over prefixes of `depth` bits, both
-/// within the limits of `coniks_work::build`. No answer depends on either. Returns whether each line was accepted. It may
-/// wait, as it joins its workers.
+/// Answers the lines of a provider: `open`, `prepare`, `install`, `lookup` and `latest` over one directory.
+///
+/// Answers each line with one line and one flush, until a read returns 0. Returns whether each line was accepted.
+/// `workers` worker threads build the epochs, at the split depth `depth` in bits, both within the limits of
+/// `coniks_work::build`. No answer depends on either. The call can wait, because it joins its worker threads.
 ///
 /// # Errors
 ///
-/// Those of `run_lines`, and `NoBoard` if the board for the directory's heads cannot be allocated; nothing was read then.
+/// The errors of `run_lines`, and `NoBoard` if the board for the directory's heads cannot be allocated. Nothing is read
+/// then.
 pub fn run_provider<T: Threads + Sync, R: ByteIn, W: ByteOut>(
     rt: &T,
     alloc: Global,
@@ -183,7 +191,7 @@ pub fn run_provider<T: Threads + Sync, R: ByteIn, W: ByteOut>(
     requires depth { depth ≤ MAX_DEPTH }
     requires reads { (R.source reader.old).failed + 1 < 2 ^ 64 }
     requires writes { (W.sink writer.old).failed + 1 < 2 ^ 64 }
-    ensures ok { IfOk result (λ all. (state : State) × EndsWell provider_answer None
+    ensures ok { IfOk result (λ all. (state : ProviderState) × EndsWell provider_answer None
         (R.source reader.old) (R.source reader.new)
         (W.sink writer.old) (W.sink writer.new)
         state all) }
@@ -191,10 +199,10 @@ pub fn run_provider<T: Threads + Sync, R: ByteIn, W: ByteOut>(
         (R.source reader.old) (R.source reader.new)
         (W.sink writer.old) (W.sink writer.new)) }
 
-    // If the reader's bytes are known: after Ok each of them is answered, and after an error a beginning of their answers was
-    // written.
+    // If the reader's bytes are known: after Ok each of them is answered, and after an error a prefix of their answers
+    // was written.
     ensures all_of { (input : List ℕ) → (R.source reader.old).left ≡ Some input
-        → IfOk result (λ all. (state : State) × AnswersAll provider_answer None input
+        → IfOk result (λ all. (state : ProviderState) × AnswersAll provider_answer None input
         (W.sink writer.old) (W.sink writer.new)
         state all) }
     ensures part_of { (input : List ℕ) → (R.source reader.old).left ≡ Some input
@@ -202,7 +210,11 @@ pub fn run_provider<T: Threads + Sync, R: ByteIn, W: ByteOut>(
         (W.sink writer.old) (W.sink writer.new)) }
 {
     let store = Store::new(alloc)?;
-    let crew = Crew { rt, workers, depth };
-    let mut providing = Providing { alloc, crew, store };
+    let parallelism = Parallelism { rt, workers, depth };
+    let mut providing = Providing {
+        alloc,
+        parallelism,
+        store,
+    };
     run_lines(alloc, &mut providing, reader, writer)
 }

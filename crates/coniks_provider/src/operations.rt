@@ -3,7 +3,7 @@
 ghost use Rattle.std.specs.Prelude.{IfOk, option_map, ◌≡◌};
 ghost use Rattle.serde_json.specs.View.{view, items_view};
 ghost use Rattle.coniks_directory.specs.Batches.{operation_of};
-ghost use Rattle.coniks_provider.specs.Lines.{batch_in, batch_read, indexed_in};
+ghost use Rattle.coniks_provider.specs.Lines.{batch_in, batch_line_read, indexed_in};
 
 use crate::batch::Operations;
 use coniks_directory::Op;
@@ -26,13 +26,15 @@ fn read_indexed(alloc: Global, element: &Value) -> Result<Option<(Op, Index)>, A
     }
 }
 
-/// Reads the operations of the elements, or returns the place of the first element that is none: it isn't an object, or a
-/// member is missing, of another kind or of a wrong text. It accepts any length.
+/// Reads the operations of the elements, or returns the position of the first element that is none.
+///
+/// Such an element is not an object, or one of its members is missing, of another kind or of a wrong text. Any length is
+/// accepted.
 pub(crate) fn read_operations(
     alloc: Global,
     list: &[Value],
 ) -> Result<Result<Operations, usize>, AllocError>
-    ensures { IfOk result (λ read. batch_read read ≡ batch_in (items_view list.now)) }
+    ensures { IfOk result (λ read. batch_line_read read ≡ batch_in (items_view list.now)) }
 {
     let mut ops = Vec::with_capacity(alloc, list.len())?;
     let mut indices = Vec::with_capacity(alloc, list.len())?;

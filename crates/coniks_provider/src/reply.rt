@@ -1,9 +1,9 @@
-//! What a line is answered by, and its text.
+//! The answers of `provider` to a line, and their text.
 
 ghost use Rattle.std.specs.Prelude.{◌≡◌, IfOk};
 ghost use Rattle.serde_json.specs.View.{view};
 ghost use Rattle.coniks_chain.specs.Entries.{body_bytes};
-ghost use Rattle.coniks_provider.specs.Answers.{installed_data, latest_data, outcome_of, prepared_data, reply_data};
+ghost use Rattle.coniks_provider.specs.Answers.{provider_installed_data, latest_data, provider_outcome_of, prepared_data, provider_reply_data};
 
 use coniks_chain::{Body, Entry};
 use coniks_directory::{OpFault, SignedProof};
@@ -16,12 +16,12 @@ use coniks_tool::lines::replies::{
 };
 use std::alloc::{AllocError, Global};
 
-/// What a line is answered by.
+/// The answer of `provider` to a line.
 #[derive(Drop)]
 pub(crate) enum Reply {
     /// The directory is open.
     Opened,
-    /// An update was prepared: the body to sign, and how many nodes the epoch adds.
+    /// An update was prepared: the body to sign, and the number of nodes that the epoch adds.
     Prepared {
         body: Body,
         nodes: usize,
@@ -31,44 +31,44 @@ pub(crate) enum Reply {
         entry: Entry,
         link: Digest,
     },
-    /// A lookup found the path to the name's index in the tree of the epoch with this entry.
+    /// A lookup found the authentication path to the name's index in the tree of the epoch with this entry.
     LookedUp {
         name: String,
         found: SignedProof,
     },
-    /// The latest epoch, its entry's link, and how many names and nodes there are.
+    /// The latest epoch, its entry's link, and the numbers of names and nodes.
     Latest {
         epoch: u64,
         link: Digest,
         names: usize,
         nodes: usize,
     },
-    /// The line isn't a JSON object.
+    /// The line is not a JSON object.
     NotJson,
     /// The line has no known command.
     NoCommand,
     /// A member is missing, of another kind or of a wrong text.
     BadMember(Member),
-    /// The element of `ops` at this place is no operation.
+    /// The element of `ops` at this position is no operation.
     BadOperation(usize),
-    /// The directory isn't open yet.
+    /// The directory is not open.
     NotOpen,
     /// The directory is open already.
     AlreadyOpen,
     /// A batch has too many operations.
     BatchTooLong,
-    /// The operation at this place is at fault.
+    /// The operation at this position has an error.
     BadBatch {
         position: usize,
         fault: OpFault,
     },
-    /// The name of the operation at this place is registered with another index.
+    /// The name of the operation at this position is registered with another index.
     OtherIndex(usize),
-    /// The epoch isn't later than the latest one.
+    /// The epoch is not later than the latest one.
     EpochNotLater {
         latest: u64,
     },
-    /// The board has no room for a further head.
+    /// The board has no room for another head.
     BoardFull,
     /// No update is pending.
     NotPrepared,
@@ -81,11 +81,11 @@ pub(crate) enum Reply {
 }
 
 impl Reply {
-    ghost use Rattle.coniks_provider.specs.Answers.{is_accepted};
+    ghost use Rattle.coniks_provider.specs.Answers.{is_accepted_line};
 
-    /// Whether the line was accepted.
+    /// Returns whether the line was accepted.
     pub(crate) fn is_accepted(&self) -> bool
-        ensures { result ≡ is_accepted (outcome_of self.now) }
+        ensures { result ≡ is_accepted_line (provider_outcome_of self.now) }
     {
         match self {
             Reply::Opened
@@ -111,9 +111,9 @@ impl Reply {
         }
     }
 
-    /// The object that is printed.
+    /// Returns the object that is printed.
     pub(crate) fn object(&self, alloc: Global) -> Result<Printable, AllocError>
-        ensures { IfOk result (λ object. view object.value ≡ reply_data (outcome_of self.now)) }
+        ensures { IfOk result (λ object. view object.value ≡ provider_reply_data (provider_outcome_of self.now)) }
     {
         match self {
             Reply::Opened => opened(alloc),
@@ -155,7 +155,7 @@ fn prepared(alloc: Global, body: &Body, nodes: usize) -> Result<Printable, Alloc
     prepared_of(alloc, body, &body.bytes(), nodes)
 }
 
-/// The same, with the body's bytes.
+/// Returns the object of a prepared update, with the body's bytes.
 fn prepared_of<'a>(
     alloc: Global,
     body: &'a Body,
@@ -178,7 +178,7 @@ fn prepared_of<'a>(
 }
 
 fn installed<'a>(alloc: Global, entry: &'a Entry, link: &'a Digest) -> Result<Printable, AllocError>
-    ensures { IfOk result (λ object. view object.value ≡ installed_data entry.now link.now.0) }
+    ensures { IfOk result (λ object. view object.value ≡ provider_installed_data entry.now link.now.0) }
 {
     object(
         alloc,

@@ -1,4 +1,4 @@
-//! The directory that a line opens, and the update that is pending.
+//! The directory that a line opens, and the pending update.
 
 ghost use Rattle.std.specs.Prelude.{◌≡◌, [], length, None, Some, IfOk, OnOk, option_map};
 ghost use Rattle.coniks_chain.specs.Entries.{link_preimage};
@@ -6,10 +6,10 @@ ghost use Rattle.coniks_directory.specs.Chain.{head_at};
 ghost use Rattle.coniks_proof.specs.Sha256.{sha256};
 ghost use Rattle.coniks_shared.specs.Boards.{BoardEnd};
 ghost use Rattle.coniks_shared.specs.Lists.{last_of};
-ghost use Rattle.coniks_provider.specs.Answers.{installed, outcome_of};
-ghost use Rattle.coniks_provider.specs.Limits.{most_epochs};
-ghost use Rattle.coniks_provider.specs.Stores.{IsRefusable, IsServed, batch_of, opened_of, refused_as};
-ghost use Rattle.coniks_provider.specs.Turns.{install_on, latest_outcome, lookup_with, nothing_yet, number_refusal, prepare_on, refusal};
+ghost use Rattle.coniks_provider.specs.Answers.{installed, provider_outcome_of};
+ghost use Rattle.coniks_provider.specs.Limits.{most_provider_epochs};
+ghost use Rattle.coniks_provider.specs.Stores.{IsRefusable, IsServing, batch_line_of, provided_of, refused_as};
+ghost use Rattle.coniks_provider.specs.Turns.{install_on, latest_outcome, provider_lookup_with, nothing_yet, provider_number_refusal, prepare_on, provider_refusal};
 
 use crate::batch::BatchRead;
 use crate::reply::Reply;
@@ -21,28 +21,19 @@ use coniks_directory::{
 };
 use coniks_proof::{Index, Nonce, Sha256Hash};
 use coniks_shared::{Board, Publisher};
-use coniks_tool::Crew;
+use coniks_tool::Parallelism;
+use coniks_tool::lines::members::nonce_of;
 use coniks_work::Open;
 use std::alloc::{AllocError, Global};
 use std::thread::Threads;
 
-/// How many heads the board of a provider takes, and so how many epochs it may have.
+/// The number of heads that the board of a provider takes, which limits the number of its epochs.
 pub(crate) const BOARD_HEADS: usize = 65536;
 
-/// The nonce of these bytes.
-fn nonce_of(bytes: Option<[u8; 32]>) -> Option<Nonce>
-    ensures { option_map (λ (n : Nonce). n.0) result ≡ bytes }
-{
-    match bytes {
-        Some(bytes) => Some(Nonce(bytes)),
-        None => None,
-    }
-}
-
-/// The reply to a batch that isn't accepted.
+/// Returns the reply to a batch that is not accepted.
 fn batch_refusal(fault: SuppliedBatchFault) -> Result<Reply, AllocError>
     requires { IsRefusable fault }
-    ensures { IfOk result (λ reply. refused_as fault ≡ Some (outcome_of reply)) }
+    ensures { IfOk result (λ reply. refused_as fault ≡ Some (provider_outcome_of reply)) }
 {
     match fault {
         SuppliedBatchFault::Batch(BatchFault::BatchTooLong) => Ok(Reply::BatchTooLong),
@@ -55,10 +46,10 @@ fn batch_refusal(fault: SuppliedBatchFault) -> Result<Reply, AllocError>
     }
 }
 
-/// The reply to an installed update, whose head is the last that is published.
+/// Returns the reply to an installed update, whose head is the last published one.
 fn installed_by(entry: Entry, publisher: &Publisher) -> Reply
     requires { last_of publisher.now.heads ≡ Some (head_at sha256 entry) }
-    ensures { outcome_of result ≡ installed entry (sha256 (link_preimage entry)) }
+    ensures { provider_outcome_of result ≡ installed entry (sha256 (link_preimage entry)) }
 {
     let Some(head) = publisher.last() else {
         unreachable!()
@@ -76,7 +67,7 @@ pub(crate) struct Pending {
     pub(crate) body: Body,
 }
 
-/// A directory that was opened, and the update that is pending.
+/// An open directory, and the pending update.
 #[derive(Drop)]
 pub(crate) struct Service {
     directory: Directory<Sha256Hash, SuppliedIndices>,
@@ -84,10 +75,10 @@ pub(crate) struct Service {
 }
 
 impl Service {
-    /// A directory with no epochs.
+    /// Returns a directory without epochs.
     pub(crate) fn open(alloc: Global, nonce: [u8; 32], policy: [u8; 32]) -> Service
-        ensures state { opened_of result ≡ nothing_yet nonce policy }
-        ensures served { (published : BoardEnd) → published.heads ≡ [] → IsServed published result.directory result.pending }
+        ensures state { provided_of result ≡ nothing_yet nonce policy }
+        ensures served { (published : BoardEnd) → published.heads ≡ [] → IsServing published result.directory result.pending }
     {
         let indices = SuppliedIndices::new(alloc);
         Service {
@@ -99,25 +90,30 @@ impl Service {
     /// Prepares the update of a batch, in place of the pending one.
     pub(crate) fn prepare<T: Threads + Sync>(
         &mut self,
-        crew: &Crew<'_, T>,
+        parallelism: &Parallelism<'_, T>,
         batch: &BatchRead<'_>,
         publisher: &Publisher,
     ) -> Result<Reply, AllocError>
         requires paired { length batch.now.ops.now ≡ length batch.now.indices.now }
-        requires served { IsServed publisher.now self.old.directory self.old.pending }
-        ensures served { IsServed publisher.now self.new.directory self.new.pending }
-        ensures reply { IfOk result (λ reply. outcome_of reply ≡ (prepare_on (opened_of self.old) (batch_of batch.now) (refusal (opened_of self.old) (batch_of batch.now))).outcome) }
-        ensures state { OnOk result (Some (opened_of self.new) ≡ (prepare_on (opened_of self.old) (batch_of batch.now) (refusal (opened_of self.old) (batch_of batch.now))).state) }
+        requires served { IsServing publisher.now self.old.directory self.old.pending }
+        ensures served { IsServing publisher.now self.new.directory self.new.pending }
+        ensures reply { IfOk result (λ reply. provider_outcome_of reply ≡
+            (prepare_on (provided_of self.old) (batch_line_of batch.now) (provider_refusal (provided_of self.old) (batch_line_of batch.now))).outcome) }
+        ensures state { OnOk result (Some (provided_of self.new) ≡
+            (prepare_on (provided_of self.old) (batch_line_of batch.now) (provider_refusal (provided_of self.old) (batch_line_of batch.now))).state) }
     {
         let supplied = SuppliedBatch {
-            nonce: nonce_of(batch.brought),
+            nonce: nonce_of(batch.new_nonce),
             ops: batch.ops,
             indices: batch.indices,
         };
-        let update = match self
-            .directory
-            .prepare_supplied(crew.rt, &supplied, crew.depth, crew.workers, &Open)
-        {
+        let update = match self.directory.prepare_supplied(
+            parallelism.rt,
+            &supplied,
+            parallelism.depth,
+            parallelism.workers,
+            &Open,
+        ) {
             Ok(update) => update,
             Err(fault) => return batch_refusal(fault),
         };
@@ -130,10 +126,10 @@ impl Service {
         Ok(Reply::Prepared { body, nodes })
     }
 
-    /// Why no update is prepared under a number.
+    /// Returns why no update is prepared under a number, if any.
     fn number_refusal(&self, epoch: u64, publisher: &Publisher) -> Option<Reply>
-        requires { IsServed publisher.now self.now.directory self.now.pending }
-        ensures { option_map outcome_of result ≡ number_refusal (opened_of self.now) epoch }
+        requires { IsServing publisher.now self.now.directory self.now.pending }
+        ensures { option_map provider_outcome_of result ≡ provider_number_refusal (provided_of self.now) epoch }
     {
         let latest = self.directory.latest_epoch();
         if epoch <= latest {
@@ -153,12 +149,13 @@ impl Service {
         board: &Board,
     ) -> Result<Reply, AllocError>
         requires table { publisher.old.table ≡ board.now.table }
-        requires capacity { board.now.capacity ≡ most_epochs }
-        requires served { IsServed publisher.old self.old.directory self.old.pending }
+        requires capacity { board.now.capacity ≡ most_provider_epochs }
+        requires served { IsServing publisher.old self.old.directory self.old.pending }
         ensures table { publisher.new.table ≡ publisher.old.table }
-        ensures served { IsServed publisher.new self.new.directory self.new.pending }
-        ensures reply { IfOk result (λ reply. outcome_of reply ≡ (install_on (opened_of self.old) signature (opened_of self.old).pending).outcome) }
-        ensures state { OnOk result (Some (opened_of self.new) ≡ (install_on (opened_of self.old) signature (opened_of self.old).pending).state) }
+        ensures served { IsServing publisher.new self.new.directory self.new.pending }
+        ensures reply { IfOk result (λ reply. provider_outcome_of reply ≡
+            (install_on (provided_of self.old) signature (provided_of self.old).pending).outcome) }
+        ensures state { OnOk result (Some (provided_of self.new) ≡ (install_on (provided_of self.old) signature (provided_of self.old).pending).state) }
     {
         let Some(Pending { update, body }) = self.pending.take() else {
             return Ok(Reply::NotPrepared);
@@ -183,7 +180,7 @@ impl Service {
         name: &str,
         index: [u8; 32],
     ) -> Result<Reply, AllocError>
-        ensures { IfOk result (λ reply. outcome_of reply ≡ lookup_with (Some (opened_of self.now)) epoch name.now index) }
+        ensures { IfOk result (λ reply. provider_outcome_of reply ≡ provider_lookup_with (Some (provided_of self.now)) epoch name.now index) }
     {
         let found = match self
             .directory
@@ -195,16 +192,16 @@ impl Service {
             Err(LookupAtFault::OtherIndex) => return Ok(Reply::BadIndex),
             Err(LookupAtFault::OutOfMemory) => return Err(AllocError),
         };
-        // The directory tells what its chain is.
+        // The contract of `chain` gives the properties of the chain.
         let _chain = self.directory.chain();
         let name = String::from_str(alloc, name)?;
         Ok(Reply::LookedUp { name, found })
     }
 
-    /// What there is at the latest epoch.
+    /// Returns the state at the latest epoch.
     pub(crate) fn latest(&self, publisher: &Publisher) -> Reply
-        requires { IsServed publisher.now self.now.directory self.now.pending }
-        ensures { outcome_of result ≡ latest_outcome (Some (opened_of self.now)) }
+        requires { IsServing publisher.now self.now.directory self.now.pending }
+        ensures { provider_outcome_of result ≡ latest_outcome (Some (provided_of self.now)) }
     {
         Reply::Latest {
             epoch: self.directory.latest_epoch(),

@@ -1,14 +1,16 @@
-//! A signature that was made outside.
+//! A signature that another process made.
 
 ghost use Rattle.std.specs.Prelude.{◌≡◌, ◌<◌, ◌+◌, ◌-◌, ◌^◌, None, Some, IsSome, IfSome};
 ghost use Rattle.coniks_chain.specs.Entries.{IsBody, body_bytes, signed};
 ghost use Rattle.coniks_chain.specs.declared.entry.Body.{Body};
 
-use coniks_chain::{Entry, Sign, Signature, Signings, Verify};
+use coniks_chain::{BODY_BYTES, Entry, Sign, Signature, Signings, Verify};
 use std::marker::Model;
 
-/// Gives the one signature that was made outside, for whichever body is asked. It cannot verify it, so whoever made it does
-/// that before. Contracts see the signature, how often it was given, and the last entry.
+/// A signer with one signature that another process made, for whichever body is asked.
+///
+/// It cannot verify the signature, so its maker does that before. Contracts see the signature, the number of times that
+/// it was returned, and the last entry.
 #[derive(Drop)]
 pub(crate) struct GivenSignature {
     signature: Signature,
@@ -24,7 +26,7 @@ impl Model for GivenSignature {
 }
 
 impl GivenSignature {
-    /// The signer of a signature, which hasn't been asked.
+    /// Returns the signer of a signature, which has not been asked.
     pub(crate) fn new(signature: Signature) -> GivenSignature
         ensures { result ≡ record { signature = signature; made = 0; last = None } }
     {
@@ -40,8 +42,8 @@ impl Verify for GivenSignature {
 
     ghost verdict_of = { λ _ _ _. true };
 
-    /// Yes: the signature is verified before it is handed in.
-    fn verdict(&self, _body: &[u8; 145], _signature: &Signature) -> bool {
+    /// Returns true: the signature is verified before it is supplied.
+    fn verdict(&self, _body: &[u8; BODY_BYTES], _signature: &Signature) -> bool {
         true
     }
 }
@@ -57,7 +59,7 @@ impl Sign for GivenSignature {
 
     ghost last_of = { λ it. it.last };
 
-    fn sign(&mut self, body: &[u8; 145]) -> Option<Signature>
+    fn sign(&mut self, body: &[u8; BODY_BYTES]) -> Option<Signature>
         requires made_below { self.old.made < 2 ^ 64 - 1 }
         ensures given { IsSome result }
         ensures signature { result ≡ Some self.old.signature }

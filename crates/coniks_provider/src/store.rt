@@ -1,22 +1,22 @@
-//! The directory of a provider, once a line opens it, and the board for its heads.
+//! The directory of a provider, after a line has opened it, and the board for its heads.
 
 ghost use Rattle.std.specs.Prelude.{◌≡◌, None, IfErr, IfOk, OnOk, length};
 ghost use Rattle.coniks_lines.specs.declared.fault.RunFault.TheVariants.{NoBoard};
-ghost use Rattle.coniks_provider.specs.Answers.{outcome_of};
-ghost use Rattle.coniks_provider.specs.Stores.{batch_of};
-ghost use Rattle.coniks_provider.specs.Turns.{install_with, latest_outcome, lookup_with, open_with, prepare_with};
+ghost use Rattle.coniks_provider.specs.Answers.{provider_outcome_of};
+ghost use Rattle.coniks_provider.specs.Stores.{batch_line_of};
+ghost use Rattle.coniks_provider.specs.Turns.{install_with, latest_outcome, provider_lookup_with, provider_open_with, prepare_with};
 
 use crate::batch::BatchRead;
 use crate::reply::Reply;
 use crate::service::{BOARD_HEADS, Service};
 use coniks_lines::RunFault;
 use coniks_shared::{Board, Publisher};
-use coniks_tool::Crew;
+use coniks_tool::Parallelism;
 use std::alloc::{AllocError, Global};
 use std::marker::Model;
 use std::thread::Threads;
 
-/// The directory, once a line opens it, and the board for its heads. Contracts see it as the state of the run.
+/// The directory, after a line has opened it, and the board for its heads. Contracts see it as the state of the run.
 #[derive(Drop)]
 pub(crate) struct Store {
     alloc: Global,
@@ -26,19 +26,19 @@ pub(crate) struct Store {
 }
 
 impl Model for Store {
-    ghost use Rattle.coniks_provider.specs.Turns.{State};
+    ghost use Rattle.coniks_provider.specs.Turns.{ProviderState};
 
-    ghost Value = { State };
+    ghost Value = { ProviderState };
 
-    ghost use Rattle.coniks_provider.specs.Stores.{IsKept, state_of};
+    ghost use Rattle.coniks_provider.specs.Stores.{IsProvided, provider_state_of};
 
-    ghost view = { λ s. state_of s.opened };
+    ghost view = { λ s. provider_state_of s.opened };
 
-    ghost invariant = { λ s. IsKept s.board s.publisher s.opened };
+    ghost invariant = { λ s. IsProvided s.board s.publisher s.opened };
 }
 
 impl Store {
-    /// A store with an empty board, in which nothing is open.
+    /// Returns a store with an empty board, in which nothing is open.
     ///
     /// # Errors
     ///
@@ -60,8 +60,8 @@ impl Store {
 
     /// Opens a directory, once.
     pub(crate) fn open_with(&mut self, nonce: [u8; 32], policy: [u8; 32]) -> Reply
-        ensures reply { outcome_of result ≡ (open_with self.old nonce policy).outcome }
-        ensures state { self.new ≡ (open_with self.old nonce policy).state }
+        ensures reply { provider_outcome_of result ≡ (provider_open_with self.old nonce policy).outcome }
+        ensures state { self.new ≡ (provider_open_with self.old nonce policy).state }
     {
         if self.opened.is_some() {
             return Reply::AlreadyOpen;
@@ -73,24 +73,24 @@ impl Store {
     /// Prepares the update of a batch that was read.
     pub(crate) fn prepare<T: Threads + Sync>(
         &mut self,
-        crew: &Crew<'_, T>,
+        parallelism: &Parallelism<'_, T>,
         batch: &BatchRead<'_>,
     ) -> Result<Reply, AllocError>
         requires { length batch.now.ops.now ≡ length batch.now.indices.now }
-        ensures reply { IfOk result (λ reply. outcome_of reply ≡ (prepare_with self.old (batch_of batch.now)).outcome) }
-        ensures state { OnOk result (self.new ≡ (prepare_with self.old (batch_of batch.now)).state) }
+        ensures reply { IfOk result (λ reply. provider_outcome_of reply ≡ (prepare_with self.old (batch_line_of batch.now)).outcome) }
+        ensures state { OnOk result (self.new ≡ (prepare_with self.old (batch_line_of batch.now)).state) }
     {
         let Some(mut service) = self.opened.take() else {
             return Ok(Reply::NotOpen);
         };
-        let reply = service.prepare(crew, batch, &self.publisher);
+        let reply = service.prepare(parallelism, batch, &self.publisher);
         self.opened = Some(service);
         reply
     }
 
     /// Installs the pending update with a signature that was read.
     pub(crate) fn install(&mut self, signature: [u8; 64]) -> Result<Reply, AllocError>
-        ensures reply { IfOk result (λ reply. outcome_of reply ≡ (install_with self.old signature).outcome) }
+        ensures reply { IfOk result (λ reply. provider_outcome_of reply ≡ (install_with self.old signature).outcome) }
         ensures state { OnOk result (self.new ≡ (install_with self.old signature).state) }
     {
         let Some(mut service) = self.opened.take() else {
@@ -108,7 +108,7 @@ impl Store {
         name: &str,
         index: [u8; 32],
     ) -> Result<Reply, AllocError>
-        ensures { IfOk result (λ reply. outcome_of reply ≡ lookup_with self.now epoch name.now index) }
+        ensures { IfOk result (λ reply. provider_outcome_of reply ≡ provider_lookup_with self.now epoch name.now index) }
     {
         match &self.opened {
             Some(service) => service.look_up(self.alloc, epoch, name, index),
@@ -116,9 +116,9 @@ impl Store {
         }
     }
 
-    /// What there is at the latest epoch.
+    /// Returns the state at the latest epoch.
     pub(crate) fn latest(&self) -> Reply
-        ensures { outcome_of result ≡ latest_outcome self.now }
+        ensures { provider_outcome_of result ≡ latest_outcome self.now }
     {
         match &self.opened {
             Some(service) => service.latest(&self.publisher),

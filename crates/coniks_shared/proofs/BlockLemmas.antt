@@ -38,7 +38,8 @@ begins_none bs = (bs, refl)
 -- the words of what was seen stand in the words of all blocks
 pub read_seen : (es bs : List (List ℕ)) (tail : List ℕ) (k : ℕ) → Begins es bs → k < length (flat es) → slice_index (flat bs ++ tail) k ≡ slice_index (flat es) k
 read_seen es bs tail k h less =
-    let e : flat bs ++ tail ≡ flat es ++ (flat h.0 ++ tail) = ap (λ (l : List (List ℕ)). flat l ++ tail) h.1 ∙ ap (λ (l : List ℕ). l ++ tail) (flat_append es h.0) ∙ append_assoc (flat es) (flat h.0) tail in
+    let e : flat bs ++ tail ≡ flat es ++ (flat h.0 ++ tail) = ap (λ (l : List (List ℕ)). flat l ++ tail)
+    h.1 ∙ ap (λ (l : List ℕ). l ++ tail) (flat_append es h.0) ∙ append_assoc (flat es) (flat h.0) tail in
     ap (λ (l : List ℕ). slice_index l k) e ∙ get_or_append_left (flat es) (flat h.0 ++ tail) 0 k less
 
 -- five elements are their list
@@ -78,7 +79,8 @@ reads_last (b ∷ c ∷ cs) (suc n) at f e is =
 -- the same, where each word was read in turn
 pub five_read : (bs b1 b2 b3 b4 : List (List ℕ)) (n k0 k1 k2 k3 k4 x0 x1 x2 x3 x4 : ℕ) → AllFive bs → length bs ≡ n → 0 < n
     → k0 ≡ 5 * (n - 1) → k1 ≡ 5 * (n - 1) + 1 → k2 ≡ 5 * (n - 1) + 2 → k3 ≡ 5 * (n - 1) + 3 → k4 ≡ 5 * (n - 1) + 4
-    → x0 ≡ slice_index (flat bs) k0 → b1 ≡ bs → x1 ≡ slice_index (flat b1) k1 → b2 ≡ b1 → x2 ≡ slice_index (flat b2) k2 → b3 ≡ b2 → x3 ≡ slice_index (flat b3) k3 → b4 ≡ b3 → x4 ≡ slice_index (flat b4) k4
+    → x0 ≡ slice_index (flat bs) k0 → b1 ≡ bs → x1 ≡ slice_index (flat b1) k1 → b2 ≡ b1
+    → x2 ≡ slice_index (flat b2) k2 → b3 ≡ b2 → x3 ≡ slice_index (flat b3) k3 → b4 ≡ b3 → x4 ≡ slice_index (flat b4) k4
     → Some (x0 ∷ x1 ∷ x2 ∷ x3 ∷ x4 ∷ []) ≡ last_of bs
 five_read bs b1 b2 b3 b4 n k0 k1 k2 k3 k4 x0 x1 x2 x3 x4 f e some_n e0 e1 e2 e3 e4 r0 s1 r1 s2 r2 s3 r3 s4 r4 =
     let m : ℕ = 5 * (n - 1) in

@@ -17,12 +17,14 @@ abbrev AllFit : ℕ → ℕ → List (List ℕ) → List ℕ → List BoardView 
 AllFit capacity writer log pending views = (i : ℕ) (v : BoardView) → get_elem? views i ≡ some v → FitsBoard capacity writer log pending i v
 
 -- each view fits after one of them was changed, where the others fit
-fits_set : (F : ℕ → BoardView → Type 0) (views : List BoardView) (id : ℕ) (w : BoardView) → F id w → ((j : ℕ) (u : BoardView) → j ≢ id → get_elem? views j ≡ some u → F j u) → (j : ℕ) (u : BoardView) → get_elem? (set views id w) j ≡ some u → F j u
+fits_set : (F : ℕ → BoardView → Type 0) (views : List BoardView) (id : ℕ) (w : BoardView) → F id w
+    → ((j : ℕ) (u : BoardView) → j ≢ id → get_elem? views j ≡ some u → F j u) → (j : ℕ) (u : BoardView) → get_elem? (set views id w) j ≡ some u → F j u
 fits_set F views id w mine others j u e = ⊎_elim (λ (x : (j ≡ id) × (w ≡ u)). subst (λ (y : ℕ × BoardView). F y.0 y.1) (λ i. (sym x.0 i, x.1 i)) mine)
     (λ (x : (j ≢ id) × (get_elem? views j ≡ some u)). others j u x.0 x.1) (at_set views id j w u e)
 
 -- the state is as it was
-same : (c writer : ℕ) (log : List (List ℕ)) (pending rest words words' : List ℕ) (views views' : List BoardView) → HoldsBoard c writer log pending rest words views → words ≡ words' → views ≡ views' → HoldsBoard c writer log pending rest words' views'
+same : (c writer : ℕ) (log : List (List ℕ)) (pending rest words words' : List ℕ) (views views' : List BoardView)
+    → HoldsBoard c writer log pending rest words views → words ≡ words' → views ≡ views' → HoldsBoard c writer log pending rest words' views'
 same c writer log pending rest words words' views views' h e f = subst (λ (y : List ℕ × List BoardView). HoldsBoard c writer log pending rest y.0 y.1) (λ i. (e i, f i)) h
 
 -- the board holds the same for other views, where each of them fits
@@ -31,7 +33,8 @@ reseated : (c writer : ℕ) (log : List (List ℕ)) (pending rest words : List �
 reseated c writer log pending rest words views views' laid each = record { rows = laid.rows; long = laid.long; full = laid.full; fives = laid.fives; each = each }
 
 -- the publisher stores one word of the next block
-pub puts : (c slots id : ℕ) (me : Me ℕ BoardView) (i x : ℕ) → me.0.writes ≡ true → me.0.live ≡ true → i ≡ 5 * length me.0.blocks + length me.0.pending + 1 → length me.0.pending < 5 → length me.0.blocks < c
+pub puts : (c slots id : ℕ) (me : Me ℕ BoardView) (i x : ℕ) → me.0.writes ≡ true → me.0.live ≡ true
+    → i ≡ 5 * length me.0.blocks + length me.0.pending + 1 → length me.0.pending < 5 → length me.0.blocks < c
     → Allows (IsByBoard c) slots id me i (λ _. x) (λ _. Stored (step slots i x 0 none) me x)
 puts c slots id me i x wr live is few room s kept len at bound = go kept.3 kept.4
   where
@@ -41,7 +44,8 @@ puts c slots id me i x wr live is few room s kept len at bound = go kept.3 kept.
     u : BoardView
     u = publisher_view v.blocks v.told (v.pending ++ x ∷ []) v.room
 
-    go : (rest : List ℕ) → HoldsBoard c kept.0 kept.1 kept.2 rest s.words s.views → (w : BoardView) × (a : Act ℕ) × Rattle.atomic_table.specs.Table.Valid s.homes me.1 a × IsByBoard c (Rattle.atomic_table.specs.Table.stepped s i x id me.1 w a) × Stored (step slots i x 0 none) me x (w, Rattle.atomic_table.specs.Table.carried_after me.1 a)
+    go : (rest : List ℕ) → HoldsBoard c kept.0 kept.1 kept.2 rest s.words s.views → (w : BoardView) × (a : Act ℕ) × Rattle.atomic_table.specs.Table.Valid s.homes me.1 a
+        × IsByBoard c (Rattle.atomic_table.specs.Table.stepped s i x id me.1 w a) × Stored (step slots i x 0 none) me x (w, Rattle.atomic_table.specs.Table.carried_after me.1 a)
     go [] laid =
         let mine = (laid.each id v at).writes wr in
         let a : length v.blocks ≡ length kept.1 = ap length mine.1 in
@@ -93,8 +97,14 @@ publishes c slots id me n wr live five is room s kept len at bound =
       told = begins_more v.told log P fit.told;
       room = λ _. fit.room live;
     }
-    (λ j w other e. (let f = laid.each j w e in record { writes = λ t. absurd (other ((f.writes t).0 ∙ sym mine.0)); seen = begins_more w.blocks log P f.seen; told = begins_more w.told log P f.told; room = f.room })) in
-    (u, keeps, tt, (writer, log', [], rest, record { rows = rows'; long = longer; full = omega (arith, length-append log (P ∷ [])); fives = fives_snoc log P laid.fives (omega arith); each = each' }), (refl, refl))
+    (λ j w other e. (let f = laid.each j w e in
+    record { writes = λ t. absurd (other ((f.writes t).0 ∙ sym mine.0)); seen = begins_more w.blocks log P f.seen; told = begins_more w.told log P f.told; room = f.room })) in (
+      u,
+      keeps,
+      tt,
+      (writer, log', [], rest, record { rows = rows'; long = longer; full = omega (arith, length-append log (P ∷ [])); fives = fives_snoc log P laid.fives (omega arith); each = each' }),
+      (refl, refl),
+    )
 
 -- a watcher loads the count
 pub looks : (c slots id : ℕ) (me : Me ℕ BoardView) → me.0.writes ≡ false → me.0.live ≡ true → Allows (IsByBoard c) slots id me 0 (λ n. n) (Looked (step slots 0 0 0 none) me)
@@ -136,8 +146,13 @@ compares c slots id me wr s kept len at bound =
     let writer : ℕ = kept.0 in let log : List (List ℕ) = kept.1 in let P : List ℕ = kept.2 in let rest : List ℕ = kept.3 in
     let laid : HoldsBoard c writer log P rest s.words s.views = kept.4 in
     let fit = laid.each id v at in
-    let back : slice_set s.words 0 (slice_index s.words 0) ≡ s.words = set-get_or s.words 0 0 in
-    (v, keeps, tt, (writer, log, P, rest, same c writer log P rest s.words _ s.views _ laid (sym back) (sym (set_again s.views id v at))), (refl, subst (λ (k : List (List ℕ)). Begins v.told k) (sym (fit.writes wr).1) fit.told))
+    let back : slice_set s.words 0 (slice_index s.words 0) ≡ s.words = set-get_or s.words 0 0 in (
+      v,
+      keeps,
+      tt,
+      (writer, log, P, rest, same c writer log P rest s.words _ s.views _ laid (sym back) (sym (set_again s.views id v at))),
+      (refl, subst (λ (k : List (List ℕ)). Begins v.told k) (sym (fit.writes wr).1) fit.told),
+    )
 
 -- a new watcher has seen what the seat has seen
 pub witnesses : (c id : ℕ) (v : BoardView) → v.live ≡ true → Splits (IsByBoard {S = ℕ} c) id v v (watcher_view v.blocks v.room)
@@ -152,7 +167,9 @@ witnesses c id v live s kept at =
       log,
       P,
       rest,
-      reseated c writer log P rest s.words s.views _ laid (λ j w e. ⊎_elim (λ (x : get_elem? (set s.views id v) j ≡ some w). laid.each j w (ap (λ (k : List BoardView). get_elem? k j) (sym same_views) ∙ x)) (λ (x : r ≡ w). subst (FitsBoard c writer log P j) x (fr j)) (at_snoc (set s.views id v) r w j e)),
+      reseated c writer log P rest s.words s.views _ laid
+          (λ j w e. ⊎_elim (λ (x : get_elem? (set s.views id v) j ≡ some w). laid.each j w (ap (λ (k : List BoardView). get_elem? k j) (sym same_views) ∙ x))
+          (λ (x : r ≡ w). subst (FitsBoard c writer log P j) x (fr j)) (at_snoc (set s.views id v) r w j e)),
     )
 
 -- a seat is told of what another has seen
@@ -165,7 +182,8 @@ tells c id v other u s kept at apart there =
     let was : get_elem? s.views other ≡ some u = sym (set_else s.views id other both apart) ∙ there in
     let theirs = laid.each other u was in
     let fb : FitsBoard c writer log P id both = record { writes = fit.writes; seen = fit.seen; told = theirs.seen; room = fit.room } in
-    let fn : FitsBoard c writer log P other spent_view = record { writes = λ t. absurd (true≢false (sym t)); seen = begins_none log; told = begins_none log; room = λ t. absurd (true≢false (sym t)) } in (
+    let fn : FitsBoard c writer log P other spent_view =
+    record { writes = λ t. absurd (true≢false (sym t)); seen = begins_none log; told = begins_none log; room = λ t. absurd (true≢false (sym t)) } in (
       writer,
       log,
       P,
@@ -195,5 +213,6 @@ opens c words is =
     first = publisher_view [] [] [] c
 
     one : (j : ℕ) (w : BoardView) → get_elem? (first ∷ []) j ≡ some w → FitsBoard c 0 [] [] j w
-    one zero w e = subst (FitsBoard c 0 [] [] zero) (mathlib.Core.Option.some-injective first w e) record { writes = λ _. (refl, refl, refl); seen = begins_none []; told = begins_none []; room = λ _. refl }
+    one zero w e = subst (FitsBoard c 0 [] [] zero) (mathlib.Core.Option.some-injective first w e)
+        record { writes = λ _. (refl, refl, refl); seen = begins_none []; told = begins_none []; room = λ _. refl }
     one (suc j) w e = absurd (mathlib.Core.Option.some-ne-none w (sym e))

@@ -6,7 +6,8 @@ use Rattle.std.proofs.lemmas.List.{take-append-drop, length-drop}
 use Rattle.coniks_shared.specs.HeadWords.{word_at, link_of}
 
 -- eight elements, and more, are their list
-pub eight_is : (b : List ℕ) (tail : List ℕ) → length b ≡ 8 → slice_index b 0 ∷ slice_index b 1 ∷ slice_index b 2 ∷ slice_index b 3 ∷ slice_index b 4 ∷ slice_index b 5 ∷ slice_index b 6 ∷ slice_index b 7 ∷ tail ≡ b ++ tail
+pub eight_is : (b : List ℕ) (tail : List ℕ) → length b ≡ 8
+    → slice_index b 0 ∷ slice_index b 1 ∷ slice_index b 2 ∷ slice_index b 3 ∷ slice_index b 4 ∷ slice_index b 5 ∷ slice_index b 6 ∷ slice_index b 7 ∷ tail ≡ b ++ tail
 eight_is [] t e = absurd (omega arith)
 eight_is (x0 ∷ []) t e = absurd (omega arith)
 eight_is (x0 ∷ x1 ∷ []) t e = absurd (omega arith)
@@ -46,7 +47,8 @@ take_length (suc n) (x ∷ xs) le = ap suc (take_length n xs (omega arith))
 
 -- a word gives its eight bytes back
 back_at : (link : List ℕ) (at : ℕ) → length link ≡ 32 → at + 8 ≤ 32 → ((i : ℕ) → get_or link i 0 < 256) → to_be_bytes w64 (word_at link at) ≡ take 8 (drop at link)
-back_at link at e le b = be_bytes_8 (take 8 (drop at link)) (word_at link at) (take_length 8 (drop at link) (omega (arith, length-drop at link))) (take_bytes 8 (drop at link) (drop_bytes at link b)) refl
+back_at link at e le b = be_bytes_8 (take 8 (drop at link)) (word_at link at)
+    (take_length 8 (drop at link) (omega (arith, length-drop at link))) (take_bytes 8 (drop at link) (drop_bytes at link b)) refl
 
 -- two drops are one
 drop_drop : (n m : ℕ) (bs : List ℕ) → drop n (drop m bs) ≡ drop (m + n) bs
@@ -72,7 +74,9 @@ link_back link epoch e b =
     let q1 = back_at link 8 e (omega arith) b in
     let q2 = back_at link 16 e (omega arith) b in
     let q3 = back_at link 24 e (omega arith) b in
-    let last : take 8 (drop 24 link) ≡ drop 24 link = sym (ap (λ (l : List ℕ). take 8 (drop 24 link) ++ l) (drop_drop 8 24 link ∙ drop_none link 32 (omega arith)) ∙ Rattle.std.proofs.Common.append-nil (take 8 (drop 24 link))) ∙ take-append-drop 8 (drop 24 link) in
+    let last : take 8 (drop 24 link) ≡ drop 24 link = sym
+    (ap (λ (l : List ℕ). take 8 (drop 24 link) ++ l) (drop_drop 8 24 link ∙ drop_none link 32 (omega arith)) ∙ Rattle.std.proofs.Common.append-nil (take 8 (drop 24 link)))
+    ∙ take-append-drop 8 (drop 24 link) in
     (λ i. q0 i ++ (q1 i ++ (q2 i ++ q3 i)))
     ∙ ap (λ (l : List ℕ). take 8 link ++ (take 8 (drop 8 link) ++ (take 8 (drop 16 link) ++ l))) (last ∙ sym (drop_drop 8 16 link))
     ∙ ap (λ (l : List ℕ). take 8 link ++ (take 8 (drop 8 link) ++ l)) (take-append-drop 8 (drop 16 link) ∙ sym (drop_drop 8 8 link))

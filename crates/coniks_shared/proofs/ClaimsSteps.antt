@@ -19,7 +19,8 @@ grown : (n w : ℕ) (views : List DrawerView) → AllFit n w views → AllFit n 
 grown n w views each i v at = let f = each i v at in record { limit = f.limit; out = λ h. (let a = f.out h in omega arith); outs = f.outs; spent = f.spent }
 
 -- the rule after a draw
-held_after : (n w : ℕ) (views : List DrawerView) (id : ℕ) (v : DrawerView) → HoldsClaims n w views → get_elem? views id ≡ some v → v.outs ≡ 0 → 0 < v.parts → HoldsClaims n (w + 1) (set views id (after_draw v w))
+held_after : (n w : ℕ) (views : List DrawerView) (id : ℕ) (v : DrawerView) → HoldsClaims n w views
+    → get_elem? views id ≡ some v → v.outs ≡ 0 → 0 < v.parts → HoldsClaims n (w + 1) (set views id (after_draw v w))
 held_after n w views id v h at fresh some_part = go (ltb w v.limit) refl
   where
     mine : FitsClaims n w v
@@ -37,7 +38,8 @@ held_after n w views id v h at fresh some_part = go (ltb w v.limit) refl
           drawn = λ x. (let s = total_set (λ v. times x v.list) views id v u at in let d = h.drawn x in omega (arith, times_append x v.list (w ∷ []), once_next x w n less));
           count = (let s = total_set (λ v. length v.list) views id v u at in let d = h.count in omega (arith, length-append v.list (w ∷ [])));
           most = (let s = total_set (λ v. v.outs) views id v u at in omega arith);
-          each = all_set (FitsClaims n (w + 1)) views id u (grown n w views h.each) record { limit = λ _. is_n; out = λ some_out. absurd (omega arith); outs = mine.outs; spent = λ none. absurd (omega arith) };
+          each = all_set (FitsClaims n (w + 1)) views id u (grown n w views h.each)
+              record { limit = λ _. is_n; out = λ some_out. absurd (omega arith); outs = mine.outs; spent = λ none. absurd (omega arith) };
         }
     go false e =
         let u : DrawerView = drawer_view v.list v.parts (v.outs + 1) v.limit in
@@ -72,10 +74,12 @@ draws n slots id me fresh some_part s kept len at bound =
     let top : w ≤ most_numbers + most_drawers = small n w s.views kept.0 held in
     let wraps : (w + 1) % 2 ^ 64 ≡ w + 1 = omega arith in
     let words : slice_set s.words 0 ((slice_index s.words 0 + 1) % 2 ^ 64) ≡ (w + 1) ∷ [] = ap (λ (l : List ℕ). slice_set l 0 ((slice_index l 0 + 1) % 2 ^ 64)) is ∙ ap (λ (k : ℕ). k ∷ []) wraps in
-    let after : HoldsClaims n (w + 1) (set s.views id (after_draw me.0 (slice_index s.words 0))) = subst (λ (k : ℕ). HoldsClaims n (w + 1) (set s.views id (after_draw me.0 k))) (sym found) (held_after n w s.views id me.0 held at fresh some_part) in
+    let after : HoldsClaims n (w + 1) (set s.views id (after_draw me.0 (slice_index s.words 0))) = subst
+    (λ (k : ℕ). HoldsClaims n (w + 1) (set s.views id (after_draw me.0 k))) (sym found) (held_after n w s.views id me.0 held at fresh some_part) in
     let u : DrawerView = after_draw me.0 (slice_index s.words 0) in
     let there : get_elem? (set s.views id u) id ≡ some u = set_there s.views id me.0 u at in
-    let short : length u.list ≤ me.0.limit = (let a = total_at (λ v. length v.list) (set s.views id u) id u there in let b = after.count in let c = (held.each id me.0 at).limit some_part in omega arith) in
+    let short : length u.list ≤ me.0.limit =
+    (let a = total_at (λ v. length v.list) (set s.views id u) id u there in let b = after.count in let c = (held.each id me.0 at).limit some_part in omega arith) in
     (u, keeps, tt, (kept.0, (w + 1, words, after)), (refl, refl, short))
 
 -- a drawer with a part to spare gives it to a new one
@@ -117,11 +121,19 @@ glues n id v other u some_part s kept at apart there =
         kept.1.1,
         record {
           parts = (let a = total_set (λ v. v.parts) s.views id v both at in let b = total_set (λ v. v.parts) (set s.views id both) other u spent_view there in let p = h.parts in omega arith);
-          drawn = λ x. (let a = total_set (λ v. times x v.list) s.views id v both at in let b = total_set (λ v. times x v.list) (set s.views id both) other u spent_view there in let d = h.drawn x in omega (arith, times_append x v.list u.list));
-          count = (let a = total_set (λ v. length v.list) s.views id v both at in let b = total_set (λ v. length v.list) (set s.views id both) other u spent_view there in let d = h.count in omega (arith, length-append v.list u.list));
+          drawn = λ x. (let a = total_set (λ v. times x v.list) s.views id v both at in let b = total_set (λ v. times x v.list)
+              (set s.views id both) other u spent_view there in let d = h.drawn x in omega (arith, times_append x v.list u.list));
+          count = (let a = total_set (λ v. length v.list) s.views id v both at in let b = total_set (λ v. length v.list)
+              (set s.views id both) other u spent_view there in let d = h.count in omega (arith, length-append v.list u.list));
           most = (let a = total_set (λ v. v.outs) s.views id v both at in let b = total_set (λ v. v.outs) (set s.views id both) other u spent_view there in let m = h.most in omega arith);
           each = all_set (FitsClaims n w) (set s.views id both) other spent_view
-              (all_set (FitsClaims n w) s.views id both h.each record { limit = λ _. mine.limit some_part; out = λ some_out. grind (arith, mine.out, theirs.out); outs = (let a = mine.outs in let b = theirs.outs in omega arith); spent = λ none. absurd (omega arith) })
+              (all_set (FitsClaims n w) s.views id both h.each
+              record {
+                limit = λ _. mine.limit some_part;
+                out = λ some_out. grind (arith, mine.out, theirs.out);
+                outs = (let a = mine.outs in let b = theirs.outs in omega arith);
+                spent = λ none. absurd (omega arith);
+              })
               record { limit = λ none. absurd (omega arith); out = λ none. absurd (omega arith); outs = omega arith; spent = λ _. refl };
         },
       ),

@@ -65,7 +65,8 @@ parts_len (d ∷ ds) = let h = parts_len ds in let p = some_part d.first d.split
 first_parts : (ds : List Drawing) (n : ℕ) → HasFirst ds n → 64 + length ds ≤ parts_over ds + n
 first_parts [] n h = absurd h
 first_parts (d ∷ ds) n h = ⊎_elim
-    (λ (x : (d.first ≡ true) × (d.splits + 1 ≡ n)). (let p : parts_of d.first d.splits ≡ parts_of true d.splits = ap (λ b. parts_of b d.splits) x.0 in let e = x.1 in let l = parts_len ds in omega arith))
+    (λ (x : (d.first ≡ true) × (d.splits + 1 ≡ n)).
+    (let p : parts_of d.first d.splits ≡ parts_of true d.splits = ap (λ b. parts_of b d.splits) x.0 in let e = x.1 in let l = parts_len ds in omega arith))
     (λ (x : HasFirst ds n). (let i = first_parts ds n x in let p = some_part d.first d.splits in omega arith)) h
 
 -- where one is out, not none is
@@ -74,7 +75,8 @@ some_out [] h = absurd h
 some_out (d ∷ ds) h = ⊎_elim (λ (x : d.out ≡ true). (let p : outs_of d.out ≡ 1 = ap outs_of x in omega arith)) (λ (x : SomeOut ds). (let i = some_out ds x in omega arith)) h
 
 -- a seat that took in all drawers has each number below n once, where one of them was out
-pub closes : (n w id : ℕ) (views : List DrawerView) (taker u : DrawerView) (ds es : List Drawing) (d : Drawing) → HoldsClaims n w views → get_elem? views id ≡ some u → taker ≡ view_of d → Gathered u [] taker ds
+pub closes : (n w id : ℕ) (views : List DrawerView) (taker u : DrawerView) (ds es : List Drawing) (d : Drawing)
+    → HoldsClaims n w views → get_elem? views id ≡ some u → taker ≡ view_of d → Gathered u [] taker ds
     → es ≡ ds ++ d ∷ [] → HasFirst es (length es) → SomeOut es → Draws (lists_of es) n
 closes n w id views taker u ds es d h at mine g is first some_is x =
     let p : parts_over es ≡ parts_over ds + parts_of d.first d.splits = ap parts_over is ∙ parts_snoc ds d in

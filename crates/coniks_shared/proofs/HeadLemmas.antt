@@ -1,35 +1,35 @@
 -- The heads of blocks.
 use Rattle.std.proofs.Common.{◌≡◌, ℕ, suc, List, [], ◌∷◌, ◌++◌, length, refl, sym, ap, ◌∙◌, arith, Some, None}
 use Rattle.coniks_proof.specs.declared.values.Head.{Head}
-use Rattle.coniks_shared.specs.HeadWords.{head_of, heads_of}
+use Rattle.coniks_shared.specs.HeadWords.{head_in_words, heads_in_words}
 use Rattle.coniks_shared.specs.Lists.{Begins, last_of}
 
 -- the heads of two lists of blocks
-heads_append : (bs cs : List (List ℕ)) → heads_of (bs ++ cs) ≡ heads_of bs ++ heads_of cs
+heads_append : (bs cs : List (List ℕ)) → heads_in_words (bs ++ cs) ≡ heads_in_words bs ++ heads_in_words cs
 heads_append [] cs = refl
-heads_append (b ∷ bs) cs = ap (λ (l : List Head). head_of b ∷ l) (heads_append bs cs)
+heads_append (b ∷ bs) cs = ap (λ (l : List Head). head_in_words b ∷ l) (heads_append bs cs)
 
 -- one block more is one head more
-pub heads_grown : (bs cs : List (List ℕ)) (b : List ℕ) (h : Head) → cs ≡ bs ++ b ∷ [] → head_of b ≡ h → heads_of cs ≡ heads_of bs ++ h ∷ []
-heads_grown bs cs b h is same = ap heads_of is ∙ heads_append bs (b ∷ []) ∙ ap (λ (x : Head). heads_of bs ++ x ∷ []) same
+pub heads_grown : (bs cs : List (List ℕ)) (b : List ℕ) (h : Head) → cs ≡ bs ++ b ∷ [] → head_in_words b ≡ h → heads_in_words cs ≡ heads_in_words bs ++ h ∷ []
+heads_grown bs cs b h is same = ap heads_in_words is ∙ heads_append bs (b ∷ []) ∙ ap (λ (x : Head). heads_in_words bs ++ x ∷ []) same
 
 -- as many heads as blocks
-pub heads_length : (bs : List (List ℕ)) → length (heads_of bs) ≡ length bs
+pub heads_length : (bs : List (List ℕ)) → length (heads_in_words bs) ≡ length bs
 heads_length [] = refl
 heads_length (b ∷ bs) = ap suc (heads_length bs)
 
 -- blocks that begin others have heads that begin theirs
-pub heads_begin : (bs cs : List (List ℕ)) → Begins bs cs → Begins (heads_of bs) (heads_of cs)
-heads_begin bs cs h = (heads_of h.0, ap heads_of h.1 ∙ heads_append bs h.0)
+pub heads_begin : (bs cs : List (List ℕ)) → Begins bs cs → Begins (heads_in_words bs) (heads_in_words cs)
+heads_begin bs cs h = (heads_in_words h.0, ap heads_in_words h.1 ∙ heads_append bs h.0)
 
 -- the last head is that of the last block
-pub last_head : (bs : List (List ℕ)) (b : List ℕ) → Some b ≡ last_of bs → Some (head_of b) ≡ last_of (heads_of bs)
+pub last_head : (bs : List (List ℕ)) (b : List ℕ) → Some b ≡ last_of bs → Some (head_in_words b) ≡ last_of (heads_in_words bs)
 last_head [] b e = cc
-last_head (c ∷ []) b e = ap Some (ap head_of (let s : b ≡ c = cc in s))
+last_head (c ∷ []) b e = ap Some (ap head_in_words (let s : b ≡ c = cc in s))
 last_head (c ∷ d ∷ cs) b e = last_head (d ∷ cs) b e
 
 -- of no block there is none
-pub no_head : (bs : List (List ℕ)) → length bs ≡ 0 → last_of (heads_of bs) ≡ None
+pub no_head : (bs : List (List ℕ)) → length bs ≡ 0 → last_of (heads_in_words bs) ≡ None
 no_head [] e = refl
 no_head (b ∷ bs) e = absurd (omega arith)
 
@@ -39,5 +39,5 @@ last_push (y ∷ []) x = refl
 last_push (y ∷ z ∷ xs) x = last_push (z ∷ xs) x
 
 -- a head that is added is the last one
-pub last_grown : (bs cs : List (List ℕ)) (b : List ℕ) (h : Head) → cs ≡ bs ++ b ∷ [] → head_of b ≡ h → Some h ≡ last_of (heads_of cs)
-last_grown bs cs b h is same = sym (ap last_of (heads_grown bs cs b h is same) ∙ last_push (heads_of bs) h)
+pub last_grown : (bs cs : List (List ℕ)) (b : List ℕ) (h : Head) → cs ≡ bs ++ b ∷ [] → head_in_words b ≡ h → Some h ≡ last_of (heads_in_words cs)
+last_grown bs cs b h is same = sym (ap last_of (heads_grown bs cs b h is same) ∙ last_push (heads_in_words bs) h)

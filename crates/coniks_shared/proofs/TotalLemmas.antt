@@ -51,11 +51,13 @@ total_alone f (x ∷ xs) (suc id) v at e each =
     let h = total_alone f xs id v at (omega arith) (λ i u b z. each (suc i) u b z) in omega arith
 
 -- what holds of each view holds after a change of one
-pub all_set : (P : DrawerView → Type 0) (views : List DrawerView) (id : ℕ) (w : DrawerView) → ((i : ℕ) (v : DrawerView) → get_elem? views i ≡ some v → P v) → P w → (i : ℕ) (v : DrawerView) → get_elem? (set views id w) i ≡ some v → P v
+pub all_set : (P : DrawerView → Type 0) (views : List DrawerView) (id : ℕ) (w : DrawerView)
+    → ((i : ℕ) (v : DrawerView) → get_elem? views i ≡ some v → P v) → P w → (i : ℕ) (v : DrawerView) → get_elem? (set views id w) i ≡ some v → P v
 all_set P views id w each here i v at = ⊎_elim (λ (x : (i ≡ id) × (w ≡ v)). subst P x.1 here) (λ (x : (i ≢ id) × (get_elem? views i ≡ some v)). each i v x.1) (at_set views id i w v at)
 
 -- and with one more
-pub all_snoc : (P : DrawerView → Type 0) (views : List DrawerView) (w : DrawerView) → ((i : ℕ) (v : DrawerView) → get_elem? views i ≡ some v → P v) → P w → (i : ℕ) (v : DrawerView) → get_elem? (views ++ w ∷ []) i ≡ some v → P v
+pub all_snoc : (P : DrawerView → Type 0) (views : List DrawerView) (w : DrawerView)
+    → ((i : ℕ) (v : DrawerView) → get_elem? views i ≡ some v → P v) → P w → (i : ℕ) (v : DrawerView) → get_elem? (views ++ w ∷ []) i ≡ some v → P v
 all_snoc P views w each here i v at = ⊎_elim (λ (x : get_elem? views i ≡ some v). each i v x) (λ (x : w ≡ v). subst P x here) (at_snoc views w v i at)
 
 -- how often x stands in two lists

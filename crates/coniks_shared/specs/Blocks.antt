@@ -1,4 +1,4 @@
--- Blocks of five words, as they lie on a board one after the other.
+-- Blocks of five words, which follow one another on a board.
 use Rattle.std.specs.Prelude.{◌≡◌, ℕ, List, [], ◌∷◌, ◌++◌, length}
 
 -- all words, block after block

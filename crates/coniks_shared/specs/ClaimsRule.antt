@@ -1,4 +1,4 @@
--- The rule of the claims: what the one word and the views of all seats say of one another, between any two steps.
+-- The rule of the claims: how the one word and the views of all seats are related between any two steps.
 use Rattle.std.specs.Prelude.{◌≡◌, ℕ, ◌+◌, ◌-◌, ◌<◌, ◌≤◌, ltb, if◌then◌else◌, min, Bool, true, false, List, [], ◌∷◌, ◌++◌, length}
 use mathlib.Core.Option.{some}
 use lib.ListN.{get_elem?}
@@ -16,14 +16,16 @@ abbrev pub total : (DrawerView → ℕ) → List DrawerView → ℕ
 total f [] = 0
 total f (v ∷ vs) = f v + total f vs
 
--- A view that still has a part knows n. It is out only where the word has reached n, and for each part once at most. One with no part is spent, and has no number.
+-- A view that still has a part knows n. It is out only where the word has reached n, and
+-- for each part once at most. One with no part is spent, and has no number.
 pub record FitsClaims (n word : ℕ) (v : DrawerView) : Type 0 where
   pub limit : 0 < v.parts → v.limit ≡ n
   pub out : 0 < v.outs → n ≤ word
   pub outs : v.outs ≤ v.parts
   pub spent : v.parts ≡ 0 → v.list ≡ []
 
--- The numbers below the lesser of the word and n stand in the lists, each once, and no other number does. The word is at most n, and one more for each drawer that is out. The parts are 64 in all, so who has them all has every list.
+-- The numbers below the lesser of the word and n stand in the lists, each once, and no other number does. The word is at
+-- most n, and one more for each drawer that is out. The parts are 64 in all, so who has them all has every list.
 pub record HoldsClaims (n word : ℕ) (views : List DrawerView) : Type 0 where
   pub parts : total (λ v. v.parts) views ≡ most_drawers
   pub drawn : (x : ℕ) → total (λ v. times x v.list) views ≡ once_below x (min word n)
@@ -35,11 +37,12 @@ pub record HoldsClaims (n word : ℕ) (views : List DrawerView) : Type 0 where
 abbrev pub IsByClaims : {S : Type 0} → ℕ → State S DrawerView → Type 0
 IsByClaims n s = (n ≤ most_numbers) × ((word : ℕ) × (s.words ≡ word ∷ []) × HoldsClaims n word s.views)
 
--- the view after a draw that found k: k joins the list where it is below n, and else the drawer is out
+-- the view after a draw that found k: k is added to the list if it is below n; else the drawer is out
 abbrev pub after_draw : DrawerView → ℕ → DrawerView
-after_draw v k = if ltb k v.limit then drawer_view (v.list ++ k ∷ []) v.parts v.outs v.limit else drawer_view v.list v.parts (v.outs + 1) v.limit
+after_draw v k = if ltb k v.limit then drawer_view (v.list ++ k ∷ [])
+    v.parts v.outs v.limit else drawer_view v.list v.parts (v.outs + 1) v.limit
 
--- what one draw tells: the new view, whose list is no longer than n
+-- the result of one draw: the new view, whose list has at most n numbers
 abbrev pub Drew : {S : Type 0} → Step S → Me S DrawerView → ℕ → Me S DrawerView → Type 0
 Drew s v found w = (w.1 ≡ v.1) × (w.0 ≡ after_draw v.0 found) × (length w.0.list ≤ v.0.limit)
 
@@ -51,7 +54,7 @@ both_views v w = drawer_view (v.list ++ w.list) (v.parts + w.parts) (v.outs + w.
 abbrev pub spent_view : DrawerView
 spent_view = drawer_view [] 0 0 0
 
--- 1 for a drawer that has answered None
+-- 1 for a drawer that has returned None
 abbrev pub outs_of : Bool → ℕ
 outs_of true = 1
 outs_of false = 0

@@ -14,7 +14,7 @@ abbrev pub outs_over : List Drawing → ℕ
 outs_over [] = 0
 outs_over (d ∷ ds) = outs_of d.out + outs_over ds
 
--- v with the drawers ds has just what w with the drawers es has
+-- v with the drawers ds has exactly what w with the drawers es has
 pub record Gathered (v : DrawerView) (ds : List Drawing) (w : DrawerView) (es : List Drawing) : Type 0 where
   pub parts : v.parts + parts_over ds ≡ w.parts + parts_over es
   pub outs : v.outs + outs_over ds ≡ w.outs + outs_over es

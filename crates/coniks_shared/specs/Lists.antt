@@ -1,7 +1,7 @@
 -- Lists that go on, and their last element.
 use Rattle.std.specs.Prelude.{◌≡◌, List, [], ◌∷◌, ◌++◌, Option, Some, None}
 
--- the later list goes on where the earlier one ends
+-- the later list begins with the earlier one
 abbrev pub Begins : {A : Type 0} → List A → List A → Type 0
 Begins {A} early late = (rest : List A) × (late ≡ early ++ rest)
 

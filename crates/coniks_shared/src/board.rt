@@ -1,4 +1,4 @@
-//! The board: one publisher puts heads on it, and watchers read the last one.
+//! A board, on which one publisher publishes heads, and watchers read the last one.
 ghost use Rattle.std.specs.Prelude.{◌≡◌, ◌≤◌, ◌<◌, ◌+◌, ◌*◌, ◌++◌, ◌∷◌, ◌-◌, [], true, length, slice_index, Some, IsOk, IfOk, OnErr, OnOk};
 ghost use Rattle.coniks_shared.specs.Limits.{most_heads};
 ghost use Rattle.coniks_shared.specs.Lists.{Begins, last_of};
@@ -16,11 +16,12 @@ use coniks_proof::Head;
 use std::alloc::Global;
 use std::marker::Model;
 
-/// The most heads that a board takes.
+/// The largest number of heads that a board takes.
 pub const MAX_HEADS: usize = 65536;
 
-/// Room for heads, on which nothing is ever written twice. Contracts see it as the table that tells it from other
-/// boards, and its capacity in heads.
+/// Room for heads, in which nothing is written twice.
+///
+/// Contracts see a board as the table that distinguishes it from other boards, and its capacity in heads.
 #[derive(Drop)]
 pub struct Board {
     table: Table<u8, BoardView, usize, ByBoard, Global>,
@@ -41,7 +42,7 @@ impl Model for Board {
     ghost invariant = { λ b. (b.table.shared.key ≡ b.capacity) × (b.table.shared.table_id.words ≡ 5 * b.capacity + 1) × (b.capacity ≤ most_heads) };
 }
 
-/// The one end of a board that publishes. Contracts see it as its board's table, and the heads that are published.
+/// The only publisher of a board. Contracts see it as its board's table, and the heads that are published.
 #[derive(Drop)]
 pub struct Publisher {
     seat: Seat<u8, BoardView>,
@@ -51,7 +52,7 @@ pub struct Publisher {
 
 impl Model for Publisher {
     ghost use Rattle.std.specs.Prelude.{◌≡◌, ◌+◌, ◌*◌, ◌≤◌, [], length};
-    ghost use Rattle.coniks_shared.specs.HeadWords.{heads_of};
+    ghost use Rattle.coniks_shared.specs.HeadWords.{heads_in_words};
     ghost use Rattle.coniks_shared.specs.Boards.{BoardEnd, board_end_code, board_end};
     ghost use Rattle.coniks_shared.specs.BoardRule.{publisher_view};
     ghost use Rattle.coniks_shared.specs.Lists.{last_of};
@@ -60,13 +61,15 @@ impl Model for Publisher {
 
     ghost coded = { board_end_code };
 
-    ghost view = { λ p. board_end p.seat.table_id (heads_of p.seat.me.0.blocks) };
+    ghost view = { λ p. board_end p.seat.table_id (heads_in_words p.seat.me.0.blocks) };
 
     // Between calls no word of a next block is stored.
-    ghost invariant = { λ p. (p.seat.me.1 ≡ []) × (p.seat.me.0 ≡ publisher_view p.seat.me.0.blocks p.seat.me.0.told [] p.seat.me.0.room) × (length p.seat.me.0.blocks ≡ p.count) × (p.count ≤ p.seat.me.0.room) × (p.seat.table_id.words ≡ 5 * p.seat.me.0.room + 1) × (p.last ≡ last_of (heads_of p.seat.me.0.blocks)) };
+    ghost invariant = { λ p. (p.seat.me.1 ≡ []) × (p.seat.me.0 ≡ publisher_view p.seat.me.0.blocks p.seat.me.0.told [] p.seat.me.0.room)
+        × (length p.seat.me.0.blocks ≡ p.count) × (p.count ≤ p.seat.me.0.room)
+        × (p.seat.table_id.words ≡ 5 * p.seat.me.0.room + 1) × (p.last ≡ last_of (heads_in_words p.seat.me.0.blocks)) };
 }
 
-/// An end of a board that looks. Contracts see it as its board's table, and the heads that it has seen.
+/// A reader of a board. Contracts see it as its board's table, and the heads that it has seen.
 #[derive(Drop)]
 pub struct Watcher {
     seat: Seat<u8, BoardView>,
@@ -74,7 +77,7 @@ pub struct Watcher {
 
 impl Model for Watcher {
     ghost use Rattle.std.specs.Prelude.{◌≡◌, ◌+◌, ◌*◌, []};
-    ghost use Rattle.coniks_shared.specs.HeadWords.{heads_of};
+    ghost use Rattle.coniks_shared.specs.HeadWords.{heads_in_words};
     ghost use Rattle.coniks_shared.specs.Boards.{BoardEnd, board_end_code, board_end};
     ghost use Rattle.coniks_shared.specs.BoardRule.{watcher_view};
 
@@ -82,14 +85,20 @@ impl Model for Watcher {
 
     ghost coded = { board_end_code };
 
-    ghost view = { λ w. board_end w.seat.table_id (heads_of w.seat.me.0.blocks) };
+    ghost view = { λ w. board_end w.seat.table_id (heads_in_words w.seat.me.0.blocks) };
 
-    ghost invariant = { λ w. (w.seat.me.1 ≡ []) × (w.seat.me.0 ≡ watcher_view w.seat.me.0.blocks w.seat.me.0.room) × (w.seat.table_id.words ≡ 5 * w.seat.me.0.room + 1) };
+    ghost invariant = { λ w. (w.seat.me.1 ≡ []) × (w.seat.me.0 ≡ watcher_view w.seat.me.0.blocks w.seat.me.0.room)
+        × (w.seat.table_id.words ≡ 5 * w.seat.me.0.room + 1) };
 }
 
 impl Board {
-    /// An empty board for 1 to 65,536 heads, with its publisher. It takes 8 bytes and 40 more for each head, and as much
-    /// again while it is made. It is `NoBoard` only for want of memory.
+    /// Returns an empty board for 1 to 65,536 heads, with its publisher.
+    ///
+    /// Allocates 8 bytes and 40 more for each head, and as much again during the call.
+    ///
+    /// # Errors
+    ///
+    /// `NoBoard` if an allocation fails.
     pub fn new(alloc: Global, capacity: usize) -> Result<(Board, Publisher), NoBoard>
         requires { (1 ≤ capacity) × (capacity ≤ most_heads) }
         ensures { IfOk result (λ r. (r.0.capacity ≡ capacity) × (r.1 ≡ board_end r.0.table [])) }
@@ -108,7 +117,7 @@ impl Board {
         Ok((Board { table, capacity }, publisher))
     }
 
-    /// How many heads it takes in all.
+    /// Returns the number of heads that the board takes in all.
     pub fn capacity(&self) -> usize
         ensures { result ≡ self.now.capacity }
     {
@@ -118,7 +127,7 @@ impl Board {
 
 #[cfg(test)]
 impl Board {
-    /// The word that now lies at this place.
+    /// Returns the word that is at this position now.
     pub(crate) fn word(&self, at: usize) -> u64
         requires { at ≤ 5 * self.now.capacity }
     {
@@ -143,7 +152,7 @@ fn put(
     table.store::<StoreWord>(seat, at, word);
 }
 
-// Stores the count, by which the next block is published.
+// Stores the count, which publishes the next block.
 fn show(table: &Shared<u8, BoardView, usize, ByBoard>, seat: &mut Seat<u8, BoardView>, count: usize)
     requires table { (seat.old.table_id ≡ table.now.table_id) × (table.now.table_id.words ≡ 5 * table.now.key + 1) }
     requires publisher { seat.old.me.0 ≡ publisher_view seat.old.me.0.blocks seat.old.me.0.told seat.old.me.0.pending seat.old.me.0.room }
@@ -179,7 +188,7 @@ fn put_block(
     show(table, seat, *count);
 }
 
-// Loads the count. As many blocks are then seen.
+// Loads the count. The seat has then seen this number of blocks.
 fn look(table: &Shared<u8, BoardView, usize, ByBoard>, seat: &mut Seat<u8, BoardView>) -> usize
     requires table { (seat.old.table_id ≡ table.now.table_id) × (0 < table.now.table_id.words) }
     requires watcher { seat.old.me.0 ≡ watcher_view seat.old.me.0.blocks seat.old.me.0.room }
@@ -225,7 +234,7 @@ fn read_block(
     [first, second, third, fourth, fifth]
 }
 
-// A new seat, of a watcher that has seen what the seat has.
+// Returns the seat of a new watcher that has seen the blocks that this seat has seen.
 fn witness(
     table: &Shared<u8, BoardView, usize, ByBoard>,
     seat: &mut Seat<u8, BoardView>,
@@ -238,7 +247,7 @@ fn witness(
     table.split_seat::<Witness>(seat)
 }
 
-// Tells the publisher's seat what the other has seen, which ends.
+// Reports to the publisher's seat the blocks that the other seat has seen. The other seat ends.
 fn tell(
     table: &Shared<u8, BoardView, usize, ByBoard>,
     seat: &mut Seat<u8, BoardView>,
@@ -252,7 +261,7 @@ fn tell(
     table.join_seat::<Tell>(seat, other);
 }
 
-// Loads the count by the publisher's seat: what it was told of begins the published blocks.
+// Loads the count by the publisher's seat: the blocks reported to it are a prefix of the published blocks.
 fn compare(table: &Shared<u8, BoardView, usize, ByBoard>, seat: &mut Seat<u8, BoardView>)
     requires table { (seat.old.table_id ≡ table.now.table_id) × (0 < table.now.table_id.words) }
     requires publisher { seat.old.me.0.writes ≡ true }
@@ -263,7 +272,7 @@ fn compare(table: &Shared<u8, BoardView, usize, ByBoard>, seat: &mut Seat<u8, Bo
 }
 
 impl Publisher {
-    /// How many heads are published.
+    /// Returns the number of published heads.
     #[tactic(auto, using(crate::proofs::HeadLemmas::heads_length))]
     pub fn published(&self) -> usize
         ensures { result ≡ length self.now.heads }
@@ -271,15 +280,18 @@ impl Publisher {
         self.count
     }
 
-    /// The last head that is published, or None where none is.
+    /// Returns the last published head, or `None` if there is none.
     pub fn last(&self) -> Option<Head>
         ensures { result ≡ last_of self.now.heads }
     {
         self.last
     }
 
-    /// Publishes a head: it stores the head's five words, and then the count. It is `BoardFull` exactly where as many
-    /// heads as the capacity are published; then nothing is stored.
+    /// Publishes a head. It stores the head's five words, and then the count.
+    ///
+    /// # Errors
+    ///
+    /// `BoardFull` if and only if as many heads as the capacity are published. Nothing is stored then.
     #[tactic(auto, using(crate::proofs::HeadLemmas::heads_length))]
     pub fn publish(&mut self, board: &Board, head: Head) -> Result<(), BoardFull>
         requires { self.old.table ≡ board.now.table }
@@ -297,7 +309,13 @@ impl Publisher {
         Ok(())
     }
 
-    /// A watcher that has seen all heads published so far. It takes no memory, and there is always one more.
+    /// Returns a watcher that has seen all heads published so far.
+    ///
+    /// Allocates nothing. The number of watchers is not limited.
+    ///
+    /// # Errors
+    ///
+    /// `NoSeat` is never returned.
     pub fn watcher(&mut self, board: &Board) -> Result<Watcher, NoSeat>
         requires { self.old.table ≡ board.now.table }
         ensures had { IsOk result }
@@ -309,7 +327,7 @@ impl Publisher {
         })
     }
 
-    /// Shows that what the watcher has seen begins what is published. Both are as before.
+    /// Proves that the heads that the watcher has seen are a prefix of the published heads. Both are unchanged.
     #[tactic(auto, using(crate::proofs::HeadLemmas::heads_begin))]
     pub fn meet(&mut self, board: &Board, watcher: &mut Watcher)
         requires { (self.old.table ≡ board.now.table) × (watcher.old.table ≡ board.now.table) }
@@ -324,8 +342,10 @@ impl Publisher {
 }
 
 impl Watcher {
-    /// Looks: the watcher has then seen at least the heads that it had seen, and it answers the last of them, or None
-    /// where there is none. It waits for nobody.
+    /// Returns the last head that the watcher has seen, or `None` if there is none.
+    ///
+    /// The watcher reads the board first. It has then seen at least the heads that it had seen before. The call waits for
+    /// no other thread.
     #[tactic(auto, using(crate::proofs::HeadLemmas::heads_begin, crate::proofs::HeadLemmas::last_head, crate::proofs::HeadLemmas::no_head))]
     pub fn latest(&mut self, board: &Board) -> Option<Head>
         requires { self.old.table ≡ board.now.table }

@@ -1,10 +1,12 @@
-//! What a seat of the board knows, the rule of the board, and what each of its steps does to a view.
+//! The knowledge of a board's seat, the rule of the board, and the effect of each of its steps on a view.
 use atomic_table::{Join, Play, Split, TableRule};
 use std::collections::LinkedList;
 
-/// The view of a seat: whether it is the publisher's, whether it was not joined to another, the blocks that it has seen
-/// (the publisher: all), the blocks that it was told of, the words stored of the next block, and the capacity. No value
-/// of it is made.
+/// The view of a seat. No value of it is made at run time.
+///
+/// It contains whether the seat is the publisher's, whether it was not joined to another, and the blocks that it has seen
+/// (the publisher: all). It also contains the blocks that were reported to it, the stored words of the next block, and
+/// the capacity.
 pub struct BoardView {
     pub writes: bool,
     pub live: bool,
@@ -14,7 +16,7 @@ pub struct BoardView {
     pub room: u64,
 }
 
-/// The rule of the board. What the table is told is the capacity.
+/// The rule of the board. The table's key is the capacity.
 pub struct ByBoard;
 
 impl<S> TableRule<S, BoardView, usize> for ByBoard {
@@ -62,7 +64,7 @@ impl<S> Play<S, BoardView> for LoadWord {
     ghost then = { Read };
 }
 
-/// The publisher loads the count, to learn that what it was told of begins what it has.
+/// The publisher loads the count, and learns that the blocks reported to it are a prefix of its own.
 pub struct Compare;
 
 impl<S> Play<S, BoardView> for Compare {
@@ -82,7 +84,7 @@ impl Split<BoardView> for Witness {
     ghost right = { λ v. watcher_view v.blocks v.room };
 }
 
-/// A seat is told of what another has seen.
+/// A seat receives the blocks that another has seen.
 pub struct Tell;
 
 impl Join<BoardView> for Tell {

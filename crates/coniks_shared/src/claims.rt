@@ -1,4 +1,4 @@
-//! The claims: numbers below n, which the drawers on several threads draw, each once.
+//! Claims: numbers below n, which drawers on several threads draw, each once.
 ghost use Rattle.std.specs.Prelude.{◌≡◌, ◌≤◌, ◌<◌, ◌+◌, ◌-◌, ◌++◌, ◌∷◌, ◌↔◌, [], true, false, length, All, IsOk, IfOk, IfSome, IfNone, OnErr, None};
 ghost use Rattle.coniks_shared.specs.Limits.{most_numbers, most_drawers};
 ghost use Rattle.coniks_shared.specs.Draws.{Draws};
@@ -12,14 +12,15 @@ use atomic_table::{Seat, Shared, Table};
 use std::alloc::Global;
 use std::marker::Model;
 
-/// The most numbers that one claims object takes.
+/// The largest number of numbers in one claims object.
 pub const MAX_NUMBERS: usize = 4096;
 
-/// The most drawers that one claims object has.
+/// The largest number of drawers of one claims object.
 pub const MAX_DRAWERS: usize = 64;
 
-/// The numbers below n, to be drawn by drawers on any threads. Contracts see it as the table that tells it from other
-/// claims, and the limit n.
+/// The numbers below n, which drawers on any threads draw.
+///
+/// Contracts see claims as the table that distinguishes them from other claims, and the limit n.
 #[derive(Drop)]
 pub struct Claims {
     table: Table<u8, DrawerView, usize, ByClaims, Global>,
@@ -39,8 +40,10 @@ impl Model for Claims {
     ghost invariant = { λ c. (c.table.shared.key ≡ c.limit) × (c.table.shared.table_id.words ≡ 1) × (c.table.shared.table_id.slots ≡ 0) };
 }
 
-/// What one thread draws numbers with. Contracts see it as its claims' table and limit, the list of the numbers that it
-/// drew, whether it has answered None, whether it is the first drawer, and how often it was split.
+/// A drawer, with which one thread draws numbers.
+///
+/// Contracts see it as its claims' table and limit, and the list of the numbers that it drew. They also see whether it has
+/// returned `None`, whether it is the first drawer, and the number of its splits.
 #[derive(Drop)]
 pub struct Drawer {
     seat: Seat<u8, DrawerView>,
@@ -62,11 +65,16 @@ impl Model for Drawer {
 
     ghost view = { λ d. drawing d.seat.table_id d.limit d.seat.me.0.list d.out d.first d.splits };
 
-    ghost invariant = { λ d. (d.seat.me.1 ≡ []) × (d.seat.me.0.limit ≡ d.limit) × (d.seat.me.0.outs ≡ outs_of d.out) × (d.seat.me.0.parts ≡ parts_of d.first d.splits) × (d.splits < most_drawers) };
+    ghost invariant = { λ d. (d.seat.me.1 ≡ []) × (d.seat.me.0.limit ≡ d.limit) × (d.seat.me.0.outs ≡ outs_of d.out)
+        × (d.seat.me.0.parts ≡ parts_of d.first d.splits) × (d.splits < most_drawers) };
 }
 
 impl Claims {
-    /// The numbers below `n`, at most `MAX_NUMBERS`, with their first drawer. It is `NoClaims` only for want of memory.
+    /// Returns the numbers below `n`, at most `MAX_NUMBERS`, with their first drawer.
+    ///
+    /// # Errors
+    ///
+    /// `NoClaims` if an allocation fails.
     pub fn new(alloc: Global, n: usize) -> Result<(Claims, Drawer), NoClaims>
         requires { n ≤ most_numbers }
         ensures { IfOk result (λ r. (r.0.limit ≡ n) × (r.1 ≡ drawing r.0.table n [] false true 0)) }
@@ -86,8 +94,10 @@ impl Claims {
         ))
     }
 
-    /// Ends the draws. It takes all drawers: the first is among them, and they are as many as its splits and one.
-    /// Where at least one of them has answered None, the numbers below n stand in their lists, each once.
+    /// Ends the draws, and takes all drawers.
+    ///
+    /// The first drawer is among them, and there is one more than the number of its splits. If at least one of them has
+    /// returned `None`, their lists contain the numbers below n, each once.
     pub fn close(self, mut drawers: Vec<Drawer>)
         requires own { All (λ d. d.table ≡ self.table) drawers.items }
         requires all { HasFirst drawers.items (length drawers.items) }
@@ -134,7 +144,7 @@ fn take_in(
     table.join_seat::<OnePart>(taker, drawer.into_seat());
 }
 
-// Adds 1 to the word, in one step, and answers what it was.
+// Adds 1 to the word, in one step, and returns the value before.
 fn add_one(table: &Shared<u8, DrawerView, usize, ByClaims>, seat: &mut Seat<u8, DrawerView>) -> u64
     requires table { (seat.old.table_id ≡ table.now.table_id) × (table.now.table_id.words ≡ 1) }
     requires some { 0 < seat.old.me.0.parts }
@@ -146,7 +156,7 @@ fn add_one(table: &Shared<u8, DrawerView, usize, ByClaims>, seat: &mut Seat<u8, 
     table.fetch_add::<OneDraw>(seat, 0, 1)
 }
 
-// Cuts one part off the seat, for a new one.
+// Splits one part off the seat, for a new one.
 fn cut_off(
     table: &Shared<u8, DrawerView, usize, ByClaims>,
     seat: &mut Seat<u8, DrawerView>,
@@ -161,8 +171,12 @@ fn cut_off(
 }
 
 impl Drawer {
-    /// A further drawer of the same claims. Only the first drawer is split, 63 times at most, so that there are 64
-    /// drawers; else it is `NoSeat`, and nothing has changed.
+    /// Returns a further drawer of the same claims.
+    ///
+    /// # Errors
+    ///
+    /// `NoSeat` if this is not the first drawer, or if it was split 63 times, so that there are 64 drawers. Nothing has
+    /// changed then.
     #[tactic(auto, using(crate::proofs::GatherLemmas::spare_part, crate::proofs::GatherLemmas::outs_few))]
     pub fn split(&mut self, claims: &Claims) -> Result<Drawer, NoSeat>
         requires { self.old.table ≡ claims.now.table }
@@ -185,13 +199,15 @@ impl Drawer {
         })
     }
 
-    /// Draws in one step. It answers a number below n, which its list gains and which, by the rule of the claims, no other
-    /// drawer draws, or None where none is left. After its first None it answers None, and makes no step.
+    /// Draws a number below n in one step, or returns `None` if none is left.
     ///
-    /// A loop over it ends: a number makes the list longer, which is never longer than n.
+    /// The drawer's list gains the number. By the rule of the claims no other drawer draws it. After its first `None` the
+    /// drawer returns `None` without a step. A loop over `draw` terminates: each number makes the list longer, and the
+    /// list is never longer than n.
     pub fn draw(&mut self, claims: &Claims) -> Option<usize>
         requires { self.old.table ≡ claims.now.table }
-        ensures some { IfSome result (λ k. (k < self.old.limit) × (self.new ≡ drawing self.old.table self.old.limit (self.old.list ++ k ∷ []) false self.old.first self.old.splits)) }
+        ensures some { IfSome result (λ k. (k < self.old.limit)
+            × (self.new ≡ drawing self.old.table self.old.limit (self.old.list ++ k ∷ []) false self.old.first self.old.splits)) }
         ensures short { IfSome result (λ _. length self.old.list < self.old.limit) }
         ensures none { IfNone result (self.new ≡ drawing self.old.table self.old.limit self.old.list true self.old.first self.old.splits) }
         ensures over { self.old.out ≡ true → result ≡ None }
@@ -208,7 +224,7 @@ impl Drawer {
         }
     }
 
-    // The seat of the drawer, which ends.
+    // Returns the seat of the drawer, which ends.
     fn into_seat(self) -> Seat<u8, DrawerView>
         ensures { (result.table_id ≡ self.table) × (result.me ≡ (view_of self, [])) }
     {

@@ -1,9 +1,11 @@
-//! What a seat of the claims knows, the rule of the claims, and what each of its steps does to a view.
+//! The knowledge of a seat of the claims, the rule of the claims, and the effect of each of its steps on a view.
 use atomic_table::{Join, Play, Split, TableRule};
 use std::collections::LinkedList;
 
-/// The view of a seat: the numbers that it drew, its parts of the right to know all lists, how many drawers in it have
-/// answered None, and n. No value of it is made.
+/// The view of a seat. No value of it is made at run time.
+///
+/// It contains the numbers that the seat drew, and its parts of the right to know all lists. It also contains n and the
+/// number of its drawers that have returned `None`.
 pub struct DrawerView {
     pub list: LinkedList<u64>,
     pub parts: u64,
@@ -11,7 +13,7 @@ pub struct DrawerView {
     pub limit: u64,
 }
 
-/// The rule of the claims. What the table is told is n.
+/// The rule of the claims. The table's key is n.
 pub struct ByClaims;
 
 impl<S> TableRule<S, DrawerView, usize> for ByClaims {

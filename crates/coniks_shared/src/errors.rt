@@ -1,22 +1,22 @@
-//! What a call answers where it refuses.
+//! The errors of claims and boards.
 use thiserror::Error;
 
-/// There was no memory for the claims.
+/// The claims could not be allocated.
 #[derive(Clone, Copy, Debug, Drop, PartialEq, Eq, Error)]
-#[error("the claims could not be had")]
+#[error("out of memory for the claims")]
 pub struct NoClaims;
 
-/// No further drawer or watcher can be had.
+/// There is no further drawer or watcher.
 #[derive(Clone, Copy, Debug, Drop, PartialEq, Eq, Error)]
-#[error("no further seat can be had")]
+#[error("no further seat is available")]
 pub struct NoSeat;
 
-/// There was no memory for the board.
+/// The board could not be allocated.
 #[derive(Clone, Copy, Debug, Drop, PartialEq, Eq, Error)]
-#[error("the board could not be had")]
+#[error("out of memory for the board")]
 pub struct NoBoard;
 
-/// As many heads are published as the board takes.
+/// The board has as many heads as it takes.
 #[derive(Clone, Copy, Debug, Drop, PartialEq, Eq, Error)]
 #[error("the board is full")]
 pub struct BoardFull;

@@ -1,13 +1,13 @@
 //! A head as five words: its epoch, and its link in four parts of eight bytes, big endian.
 ghost use Rattle.std.specs.Prelude.{◌≡◌, ℕ, slice_index, ◌+◌, ◌≤◌, ◌<◌, ◌++◌, length};
-ghost use Rattle.coniks_shared.specs.HeadWords.{word_at, words_of, head_of};
+ghost use Rattle.coniks_shared.specs.HeadWords.{word_at, words_of, head_in_words};
 
 use coniks_proof::{Digest, Head};
 
-/// The five words of a head. They give it back.
+/// Returns the five words of a head, which determine it.
 pub(crate) fn head_words(head: &Head) -> [u64; 5]
     ensures words { result ≡ words_of head.now }
-    ensures back { head_of result ≡ head.now }
+    ensures back { head_in_words result ≡ head.now }
 {
     let link = head.link.0;
     known(&link);
@@ -20,9 +20,9 @@ pub(crate) fn head_words(head: &Head) -> [u64; 5]
     ]
 }
 
-/// The head of five words.
+/// Returns the head of five words.
 pub(crate) fn head_from(words: &[u64; 5]) -> Head
-    ensures { result ≡ head_of words.now }
+    ensures { result ≡ head_in_words words.now }
 {
     Head {
         epoch: words[0],

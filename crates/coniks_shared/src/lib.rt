@@ -1,5 +1,7 @@
-//! What workers and watchers share, without a lock: numbers that several threads draw, each once, and a board on which
-//! one publisher puts heads while watchers read the last one.
+//! Values that workers and watchers share, without a lock.
+//!
+//! The claims are numbers that several threads draw, each once. On a board one publisher publishes heads, and watchers
+//! read the last one.
 //!
 //! A board with its publisher, and a watcher:
 //!

@@ -355,8 +355,8 @@ fn is_shown(rt: &impl Abort, alloc: Global, error: &impl Display, wanted: &str) 
 #[test]
 fn errors_say_what_is_missing(rt: HostRuntime) {
     let alloc = rt.alloc();
-    assert!(rt; is_shown(&rt, alloc, &NoClaims, "the claims could not be had"));
-    assert!(rt; is_shown(&rt, alloc, &NoSeat, "no further seat can be had"));
-    assert!(rt; is_shown(&rt, alloc, &NoBoard, "the board could not be had"));
+    assert!(rt; is_shown(&rt, alloc, &NoClaims, "out of memory for the claims"));
+    assert!(rt; is_shown(&rt, alloc, &NoSeat, "no further seat is available"));
+    assert!(rt; is_shown(&rt, alloc, &NoBoard, "out of memory for the board"));
     assert!(rt; is_shown(&rt, alloc, &BoardFull, "the board is full"));
 }

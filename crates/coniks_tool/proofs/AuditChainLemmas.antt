@@ -12,7 +12,7 @@ use Rattle.coniks_lines.specs.Runs.{AnswersAll}
 use Rattle.coniks_lines.specs.declared.fault.RunFault.{RunFault}
 use Rattle.coniks_proof.specs.Sha256.{sha256}
 use Rattle.coniks_chain.specs.declared.entry.Entry.{Entry}
-use Rattle.coniks_chain.specs.declared.auditor.Before.{Before}
+use Rattle.coniks_chain.specs.declared.auditor.AuditorState.{AuditorState}
 use Rattle.coniks_chain.specs.declared.auditor.AuditFault.{AuditFault}
 use Rattle.coniks_chain.specs.Chain.{Continues, Follows, before_at, before_of}
 use Rattle.coniks_tool.specs.Members.{object_in}
@@ -68,13 +68,13 @@ takes_object s None e there none = absurd (false≢true (ap is_some there))
 takes_object s (Some d) e there none = subst (λ found. Takes s e (entry_turn s found)) (sym there) (takes_entry s e none)
 
 -- an entry before others that continue after it
-continues-cons : (hash : List ℕ → List ℕ) (v : List ℕ → List ℕ → Bool) (start : Option Before) (e : Entry) (es : List Entry) → Follows v start e → Continues hash v (Some (before_of hash e)) es
+continues-cons : (hash : List ℕ → List ℕ) (v : List ℕ → List ℕ → Bool) (start : Option AuditorState) (e : Entry) (es : List Entry) → Follows v start e → Continues hash v (Some (before_of hash e)) es
     → (k : ℕ) (x : Entry) → slice_get (e ∷ es) k ≡ Some x → Follows v (before_at hash start (e ∷ es) k) x
 continues-cons hash v start e es follows rest zero x at = subst (λ y. Follows v start y) (same_Some e x at) follows
 continues-cons hash v start e es follows rest (suc zero) x at = rest zero x at
 continues-cons hash v start e es follows rest (suc (suc k)) x at = rest (suc k) x at
 
-continues-tail : (hash : List ℕ → List ℕ) (v : List ℕ → List ℕ → Bool) (start : Option Before) (e : Entry) (es : List Entry) → Continues hash v start (e ∷ es)
+continues-tail : (hash : List ℕ → List ℕ) (v : List ℕ → List ℕ → Bool) (start : Option AuditorState) (e : Entry) (es : List Entry) → Continues hash v start (e ∷ es)
     → (k : ℕ) (x : Entry) → slice_get es k ≡ Some x → Follows v (before_at hash (Some (before_of hash e)) es k) x
 continues-tail hash v start e es all zero x at = all (suc zero) x at
 continues-tail hash v start e es all (suc k) x at = all (suc (suc k)) x at
@@ -89,7 +89,8 @@ goes_on-cons s state e es none then_is rest =
     continues-cons sha256 (is_seal s.key) s.before e es (none-follows (is_seal s.key) s.before e none) moved
 
 -- with the next line, the accepted entries go on
-chain_step : (s : AuditState) (line : List ℕ) (es : List Entry) (m : Bool) → is_audited (audit_turn s line).outcome ≡ m → GoesOn (audit_turn s line).state es → GoesOn s (if_accepted m (entry_on line) ++ es)
+chain_step : (s : AuditState) (line : List ℕ) (es : List Entry) (m : Bool) → is_audited (audit_turn s line).outcome ≡ m
+    → GoesOn (audit_turn s line).state es → GoesOn s (if_accepted m (entry_on line) ++ es)
 chain_step s line es true is rest =
     let t = (line_says s line).0 is in
     rw t.there (goes_on-cons s (audit_turn s line).state t.entry es t.faultless t.then_is rest)
@@ -140,7 +141,8 @@ holds-all s (line ∷ lines) (e ∷ es) held good =
     rw took.0 (holds-all (audit_turn s line).state lines es (rest_same (entry_on line) (Some e) (map entry_on lines) (map Some es) held) rest)
 
 -- a run that answered all is true exactly where the lines hold a good chain
-pub all-chain : (key input : List ℕ) (old new : Sink) (start state : AuditState) (result : Result Bool RunFault) → start ≡ none_audited key → IfOk result (AnswersAll audit_answer start input old new state)
+pub all-chain : (key input : List ℕ) (old new : Sink) (start state : AuditState) (result : Result Bool RunFault)
+    → start ≡ none_audited key → IfOk result (AnswersAll audit_answer start input old new state)
     → IfOk result (λ all. (all ≡ true) ↔ HoldsGoodChain key (lines_of input))
 all-chain key input old new start state (Ok all) at answers =
     let all_is : all ≡ all_accepted audit_answer (none_audited key) (lines_of input) = subst (λ (s : AuditState). all ≡ all_accepted audit_answer s (lines_of input)) at answers.all_is in (

@@ -6,10 +6,10 @@ use Rattle.std.proofs.lemmas.Bool.{cases_lt, false≢true}
 use Rattle.std.proofs.lemmas.Bool.Decides.{Decides-eqb, Decides-like, Decides-ltb, Decides-not, Decides-or}
 use Rattle.std.proofs.lemmas.Slice.Eq.{bytes_eq-Decides}
 use Rattle.coniks_chain.specs.declared.entry.Entry.{Entry}
-use Rattle.coniks_chain.specs.declared.auditor.Before.{Before}
+use Rattle.coniks_chain.specs.declared.auditor.AuditorState.{AuditorState}
 use Rattle.coniks_chain.specs.declared.auditor.AuditFault.{AuditFault}
 use Rattle.coniks_chain.specs.declared.auditor.AuditFault.TheVariants.{Version, VersionBack, FirstEpoch, NotLater, PreviousEpoch, PreviousLink, NonceChanged, Verdict}
-use Rattle.coniks_chain.specs.Chain.{Meets, MeetsAll, IsFirstFault, Follows, faults, place_of, epoch_before, link_before}
+use Rattle.coniks_chain.specs.Chain.{Meets, MeetsAll, IsFirstEntryFault, Follows, faults, place_of, epoch_before, link_before}
 use Rattle.coniks_tool.specs.AuditFaults.{meets, audit_fault}
 use Rattle.coniks_tool.proofs.FirstLemmas.{AreNumbered, NoneBefore, first-found, found-first, found-none, none-found, number-at}
 
@@ -22,7 +22,7 @@ no_less : (m n : ℕ) → Decides (not (nat_lt n m)) (m ≤ n)
 no_less m n = Decides-like (not (nat_lt n m)) (λ off. ⊎_elim (λ less. absurd (off less)) (λ most. most) (cases_lt n m)) (λ most less. omega arith) (Decides-not (nat_lt n m) (Decides-ltb n m))
 
 -- the test of a row is the row
-pub decides : (v : List ℕ → List ℕ → Bool) (before : Option Before) (e : Entry) (fault : AuditFault) → Decides (meets v before e fault) (Meets v before e fault)
+pub decides : (v : List ℕ → List ℕ → Bool) (before : Option AuditorState) (e : Entry) (fault : AuditFault) → Decides (meets v before e fault) (Meets v before e fault)
 decides v before e Version = Decides-or (e.body.version == 1) (e.body.version == 2) (Decides-eqb e.body.version 1) (Decides-eqb e.body.version 2)
 decides v None e VersionBack = (λ _. tt, λ _. refl)
 decides v (Some b) e VersionBack = no_less b.version e.body.version
@@ -49,7 +49,7 @@ not_off : (b : Bool) → not b ≡ false → b ≡ true
 not_off true off = refl
 not_off false off = sym off
 
-module _ (v : List ℕ → List ℕ → Bool) (before : Option Before) (e : Entry) where
+module _ (v : List ℕ → List ℕ → Bool) (before : Option AuditorState) (e : Entry) where
   abbrev unmet : AuditFault → Bool
   unmet fault = not (meets v before e fault)
 
@@ -78,11 +78,11 @@ module _ (v : List ℕ → List ℕ → Bool) (before : Option Before) (e : Entr
   none-follows none = record { rows = met faults 8 (found-none unmet faults none) }
 
   -- the fault that is told is the first
-  pub first-some : (fault : AuditFault) → IsFirstFault v before e fault → audit_fault v before e ≡ Some fault
+  pub first-some : (fault : AuditFault) → IsFirstEntryFault v before e fault → audit_fault v before e ≡ Some fault
   first-some fault first =
       first-found unmet faults (place_of fault) fault (at_place fault) ((Decides-not _ (decides v before e fault)).1 first.here) (none_unmet faults (place_of fault) first.earlier)
 
-  pub some-first : (fault : AuditFault) → audit_fault v before e ≡ Some fault → IsFirstFault v before e fault
+  pub some-first : (fault : AuditFault) → audit_fault v before e ≡ Some fault → IsFirstEntryFault v before e fault
   some-first fault some =
       let f = found-first unmet faults fault some in
       let numbered = number-at place_of faults 0 f.place fault in_order f.at in

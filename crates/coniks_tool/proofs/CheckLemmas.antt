@@ -1,4 +1,4 @@
--- Questions that are judged.
+-- Questions and their results.
 use Rattle.std.proofs.Common.{◌≡◌, ℕ, List, Option, sym, ap, subst, ◌∙◌}
 use Rattle.std.specs.Prelude.{Ok}
 use Rattle.coniks_proof.specs.Sha256.{sha256}

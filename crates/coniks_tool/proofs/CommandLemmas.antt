@@ -14,7 +14,8 @@ adds-subcommand old sub new before below adds was is = (
 )
 
 -- the command's app is the one before with the option's rule
-pub adds-option : (old : Command) (option : Arg) (new : Command) (before : App) (rule : Rule) → AddsArg old option new → IsCommand before old → IsOption rule option → IsCommand (with_rule before rule) new
+pub adds-option : (old : Command) (option : Arg) (new : Command) (before : App) (rule : Rule)
+    → AddsArg old option new → IsCommand before old → IsOption rule option → IsCommand (with_rule before rule) new
 adds-option old option new before rule adds was is = (
   adds.shape is.1 ∙ ap (λ (a : App). with_rule a (rule_of option)) was.0 ∙ ap (λ (r : Rule). with_rule before r) is.0,
   adds.globals ∙ ap (λ (b : Bool). b || option.global) was.1 ∙ is.1,

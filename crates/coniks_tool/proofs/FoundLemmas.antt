@@ -3,7 +3,7 @@ use Rattle.std.proofs.Common.{◌≡◌, ℕ, List, [], ◌∷◌, map, true, fa
 use Rattle.std.specs.Prelude.{◌==◌, cond, find, is_some, zip}
 use Rattle.std.proofs.lemmas.Bool.{false≢true}
 use Rattle.coniks_chain.specs.Chain.{before_of}
-use Rattle.coniks_chain.specs.declared.auditor.Before.{Before}
+use Rattle.coniks_chain.specs.declared.auditor.AuditorState.{AuditorState}
 use Rattle.coniks_chain.specs.declared.entry.Entry.{Entry}
 use Rattle.coniks_directory.specs.History.{Shown, shown_at}
 use Rattle.coniks_directory.specs.Lookups.{IsFound, IsMissed}
@@ -18,7 +18,7 @@ use Rattle.coniks_tool.specs.Chains.{chain_after, chain_of, entry_after}
 use Rattle.coniks_tool.specs.Demo.{demo_index}
 use Rattle.coniks_tool.specs.Paths.{Path, path_of, path_to}
 use Rattle.coniks_tool.specs.Replies.{bad_name_length, looked_up, unknown_epoch}
-use Rattle.coniks_tool.specs.Script.{Chained, Opened, epoch_at, epochs_of, lookup_at, lookup_with}
+use Rattle.coniks_tool.specs.Script.{Chained, ScriptDirectory, epoch_at, epochs_of, lookup_at, lookup_with}
 use Rattle.coniks_tool.proofs.PathLemmas.{path_is}
 
 -- the entry of exactly this epoch
@@ -37,7 +37,7 @@ pair_up (Some s) (Some e) = Some (record { shown = s; entry = e })
 
 module _ (key policy : List ℕ) (number : ℕ) where
   -- the search among epochs with their entries finds what the searches among both find
-  both : (before : Option Before) (history : List Shown)
+  both : (before : Option AuditorState) (history : List Shown)
       → epoch_at (paired history (chain_after key policy before history)) number ≡ pair_up (shown_at history number) (entry_at (chain_after key policy before history) number)
   both before [] = refl
   both before (shown ∷ history) =
@@ -50,27 +50,28 @@ module _ (key policy : List ℕ) (number : ℕ) where
       ]
 
   -- and it finds one where there is such an epoch
-  there : (before : Option Before) (history : List Shown) → is_some (epoch_at (paired history (chain_after key policy before history)) number) ≡ is_some (shown_at history number)
+  there : (before : Option AuditorState) (history : List Shown) → is_some (epoch_at (paired history (chain_after key policy before history)) number) ≡ is_some (shown_at history number)
   there before [] = refl
   there before (shown ∷ history) =
       let entry = entry_after key policy before shown in
       let later = chain_after key policy (Some (before_of sha256 entry)) history in
-      elim (shown.t == number) as (λ b. is_some (cond b (Some (record { shown = shown; entry = entry })) (epoch_at (paired history later) number)) ≡ is_some (cond b (Some shown) (shown_at history number))) [
+      elim (shown.t == number) as (λ b. is_some (cond b (Some (record { shown = shown; entry = entry })) (epoch_at (paired history later) number)) ≡
+      is_some (cond b (Some shown) (shown_at history number))) [
         | true ↦ refl
         | false ↦ there (Some (before_of sha256 entry)) history
       ]
 
 -- a name that isn't of a name's length
-off : (of : List ℕ → List ℕ) (name : List ℕ) (e : Option Chained) → is_some e ≡ true → fits MAX_NAME name ≡ false → bad_name_length ≡ lookup_at of name e
-off of name None is long = absurd (false≢true is)
-off of name (Some e) is long = ap (λ b. if b then looked_up e.entry (of name) name (path_to sha256 of e.shown.nonce e.shown.registry (of name)) else bad_name_length) (sym long)
+off : (index_of : List ℕ → List ℕ) (name : List ℕ) (e : Option Chained) → is_some e ≡ true → fits MAX_NAME name ≡ false → bad_name_length ≡ lookup_at index_of name e
+off index_of name None is long = absurd (false≢true is)
+off index_of name (Some e) is long = ap (λ b. if b then looked_up e.entry (index_of name) name (path_to sha256 index_of e.shown.nonce e.shown.registry (index_of name)) else bad_name_length) (sym long)
 
 -- a name of a name's length
-into : (of : List ℕ → List ℕ) (name : List ℕ) (shown : Shown) (entry : Entry) → fits MAX_NAME name ≡ true
-    → lookup_at of name (Some (record { shown = shown; entry = entry })) ≡ looked_up entry (of name) name (path_to sha256 of shown.nonce shown.registry (of name))
-into of name shown entry on = ap (λ b. if b then looked_up entry (of name) name (path_to sha256 of shown.nonce shown.registry (of name)) else bad_name_length) on
+into : (index_of : List ℕ → List ℕ) (name : List ℕ) (shown : Shown) (entry : Entry) → fits MAX_NAME name ≡ true
+    → lookup_at index_of name (Some (record { shown = shown; entry = entry })) ≡ looked_up entry (index_of name) name (path_to sha256 index_of shown.nonce shown.registry (index_of name))
+into index_of name shown entry on = ap (λ b. if b then looked_up entry (index_of name) name (path_to sha256 index_of shown.nonce shown.registry (index_of name)) else bad_name_length) on
 
-module _ (o : Opened) (epoch : ℕ) (name bytes : List ℕ) (same : bytes ≡ name) where
+module _ (o : ScriptDirectory) (epoch : ℕ) (name bytes : List ℕ) (same : bytes ≡ name) where
   pub missed_length : (fault : LookupFault) → fault ≡ NameLength → IsMissed o.history epoch bytes fault → bad_name_length ≡ lookup_with (Some o) epoch name
   missed_length fault is missed =
       let m : (is_some (shown_at o.history epoch) ≡ true) × (fits MAX_NAME bytes ≡ false) = subst (λ (f : LookupFault). IsMissed o.history epoch bytes f) is missed in
@@ -87,10 +88,13 @@ module _ (o : Opened) (epoch : ℕ) (name bytes : List ℕ) (same : bytes ≡ na
         ap (lookup_at (demo_index o.key) name) (both o.key o.policy epoch None o.history
         ∙ ap (pair_up (shown_at o.history epoch)) (sym (at ∙ ap (λ (es : List Entry). entry_at es epoch) is)))
 
-    pub found_there : (entry : Entry) (text index : List ℕ) → Some entry ≡ entry_at chain epoch → text ≡ name → index ≡ demo_index o.key name → looked_up entry index text (path_of proof) ≡ lookup_with (Some o) epoch name
+    pub found_there : (entry : Entry) (text index : List ℕ) → Some entry ≡ entry_at chain epoch → text ≡ name
+        → index ≡ demo_index o.key name → looked_up entry index text (path_of proof) ≡ lookup_with (Some o) epoch name
     found_there entry text index at text_is index_is =
         let path = path_is sha256 found.shown.nonce (entries_of sha256 (demo_index o.key) found.shown.registry) (demo_index o.key bytes) proof found.path in
         ap (λ (t : List ℕ). looked_up entry index t (path_of proof)) text_is
         ∙ ap (λ (i : List ℕ). looked_up entry i name (path_of proof)) index_is
-        ∙ ap (λ (p : Path). looked_up entry (demo_index o.key name) name p) (path ∙ ap (λ (x : List ℕ). path_to sha256 (demo_index o.key) found.shown.nonce found.shown.registry (demo_index o.key x)) same)
-        ∙ sym (here (Some entry) at ∙ ap (λ (s : Option Shown). lookup_at (demo_index o.key) name (pair_up s (Some entry))) found.installed ∙ into (demo_index o.key) name found.shown entry (ap (fits MAX_NAME) (sym same) ∙ found.sized))
+        ∙ ap (λ (p : Path). looked_up entry (demo_index o.key name) name p)
+        (path ∙ ap (λ (x : List ℕ). path_to sha256 (demo_index o.key) found.shown.nonce found.shown.registry (demo_index o.key x)) same)
+        ∙ sym (here (Some entry) at ∙ ap (λ (s : Option Shown). lookup_at (demo_index o.key) name (pair_up s (Some entry)))
+        found.installed ∙ into (demo_index o.key) name found.shown entry (ap (fits MAX_NAME) (sym same) ∙ found.sized))

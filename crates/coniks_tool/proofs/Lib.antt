@@ -3,7 +3,6 @@ mod AuditFaultLemmas
 mod CheckFaultLemmas
 mod CheckLemmas
 mod CommandLemmas
-mod CommitLemmas
 mod FirstLemmas
 mod FoundLemmas
 pub mod Lemmas

@@ -18,7 +18,7 @@ use Rattle.clap.specs.declared.builder.value_parser.ValueParser.{ValueParser}
 use Rattle.clap.specs.declared.builder.value_parser.ValueParser.TheVariants as parser
 use Rattle.clap.proofs.ValueTestLemmas.{accepts-Accepts}
 use Rattle.clap.proofs.WalkLemmas.{byte_read}
-use Rattle.coniks_tool.specs.Choice.{AreWithin, number_of}
+use Rattle.coniks_tool.specs.Choice.{AreWordsWithin, number_of}
 use Rattle.coniks_tool.specs.Keydir.{depth_rule, keydir, workers_rule}
 use Rattle.coniks_tool.proofs.OptionLemmas.{Each, Passes, Ruled, found-has, level-passes}
 use Rattle.coniks_tool.proofs.SubcommandLemmas.{first-none, then-none}
@@ -76,7 +76,7 @@ number-within rule low high missing rows same small least most passes = by (firs
 -- the subcommands, built
 
 abbrev pub IsLimited : Text × List Row → Type 0
-IsLimited met = bytes_eq met.0 (codes "run") ≡ true → AreWithin met.1
+IsLimited met = bytes_eq met.0 (codes "run") ≡ true → AreWordsWithin met.1
 
 abbrev Limits : Shape → Type 0
 Limits s = (words : List Text) → level_fault s [] nothing_held words false [] ≡ [] → IsLimited (rows_at s words)

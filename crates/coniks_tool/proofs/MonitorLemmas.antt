@@ -45,7 +45,8 @@ module _ (s : MonitorState) (entry : Entry) (proof : Proof) where
       ∙ ap (checked_turn s entry proof) (accepts-none sha256 entry.body.nonce.0 entry.body.root.0 s.index s.name proof (answer_of proof.end) sound.accepted)
 
   -- another one is refused by its first fault
-  pub refused-step : (fault : MonitorFault) → IsFirstStepFault sha256 (is_seal s.key) s.before s.name s.index entry proof fault → step_turn s entry proof ≡ record { outcome = at_fault fault; state = s }
+  pub refused-step : (fault : MonitorFault) → IsFirstStepFault sha256 (is_seal s.key) s.before s.name s.index entry proof fault
+      → step_turn s entry proof ≡ record { outcome = at_fault fault; state = s }
   refused-step (Audit fault) is = ap (audited_turn s entry proof) (first-some (is_seal s.key) s.before entry fault is)
   refused-step (Check fault) is =
       ap (audited_turn s entry proof) (follows-none (is_seal s.key) s.before entry is.0)

@@ -27,7 +27,8 @@ after-with_first found op (Ok ops) = ap Ok (sym (append_assoc (map operation_of 
 after-with_first found op (Err place) = refl
 
 -- one more operation keeps the loop's invariant
-pub one_more_operation : (vs : List Value) (i : ℕ) (v : Value) (found new : List Op) (op : Op) → i < length vs → v ≡ get_or vs i v → Some (operation_of op) ≡ operation_in (view v) → new ≡ found ++ op ∷ []
+pub one_more_operation : (vs : List Value) (i : ℕ) (v : Value) (found new : List Op) (op : Op)
+    → i < length vs → v ≡ get_or vs i v → Some (operation_of op) ≡ operation_in (view v) → new ≡ found ++ op ∷ []
     → operations_from 0 (items_view vs) ≡ after (map operation_of found) (operations_from i (items_view (drop i vs)))
     → operations_from 0 (items_view vs) ≡ after (map operation_of new) (operations_from (i + 1) (items_view (drop (i + 1) vs)))
 one_more_operation vs i v found new op lt is some pushed so_far =

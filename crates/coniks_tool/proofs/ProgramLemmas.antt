@@ -1,4 +1,4 @@
--- What comes of the program's words.
+-- The endings of the program.
 use Rattle.std.proofs.Common.{◌≡◌, ◌≢◌, ◌≤◌, ◌⊎◌, inl, inr, ℕ, List, [], Bool, true, false, Option, Some, None, ap, arith, sym, subst, ◌∙◌}
 use Rattle.std.specs.String.{string_bytes}
 use Rattle.std.specs.Prelude.{◌&&◌, Result, Ok, Err, IfErr, IfOk, is_none, is_some}
@@ -14,10 +14,10 @@ use Rattle.coniks_tool.specs.Choice.{Choice, run, check, audit, monitor, chosen,
 use Rattle.coniks_tool.specs.Expectations.{expectation_in}
 use Rattle.coniks_tool.specs.Keydir.{keydir}
 use Rattle.coniks_tool.specs.Program.{AsksForHelp, BreaksOff, ChooseNoRun, EndsBy, EndsFor, HasBadExpectation, HasBadKey, HasBadText, HasMistake, IfDone, IfRefused, IsCutOff, IsExplained, IsShown, NeverBegins, Runs, RunsFor, StopsAt, Tells, TellsIf, bad_expectation_line, bad_key_line, fault_line, is_asked_for, status_of, told_of, Fails}
-use Rattle.coniks_tool.specs.declared.words.choice.WordsFault.{WordsFault}
-use Rattle.coniks_tool.specs.declared.words.choice.WordsFault.TheVariants.{Clap, OutOfMemory}
-use Rattle.coniks_tool.specs.declared.words.ending.Ending.{Ending}
-use Rattle.coniks_tool.specs.declared.words.ending.Ending.TheVariants.{Done, Refused, BadKey, BadExpectation}
+use Rattle.coniks_tool.specs.declared.cli.choice.WordsFault.{WordsFault}
+use Rattle.coniks_tool.specs.declared.cli.choice.WordsFault.TheVariants.{Clap, OutOfMemory}
+use Rattle.coniks_tool.specs.declared.cli.ending.Ending.{Ending}
+use Rattle.coniks_tool.specs.declared.cli.ending.Ending.TheVariants.{Done, Refused, BadKey, BadExpectation}
 
 -- a fact that always holds also holds where the words are refused
 pub holds_if_refused : {P : Type 0} (r : Result Ending RunFault) → P → IfOk r (λ ending. IfRefused ending P)
@@ -102,7 +102,8 @@ told-at_2 (Ok BadExpectation) old new told is = (bad_expectation_line, told)
 told-at_2 (Err fault) old new told is = absurd (omega (arith, is))
 
 -- at 3 the fault that ended it is told
-pub told-at_3 : {F : RunFault → Type 0} (outcome : Result Ending RunFault) (old new : Sink) → TellsIf (told_of outcome) old new → IfErr outcome F → status_of outcome ≡ 3 → (fault : RunFault) × (Tells old (fault_line fault) new × F fault)
+pub told-at_3 : {F : RunFault → Type 0} (outcome : Result Ending RunFault) (old new : Sink) → TellsIf (told_of outcome) old new
+    → IfErr outcome F → status_of outcome ≡ 3 → (fault : RunFault) × (Tells old (fault_line fault) new × F fault)
 told-at_3 (Ok (Done true)) old new told fails is = absurd (omega (arith, is))
 told-at_3 (Ok (Done false)) old new told fails is = absurd (omega (arith, is))
 told-at_3 (Ok (Refused text)) old new told fails is = absurd (omega (arith, is))
@@ -122,19 +123,22 @@ fails_so wanted from from' to to' Write fails = fails
 fails_so wanted from from' to to' RunOutOfMemory fails = fails
 fails_so wanted from from' to to' NoBoard fails = absurd fails.0
 
-pub fails_with_no_board : (wanted : Type 0) (from from' : Source) (to to' : Sink) (outcome : Result Ending RunFault) → IfErr outcome (Fails ⊥ from from' to to') → IfErr outcome (Fails wanted from from' to to')
+pub fails_with_no_board : (wanted : Type 0) (from from' : Source) (to to' : Sink) (outcome : Result Ending RunFault)
+    → IfErr outcome (Fails ⊥ from from' to to') → IfErr outcome (Fails wanted from from' to to')
 fails_with_no_board wanted from from' to to' outcome fails = IfErr-weaker outcome (Fails ⊥ from from' to to') (Fails wanted from from' to to') (fails_so wanted from from' to to') fails
 
 module _ (words : List (List ℕ)) (from from' : Source) (to to' : Sink) where
   -- the ending of the run that the words choose is one for the words
-  ends_for : (choice : Choice) (ending : Ending) → fault_of keydir words ≡ [] → chosen (subcommand_of keydir words) ≡ Some choice → EndsBy (Some choice) from from' to to' ending → EndsFor words from from' to to' ending
+  ends_for : (choice : Choice) (ending : Ending) → fault_of keydir words ≡ [] → chosen (subcommand_of keydir words) ≡ Some choice
+      → EndsBy (Some choice) from from' to to' ending → EndsFor words from from' to to' ending
   ends_for choice (Done true) none is ends = inl (record { faultless = none; runs = subst (λ c. Runs c from from' to to' true) (sym is) ends })
   ends_for choice (Done false) none is ends = record { faultless = none; runs = subst (λ c. Runs c from from' to to' false) (sym is) ends }
   ends_for choice (Refused text) none is ends = absurd ends
   ends_for choice BadKey none is ends = record { faultless = none; no_key = ap lacks_key is ∙ ends }
   ends_for choice BadExpectation none is ends = record { faultless = none; no_expectation = ap lacks_expectation is ∙ ends }
 
-  pub run-ends_for : (choice : Choice) (outcome : Result Ending RunFault) → fault_of keydir words ≡ [] → chosen (subcommand_of keydir words) ≡ Some choice → IfOk outcome (EndsBy (Some choice) from from' to to') → IfOk outcome (EndsFor words from from' to to')
+  pub run-ends_for : (choice : Choice) (outcome : Result Ending RunFault) → fault_of keydir words ≡ [] → chosen (subcommand_of keydir words) ≡ Some choice
+      → IfOk outcome (EndsBy (Some choice) from from' to to') → IfOk outcome (EndsFor words from from' to to')
   run-ends_for choice (Ok ending) none is ends = ends_for choice ending none is ends
   run-ends_for choice (Err fault) none is ends = tt
 
@@ -188,7 +192,8 @@ module _ (words : List (List ℕ)) (from from' : Source) (to to' : Sink) where
   ran-at_1 (Ok BadExpectation) ends is = absurd (omega (arith, is))
   ran-at_1 (Err fault) ends is = absurd (omega (arith, is))
 
-  pub refused-at_2 : (outcome : Result Ending RunFault) → IfOk outcome (EndsFor words from from' to to') → status_of outcome ≡ 2 → HasMistake (fault_of keydir words) ⊎ HasBadKey words ⊎ HasBadExpectation words
+  pub refused-at_2 : (outcome : Result Ending RunFault) → IfOk outcome (EndsFor words from from' to to')
+      → status_of outcome ≡ 2 → HasMistake (fault_of keydir words) ⊎ HasBadKey words ⊎ HasBadExpectation words
   refused-at_2 (Ok (Done true)) ends is = absurd (omega (arith, is))
   refused-at_2 (Ok (Done false)) ends is = absurd (omega (arith, is))
   refused-at_2 (Ok (Refused text)) ends is = inl ends
@@ -196,7 +201,8 @@ module _ (words : List (List ℕ)) (from from' : Source) (to to' : Sink) where
   refused-at_2 (Ok BadExpectation) ends is = inr (inr ends)
   refused-at_2 (Err fault) ends is = absurd (omega (arith, is))
 
-  pub taken-at_2 : (outcome : Result Ending RunFault) → IfOk outcome (EndsFor words from from' to to') → IfOk outcome (λ ending. IfRefused ending (takes keydir words ≢ true)) → takes keydir words ≡ true → status_of outcome ≡ 2 → HasBadKey words ⊎ HasBadExpectation words
+  pub taken-at_2 : (outcome : Result Ending RunFault) → IfOk outcome (EndsFor words from from' to to')
+      → IfOk outcome (λ ending. IfRefused ending (takes keydir words ≢ true)) → takes keydir words ≡ true → status_of outcome ≡ 2 → HasBadKey words ⊎ HasBadExpectation words
   taken-at_2 (Ok (Done true)) ends refused taken is = absurd (omega (arith, is))
   taken-at_2 (Ok (Done false)) ends refused taken is = absurd (omega (arith, is))
   taken-at_2 (Ok (Refused text)) ends refused taken is = absurd (refused taken)
@@ -212,7 +218,8 @@ module _ (words : List (List ℕ)) (from from' : Source) (to to' : Sink) where
   ]
 
   -- and nothing was written
-  pub unwritten-at_2 : (outcome : Result Ending RunFault) → IfOk outcome (EndsFor words from from' to to') → IfOk outcome (λ ending. IfRefused ending (to' ≡ to)) → (HasBadText words → to' ≡ to) → status_of outcome ≡ 2 → to' ≡ to
+  pub unwritten-at_2 : (outcome : Result Ending RunFault) → IfOk outcome (EndsFor words from from' to to')
+      → IfOk outcome (λ ending. IfRefused ending (to' ≡ to)) → (HasBadText words → to' ≡ to) → status_of outcome ≡ 2 → to' ≡ to
   unwritten-at_2 (Ok (Done true)) ends refused bad is = absurd (omega (arith, is))
   unwritten-at_2 (Ok (Done false)) ends refused bad is = absurd (omega (arith, is))
   unwritten-at_2 (Ok (Refused text)) ends refused bad is = refused
@@ -238,7 +245,8 @@ module _ (words : List (List ℕ)) (from from' : Source) (to to' : Sink) where
   bad_expectation-from_2 outcome ends bad = idle-from_2 outcome ends bad.faultless (λ all ran. runs-expectation (chosen (subcommand_of keydir words)) from from' to to' all ran bad.no_expectation)
 
   -- a bad key is told as one
-  pub bad_key-at_2 : (outcome : Result Ending RunFault) (old new : Sink) → IfOk outcome (EndsFor words from from' to to') → TellsIf (told_of outcome) old new → HasBadKey words → status_of outcome ≡ 2 → Tells old bad_key_line new
+  pub bad_key-at_2 : (outcome : Result Ending RunFault) (old new : Sink) → IfOk outcome (EndsFor words from from' to to')
+      → TellsIf (told_of outcome) old new → HasBadKey words → status_of outcome ≡ 2 → Tells old bad_key_line new
   bad_key-at_2 (Ok (Done true)) old new ends told bad is = absurd (omega (arith, is))
   bad_key-at_2 (Ok (Done false)) old new ends told bad is = absurd (omega (arith, is))
   bad_key-at_2 (Ok (Refused text)) old new ends told bad is = absurd (no_kind (fault_of keydir words) ends.0 bad.faultless ends.1.0)
@@ -247,7 +255,8 @@ module _ (words : List (List ℕ)) (from from' : Source) (to to' : Sink) where
   bad_key-at_2 (Err fault) old new ends told bad is = absurd (omega (arith, is))
 
   -- and a bad expectation as one
-  pub bad_expectation-at_2 : (outcome : Result Ending RunFault) (old new : Sink) → IfOk outcome (EndsFor words from from' to to') → TellsIf (told_of outcome) old new → HasBadExpectation words → status_of outcome ≡ 2 → Tells old bad_expectation_line new
+  pub bad_expectation-at_2 : (outcome : Result Ending RunFault) (old new : Sink) → IfOk outcome (EndsFor words from from' to to')
+      → TellsIf (told_of outcome) old new → HasBadExpectation words → status_of outcome ≡ 2 → Tells old bad_expectation_line new
   bad_expectation-at_2 (Ok (Done true)) old new ends told bad is = absurd (omega (arith, is))
   bad_expectation-at_2 (Ok (Done false)) old new ends told bad is = absurd (omega (arith, is))
   bad_expectation-at_2 (Ok (Refused text)) old new ends told bad is = absurd (no_kind (fault_of keydir words) ends.0 bad.faultless ends.1.0)

@@ -31,7 +31,7 @@ use Rattle.coniks_tool.specs.ProofObjects.{proof_in}
 use Rattle.coniks_tool.specs.Refusals.{Refusal, refusal}
 use Rattle.coniks_tool.specs.Replies.{is_accepted, not_json}
 use Rattle.coniks_directory.specs.Runs.{Batch}
-use Rattle.coniks_tool.specs.Script.{Opened, State, ScriptTurn, batch_on, batch_read, batch_turn, batch_with, command_turn, open_turn, open_with, turn}
+use Rattle.coniks_tool.specs.Script.{ScriptDirectory, ScriptState, ScriptTurn, batch_on, batch_read, batch_turn, batch_with, command_turn, open_turn, open_with, turn}
 use Rattle.coniks_tool.specs.Seal.{is_seal}
 use Rattle.coniks_tool.specs.Turns.{refused}
 
@@ -42,49 +42,49 @@ either P false t u first second = second
 
 -- a line of `run`
 
-abbrev Keeps : State → ScriptTurn → Type 0
+abbrev Keeps : ScriptState → ScriptTurn → Type 0
 Keeps s t = is_accepted t.outcome ≡ false → t.state ≡ s
 
-open_with-keeps : (s : State) (key nonce policy : List ℕ) → Keeps s (open_with s key nonce policy)
+open_with-keeps : (s : ScriptState) (key nonce policy : List ℕ) → Keeps s (open_with s key nonce policy)
 open_with-keeps None key nonce policy off = absurd (false≢true (sym off))
 open_with-keeps (Some o) key nonce policy off = refl
 
-open-keeps : (s : State) (key nonce policy : Option (List ℕ)) → Keeps s (open_turn s key nonce policy)
+open-keeps : (s : ScriptState) (key nonce policy : Option (List ℕ)) → Keeps s (open_turn s key nonce policy)
 open-keeps s None _ _ off = refl
 open-keeps s (Some key) None _ off = refl
 open-keeps s (Some key) (Some nonce) None off = refl
 open-keeps s (Some key) (Some nonce) (Some policy) off = open_with-keeps s key nonce policy off
 
-batch_on-keeps : (o : Opened) (b : Batch) (why : Option Refusal) → Keeps (Some o) (batch_on o b why)
+batch_on-keeps : (o : ScriptDirectory) (b : Batch) (why : Option Refusal) → Keeps (Some o) (batch_on o b why)
 batch_on-keeps o b (Some why) off = refl
 batch_on-keeps o b None off = absurd (false≢true (sym off))
 
-batch_with-keeps : (s : State) (b : Batch) → Keeps s (batch_with s b)
+batch_with-keeps : (s : ScriptState) (b : Batch) → Keeps s (batch_with s b)
 batch_with-keeps None b off = refl
 batch_with-keeps (Some o) b off = batch_on-keeps o b (refusal (demo_index o.key) o.history b.t b.ops) off
 
-batch_read-keeps : (s : State) (epoch : ℕ) (brought : Option (List ℕ)) (read : Result (List Operation) ℕ) → Keeps s (batch_read s epoch brought read)
-batch_read-keeps s epoch brought (Err place) off = refl
-batch_read-keeps s epoch brought (Ok ops) off = batch_with-keeps s (record { t = epoch; brought = brought; ops = ops }) off
+batch_read-keeps : (s : ScriptState) (epoch : ℕ) (new_nonce : Option (List ℕ)) (read : Result (List Operation) ℕ) → Keeps s (batch_read s epoch new_nonce read)
+batch_read-keeps s epoch new_nonce (Err place) off = refl
+batch_read-keeps s epoch new_nonce (Ok ops) off = batch_with-keeps s (record { t = epoch; new_nonce = new_nonce; ops = ops }) off
 
-batch-keeps : (s : State) (epoch : Option ℕ) (brought : Option (Option (List ℕ))) (items : Option Items) → Keeps s (batch_turn s epoch brought items)
-batch-keeps s None brought items off = refl
+batch-keeps : (s : ScriptState) (epoch : Option ℕ) (new_nonce : Option (Option (List ℕ))) (items : Option Items) → Keeps s (batch_turn s epoch new_nonce items)
+batch-keeps s None new_nonce items off = refl
 batch-keeps s (Some epoch) None items off = refl
-batch-keeps s (Some epoch) (Some brought) None off = refl
-batch-keeps s (Some epoch) (Some brought) (Some items) off = batch_read-keeps s epoch brought (operations_in items) off
+batch-keeps s (Some epoch) (Some new_nonce) None off = refl
+batch-keeps s (Some epoch) (Some new_nonce) (Some items) off = batch_read-keeps s epoch new_nonce (operations_in items) off
 
-command-keeps : (s : State) (d : Data) (name : Option (List ℕ)) → Keeps s (command_turn s d name)
+command-keeps : (s : ScriptState) (d : Data) (name : Option (List ℕ)) → Keeps s (command_turn s d name)
 command-keeps s d None = λ off. refl
 command-keeps s d (Some name) =
     either (Keeps s) (bytes_eq name (codes "open")) _ _ (open-keeps s (digits_in 32 (codes "key") d) (digits_in 32 (codes "nonce") d) (digits_in 32 (codes "policy") d))
     (either (Keeps s) (bytes_eq name (codes "batch")) _ _ (batch-keeps s (number_in (codes "epoch") d) (if_there (codes "nonce") d (digits_in 32 (codes "nonce") d)) (array_in (codes "ops") d))
     (either (Keeps s) (bytes_eq name (codes "lookup")) _ _ (λ off. refl) (λ off. refl)))
 
-object-keeps : (s : State) (d : Option Data) → Keeps s (option_map_or (λ d. command_turn s d (text_in (codes "cmd") d)) d (refused s not_json))
+object-keeps : (s : ScriptState) (d : Option Data) → Keeps s (option_map_or (λ d. command_turn s d (text_in (codes "cmd") d)) d (refused s not_json))
 object-keeps s None = λ off. refl
 object-keeps s (Some d) = command-keeps s d (text_in (codes "cmd") d)
 
-pub turn-keeps : (s : State) (line : List ℕ) → is_accepted (turn s line).outcome ≡ false → (turn s line).state ≡ s
+pub turn-keeps : (s : ScriptState) (line : List ℕ) → is_accepted (turn s line).outcome ≡ false → (turn s line).state ≡ s
 turn-keeps s line = object-keeps s (object_in line)
 
 -- a line of `audit`
@@ -135,7 +135,8 @@ expect-keeps s (Some expected) = inr (inl refl)
 monitor_object-keeps : (s : MonitorState) (d : Option Data) → KeepsMonitor s (option_map_or (object_turn s) d (refused s monitor.not_json))
 monitor_object-keeps s None = inl refl
 monitor_object-keeps s (Some d) =
-    either (KeepsMonitor s) (is_expect (text_in (codes "cmd") d)) (expect_turn s (expected_in d)) (watch_turn s (entry_in d) (proof_in d)) (expect-keeps s (expected_in d)) (watch-keeps s (entry_in d) (proof_in d))
+    either (KeepsMonitor s) (is_expect (text_in (codes "cmd") d)) (expect_turn s (expected_in d))
+    (watch_turn s (entry_in d) (proof_in d)) (expect-keeps s (expected_in d)) (watch-keeps s (entry_in d) (proof_in d))
 
 pub monitor-keeps : (s : MonitorState) (line : List ℕ) → KeepsMonitor s (monitor_turn s line)
 monitor-keeps s line = monitor_object-keeps s (object_in line)

@@ -3,7 +3,7 @@ use Rattle.std.proofs.Common.{◌≡◌, ℕ, zero, suc, List, [], ◌∷◌, �
 use Rattle.std.proofs.lemmas.Slice.Eq.{bytes_eq-Decides}
 use Rattle.coniks_chain.specs.Chain.{Follows, GoodChain, before_at, before_of}
 use Rattle.coniks_chain.specs.Entries.{body_bytes, signed}
-use Rattle.coniks_chain.specs.declared.auditor.Before.{Before}
+use Rattle.coniks_chain.specs.declared.auditor.AuditorState.{AuditorState}
 use Rattle.coniks_chain.specs.declared.entry.Body.{Body}
 use Rattle.coniks_chain.specs.declared.entry.Entry.{Entry}
 use Rattle.coniks_directory.specs.Chain.{IsChainOf, body_of}
@@ -15,7 +15,7 @@ use Rattle.coniks_tool.specs.Demo.{demo_index}
 use Rattle.coniks_tool.specs.Seal.{is_seal, seal_of}
 
 -- what stands before a later place
-before_at-next : (before : Option Before) (e : Entry) (chain : List Entry) (k : ℕ) → before_at sha256 before (e ∷ chain) (suc k) ≡ before_at sha256 (Some (before_of sha256 e)) chain k
+before_at-next : (before : Option AuditorState) (e : Entry) (chain : List Entry) (k : ℕ) → before_at sha256 before (e ∷ chain) (suc k) ≡ before_at sha256 (Some (before_of sha256 e)) chain k
 before_at-next before e chain zero = refl
 before_at-next before e chain (suc k) = refl
 
@@ -33,7 +33,7 @@ same_last xs ys x y same = one x y (sym (last-push xs x) ∙ ap last_of same ∙
 
 module _ (key policy : List ℕ) where
   -- entries that are each the one after what stands before it
-  same_chain : (before : Option Before) (history : List Shown) (chain : List Entry) → length chain ≡ length history
+  same_chain : (before : Option AuditorState) (history : List Shown) (chain : List Entry) → length chain ≡ length history
       → ((k : ℕ) (s : Shown) (e : Entry) → slice_get history k ≡ Some s → slice_get chain k ≡ Some e → e ≡ entry_after key policy (before_at sha256 before chain k) s)
       → chain ≡ chain_after key policy before history
   same_chain before [] [] long each = refl
@@ -46,17 +46,18 @@ module _ (key policy : List ℕ) where
       ap (λ (es : List Entry). e ∷ es) rest ∙ ap (λ (x : Entry). x ∷ chain_after key policy (Some (before_of sha256 x)) history) first
 
   -- one epoch more
-  chain_after-push : (before : Option Before) (history : List Shown) (s : Shown) → chain_after key policy before (history ++ s ∷ [])
+  chain_after-push : (before : Option AuditorState) (history : List Shown) (s : Shown) → chain_after key policy before (history ++ s ∷ [])
       ≡ chain_after key policy before history ++ entry_after key policy (before_at sha256 before (chain_after key policy before history) (length (chain_after key policy before history))) s ∷ []
   chain_after-push before [] s = refl
   chain_after-push before (x ∷ history) s =
       let e = entry_after key policy before x in
       let chain = chain_after key policy (Some (before_of sha256 e)) history in
-      ap (λ (es : List Entry). e ∷ es) (chain_after-push (Some (before_of sha256 e)) history s ∙ ap (λ b. chain ++ entry_after key policy b s ∷ []) (sym (before_at-next before e chain (length chain))))
+      ap (λ (es : List Entry). e ∷ es)
+      (chain_after-push (Some (before_of sha256 e)) history s ∙ ap (λ b. chain ++ entry_after key policy b s ∷ []) (sym (before_at-next before e chain (length chain))))
 
   module _ (verdict : List ℕ → List ℕ → Bool) (own : (bytes signature : List ℕ) → verdict bytes signature ≡ is_seal key bytes signature) where
     -- an entry of an epoch whose signature is judged well is the sealed one
-    sealed_is : (before : Option Before) (s : Shown) (e : Entry) → e.body ≡ body_of sha256 (demo_index key) policy before s → Follows verdict before e → e ≡ entry_after key policy before s
+    sealed_is : (before : Option AuditorState) (s : Shown) (e : Entry) → e.body ≡ body_of sha256 (demo_index key) policy before s → Follows verdict before e → e ≡ entry_after key policy before s
     sealed_is before s e body follows =
         let said : verdict (body_bytes e.body) e.signature.0 ≡ true = follows.rows.1.1.1.1.1.1.1.0 in
         let seal : e.signature.0 ≡ seal_of key (body_bytes e.body) = (bytes_eq-Decides e.signature.0 (seal_of key (body_bytes e.body))).0 (sym (own (body_bytes e.body) e.signature.0) ∙ said) in

@@ -26,51 +26,51 @@ use Rattle.coniks_tool.specs.Demo.{demo_index}
 use Rattle.coniks_tool.specs.Refusals.{IsRefusedBy, Refusal, not_later, refusal}
 use Rattle.coniks_tool.specs.Replies.{Outcome, installed, outcome_of}
 use Rattle.coniks_tool.specs.declared.run.reply.Reply.{Reply}
-use Rattle.coniks_tool.specs.Script.{Installs, Opened, State as Held, ScriptTurn, batch_on, batch_with, refusal_outcome, shown_next as shown_epoch}
+use Rattle.coniks_tool.specs.Script.{Installs, ScriptDirectory, ScriptState as Held, ScriptTurn, batch_on, batch_with, refusal_outcome, shown_next as shown_epoch}
 use Rattle.coniks_tool.specs.Turns.{refused}
 use Rattle.coniks_tool.specs.Seal.{is_seal}
-use Rattle.coniks_tool.specs.Stores.{opened_by, opened_of, shown_on, state_of}
+use Rattle.coniks_tool.specs.Stores.{opened_by, opened_of, shown_on, script_state_of}
 use Rattle.coniks_tool.specs.declared.run.store.Service.{Service}
 use Rattle.coniks_tool.specs.Limits.{most_epochs}
 use Rattle.coniks_tool.proofs.SealedLemmas.{entry_is}
 
 -- what is accepted isn't refused
-accepted_is : (of : List ℕ → List ℕ) (history : List Shown) (epoch : ℕ) (ops : List Operation) (depth workers published : ℕ) → IsAccepted of (latest_registry history) ops depth workers
-    → latest_epoch history < epoch → published ≢ most_epochs → published ≤ most_epochs → published ≡ length history → refusal of history epoch ops ≡ None
-accepted_is of history epoch ops depth workers published a later room most same =
+accepted_is : (index_of : List ℕ → List ℕ) (history : List Shown) (epoch : ℕ) (ops : List Operation) (depth workers published : ℕ) → IsAccepted index_of (latest_registry history) ops depth workers
+    → latest_epoch history < epoch → published ≢ most_epochs → published ≤ most_epochs → published ≡ length history → refusal index_of history epoch ops ≡ None
+accepted_is index_of history epoch ops depth workers published a later room most same =
     let few : nat_le (length ops) MAX_OPERATIONS ≡ true = (let f = a.few in grind (arith, nat_tests)) in
     let rises : nat_lt (latest_epoch history) epoch ≡ true = grind (arith, nat_tests) in
     let fits : nat_lt (length history) most_epochs ≡ true = grind (arith, nat_tests) in
     rw (few, a.faultless, rises, fits) refl
 
 -- a commit's fault is why the batch is refused
-pub refused_is : (of : List ℕ → List ℕ) (s : State) (ops : List Operation) (depth workers epoch published capacity : ℕ) (fault : CommitFault) → AreWorkers workers → depth ≤ MAX_DEPTH
-    → published ≡ length (history_of s) → capacity ≡ most_epochs → 0 ≡ 0 + commit_refusals fault → IsCommitFault of s ops depth workers epoch published capacity fault
-    → IsRefusedBy (refusal of (history_of s) epoch ops) fault
-refused_is of s ops depth workers epoch published capacity (OfBatch batch.Workers) crew shallow long full signed f = none crew f
+pub refused_is : (index_of : List ℕ → List ℕ) (s : State) (ops : List Operation) (depth workers epoch published capacity : ℕ) (fault : CommitFault) → AreWorkers workers → depth ≤ MAX_DEPTH
+    → published ≡ length (history_of s) → capacity ≡ most_epochs → 0 ≡ 0 + commit_refusals fault → IsCommitFault index_of s ops depth workers epoch published capacity fault
+    → IsRefusedBy (refusal index_of (history_of s) epoch ops) fault
+refused_is index_of s ops depth workers epoch published capacity (OfBatch batch.Workers) parallelism shallow long full signed f = none parallelism f
   where
     none : {n : ℕ} → AreWorkers n → (n ≡ 0) ⊎ (64 < n) → ⊥
-    none crew (inl zero_is) = let least = crew.0 in omega arith
-    none crew (inr more) = let most = crew.1 in omega arith
-refused_is of s ops depth workers epoch published capacity (OfBatch batch.Depth) crew shallow long full signed f = let deep = f.1 in omega arith
-refused_is of s ops depth workers epoch published capacity (OfBatch batch.BatchTooLong) crew shallow long full signed f =
+    none parallelism (inl zero_is) = let least = parallelism.0 in omega arith
+    none parallelism (inr more) = let most = parallelism.1 in omega arith
+refused_is index_of s ops depth workers epoch published capacity (OfBatch batch.Depth) parallelism shallow long full signed f = let deep = f.1 in omega arith
+refused_is index_of s ops depth workers epoch published capacity (OfBatch batch.BatchTooLong) parallelism shallow long full signed f =
     let many = f.2 in
     let off : nat_le (length ops) MAX_OPERATIONS ≡ false = grind (arith, nat_tests) in
     rw off refl
-refused_is of s ops depth workers epoch published capacity (OfBatch (batch.At position fault)) crew shallow long full signed f =
+refused_is index_of s ops depth workers epoch published capacity (OfBatch (batch.At position fault)) parallelism shallow long full signed f =
     let few = f.2 in
     let on : nat_le (length ops) MAX_OPERATIONS ≡ true = grind (arith, nat_tests) in
     rw (on, f.3) refl
-refused_is of s ops depth workers epoch published capacity (OfBatch batch.OutOfMemory) crew shallow long full signed f = tt
-refused_is of s ops depth workers epoch published capacity (Install (install.Stale latest)) crew shallow long full signed f = f.1.1 refl
-refused_is of s ops depth workers epoch published capacity (Install (install.EpochNotLater latest)) crew shallow long full signed f =
+refused_is index_of s ops depth workers epoch published capacity (OfBatch batch.OutOfMemory) parallelism shallow long full signed f = tt
+refused_is index_of s ops depth workers epoch published capacity (Install (install.Stale latest)) parallelism shallow long full signed f = f.1.1 refl
+refused_is index_of s ops depth workers epoch published capacity (Install (install.EpochNotLater latest)) parallelism shallow long full signed f =
     let few = f.0.few in
     let on : nat_le (length ops) MAX_OPERATIONS ≡ true = grind (arith, nat_tests) in
     let same : latest ≡ latest_epoch (history_of s) = f.1.0 in
     let low : epoch ≤ latest = f.1.2 in
     let off : nat_lt (latest_epoch (history_of s)) epoch ≡ false = grind (arith, nat_tests) in
     rw (on, f.0.faultless, off) (ap (λ n. Some (not_later n)) (sym same))
-refused_is of s ops depth workers epoch published capacity (Install install.BoardFull) crew shallow long full signed f =
+refused_is index_of s ops depth workers epoch published capacity (Install install.BoardFull) parallelism shallow long full signed f =
     let few = f.0.few in
     let on : nat_le (length ops) MAX_OPERATIONS ≡ true = grind (arith, nat_tests) in
     let later = f.1.1 in
@@ -78,8 +78,8 @@ refused_is of s ops depth workers epoch published capacity (Install install.Boar
     let all = f.1.2 in
     let off : nat_lt (length (history_of s)) most_epochs ≡ false = grind (arith, nat_tests) in
     rw (on, f.0.faultless, rises, off) refl
-refused_is of s ops depth workers epoch published capacity (Install install.OutOfMemory) crew shallow long full signed f = tt
-refused_is of s ops depth workers epoch published capacity (Install install.SignerRefused) crew shallow long full signed f = omega arith
+refused_is index_of s ops depth workers epoch published capacity (Install install.OutOfMemory) parallelism shallow long full signed f = tt
+refused_is index_of s ops depth workers epoch published capacity (Install install.SignerRefused) parallelism shallow long full signed f = omega arith
 
 -- a batch that was committed is installed
 pub installs : (key key' : List ℕ) (s t : State) (b : Batch) (depth workers published capacity : ℕ) (entry : Entry) (verdict : List ℕ → List ℕ → Bool)
@@ -104,7 +104,7 @@ installs key key' s t b depth workers published capacity entry verdict own same_
     }
   where
     same_opened : (k k' n n' p p' : List ℕ) (h h' : List Shown) → k ≡ k' → n ≡ n' → p ≡ p' → h ≡ h'
-        → (let o : Opened = record { key = k; nonce = n; policy = p; history = h } in o) ≡ (let o : Opened = record { key = k'; nonce = n'; policy = p'; history = h' } in o)
+        → (let o : ScriptDirectory = record { key = k; nonce = n; policy = p; history = h } in o) ≡ (let o : ScriptDirectory = record { key = k'; nonce = n'; policy = p'; history = h' } in o)
     same_opened k k' n n' p p' h h' ek en ep eh = cc
 
 length-map : {A B : Type 0} (f : A → B) (xs : List A) → length (map f xs) ≡ length xs
@@ -118,8 +118,10 @@ as_many heads chain same = ap length same ∙ length-map (head_at sha256) chain
 -- after a commit there are as many signatures as entries, and no more than the board takes
 pub made_and_room : {H X P : Type 0} (result : Result Entry CommitFault) (v v' : View H X) (p p' : P) (made made' refused refused' epoch published capacity : ℕ) (last last' : Option Entry)
     → OnOk result ((made' ≡ made + 1) × (refused' ≡ refused)) → IfOk result (λ e. v'.state.chain ≡ v.state.chain ++ e ∷ [])
-    → OnOk result (MayInstall v.state (length v.state.epochs) epoch published capacity) → IfErr result (λ fault. (made' ≡ made) × (refused' ≡ refused + commit_refusals fault) × (last' ≡ last)) → OnErr result ((v' ≡ v) × (p' ≡ p))
-    → made ≡ length v.state.chain → length v.state.chain ≤ most_epochs → published ≡ length v.state.chain → capacity ≡ most_epochs → (made' ≡ length v'.state.chain) × (length v'.state.chain ≤ most_epochs)
+    → OnOk result (MayInstall v.state (length v.state.epochs) epoch published capacity)
+    → IfErr result (λ fault. (made' ≡ made) × (refused' ≡ refused + commit_refusals fault) × (last' ≡ last)) → OnErr result ((v' ≡ v) × (p' ≡ p))
+    → made ≡ length v.state.chain → length v.state.chain ≤ most_epochs → published ≡ length v.state.chain
+    → capacity ≡ most_epochs → (made' ≡ length v'.state.chain) × (length v'.state.chain ≤ most_epochs)
 made_and_room {H} {X} {P} (Ok e) v v' p p' made made' refused refused' epoch published capacity last last' one more may kept same own most long full =
     let up = one.0 in
     let longer : length v'.state.chain ≡ length v.state.chain + 1 = ap length more ∙ length-append v.state.chain (e ∷ []) in
@@ -133,17 +135,21 @@ made_and_room {H} {X} {P} (Err e) v v' p p' made made' refused refused' epoch pu
     (kept.0 ∙ own ∙ sym long', omega arith)
 
 -- a commit's fault, whatever it is
-pub refused_by : {H X P : Type 0} (of of' : List ℕ → List ℕ) (v v' : View H X) (p p' : P) (ops : List Operation) (depth workers epoch published capacity made made' : ℕ) (last last' : Option Entry) (result : Result Entry CommitFault) → AreWorkers workers → depth ≤ MAX_DEPTH
-    → published ≡ length v.state.chain → capacity ≡ most_epochs → IfErr result (λ fault. (made' ≡ made) × (0 ≡ 0 + commit_refusals fault) × (last' ≡ last)) → IfErr result (IsCommitFault of v.state ops depth workers epoch published capacity)
-    → OnErr result ((v' ≡ v) × (p' ≡ p)) → IsChainOf sha256 of' v'.state.policy (history_of v'.state) v'.state.chain → IfErr result (IsRefusedBy (refusal of (history_of v.state) epoch ops))
-refused_by {H} {X} {P} of of' v v' p p' ops depth workers epoch published capacity made made' last last' (Ok e) crew shallow long full unsigned f same is = tt
-refused_by {H} {X} {P} of of' v v' p p' ops depth workers epoch published capacity made made' last last' (Err fault) crew shallow long full unsigned f same is =
+pub refused_by : {H X P : Type 0} (index_of index_of' : List ℕ → List ℕ) (v v' : View H X) (p p' : P) (ops : List Operation)
+    (depth workers epoch published capacity made made' : ℕ) (last last' : Option Entry) (result : Result Entry CommitFault) → AreWorkers workers → depth ≤ MAX_DEPTH
+    → published ≡ length v.state.chain → capacity ≡ most_epochs → IfErr result (λ fault. (made' ≡ made) × (0 ≡ 0 + commit_refusals fault) × (last' ≡ last))
+    → IfErr result (IsCommitFault index_of v.state ops depth workers epoch published capacity)
+    → OnErr result ((v' ≡ v) × (p' ≡ p)) → IsChainOf sha256 index_of' v'.state.policy (history_of v'.state) v'.state.chain
+    → IfErr result (IsRefusedBy (refusal index_of (history_of v.state) epoch ops))
+refused_by {H} {X} {P} index_of index_of' v v' p p' ops depth workers epoch published capacity made made' last last' (Ok e) parallelism shallow long full unsigned f same is = tt
+refused_by {H} {X} {P} index_of index_of' v v' p p' ops depth workers epoch published capacity made made' last last' (Err fault) parallelism shallow long full unsigned f same is =
     let long' : length v.state.chain ≡ length (history_of v.state) = subst (λ (w : View H X). length w.state.chain ≡ length (history_of w.state)) same.0 is.long in
-    refused_is of v.state ops depth workers epoch published capacity fault crew shallow (long ∙ long') full unsigned.1 f
+    refused_is index_of v.state ops depth workers epoch published capacity fault parallelism shallow (long ∙ long') full unsigned.1 f
 
 -- a commit's entry, where there is one
 pub installed_by : (key key' : List ℕ) (s t : State) (b : Batch) (depth workers published capacity : ℕ) (verdict : List ℕ → List ℕ → Bool) (result : Result Entry CommitFault)
-    → ((bytes signature : List ℕ) → verdict bytes signature ≡ is_seal key bytes signature) → key' ≡ key → Grows s t → OnOk result (history_of t ≡ history_of s ++ shown_on s b ∷ []) → IfOk result (λ entry. t.chain ≡ s.chain ++ entry ∷ [])
+    → ((bytes signature : List ℕ) → verdict bytes signature ≡ is_seal key bytes signature) → key' ≡ key → Grows s t
+    → OnOk result (history_of t ≡ history_of s ++ shown_on s b ∷ []) → IfOk result (λ entry. t.chain ≡ s.chain ++ entry ∷ [])
     → IsChainOf sha256 (demo_index key') t.policy (history_of t) t.chain → GoodChain sha256 verdict t.chain
     → OnOk result (IsAccepted (demo_index key) (latest_registry (history_of s)) b.ops depth workers) → OnOk result (MayInstall s (length s.epochs) b.t published capacity)
     → published ≡ length s.chain → capacity ≡ most_epochs → length s.chain ≤ most_epochs
@@ -157,16 +163,16 @@ installed_by key key' s t b depth workers published capacity verdict (Ok entry) 
     installs key key' s t b depth workers published capacity entry verdict own same_key grows history chain is good accepted may long' full most'
 
 -- a refused batch
-pub refused_turn : (o : Opened) (b : Batch) (why : Option Refusal) (outcome : Outcome) → option_map refusal_outcome why ≡ Some outcome → batch_on o b why ≡ refused (Some o) outcome
+pub refused_turn : (o : ScriptDirectory) (b : Batch) (why : Option Refusal) (outcome : Outcome) → option_map refusal_outcome why ≡ Some outcome → batch_on o b why ≡ refused (Some o) outcome
 refused_turn o b None outcome is = absurd (let never = is in cc)
 refused_turn o b (Some why) outcome is = let same : refusal_outcome why ≡ outcome = cc in ap (refused (Some o)) same
 
 -- what comes of a batch that adds this entry
-abbrev pub turn_of : Entry → Opened → ScriptTurn
+abbrev pub turn_of : Entry → ScriptDirectory → ScriptTurn
 turn_of entry o = record { outcome = installed entry (sha256 (link_preimage entry)); state = Some o }
 
 -- an installed batch
-pub installed_turn : (o o' : Opened) (b : Batch) (entry : Entry) (v : Held) → v ≡ Some o → Installs o b entry o' → batch_with v b ≡ turn_of entry o'
+pub installed_turn : (o o' : ScriptDirectory) (b : Batch) (entry : Entry) (v : Held) → v ≡ Some o → Installs o b entry o' → batch_with v b ≡ turn_of entry o'
 installed_turn o o' b entry v same i =
     ap (λ (s : Held). batch_with s b) same
     ∙ ap (batch_on o b) i.faultless
@@ -174,23 +180,24 @@ installed_turn o o' b entry v same i =
     ∙ ap (turn_of entry) (sym i.state_is)
 
 -- a refused batch is answered by why
-pub reply_refused : {E : Type 0} (o : Opened) (b : Batch) (v : Held) (result : Result Reply E) → v ≡ Some o
+pub reply_refused : {E : Type 0} (o : ScriptDirectory) (b : Batch) (v : Held) (result : Result Reply E) → v ≡ Some o
     → IfOk result (λ reply. option_map refusal_outcome (refusal (demo_index o.key) o.history b.t b.ops) ≡ Some (outcome_of reply)) → IfOk result (λ reply. outcome_of reply ≡ (batch_with v b).outcome)
 reply_refused {E} o b v (Err e) same told = tt
 reply_refused {E} o b v (Ok reply) same told =
     sym (ap (λ (s : Held). (batch_with s b).outcome) same ∙ ap (λ (t : ScriptTurn). t.outcome) (refused_turn o b (refusal (demo_index o.key) o.history b.t b.ops) (outcome_of reply) told))
 
 -- and leaves the state
-pub state_refused : {E : Type 0} (o o' : Opened) (b : Batch) (v : Held) (result : Result Reply E) → v ≡ Some o → o' ≡ o
-    → IfOk result (λ reply. option_map refusal_outcome (refusal (demo_index o.key) o.history b.t b.ops) ≡ Some (outcome_of reply)) → OnOk result ((let w : Held = Some o' in w) ≡ (batch_with v b).state)
+pub state_refused : {E : Type 0} (o o' : ScriptDirectory) (b : Batch) (v : Held) (result : Result Reply E) → v ≡ Some o → o' ≡ o
+    → IfOk result (λ reply. option_map refusal_outcome (refusal (demo_index o.key) o.history b.t b.ops) ≡ Some (outcome_of reply))
+    → OnOk result ((let w : Held = Some o' in w) ≡ (batch_with v b).state)
 state_refused {E} o o' b v (Err e) same kept told = tt
 state_refused {E} o o' b v (Ok reply) same kept told =
-    ap (λ (p : Opened). let w : Held = Some p in w) kept
+    ap (λ (p : ScriptDirectory). let w : Held = Some p in w) kept
     ∙ sym (ap (λ (s : Held). (batch_with s b).state) same ∙ ap (λ (t : ScriptTurn). t.state) (refused_turn o b (refusal (demo_index o.key) o.history b.t b.ops) (outcome_of reply) told))
 
 -- what an open store shows
-pub shown_open : (opened : Option Service) (service : Service) (v : Held) → Some service ≡ opened → state_of opened ≡ v → v ≡ Some (opened_of service)
-shown_open opened service v same view = sym view ∙ ap state_of (sym same)
+pub shown_open : (opened : Option Service) (service : Service) (v : Held) → Some service ≡ opened → script_state_of opened ≡ v → v ≡ Some (opened_of service)
+shown_open opened service v same view = sym view ∙ ap script_state_of (sym same)
 
 -- what isn't there is None
 pub none_opened : (opened : Option Service) → is_some opened ≡ false → opened ≡ None

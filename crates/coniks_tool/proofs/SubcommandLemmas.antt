@@ -89,7 +89,8 @@ module _ (s : Shape) (names : Names) (on : s.disable_help_subcommand ≡ false) 
       after_step-isnt s.rules word (record w { stopped = None }) after.0 after.1 (other-isnt s.rules w.waiting w.position word w.held) tt
   met-isnt w word false (Some name) none = name-isnt s name word w.held on none
 
-  walk-isnt : (stop : Option (Text × List Text)) (w : Walk) (words : List Text) → walk_fault s names (record w { stopped = stop }) words ≡ [] → IsntHelp stop → IsntHelp (fold (walked s.rules names) (record w { stopped = stop }) words).stopped
+  walk-isnt : (stop : Option (Text × List Text)) (w : Walk) (words : List Text) → walk_fault s names (record w { stopped = stop }) words ≡ []
+      → IsntHelp stop → IsntHelp (fold (walked s.rules names) (record w { stopped = stop }) words).stopped
   unfolding walk_fault walked
   walk-isnt stop w [] none is = is
   walk-isnt (Some p) w (word ∷ words) none is = walk-isnt (Some (p.0, p.1 ++ word ∷ [])) w words none is
@@ -99,7 +100,8 @@ module _ (s : Shape) (names : Names) (on : s.disable_help_subcommand ≡ false) 
       let turn = turn_fault s names (record w { stopped = None }) word in
       let rest = walk_fault s names after words in
       let word_is = if w.is_trailing then [] else other_fault s (subcommand_met names w.waiting word) word w.held in
-      walk-isnt after.stopped after words (then-none turn rest none) (met-isnt w word w.is_trailing (subcommand_met names w.waiting word) (first-none word_is (step_fault s w.position met.0 met.1) (first-none turn rest none)))
+      walk-isnt after.stopped after words (then-none turn rest none)
+      (met-isnt w word w.is_trailing (subcommand_met names w.waiting word) (first-none word_is (step_fault s w.position met.0 met.1) (first-none turn rest none)))
 
 -- what is chosen by the name of a subcommand
 
@@ -129,7 +131,8 @@ only false is = is
 
 entered-chosen : (stop : Option (Text × List Text)) → IsntHelp stop → IfSome (entered (built keydir) stop) IsChosen
 entered-chosen None is = tt
-entered-chosen (Some p) is = among p.0 p.1 (built keydir).subs ((λ _. refl), ((λ _. refl), ((λ _. refl), ((λ _. refl), ((λ answers. absurd (help-isnt p.0 is (only (bytes_eq (codes "help") p.0) answers))), tt)))))
+entered-chosen (Some p) is = among p.0 p.1 (built keydir).subs
+    ((λ _. refl), ((λ _. refl), ((λ _. refl), ((λ _. refl), ((λ answers. absurd (help-isnt p.0 is (only (bytes_eq (codes "help") p.0) answers))), tt)))))
 
 -- without a fault the words name a subcommand by which something is chosen
 pub faultless-chosen : (words : List Text) → fault_of keydir words ≡ [] → IfSome (subcommand_of keydir words) IsChosen

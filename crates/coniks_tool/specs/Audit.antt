@@ -1,10 +1,10 @@
--- What `audit` answers to a line.
+-- What `audit` replies to a line.
 use Rattle.std.specs.Prelude.{ℕ, List, Option, Some, None}
 use Rattle.std.specs.Option.{option_map_or}
 use Rattle.coniks_lines.specs.Machine.{Answer}
 use Rattle.coniks_proof.specs.Sha256.{sha256}
 use Rattle.coniks_chain.specs.declared.entry.Entry.{Entry}
-use Rattle.coniks_chain.specs.declared.auditor.Before.{Before}
+use Rattle.coniks_chain.specs.declared.auditor.AuditorState.{AuditorState}
 use Rattle.coniks_chain.specs.declared.auditor.AuditFault.{AuditFault}
 use Rattle.coniks_chain.specs.Chain.{before_of}
 use Rattle.coniks_chain.specs.Entries.{link_preimage}
@@ -18,7 +18,7 @@ use Rattle.coniks_tool.specs.Turns.{Turn, refused, answer_by}
 -- the key of the seal, and what the next entry is compared with
 pub record AuditState : Type 0 where
   pub key : List ℕ
-  pub before : Option Before
+  pub before : Option AuditorState
 
 -- no entry was accepted yet
 abbrev pub none_audited : List ℕ → AuditState
@@ -31,7 +31,10 @@ AuditTurn = Turn AuditOutcome AuditState
 -- an entry with this first fault is refused and the state stays; one with none is what the next one is compared with
 abbrev pub judged_turn : AuditState → Entry → Option AuditFault → AuditTurn
 judged_turn s entry (Some fault) = refused s (at_fault fault)
-judged_turn s entry None = record { outcome = audited entry.body.t (sha256 (link_preimage entry)); state = record { key = s.key; before = Some (before_of sha256 entry) } }
+judged_turn s entry None = record {
+  outcome = audited entry.body.t (sha256 (link_preimage entry));
+  state = record { key = s.key; before = Some (before_of sha256 entry) };
+}
 
 -- an object, by its entry
 abbrev pub entry_turn : AuditState → Option Entry → AuditTurn
@@ -42,6 +45,6 @@ entry_turn s (Some entry) = judged_turn s entry (audit_fault (is_seal s.key) s.b
 abbrev pub audit_turn : AuditState → List ℕ → AuditTurn
 audit_turn s line = option_map_or (λ d. entry_turn s (entry_in d)) (object_in line) (refused s not_json)
 
--- what a line is answered by
+-- the reply to a line
 abbrev pub audit_answer : AuditState → List ℕ → Answer AuditState
 audit_answer s line = answer_by audit_data is_audited (audit_turn s line)

@@ -22,4 +22,5 @@ if_accepted false _ = []
 -- the entries of the lines that are accepted, one line after another
 abbrev pub accepted_entries : AuditState → List (List ℕ) → List Entry
 accepted_entries s [] = []
-accepted_entries s (line ∷ lines) = if_accepted (audit_answer s line).accepted (entry_on line) ++ accepted_entries (audit_answer s line).state lines
+accepted_entries s (line ∷ lines) = if_accepted (audit_answer s line).accepted
+    (entry_on line) ++ accepted_entries (audit_answer s line).state lines

@@ -3,7 +3,7 @@ use Rattle.std.specs.Prelude.{ℕ, List, [], ◌∷◌, length, Option, Some, No
 use Rattle.coniks_proof.specs.Sha256.{sha256}
 use Rattle.coniks_chain.specs.Chain.{before_at, before_of}
 use Rattle.coniks_chain.specs.Entries.{body_bytes, signed}
-use Rattle.coniks_chain.specs.declared.auditor.Before.{Before}
+use Rattle.coniks_chain.specs.declared.auditor.AuditorState.{AuditorState}
 use Rattle.coniks_chain.specs.declared.entry.Entry.{Entry}
 use Rattle.coniks_directory.specs.Chain.{body_of}
 use Rattle.coniks_directory.specs.History.{Shown}
@@ -11,13 +11,13 @@ use Rattle.coniks_tool.specs.Demo.{demo_index}
 use Rattle.coniks_tool.specs.Seal.{seal_of}
 
 -- the entry of an epoch that comes after this: its body, with the seal of the body's bytes
-abbrev pub entry_after : List ℕ → List ℕ → Option Before → Shown → Entry
+abbrev pub entry_after : List ℕ → List ℕ → Option AuditorState → Shown → Entry
 entry_after key policy before shown =
     let body = body_of sha256 (demo_index key) policy before shown in
     signed body (record { 0 = seal_of key (body_bytes body) })
 
--- the entries of epochs, the first of which comes after this
-abbrev pub chain_after : List ℕ → List ℕ → Option Before → List Shown → List Entry
+-- the entries of epochs, the first one after this entry
+abbrev pub chain_after : List ℕ → List ℕ → Option AuditorState → List Shown → List Entry
 chain_after key policy before [] = []
 chain_after key policy before (shown ∷ history) =
     let entry = entry_after key policy before shown in

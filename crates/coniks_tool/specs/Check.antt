@@ -1,4 +1,4 @@
--- What `check` answers to a line.
+-- What `check` replies to a line.
 use Rattle.std.specs.Prelude.{ℕ, List, codes, Option, Some, None, Result, Ok, Err}
 use Rattle.std.specs.Option.{option_map_or}
 use Rattle.serde_json.specs.Data.{Data}
@@ -33,7 +33,7 @@ abbrev pub question_read : Result Question Member → Result Asked Member
 question_read (Ok q) = Ok (asked_by q)
 question_read (Err m) = Err m
 
--- what comes next where a member is as it should be
+-- the next step, if a member is valid
 abbrev pub needs : {A B : Type 0} → Member → Option A → (A → Result B Member) → Result B Member
 needs m None next = Err m
 needs m (Some a) next = next a
@@ -48,17 +48,17 @@ asked_in d =
     needs Proof (proof_in d) (λ proof.
     Ok (record { index = index; name = name; nonce = nonce; root = root; proof = proof }))))))
 
--- a proof with this first fault is refused; one with none answers what its end says
+-- a proof with this first fault is refused; one without a fault has the answer of its end
 abbrev pub judged : Asked → Option CheckFault → CheckOutcome
 judged q (Some fault) = at_fault fault
 judged q None = answered (answer_of q.proof.end)
 
--- a question, where there is one
+-- a question, if there is one
 abbrev pub question_outcome : Result Asked Member → CheckOutcome
 question_outcome (Err m) = no_member m
 question_outcome (Ok q) = judged q (check_fault sha256 q.nonce q.root q.index q.name q.proof)
 
--- no line is answered by what stood before it
+-- no reply depends on the lines before
 pub data Stateless : Type 0 where
   stateless : Stateless
 
@@ -66,6 +66,6 @@ pub data Stateless : Type 0 where
 abbrev pub check_turn : Stateless → List ℕ → Turn CheckOutcome Stateless
 check_turn s line = record { outcome = option_map_or (λ d. question_outcome (asked_in d)) (object_in line) not_json; state = s }
 
--- what a line is answered by
+-- the reply to a line
 abbrev pub check_answer : Stateless → List ℕ → Answer Stateless
 check_answer s line = answer_by check_data is_answered (check_turn s line)

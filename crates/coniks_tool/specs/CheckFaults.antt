@@ -37,7 +37,7 @@ has hash nonce root index name proof NameLength = is_off MAX_NAME (length name)
 has hash nonce root index name proof RootMismatch = not (bytes_eq (hash (preimage hash nonce index 0 proof.siblings proof.end)) root)
 has hash nonce root index name proof fault = end_has index name (length proof.siblings) proof.end fault
 
--- the faults in the order in which they are judged
+-- the faults in the order in which they are checked
 abbrev pub check_faults : List CheckFault
 check_faults = TooDeep ∷ NameLength ∷ KeyLength ∷ WrongName ∷ OtherIsSame ∷ OtherOffPath ∷ RootMismatch ∷ []
 

@@ -1,4 +1,4 @@
--- What the words choose, and why they may choose nothing.
+-- What the arguments choose, and why they may choose nothing.
 use Rattle.std.specs.Prelude.{◌≡◌, ◌⊎◌, ◌≤◌, List, [], ℕ, codes, ◌&&◌, Option, Some, None, is_none, is_some, option_and_then, option_map, unwrap_or, Bool, true, false, if◌then◌else◌}
 use Rattle.std.specs.Option.{option_map_or}
 use Rattle.std.specs.Result.{result_ok}
@@ -9,10 +9,10 @@ use Rattle.coniks_directory.specs.Batches.{AreWorkers}
 use Rattle.hex.specs.Hex.{decode_sized}
 use Rattle.coniks_work.specs.declared.jobs.TheConstants.{MAX_DEPTH}
 use Rattle.coniks_tool.specs.Expectations.{expectation_in}
-use Rattle.coniks_tool.specs.declared.words.choice.Settings.{Settings}
-use Rattle.coniks_tool.specs.declared.words.choice.Settings.TheVariants.{Run, Check, Audit, Monitor}
-use Rattle.coniks_tool.specs.declared.words.choice.WordsFault.{WordsFault}
-use Rattle.coniks_tool.specs.declared.words.choice.WordsFault.TheVariants.{Clap, OutOfMemory}
+use Rattle.coniks_tool.specs.declared.cli.choice.Settings.{Settings}
+use Rattle.coniks_tool.specs.declared.cli.choice.Settings.TheVariants.{Run, Check, Audit, Monitor}
+use Rattle.coniks_tool.specs.declared.cli.choice.WordsFault.{WordsFault}
+use Rattle.coniks_tool.specs.declared.cli.choice.WordsFault.TheVariants.{Clap, OutOfMemory}
 
 -- what to do
 pub data Choice : Type 0 where
@@ -21,18 +21,18 @@ pub data Choice : Type 0 where
   audit : (key : List ℕ) → Choice
   monitor : (key name : List ℕ) (expect : Option (List ℕ)) → Choice
 
--- the settings, without where their texts lie
+-- the settings, without the places of their texts
 abbrev pub choice_of : Settings → Choice
 choice_of (Run workers depth) = run workers depth
 choice_of Check = check
 choice_of (Audit key) = audit key.now
 choice_of (Monitor key name expect) = monitor key.now name.now (option_map (λ text. text.now) expect)
 
--- the text of an option, empty where it has none
+-- the text of an option, empty if it has none
 abbrev pub text_of : List ℕ → List Row → List ℕ
 text_of name rows = unwrap_or (first_of name rows) []
 
--- the number of an option, or this where it has none
+-- the number of an option, or this if it has none
 abbrev pub number_of : List ℕ → ℕ → List Row → ℕ
 number_of name missing rows = option_map_or byte_or_zero (first_of name rows) missing
 
@@ -44,13 +44,13 @@ abbrev pub depth_of : List Row → ℕ
 depth_of rows = number_of (codes "depth") 0 rows
 
 -- both are within their limits
-abbrev pub AreWithin : List Row → Type 0
-AreWithin rows = AreWorkers (workers_of rows) × (depth_of rows ≤ MAX_DEPTH)
+abbrev pub AreWordsWithin : List Row → Type 0
+AreWordsWithin rows = AreWorkers (workers_of rows) × (depth_of rows ≤ MAX_DEPTH)
 
 -- the numbers of a run are within their limits
-abbrev pub IsWithin : Settings → Type 0
-IsWithin (Run workers depth) = AreWorkers workers × (depth ≤ MAX_DEPTH)
-IsWithin _ = Unit {0}
+abbrev pub IsWithinLimits : Settings → Type 0
+IsWithinLimits (Run workers depth) = AreWorkers workers × (depth ≤ MAX_DEPTH)
+IsWithinLimits _ = Unit {0}
 
 -- what a subcommand chooses, by its name and the options that were found; there are four
 abbrev pub choice_by : List ℕ → List Row → Option Choice
@@ -58,10 +58,11 @@ choice_by name rows =
     if bytes_eq name (codes "run") then Some (run (workers_of rows) (depth_of rows))
     else (if bytes_eq name (codes "check") then Some check
     else (if bytes_eq name (codes "audit") then Some (audit (text_of (codes "key") rows))
-    else (if bytes_eq name (codes "monitor") then Some (monitor (text_of (codes "key") rows) (text_of (codes "name") rows) (first_of (codes "expect") rows))
+    else (if bytes_eq name (codes "monitor") then Some
+    (monitor (text_of (codes "key") rows) (text_of (codes "name") rows) (first_of (codes "expect") rows))
     else None)))
 
--- what the subcommand that the words name chooses
+-- what the subcommand in the arguments chooses
 abbrev pub chosen : Option (List ℕ × List Row) → Option Choice
 chosen = option_and_then (λ met. choice_by met.0 met.1)
 

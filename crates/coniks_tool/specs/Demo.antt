@@ -2,7 +2,7 @@
 use Rattle.std.specs.Prelude.{ℕ, List, ◌∷◌, ◌++◌}
 use Rattle.coniks_proof.specs.Sha256.{sha256}
 
--- the byte that stands before what an index is hashed from
+-- the first byte of what an index is hashed from
 abbrev pub index_tag : ℕ
 index_tag = 0x56
 

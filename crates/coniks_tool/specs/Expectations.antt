@@ -4,7 +4,7 @@ use Rattle.serde_json.specs.Data.{Data}
 use Rattle.serde_json.specs.Find.{get, as_null, as_str}
 use Rattle.coniks_tool.specs.Members.{bytes_in}
 
--- the expectation that a text gives, where there is one: no text expects no key, and the empty text the empty key
+-- the expected key in a text, if it is valid: no text expects no key, and the empty text expects the empty key
 abbrev pub expectation_in : Option (List ℕ) → Option (Option (List ℕ))
 expectation_in None = Some None
 expectation_in (Some text) = option_map Some (bytes_in text)

@@ -1,4 +1,4 @@
--- The command that reads the program's words, as `clap`'s definitions see it.
+-- The command line of the program, as `clap`'s definitions see it.
 use Rattle.std.specs.Prelude.{◌≡◌, ℕ, ℤ, List, Bool, codes, pos, false, true, [], ◌∷◌, Some}
 use Rattle.clap.specs.Words.{App, Rule, app_of, new_app, new_rule, rule_of, with_rule, with_subcommand}
 use Rattle.clap.specs.Simple.{on_top}
@@ -7,7 +7,7 @@ use Rattle.clap.specs.declared.builder.command.Command.{Command}
 use Rattle.clap.specs.declared.builder.command.Command.TheViews.{out-Command as fields_of}
 use Rattle.clap.specs.declared.builder.value_parser.ValueParser.TheVariants as parser
 
--- an option of this name, a number from one to another, and what it is where it is left out
+-- an option with this name, the range of its number, and its default
 abbrev pub number_rule : List ℕ → List ℕ → ℤ → ℤ → Rule
 number_rule name missing least most = record (new_rule name) {
   long = Some name;

@@ -9,12 +9,12 @@ use Rattle.hex.specs.Hex.{decode_sized}
 use Rattle.base64.specs.GeneralPurpose.{decode_of}
 use Rattle.base64.specs.Engines.{standard}
 
--- what comes next where there is a value, and nothing where there is none
+-- the next step if there is a value, and nothing if there is none
 abbrev pub given : {A B : Type 0} → Option A → (A → Option B) → Option B
 given None next = None
 given (Some a) next = next a
 
--- a value, where it is an object
+-- a value, if it is an object
 abbrev pub if_object : Data → Option Data
 if_object value = if is_some (as_object value) then Some value else None
 
@@ -30,7 +30,7 @@ text_in name within = option_and_then as_str (get name within)
 abbrev pub number_in : List ℕ → Data → Option ℕ
 number_in name within = option_and_then as_u64 (option_and_then as_number (get name within))
 
--- a value of a member that may be missing: none where it is, and where it is there but says none, nothing
+-- a value of an optional member: none if it is absent, and nothing if it is there and not valid
 abbrev pub if_there : {A : Type 0} → List ℕ → Data → Option A → Option (Option A)
 if_there name within value = if is_some (get name within) then option_map Some value else Some None
 

@@ -1,4 +1,4 @@
--- What `monitor` answers to a line.
+-- What `monitor` replies to a line.
 use Rattle.std.specs.Prelude.{ℕ, List, codes, Bool, false, Option, Some, None, if◌then◌else◌}
 use Rattle.std.specs.Option.{option_map_or}
 use Rattle.std.specs.Str.{bytes_eq}
@@ -12,7 +12,7 @@ use Rattle.coniks_chain.specs.Chain.{before_of}
 use Rattle.coniks_chain.specs.Seen.{seen_of}
 use Rattle.coniks_chain.specs.Watch.{Watched}
 use Rattle.coniks_chain.specs.declared.auditor.AuditFault.{AuditFault}
-use Rattle.coniks_chain.specs.declared.auditor.Before.{Before}
+use Rattle.coniks_chain.specs.declared.auditor.AuditorState.{AuditorState}
 use Rattle.coniks_chain.specs.declared.entry.Entry.{Entry as EntryOf}
 use Rattle.coniks_chain.specs.declared.seen.MonitorFault.TheVariants.{Audit, Check}
 use Rattle.coniks_tool.specs.AuditFaults.{audit_fault}
@@ -32,7 +32,7 @@ pub record MonitorState : Type 0 where
   pub key : List ℕ
   pub name : List ℕ
   pub index : List ℕ
-  pub before : Option Before
+  pub before : Option AuditorState
   pub expected : Option (List ℕ)
 
 -- no entry was accepted yet, and the index is that of the name
@@ -50,7 +50,11 @@ MonitorTurn = Turn MonitorOutcome MonitorState
 -- an accepted entry with a proof that has this first fault: the state stays. One with none is what the next one is compared with
 abbrev pub checked_turn : MonitorState → EntryOf → ProofOf → Option CheckFault → MonitorTurn
 checked_turn s entry proof (Some fault) = refused s (at_fault (Check fault))
-checked_turn s entry proof None = record { outcome = watched entry.body.t (seen_of s.expected (answer_of proof.end)); state = record s { before = Some (before_of sha256 entry) } }
+checked_turn s entry proof None =
+    record {
+      outcome = watched entry.body.t (seen_of s.expected (answer_of proof.end));
+      state = record s { before = Some (before_of sha256 entry) };
+    }
 
 -- an entry with this first fault is refused and the state stays; under one with none the proof is checked, for the name at its index
 abbrev pub audited_turn : MonitorState → EntryOf → ProofOf → Option AuditFault → MonitorTurn
@@ -61,7 +65,7 @@ audited_turn s entry proof None = checked_turn s entry proof (check_fault sha256
 abbrev pub step_turn : MonitorState → EntryOf → ProofOf → MonitorTurn
 step_turn s entry proof = audited_turn s entry proof (audit_fault (is_seal s.key) s.before entry)
 
--- a line with this entry and this proof, where there are such
+-- a line with this entry and this proof, if there are such
 abbrev pub watch_turn : MonitorState → Option EntryOf → Option ProofOf → MonitorTurn
 watch_turn s None proof = refused s (no_member Entry)
 watch_turn s (Some entry) None = refused s (no_member Proof)
@@ -84,6 +88,6 @@ object_turn s d = if is_expect (text_in (codes "cmd") d) then expect_turn s (exp
 abbrev pub monitor_turn : MonitorState → List ℕ → MonitorTurn
 monitor_turn s line = option_map_or (object_turn s) (object_in line) (refused s not_json)
 
--- what a line is answered by
+-- the reply to a line
 abbrev pub monitor_answer : MonitorState → List ℕ → Answer MonitorState
 monitor_answer s line = answer_by monitor_data is_as_expected (monitor_turn s line)

@@ -65,7 +65,7 @@ monitor_data not_json = fault_data (codes "Json")
 monitor_data (no_member m) = bad_member_data (member_name m)
 monitor_data (at_fault fault) = fault_data (monitor_fault_name fault)
 
--- the line was accepted, and nothing else than the expected answer was seen
+-- the line was accepted, and shows what is expected
 abbrev pub is_as_expected : MonitorOutcome → Bool
 is_as_expected (watched epoch seen) = is_same seen
 is_as_expected expecting = true

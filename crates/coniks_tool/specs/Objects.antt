@@ -10,7 +10,7 @@ use Rattle.coniks_tool.specs.declared.lines.objects.Field.{Field}
 use Rattle.coniks_tool.specs.declared.lines.objects.Shown.{Shown}
 use Rattle.coniks_tool.specs.declared.lines.objects.Shown.TheVariants.{Digits, Entry, Base64, Text, Number, Proof}
 
--- what stands for a value
+-- the JSON value of a printed value
 abbrev pub data_of : Shown → Data
 data_of (Digits bytes) = digits bytes.now
 data_of (Entry entry) = digits (entry_bytes entry.now)

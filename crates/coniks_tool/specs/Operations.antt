@@ -30,12 +30,12 @@ abbrev pub with_first : Operation → Result (List Operation) ℕ → Result (Li
 with_first op (Ok ops) = Ok (op ∷ ops)
 with_first op (Err place) = Err place
 
--- what stands at a place and after it; a place with no operation is at fault
+-- the operations from a place on; the first element that is none is reported
 abbrev pub at_place : ℕ → Option Operation → Result (List Operation) ℕ → Result (List Operation) ℕ
 at_place place None others = Err place
 at_place place (Some op) others = with_first op others
 
--- the operations of elements that stand from a place on, or the first place with none
+-- the operations of elements from a place on, or the first place without one
 abbrev pub operations_from : ℕ → Items → Result (List Operation) ℕ
 operations_from place no_items = Ok []
 operations_from place (item element others) = at_place place (operation_in element) (operations_from (place + 1) others)

@@ -1,4 +1,4 @@
--- The path that a lookup answers, in byte lists.
+-- The path that a lookup returns, in byte lists.
 use Rattle.std.specs.Prelude.{ℕ, List, [], ◌∷◌, if◌then◌else◌}
 use Rattle.std.specs.Str.{bytes_eq}
 use Rattle.coniks_proof.specs.Entries.{Entry}
@@ -8,7 +8,7 @@ use Rattle.coniks_proof.specs.declared.paths.Proof.{Proof}
 use Rattle.coniks_proof.specs.declared.paths.End.{End}
 use Rattle.coniks_proof.specs.declared.paths.End.TheVariants.{Empty, Other, Here}
 
--- where a path to an index ends
+-- the end of a path to an index
 pub data PathEnd : Type 0 where
   -- at no entry
   no_entry : PathEnd
@@ -17,12 +17,12 @@ pub data PathEnd : Type 0 where
   -- at the entry of the index, whose binding is this
   its_entry : (name key opening : List ℕ) → PathEnd
 
--- the hashes beside the way to an index, from the root down, and where it ends
+-- the siblings of the path to an index, from the root down, and its end
 pub record Path : Type 0 where
   pub siblings : List (List ℕ)
   pub end : PathEnd
 
--- what is left where the way to an index ends
+-- the entries at the end of the path to an index
 abbrev pub end_at : List ℕ → List (Entry Registered) → PathEnd
 end_at index [] = no_entry
 end_at index (e ∷ es) =
@@ -37,7 +37,7 @@ path_among hash nonce entries index = record {
 
 -- the path to an index in the tree of a registry
 abbrev pub path_to : (List ℕ → List ℕ) → (List ℕ → List ℕ) → List ℕ → Registry → List ℕ → Path
-path_to hash of nonce registry index = path_among hash nonce (entries_of hash of registry) index
+path_to hash index_of nonce registry index = path_among hash nonce (entries_of hash index_of registry) index
 
 -- an end, without the forms that the code gives to numbers and digests
 abbrev pub end_shown : End → PathEnd

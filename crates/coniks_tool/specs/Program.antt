@@ -1,4 +1,4 @@
--- What the program does about its words, and what it tells.
+-- What the program does with its arguments, and what it writes to standard error.
 use Rattle.std.specs.Prelude.{◌≡◌, ◌≢◌, ◌⊎◌, ℕ, List, [], Bool, true, false, codes, Option, Some, None, Result, Ok, Err}
 use Rattle.std.specs.String.{string_bytes}
 use Rattle.clap.specs.Words.{Kinds, IsAmong, fault_of, subcommand_of}
@@ -14,34 +14,34 @@ use Rattle.coniks_tool.specs.Choice.{Choice, run, check, audit, monitor, chosen,
 use Rattle.coniks_tool.specs.Expectations.{expectation_in}
 use Rattle.coniks_tool.specs.Keydir.{keydir}
 use Rattle.coniks_tool.specs.Monitor.{MonitorState, monitor_answer, none_watched}
-use Rattle.coniks_tool.specs.Script.{ScriptFails, State, script_answer}
-use Rattle.coniks_tool.specs.declared.words.choice.Unread.{Unread}
-use Rattle.coniks_tool.specs.declared.words.choice.Unread.TheVariants as unread
-use Rattle.coniks_tool.specs.declared.words.ending.Ending.{Ending}
-use Rattle.coniks_tool.specs.declared.words.ending.Ending.TheVariants.{Done, Refused, BadKey, BadExpectation}
+use Rattle.coniks_tool.specs.Script.{ScriptFails, ScriptState, script_answer}
+use Rattle.coniks_tool.specs.declared.cli.choice.Unread.{Unread}
+use Rattle.coniks_tool.specs.declared.cli.choice.Unread.TheVariants as unread
+use Rattle.coniks_tool.specs.declared.cli.ending.Ending.{Ending}
+use Rattle.coniks_tool.specs.declared.cli.ending.Ending.TheVariants.{Done, Refused, BadKey, BadExpectation}
 
--- the line that tells of a fault
+-- the line for a fault
 abbrev pub fault_line : RunFault → List ℕ
 fault_line Read = codes "keydir: read failed\n"
 fault_line Write = codes "keydir: write failed\n"
 fault_line OutOfMemory = codes "keydir: out of memory\n"
 fault_line NoBoard = codes "keydir: no board\n"
 
--- the line that tells why there are no words
+-- the line for arguments that cannot be read
 abbrev pub unread_line : Unread → List ℕ
 unread_line unread.NotText = codes "keydir: a word is not UTF-8\n"
 unread_line unread.OutOfMemory = fault_line OutOfMemory
 
--- the status where there are no words
+-- the status for arguments that cannot be read
 abbrev pub unread_status : Unread → ℕ
 unread_status unread.NotText = 2
 unread_status unread.OutOfMemory = 3
 
--- the line that tells of a key's text that isn't a key
+-- the line for a key that is not valid
 abbrev pub bad_key_line : List ℕ
 bad_key_line = codes "keydir: bad key\n"
 
--- the line that tells of an expectation's text that isn't base64
+-- the line for an expected key that is not base64
 abbrev pub bad_expectation_line : List ℕ
 bad_expectation_line = codes "keydir: bad expectation\n"
 
@@ -58,7 +58,7 @@ pub record TellsPart (old : Sink) (text : List ℕ) (new : Sink) : Type 0 where
   pub written : Appends old part new
   pub because : CannotWrite old new
 
--- a text was told as far as the sink let it
+-- a text was written as far as the sink allowed
 abbrev pub Tells : Sink → List ℕ → Sink → Type 0
 Tells old text new = TellsWhole old text new ⊎ TellsPart old text new
 
@@ -68,7 +68,7 @@ is_asked_for DisplayHelp = true
 is_asked_for DisplayVersion = true
 is_asked_for _ = false
 
--- the status of what came of the words
+-- the status of an ending
 abbrev pub status_of : Result Ending RunFault → ℕ
 status_of (Ok (Done true)) = 0
 status_of (Ok (Done false)) = 1
@@ -77,7 +77,7 @@ status_of (Ok BadKey) = 2
 status_of (Ok BadExpectation) = 2
 status_of (Err fault) = 3
 
--- what is told of it, if anything
+-- the text for it, if any
 abbrev pub told_of : Result Ending RunFault → Option (List ℕ)
 told_of (Ok (Done all)) = None
 told_of (Ok (Refused text)) = Some (string_bytes text)
@@ -85,7 +85,7 @@ told_of (Ok BadKey) = Some bad_key_line
 told_of (Ok BadExpectation) = Some bad_expectation_line
 told_of (Err fault) = Some (fault_line fault)
 
--- the text was told as far as the sink let it; where there is none, nothing was
+-- the text was written as far as the sink allowed; without a text, nothing was
 abbrev pub TellsIf : Option (List ℕ) → Sink → Sink → Type 0
 TellsIf None old new = new ≡ old
 TellsIf (Some text) old new = Tells old text new
@@ -94,7 +94,7 @@ TellsIf (Some text) old new = Tells old text new
 abbrev pub AsksForHelp : Kinds → Type 0
 AsksForHelp kinds = (kind : ErrorKind) × (IsAmong kind kinds × (is_asked_for kind ≡ true))
 
--- one of the kinds that `clap` may give is a mistake in the words
+-- one of the kinds that `clap` may return is a mistake in the arguments
 abbrev pub HasMistake : Kinds → Type 0
 HasMistake kinds = (kind : ErrorKind) × (IsAmong kind kinds × (is_asked_for kind ≡ false))
 
@@ -117,12 +117,12 @@ pub record Monitors (text name : List ℕ) (expect : Option (List ℕ)) (from fr
 -- the run that was chosen came to its source's end, and this says whether each line was accepted
 abbrev pub Runs : Option Choice → Source → Source → Sink → Sink → Bool → Type 0
 Runs None from from' to to' all = ⊥
-Runs (Some (run workers depth)) from from' to to' all = (state : State) × EndsWell script_answer None from from' to to' state all
+Runs (Some (run workers depth)) from from' to to' all = (state : ScriptState) × EndsWell script_answer None from from' to to' state all
 Runs (Some check) from from' to to' all = (state : Stateless) × EndsWell check_answer stateless from from' to to' state all
 Runs (Some (audit text)) from from' to to' all = Audits text from from' to to' all
 Runs (Some (monitor text name expect)) from from' to to' all = Monitors text name expect from from' to to' all
 
--- a fault ended the run that was chosen, after these answers
+-- a fault ended the chosen run, after these replies
 abbrev pub BreaksOff : Option Choice → Source → Source → Sink → Sink → RunFault → Type 0
 BreaksOff None from from' to to' fault = ⊥
 BreaksOff (Some (run workers depth)) from from' to to' fault = ScriptFails from from' to to' fault
@@ -145,12 +145,12 @@ IsShown from from' to to' = (from' ≡ from) × ((text : List ℕ) × TellsWhole
 abbrev pub IsCutOff : Source → Source → Sink → Sink → RunFault → Type 0
 IsCutOff from from' to to' fault = (fault ≡ Write) × (from' ≡ from) × ((text : List ℕ) × TellsPart to text to')
 
--- `clap` finds no fault in the words, and what they choose was run
+-- `clap` finds no mistake in the arguments, and what they choose was run
 pub record RunsFor (words : List (List ℕ)) (from from' : Source) (to to' : Sink) (all : Bool) : Type 0 where
   pub faultless : fault_of keydir words ≡ []
   pub runs : Runs (chosen (subcommand_of keydir words)) from from' to to' all
 
--- `clap` finds no fault in the words, and a fault ended the run that they choose
+-- `clap` finds no mistake in the arguments, and a fault ended the run that they choose
 pub record BreaksOffFor (words : List (List ℕ)) (from from' : Source) (to to' : Sink) (fault : RunFault) : Type 0 where
   pub faultless : fault_of keydir words ≡ []
   pub breaks : BreaksOff (chosen (subcommand_of keydir words)) from from' to to' fault
@@ -158,29 +158,31 @@ pub record BreaksOffFor (words : List (List ℕ)) (from from' : Source) (to to' 
 -- what a fault leaves of the input and the output: that of the run, or of help or the version, or all of it
 abbrev pub StopsAt : List (List ℕ) → Source → Source → Sink → Sink → RunFault → Type 0
 StopsAt words from from' to to' fault =
-    BreaksOffFor words from from' to to' fault ⊎ ((AsksForHelp (fault_of keydir words) × IsCutOff from from' to to' fault) ⊎ NeverBegins from from' to to' fault)
+    BreaksOffFor words from from' to to' fault ⊎
+    ((AsksForHelp (fault_of keydir words) × IsCutOff from from' to to' fault) ⊎ NeverBegins from from' to to' fault)
 
--- `clap` finds no fault in the words, but the key that they give is none
+-- `clap` finds no mistake in the arguments, but their key is not valid
 pub record HasBadKey (words : List (List ℕ)) : Type 0 where
   pub faultless : fault_of keydir words ≡ []
   pub no_key : lacks_key (chosen (subcommand_of keydir words)) ≡ true
 
--- `clap` finds no fault in the words and the key that they give is one, but the text of the expectation isn't base64
+-- `clap` finds no mistake in the arguments and their key is valid, but the expected key is not base64
 pub record HasBadExpectation (words : List (List ℕ)) : Type 0 where
   pub faultless : fault_of keydir words ≡ []
   pub no_expectation : lacks_expectation (chosen (subcommand_of keydir words)) ≡ true
 
--- the key or the expectation that the words give is none
+-- the key or the expected key in the arguments is not valid
 abbrev pub HasBadText : List (List ℕ) → Type 0
 HasBadText words = HasBadKey words ⊎ HasBadExpectation words
 
--- the words choose no run: `clap` finds a fault in them, help that is asked for among them, or they give a bad text
+-- the arguments choose no run: `clap` finds a mistake or a request for help, or a text in them is not valid
 abbrev pub ChooseNoRun : List (List ℕ) → Type 0
 ChooseNoRun words = (fault_of keydir words ≢ []) ⊎ HasBadText words
 
--- the program may end in this way for the words
+-- the program may end in this way for these arguments
 abbrev pub EndsFor : List (List ℕ) → Source → Source → Sink → Sink → Ending → Type 0
-EndsFor words from from' to to' (Done true) = RunsFor words from from' to to' true ⊎ (AsksForHelp (fault_of keydir words) × IsShown from from' to to')
+EndsFor words from from' to to' (Done true) = RunsFor words from from' to
+    to' true ⊎ (AsksForHelp (fault_of keydir words) × IsShown from from' to to')
 EndsFor words from from' to to' (Done false) = RunsFor words from from' to to' false
 EndsFor words from from' to to' (Refused text) = HasMistake (fault_of keydir words)
 EndsFor words from from' to to' BadKey = HasBadKey words
@@ -207,24 +209,25 @@ HasBoard (Some check) = ⊥
 HasBoard (Some (audit text)) = ⊥
 HasBoard (Some (monitor text name expect)) = ⊥
 
--- `clap` finds no fault in the words, and the run that they choose has a board
+-- `clap` finds no mistake in the arguments, and the run that they choose has a board
 pub record AsksForBoard (words : List (List ℕ)) : Type 0 where
   pub faultless : fault_of keydir words ≡ []
   pub has_board : HasBoard (chosen (subcommand_of keydir words))
 
--- what each fault says: which stream did not go on, if one did not; without a board, that one was wanted, and that nothing was read or written
+-- what each fault says: which stream did not go on, if one did not; without a
+-- board, that one was wanted, and that nothing was read or written
 abbrev pub Fails : Type 0 → Source → Source → Sink → Sink → RunFault → Type 0
 Fails wanted from from' to to' Read = CannotRead from from' × WritesOn to to'
 Fails wanted from from' to to' Write = (from'.failed ≡ from.failed) × CannotWrite to to'
 Fails wanted from from' to to' OutOfMemory = (from'.failed ≡ from.failed) × WritesOn to to'
 Fails wanted from from' to to' NoBoard = wanted × ((from' ≡ from) × (to' ≡ to))
 
--- the fact holds where `clap` refused the words
+-- the fact holds if `clap` refused the arguments
 abbrev pub IfRefused : Ending → Type 0 → Type 0
 IfRefused (Refused text) fact = fact
 IfRefused _ fact = Unit {0}
 
--- the fact holds where it is done
+-- the fact holds if the program is done
 abbrev pub IfDone : Ending → Type 0 → Type 0
 IfDone (Done all) fact = fact
 IfDone _ fact = Unit {0}

@@ -19,7 +19,7 @@ digest_in value = option_map (λ bytes. record { 0 = bytes }) (option_and_then (
 abbrev pub with_digest : Option Digest → Option (List Digest) → Option (List Digest)
 with_digest first others = option_and_then (λ digest. option_map (λ digests. digest ∷ digests) others) first
 
--- the digests that elements are, where each is one
+-- the digests in elements, if each is one
 abbrev pub digests_in : Items → Option (List Digest)
 digests_in no_items = Some []
 digests_in (item element others) = with_digest (digest_in element) (digests_in others)

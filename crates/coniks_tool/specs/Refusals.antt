@@ -33,11 +33,11 @@ abbrev pub refusal_from : List Shown → ℕ → Option (ℕ × Fault) → Optio
 refusal_from history epoch (Some found) = Some (at found.0 found.1)
 refusal_from history epoch None = number_refusal history epoch
 
--- why the history refuses a batch under a number, where `of` gives each name its index
+-- why the history refuses a batch under a number; `of` gives each name its index
 abbrev pub refusal : (List ℕ → List ℕ) → List Shown → ℕ → List Operation → Option Refusal
-refusal of history epoch ops =
+refusal index_of history epoch ops =
     if nat_le (length ops) MAX_OPERATIONS
-    then refusal_from history epoch (first_fault of (latest_registry history) ops)
+    then refusal_from history epoch (first_fault index_of (latest_registry history) ops)
     else Some too_long
 
 -- a commit's fault is this refusal; or a growth was refused

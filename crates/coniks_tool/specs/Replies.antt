@@ -19,7 +19,7 @@ pub data Outcome : Type 0 where
   opened : Outcome
   -- a batch was installed: the entry that it added to the chain, and the entry's link
   installed : (entry : Entry) (link : List ℕ) → Outcome
-  -- a lookup was answered by the path to the name's index in the tree of the epoch with this entry
+  -- a lookup returned the path to the name's index in the tree of the epoch with this entry
   looked_up : (entry : Entry) (index name : List ℕ) (path : Path) → Outcome
   -- the line isn't a JSON object
   not_json : Outcome

@@ -1,4 +1,4 @@
--- What `run` answers to a line.
+-- What `run` replies to a line.
 use Rattle.std.specs.Prelude.{◌≡◌, ◌==◌, ℕ, List, [], ◌∷◌, ◌++◌, codes, find, map, zip, Option, Some, None, Result, Ok, Err, if◌then◌else◌}
 use Rattle.std.specs.Option.{option_map_or}
 use Rattle.std.specs.Str.{bytes_eq}
@@ -26,27 +26,28 @@ use Rattle.coniks_tool.specs.Turns.{Turn, refused, answer_by}
 use Rattle.coniks_tool.specs.declared.lines.printing.Member.TheVariants.{Key, Nonce, Policy, Epoch, Ops, Name}
 
 -- a directory that was opened: its key, nonce and policy, and its history
-pub record Opened : Type 0 where
+pub record ScriptDirectory : Type 0 where
   pub key : List ℕ
   pub nonce : List ℕ
   pub policy : List ℕ
   pub history : List Shown
 
 -- nothing, before a line opens a directory
-abbrev pub State : Type 0
-State = Option Opened
+abbrev pub ScriptState : Type 0
+ScriptState = Option ScriptDirectory
 
 -- what comes of a line, and the state after it
 abbrev pub ScriptTurn : Type 0
-ScriptTurn = Turn Outcome State
+ScriptTurn = Turn Outcome ScriptState
 
 -- a directory is opened once
-abbrev pub open_with : State → List ℕ → List ℕ → List ℕ → ScriptTurn
-open_with None key nonce policy = record { outcome = opened; state = Some (record { key = key; nonce = nonce; policy = policy; history = [] }) }
+abbrev pub open_with : ScriptState → List ℕ → List ℕ → List ℕ → ScriptTurn
+open_with None key nonce policy =
+    record { outcome = opened; state = Some (record { key = key; nonce = nonce; policy = policy; history = [] }) }
 open_with (Some o) key nonce policy = refused (Some o) already_open
 
 -- `open`, by its members in the order of reading
-abbrev pub open_turn : State → Option (List ℕ) → Option (List ℕ) → Option (List ℕ) → ScriptTurn
+abbrev pub open_turn : ScriptState → Option (List ℕ) → Option (List ℕ) → Option (List ℕ) → ScriptTurn
 open_turn s None _ _ = refused s (bad_member Key)
 open_turn s (Some key) None _ = refused s (bad_member Nonce)
 open_turn s (Some key) (Some nonce) None = refused s (bad_member Policy)
@@ -60,21 +61,21 @@ refusal_outcome (not_later latest) = epoch_not_later latest
 refusal_outcome full = board_full
 
 -- the epoch that a batch makes after the latest one, or after `open`
-abbrev pub shown_next : Opened → Batch → Shown
+abbrev pub shown_next : ScriptDirectory → Batch → Shown
 shown_next o batch = shown_by (latest_version 1 o.history) (latest_nonce o.nonce o.history) (latest_registry o.history) batch
 
 -- the entry that this epoch adds to the chain
-abbrev pub entry_next : Opened → Shown → Entry
+abbrev pub entry_next : ScriptDirectory → Shown → Entry
 entry_next o shown = next_entry o.key o.policy o.history shown
 
 -- a batch was installed: nothing refuses it, this is the entry that it added, and this is what the directory holds then
-pub record Installs (old : Opened) (batch : Batch) (entry : Entry) (new : Opened) : Type 0 where
+pub record Installs (old : ScriptDirectory) (batch : Batch) (entry : Entry) (new : ScriptDirectory) : Type 0 where
   pub faultless : refusal (demo_index old.key) old.history batch.t batch.ops ≡ None
   pub entry_is : entry ≡ entry_next old (shown_next old batch)
   pub state_is : new ≡ record old { history = old.history ++ shown_next old batch ∷ [] }
 
 -- a batch on an opened directory: it is refused, or installed as an epoch of its own
-abbrev pub batch_on : Opened → Batch → Option Refusal → ScriptTurn
+abbrev pub batch_on : ScriptDirectory → Batch → Option Refusal → ScriptTurn
 batch_on o batch (Some why) = refused (Some o) (refusal_outcome why)
 batch_on o batch None =
     let shown = shown_next o batch in
@@ -85,21 +86,21 @@ batch_on o batch None =
     }
 
 -- a batch that was read
-abbrev pub batch_with : State → Batch → ScriptTurn
+abbrev pub batch_with : ScriptState → Batch → ScriptTurn
 batch_with None batch = refused None not_open
 batch_with (Some o) batch = batch_on o batch (refusal (demo_index o.key) o.history batch.t batch.ops)
 
 -- the operations were read, or one was not
-abbrev pub batch_read : State → ℕ → Option (List ℕ) → Result (List Operation) ℕ → ScriptTurn
-batch_read s epoch brought (Err place) = refused s (bad_operation place)
-batch_read s epoch brought (Ok ops) = batch_with s (record { t = epoch; brought = brought; ops = ops })
+abbrev pub batch_read : ScriptState → ℕ → Option (List ℕ) → Result (List Operation) ℕ → ScriptTurn
+batch_read s epoch new_nonce (Err place) = refused s (bad_operation place)
+batch_read s epoch new_nonce (Ok ops) = batch_with s (record { t = epoch; new_nonce = new_nonce; ops = ops })
 
 -- `batch`, by its members in the order of reading; the nonce may be missing
-abbrev pub batch_turn : State → Option ℕ → Option (Option (List ℕ)) → Option Items → ScriptTurn
-batch_turn s None brought items = refused s (bad_member Epoch)
+abbrev pub batch_turn : ScriptState → Option ℕ → Option (Option (List ℕ)) → Option Items → ScriptTurn
+batch_turn s None new_nonce items = refused s (bad_member Epoch)
 batch_turn s (Some epoch) None items = refused s (bad_member Nonce)
-batch_turn s (Some epoch) (Some brought) None = refused s (bad_member Ops)
-batch_turn s (Some epoch) (Some brought) (Some items) = batch_read s epoch brought (operations_in items)
+batch_turn s (Some epoch) (Some new_nonce) None = refused s (bad_member Ops)
+batch_turn s (Some epoch) (Some new_nonce) (Some items) = batch_read s epoch new_nonce (operations_in items)
 
 -- an epoch with its entry in the chain
 pub record Chained : Type 0 where
@@ -107,52 +108,55 @@ pub record Chained : Type 0 where
   pub entry : Entry
 
 -- the epochs of an opened directory, each with its entry
-abbrev pub epochs_of : Opened → List Chained
+abbrev pub epochs_of : ScriptDirectory → List Chained
 epochs_of o = map (λ pair. record { shown = pair.0; entry = pair.1 }) (zip o.history (chain_of o.key o.policy o.history))
 
 -- the epoch of exactly this number
 abbrev pub epoch_at : List Chained → ℕ → Option Chained
 epoch_at epochs number = find (λ (e : Chained). e.shown.t == number) epochs
 
--- what a lookup at an epoch is answered by: its entry, with the path to the name's index in its tree
+-- the outcome of a lookup at an epoch: its entry, with the path to the name's index in its tree
 abbrev pub lookup_at : (List ℕ → List ℕ) → List ℕ → Option Chained → Outcome
-lookup_at of name None = unknown_epoch
-lookup_at of name (Some e) =
-    if fits MAX_NAME name then looked_up e.entry (of name) name (path_to sha256 of e.shown.nonce e.shown.registry (of name)) else bad_name_length
+lookup_at index_of name None = unknown_epoch
+lookup_at index_of name (Some e) =
+    if fits MAX_NAME name then looked_up e.entry (index_of name) name
+    (path_to sha256 index_of e.shown.nonce e.shown.registry (index_of name)) else bad_name_length
 
 -- a lookup that was read
-abbrev pub lookup_with : State → ℕ → List ℕ → Outcome
+abbrev pub lookup_with : ScriptState → ℕ → List ℕ → Outcome
 lookup_with None number name = not_open
 lookup_with (Some o) number name = lookup_at (demo_index o.key) name (epoch_at (epochs_of o) number)
 
 -- `lookup`, by its members in the order of reading
-abbrev pub lookup_outcome : State → Option ℕ → Option (List ℕ) → Outcome
+abbrev pub lookup_outcome : ScriptState → Option ℕ → Option (List ℕ) → Outcome
 lookup_outcome s None name = bad_member Epoch
 lookup_outcome s (Some epoch) None = bad_member Name
 lookup_outcome s (Some epoch) (Some name) = lookup_with s epoch name
 
 -- a lookup leaves the state as it is
-abbrev pub lookup_turn : State → Option ℕ → Option (List ℕ) → ScriptTurn
+abbrev pub lookup_turn : ScriptState → Option ℕ → Option (List ℕ) → ScriptTurn
 lookup_turn s epoch name = record { outcome = lookup_outcome s epoch name; state = s }
 
 -- an object, by its command
-abbrev pub command_turn : State → Data → Option (List ℕ) → ScriptTurn
+abbrev pub command_turn : ScriptState → Data → Option (List ℕ) → ScriptTurn
 command_turn s d None = refused s no_command
 command_turn s d (Some name) =
-    if bytes_eq name (codes "open") then open_turn s (digits_in 32 (codes "key") d) (digits_in 32 (codes "nonce") d) (digits_in 32 (codes "policy") d)
-    else (if bytes_eq name (codes "batch") then batch_turn s (number_in (codes "epoch") d) (if_there (codes "nonce") d (digits_in 32 (codes "nonce") d)) (array_in (codes "ops") d)
+    if bytes_eq name (codes "open") then open_turn s (digits_in 32 (codes "key") d)
+    (digits_in 32 (codes "nonce") d) (digits_in 32 (codes "policy") d)
+    else (if bytes_eq name (codes "batch") then batch_turn s (number_in (codes "epoch") d)
+    (if_there (codes "nonce") d (digits_in 32 (codes "nonce") d)) (array_in (codes "ops") d)
     else (if bytes_eq name (codes "lookup") then lookup_turn s (number_in (codes "epoch") d) (text_in (codes "name") d)
     else refused s no_command))
 
 -- what comes of a line
-abbrev pub turn : State → List ℕ → ScriptTurn
+abbrev pub turn : ScriptState → List ℕ → ScriptTurn
 turn s line = option_map_or (λ d. command_turn s d (text_in (codes "cmd") d)) (object_in line) (refused s not_json)
 
--- what a line is answered by
-abbrev pub script_answer : State → List ℕ → Answer State
+-- the reply to a line
+abbrev pub script_answer : ScriptState → List ℕ → Answer ScriptState
 script_answer s line = answer_by reply_data is_accepted (turn s line)
 
--- what stands after a fault of `run`: that of its lines; where no board could be had, nothing was read or written
+-- the state after a fault of `run`: that of its lines; without a board, nothing was read or written
 abbrev pub ScriptFails : Source → Source → Sink → Sink → RunFault → Type 0
 ScriptFails from from' to to' Read = EndsBadly script_answer None from from' to to' Read
 ScriptFails from from' to to' Write = EndsBadly script_answer None from from' to to' Write

@@ -4,7 +4,7 @@ use Rattle.std.specs.Str.{bytes_eq}
 use Rattle.coniks_proof.specs.Sha256.{sha256}
 use Rattle.coniks_chain.specs.declared.entry.Entry.{Entry}
 
--- the bytes that stand before what the two halves of a seal are hashed from
+-- the first bytes of what the two halves of a seal are hashed from
 abbrev pub low_tag : ℕ
 low_tag = 0x41
 

@@ -8,33 +8,33 @@ use Rattle.coniks_directory.specs.History.{Shown, latest_nonce, latest_registry,
 use Rattle.coniks_directory.specs.Runs.{Batch, shown_by}
 use Rattle.coniks_directory.specs.State.{State as Directory, history_of}
 use Rattle.coniks_shared.specs.Boards.{Boarded, BoardEnd}
-use Rattle.coniks_tool.specs.Script.{Opened, State}
+use Rattle.coniks_tool.specs.Script.{ScriptDirectory, ScriptState}
 use Rattle.coniks_tool.specs.Seal.{is_seal}
 use Rattle.coniks_tool.specs.declared.run.batch.Batch.{Batch as BatchRead}
 use Rattle.coniks_tool.specs.Limits.{most_epochs}
 use Rattle.coniks_tool.specs.declared.run.store.Service.{Service}
 
 -- a directory of a key, in this state
-abbrev pub opened_by : List ℕ → Directory → Opened
+abbrev pub opened_by : List ℕ → Directory → ScriptDirectory
 opened_by key s = record { key = key; nonce = s.nonce; policy = s.policy; history = history_of s }
 
 -- a batch that was read, without the form that the code gives to operations
 abbrev pub batch_of : BatchRead → Batch
-batch_of b = record { t = b.epoch; brought = b.brought; ops = operations b.ops.now }
+batch_of b = record { t = b.epoch; new_nonce = b.new_nonce; ops = operations b.ops.now }
 
 -- the epoch that a batch makes on a directory in this state
 abbrev pub shown_on : Directory → Batch → Shown
 shown_on s batch = shown_by (latest_version 1 (history_of s)) (latest_nonce s.nonce (history_of s)) (latest_registry (history_of s)) batch
 
 -- what an opened directory holds
-abbrev pub opened_of : Service → Opened
+abbrev pub opened_of : Service → ScriptDirectory
 opened_of s = opened_by s.directory.index s.directory.state
 
-abbrev pub state_of : Option Service → State
-state_of None = None
-state_of (Some s) = Some (opened_of s)
+abbrev pub script_state_of : Option Service → ScriptState
+script_state_of None = None
+script_state_of (Some s) = Some (opened_of s)
 
--- the signer has the key of the directory's index source, it made just the chain's entries, which are a good chain, and the heads
+-- the signer has the key of the directory's index source and made exactly the chain's entries, which are a good chain, and the heads
 -- of the chain are those that are published
 pub record IsServed (published : BoardEnd) (s : Service) : Type 0 where
   pub verdicts : (bytes signature : List ℕ) → is_seal s.signer.key bytes signature ≡ is_seal s.directory.index bytes signature

@@ -1,4 +1,4 @@
--- What comes of a line, and how it is answered.
+-- The outcome of a line, and the reply to it.
 use Rattle.std.specs.Prelude.{Bool}
 use Rattle.serde_json.specs.Data.{Data}
 use Rattle.serde_json.specs.Written.{compact_text}
@@ -13,6 +13,6 @@ pub record Turn (Outcome State : Type 0) : Type 0 where
 abbrev pub refused : {Outcome State : Type 0} → State → Outcome → Turn Outcome State
 refused s outcome = record { outcome = outcome; state = s }
 
--- a line is answered by the object of what comes of it, as JSON (RFC 8259) with no white space
+-- the reply to a line is the object of its outcome, as JSON (RFC 8259) without white space
 abbrev pub answer_by : {Outcome State : Type 0} → (Outcome → Data) → (Outcome → Bool) → Turn Outcome State → Answer State
 answer_by object accepted t = record { text = compact_text (object t.outcome); accepted = accepted t.outcome; state = t.state }

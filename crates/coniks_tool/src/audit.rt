@@ -1,4 +1,4 @@
-//! The engine of `audit`: the entries of lines, shown to the auditor of a chain.
+//! The engine of `audit`: an auditor over the entries of lines.
 
 pub mod laws;
 pub(crate) mod machine;

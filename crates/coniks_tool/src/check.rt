@@ -1,4 +1,4 @@
-//! The engine of `check`: a line's question, and the answer of the checker.
+//! The engine of `check`: the question of a line, and the checker's answer.
 
 pub mod laws;
 pub(crate) mod machine;

@@ -1,6 +1,6 @@
-//! Lines, engines and the words of the program.
+//! The lines, the engines and the command line of the program `keydir`.
 //!
-//! A script over memory is answered as `keydir run` answers standard input:
+//! `run_script` answers a script over memory as `keydir run` answers standard input:
 //!
 //! ```rust
 //! let mut reader = MemoryIn::new(Vec::from_slice(alloc, SCRIPT)?);
@@ -11,16 +11,19 @@
 
 mod audit;
 mod check;
+mod cli;
 mod demo;
 pub mod lines;
 mod monitor;
 mod run;
-mod words;
 
 pub use audit::laws as audit_laws;
 pub use audit::machine::run_audit;
 pub use check::laws as check_laws;
 pub use check::machine::run_check;
+pub use cli::choice::{Settings, Unread, WordsFault};
+pub use cli::settings::settings;
+pub use cli::statuses::{program, unread_words};
 pub use coniks_lines::{
     ByteIn, ByteOut, Failed, MemoryIn, MemoryOut, RunFault, SystemIn, SystemOut,
 };
@@ -28,10 +31,7 @@ pub use demo::index::DemoIndex;
 pub use demo::seal::DemoSeal;
 pub use monitor::laws as monitor_laws;
 pub use monitor::machine::run_monitor;
-pub use run::crew::Crew;
 pub use run::laws as script_laws;
 pub use run::machine::run_script;
 pub use run::operations::read_op;
-pub use words::choice::{Settings, Unread, WordsFault};
-pub use words::settings::settings;
-pub use words::statuses::{program, unread_words};
+pub use run::parallelism::Parallelism;

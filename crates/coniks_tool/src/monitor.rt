@@ -1,4 +1,4 @@
-//! The engine of `monitor`: entries and proofs of lines, shown to a client's monitor, and what that expects.
+//! The engine of `monitor`: a client's monitor over the entries and proofs of lines, and its expectation.
 
 pub(crate) mod expectation;
 pub mod laws;

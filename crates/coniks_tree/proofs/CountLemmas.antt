@@ -40,7 +40,8 @@ unchanged-count hash nonce nodes records (Entry c) p es old below s = sym (uncha
 unchanged-count hash nonce nodes records (Kept root) p es old below s = sym (unchanged-many es (s.1 below))
 unchanged-count hash nonce nodes records (Made' ptr d lh rh count l r) p es old below s = cc
 
-pub new-unchanged : (hash : List ℕ → List ℕ) (nonce : List ℕ) (nodes : List Node) (records : List Record) (part : Part) (p : List Bool) (level : ℕ) (es cs : List Numbered) → cs ≡ [] → is_made part ≡ false → 0 < length p
+pub new-unchanged : (hash : List ℕ → List ℕ) (nonce : List ℕ) (nodes : List Node) (records : List Record) (part : Part) (p : List Bool) (level : ℕ) (es cs : List Numbered)
+    → cs ≡ [] → is_made part ≡ false → 0 < length p
     → Stands hash nonce nodes records part p es → node_count part ≡ new_nodes level es cs
 unfolding new_nodes new_within
 new-unchanged hash nonce nodes records part p level es cs none old below s =
@@ -87,7 +88,8 @@ pub joined-heavy : (left right : Part) → 2 ≤ weight_of left + weight_of righ
 joined-heavy left right heavy = let no : nat_lt (weight_of left + weight_of right) 2 ≡ false = grind (arith, nat_tests, heavy) in rw no refl
 
 -- two sides with their new nodes, as the part above with its own
-pub new_joined : (hash : List ℕ → List ℕ) (nonce : List ℕ) (nodes : List Node) (records : List Record) (left right : Part) (n : ℕ) (p : List Bool) (es cs : List Numbered) → length p < 256 → 0 < length cs
+pub new_joined : (hash : List ℕ → List ℕ) (nonce : List ℕ) (nodes : List Node) (records : List Record) (left right : Part) (n : ℕ) (p : List Bool) (es cs : List Numbered)
+    → length p < 256 → 0 < length cs
     → node_count left ≡ new_nodes (suc (length p)) (half false (length p) es) (half false (length p) cs)
     → node_count right ≡ new_nodes (suc (length p)) (half true (length p) es) (half true (length p) cs)
     → Stands hash nonce nodes records left (child p false) (half false (length p) (overwritten es cs))
@@ -96,7 +98,14 @@ pub new_joined : (hash : List ℕ → List ℕ) (nonce : List ℕ) (nodes : List
 new_joined hash nonce nodes records left right n p es cs short some on-left on-right sl sr n-is = elim (cases_lt (weight_of left + weight_of right) 2) [
   | inl light ↦
       let few : length (overwritten es cs) ≤ 1 =
-      omega (arith, light, length-halves (length p) (overwritten es cs), light-Stands hash nonce nodes records left (child p false) _ (omega arith) sl, light-Stands hash nonce nodes records right (child p true) _ (omega arith) sr) in
+      omega (
+        arith,
+        light,
+        length-halves (length p) (overwritten es cs),
+        light-Stands hash nonce nodes records left
+            (child p false) _ (omega arith) sl,
+        light-Stands hash nonce nodes records right (child p true) _ (omega arith) sr,
+      ) in
       n-is ∙ joined-light left right light ∙ sym (new-one (length p) es cs few)
   | inr heavy ↦
       let many : 2 ≤ length (overwritten es cs) = join_many hash nonce nodes records left right p (overwritten es cs) heavy sl sr in

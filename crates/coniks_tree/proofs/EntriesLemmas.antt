@@ -12,7 +12,7 @@ use Rattle.coniks_proof.proofs.Lemmas.{IsIn-append, IsIn-append_left, IsIn-appen
 use Rattle.coniks_proof.proofs.Lemmas.{all_left, all_right, filters_swap, length-halves, overwritten-empty}
 use Rattle.coniks_proof.specs.declared.values.Digest.{Digest}
 use Rattle.coniks_tree.specs.Entries.{AreStored, Lists, entries_at, entry_at, in_order, in_order_within}
-use Rattle.coniks_tree.specs.Parts.{Stands, entries_of, entry_of_change}
+use Rattle.coniks_tree.specs.Parts.{Stands, entries_in, entry_of_change}
 use Rattle.coniks_tree.proofs.PushLemmas.{Stands-same}
 use Rattle.coniks_tree.specs.Table.{Numbered, Shows, shows_empty, shows_leaf, shows_inner, entry_of_record}
 use Rattle.coniks_tree.specs.declared.part.Change.{Change}
@@ -127,9 +127,9 @@ stored_entry records n e within is = elim (slice_get_cases records n).1 [
 
 -- the changes go on with the entry of a place
 pub listed_change : (records : List Record) (cs new : List Change) (c : Change) (n : ℕ) → new ≡ cs ++ c ∷ [] → n < length records
-    → ((r : Record) → slice_get records n ≡ Some r → entry_of_change c ≡ entry_of_record n r) → entries_of new ≡ entries_of cs ++ entry_at n (slice_get records n)
+    → ((r : Record) → slice_get records n ≡ Some r → entry_of_change c ≡ entry_of_record n r) → entries_in new ≡ entries_in cs ++ entry_at n (slice_get records n)
 listed_change records cs new c n new-is within is =
-    ap entries_of new-is ∙ map-append entry_of_change cs (c ∷ []) ∙ ap (λ es. entries_of cs ++ es) (sym (stored_entry records n (entry_of_change c) within is))
+    ap entries_in new-is ∙ map-append entry_of_change cs (c ∷ []) ∙ ap (λ es. entries_in cs ++ es) (sym (stored_entry records n (entry_of_change c) within is))
 
 -- ---- the list, one part after another
 
@@ -249,7 +249,7 @@ within-map (suc h) k es map =
     (λ e f left right. sides_part k es e f (within-back h (suc k) (half false k es) e left) (within-back h (suc k) (half true k es) f right))
 
 -- changes whose entries are the list
-pub in_order-Lists : (changes : List Change) (es : List Numbered) → AreApart 0 es → entries_of changes ≡ in_order 0 es → Lists changes es
+pub in_order-Lists : (changes : List Change) (es : List Numbered) → AreApart 0 es → entries_in changes ≡ in_order 0 es → Lists changes es
 unfolding AreApart AreInOrder in_order
 in_order-Lists changes es apart is = record {
   order = subst (InOrderWithin 256 0) (sym is) (within-ordered 256 0 es apart);
@@ -268,13 +268,13 @@ ordered-apart zero k es order = order
 ordered-apart (suc h) k es order = (ordered-apart h (suc k) (half false k es) order.1, ordered-apart h (suc k) (half true k es) order.2)
 
 -- the changes part within the bits of an index
-pub Lists-apart : (changes : List Change) (es : List Numbered) → Lists changes es → AreApart 0 (overwritten [] (entries_of changes))
+pub Lists-apart : (changes : List Change) (es : List Numbered) → Lists changes es → AreApart 0 (overwritten [] (entries_in changes))
 unfolding AreApart AreInOrder
-Lists-apart changes es lists = subst (AreApart 0) (sym (overwritten-empty (entries_of changes))) (ordered-apart 256 0 (entries_of changes) lists.order)
+Lists-apart changes es lists = subst (AreApart 0) (sym (overwritten-empty (entries_in changes))) (ordered-apart 256 0 (entries_in changes) lists.order)
 
 -- what stands for the changes alone stands for the map
 pub Lists-stands : (hash : List ℕ → List ℕ) (nonce : List ℕ) (nodes : List Node) (records : List Record) (part : Part) (changes : List Change) (es : List Numbered)
-    → IsMap es → Lists changes es → Stands hash nonce nodes records part [] (overwritten [] (entries_of changes)) → Stands hash nonce nodes records part [] es
+    → IsMap es → Lists changes es → Stands hash nonce nodes records part [] (overwritten [] (entries_in changes)) → Stands hash nonce nodes records part [] es
 Lists-stands hash nonce nodes records part changes es map lists s =
-    Stands-same hash nonce nodes records part [] (entries_of changes) es (lists.once map) map (SameEntries-sym es (entries_of changes) lists.same)
-    (subst (Stands hash nonce nodes records part []) (overwritten-empty (entries_of changes)) s)
+    Stands-same hash nonce nodes records part [] (entries_in changes) es (lists.once map) map (SameEntries-sym es (entries_in changes) lists.same)
+    (subst (Stands hash nonce nodes records part []) (overwritten-empty (entries_in changes)) s)

@@ -58,10 +58,10 @@ asked_of-length nonce (pair ∷ pairs) =
 
 -- ---- the pairs get their hashes
 
-pub AllHalved-push : (of : List ℕ → List ℕ) (nonce : List ℕ) (nodes : List Node) (hs : List Halved) (h : Halved) → AllHalved of nonce nodes hs → IsHalved of nonce nodes h
-    → AllHalved of nonce nodes (hs ++ h ∷ [])
-AllHalved-push of nonce nodes [] h all one = (one, tt)
-AllHalved-push of nonce nodes (x ∷ hs) h all one = (all.0, AllHalved-push of nonce nodes hs h all.1 one)
+pub AllHalved-push : (digest_of : List ℕ → List ℕ) (nonce : List ℕ) (nodes : List Node) (hs : List Halved) (h : Halved) → AllHalved digest_of nonce nodes hs → IsHalved digest_of nonce nodes h
+    → AllHalved digest_of nonce nodes (hs ++ h ∷ [])
+AllHalved-push digest_of nonce nodes [] h all one = (one, tt)
+AllHalved-push digest_of nonce nodes (x ∷ hs) h all one = (all.0, AllHalved-push digest_of nonce nodes hs h all.1 one)
 
 -- what is asked for the sides of pairs: for those of the first, and of the others
 asked-parted : (before rest : List Pair) (pair : Pair) → before ≡ pair ∷ rest
@@ -97,49 +97,49 @@ same-more all before rest pair hs new h is new-is h-is whole =
 -- ---- the pairs are joined
 
 -- what is left of the pairs, their nodes' hashes, and the parts that are made
-pub record Closing (of : List ℕ → List ℕ) (nonce : List ℕ) (nodes : List Node) (all : List Pair) (hs : List Halved) (hashes : List Digest) (parts : List Part) : Type 0 where
+pub record Closing (digest_of : List ℕ → List ℕ) (nonce : List ℕ) (nodes : List Node) (all : List Pair) (hs : List Halved) (hashes : List Digest) (parts : List Part) : Type 0 where
   pub fits : PairsFit (length nodes) (map (λ h. h.pair) hs)
-  pub halved : AllHalved of nonce nodes hs
-  pub hashed : map (λ d. d.0) hashes ≡ map (λ h. of (inner_of h)) hs
-  pub so_far : (more : List Part) → AllJoined of nonce nodes (map (λ h. h.pair) hs) more → AllJoined of nonce nodes all (parts ++ more)
+  pub halved : AllHalved digest_of nonce nodes hs
+  pub hashed : map (λ d. d.0) hashes ≡ map (λ h. digest_of (inner_of h)) hs
+  pub so_far : (more : List Part) → AllJoined digest_of nonce nodes (map (λ h. h.pair) hs) more → AllJoined digest_of nonce nodes all (parts ++ more)
 
-pub Closing-step : (of : List ℕ → List ℕ) (nonce : List ℕ) (nodes : List Node) (all : List Pair) (hs rest : List Halved) (h : Halved) (hashes others : List Digest) (hash : Digest)
+pub Closing-step : (digest_of : List ℕ → List ℕ) (nonce : List ℕ) (nodes : List Node) (all : List Pair) (hs rest : List Halved) (h : Halved) (hashes others : List Digest) (hash : Digest)
     (parts new : List Part) (part : Part)
     → hs ≡ h ∷ rest → hashes ≡ hash ∷ others → new ≡ parts ++ part ∷ []
-    → (PairFits (length nodes) h.pair → IsHalved of nonce nodes h → hash.0 ≡ of (inner_of h) → IsJoined of nonce nodes h.pair.prefix h.pair.left h.pair.right part)
-    → Closing of nonce nodes all hs hashes parts → Closing of nonce nodes all rest others new
-Closing-step of nonce nodes all hs rest h hashes others hash parts new part is hashes-is new-is joined before =
+    → (PairFits (length nodes) h.pair → IsHalved digest_of nonce nodes h → hash.0 ≡ digest_of (inner_of h) → IsJoined digest_of nonce nodes h.pair.prefix h.pair.left h.pair.right part)
+    → Closing digest_of nonce nodes all hs hashes parts → Closing digest_of nonce nodes all rest others new
+Closing-step digest_of nonce nodes all hs rest h hashes others hash parts new part is hashes-is new-is joined before =
     let fits = subst (λ xs. PairsFit (length nodes) (map (λ (x : Halved). x.pair) xs)) is before.fits in
-    let halved = subst (AllHalved of nonce nodes) is before.halved in
-    let front = same_front hash.0 (of (inner_of h)) (map (λ (d : Digest). d.0) others) (map (λ (x : Halved). of (inner_of x)) rest)
-    (sym (ap (map (λ (d : Digest). d.0)) hashes-is) ∙ before.hashed ∙ ap (map (λ (x : Halved). of (inner_of x))) is) in
+    let halved = subst (AllHalved digest_of nonce nodes) is before.halved in
+    let front = same_front hash.0 (digest_of (inner_of h)) (map (λ (d : Digest). d.0) others) (map (λ (x : Halved). digest_of (inner_of x)) rest)
+    (sym (ap (map (λ (d : Digest). d.0)) hashes-is) ∙ before.hashed ∙ ap (map (λ (x : Halved). digest_of (inner_of x))) is) in
     record {
       fits = fits.1;
       halved = halved.1;
       hashed = front.1;
-      so_far = λ more js. subst (AllJoined of nonce nodes all) (sym (ap (λ xs. xs ++ more) new-is ∙ append_assoc parts (part ∷ []) more))
-          (before.so_far (part ∷ more) (subst (λ xs. AllJoined of nonce nodes (map (λ (x : Halved). x.pair) xs) (part ∷ more)) (sym is) (joined fits.0 halved.0 front.0, js)));
+      so_far = λ more js. subst (AllJoined digest_of nonce nodes all) (sym (ap (λ xs. xs ++ more) new-is ∙ append_assoc parts (part ∷ []) more))
+          (before.so_far (part ∷ more) (subst (λ xs. AllJoined digest_of nonce nodes (map (λ (x : Halved). x.pair) xs) (part ∷ more)) (sym is) (joined fits.0 halved.0 front.0, js)));
     }
 
-pub Closing-end : (of : List ℕ → List ℕ) (nonce : List ℕ) (nodes : List Node) (all : List Pair) (hs : List Halved) (hashes : List Digest) (parts : List Part)
-    → hs ≡ [] → Closing of nonce nodes all hs hashes parts → AllJoined of nonce nodes all parts
-Closing-end of nonce nodes all hs hashes parts is closing =
-    subst (AllJoined of nonce nodes all) (append-nil parts) (closing.so_far [] (subst (λ xs. AllJoined of nonce nodes (map (λ (x : Halved). x.pair) xs) []) (sym is) tt))
+pub Closing-end : (digest_of : List ℕ → List ℕ) (nonce : List ℕ) (nodes : List Node) (all : List Pair) (hs : List Halved) (hashes : List Digest) (parts : List Part)
+    → hs ≡ [] → Closing digest_of nonce nodes all hs hashes parts → AllJoined digest_of nonce nodes all parts
+Closing-end digest_of nonce nodes all hs hashes parts is closing =
+    subst (AllJoined digest_of nonce nodes all) (append-nil parts) (closing.so_far [] (subst (λ xs. AllJoined digest_of nonce nodes (map (λ (x : Halved). x.pair) xs) []) (sym is) tt))
 
 -- ---- the hashes of what is asked for
 
 -- the hashes of messages are those of their byte lists
-pub map-hash : {X : Type 0} (of : List ℕ → List ℕ) (f : X → List ℕ) (xs : List X) → map (λ x. of (f x)) xs ≡ map of (map f xs)
-map-hash of f [] = refl
-map-hash of f (x ∷ xs) = ap (λ ys. of (f x) ∷ ys) (map-hash of f xs)
+pub map-hash : {X : Type 0} (digest_of : List ℕ → List ℕ) (f : X → List ℕ) (xs : List X) → map (λ x. digest_of (f x)) xs ≡ map digest_of (map f xs)
+map-hash digest_of f [] = refl
+map-hash digest_of f (x ∷ xs) = ap (λ ys. digest_of (f x) ∷ ys) (map-hash digest_of f xs)
 
-pub hashed_as : {X Y : Type 0} (of : List ℕ → List ℕ) (f : X → List ℕ) (g : Y → List ℕ) (xs : List X) (ys : List Y) (ds : List Digest)
-    → map (λ d. d.0) ds ≡ map (λ x. of (f x)) xs → map f xs ≡ map g ys → map (λ d. d.0) ds ≡ map (λ y. of (g y)) ys
-hashed_as of f g xs ys ds hashed same = hashed ∙ map-hash of f xs ∙ ap (map of) same ∙ sym (map-hash of g ys)
+pub hashed_as : {X Y : Type 0} (digest_of : List ℕ → List ℕ) (f : X → List ℕ) (g : Y → List ℕ) (xs : List X) (ys : List Y) (ds : List Digest)
+    → map (λ d. d.0) ds ≡ map (λ x. digest_of (f x)) xs → map f xs ≡ map g ys → map (λ d. d.0) ds ≡ map (λ y. digest_of (g y)) ys
+hashed_as digest_of f g xs ys ds hashed same = hashed ∙ map-hash digest_of f xs ∙ ap (map digest_of) same ∙ sym (map-hash digest_of g ys)
 
-pub hashed_all : {X : Type 0} (of : List ℕ → List ℕ) (f : X → List ℕ) (xs : List X) (all : List (List ℕ)) (ds : List Digest)
-    → map (λ d. d.0) ds ≡ map (λ x. of (f x)) xs → map f xs ≡ all → map (λ d. d.0) ds ≡ map of all
-hashed_all of f xs all ds hashed same = hashed ∙ map-hash of f xs ∙ ap (map of) same
+pub hashed_all : {X : Type 0} (digest_of : List ℕ → List ℕ) (f : X → List ℕ) (xs : List X) (all : List (List ℕ)) (ds : List Digest)
+    → map (λ d. d.0) ds ≡ map (λ x. digest_of (f x)) xs → map f xs ≡ all → map (λ d. d.0) ds ≡ map digest_of all
+hashed_all digest_of f xs all ds hashed same = hashed ∙ map-hash digest_of f xs ∙ ap (map digest_of) same
 
 pub hashed-length : {X Y : Type 0} (f : X → List ℕ) (g : Y → List ℕ) (xs : List X) (ys : List Y) → map f xs ≡ map g ys → length xs ≡ length ys
 hashed-length f g xs ys same = sym (length-map xs f) ∙ ap length same ∙ length-map ys g

@@ -7,7 +7,7 @@ use Rattle.coniks_proof.specs.Entries.{half}
 use Rattle.coniks_proof.specs.Changes.{overwritten, AreApart, AreInOrder}
 use Rattle.coniks_proof.proofs.Lemmas.{length-child, overwritten-nothing}
 use Rattle.coniks_tree.specs.Table.{Extends, Numbered}
-use Rattle.coniks_tree.specs.Parts.{Stands, Fits, KeepsNone, Placed, AllPlaced, node_count, is_made, entries_of, entry_of_change}
+use Rattle.coniks_tree.specs.Parts.{Stands, Fits, KeepsNone, Placed, AllPlaced, node_count, is_made, entries_in, entry_of_change}
 use Rattle.coniks_tree.specs.Joins.{AllJoined, IsJoined, PairsFit}
 use Rattle.coniks_tree.specs.Levels.{AllDivide, AllDivided, AllGrown, AllOpen, Divides, IsDivided, IsGrown, SideGrows, filled, left_by, side_from}
 use Rattle.coniks_tree.proofs.CountLemmas.{new-one, new-unchanged, new_joined}
@@ -32,79 +32,79 @@ level-short n level [] some all = absurd (omega arith)
 level-short n level (g ∷ gs) some all = all.0.short
 
 -- the parts of two lists, one after the other
-pub record IsSplit (of : List ℕ → List ℕ) (nonce : List ℕ) (nodes : List Node) (records : List Record) (gs hs : List Growing) (parts : List Part) : Type 0 where
+pub record IsSplit (digest_of : List ℕ → List ℕ) (nonce : List ℕ) (nodes : List Node) (records : List Record) (gs hs : List Growing) (parts : List Part) : Type 0 where
   pub front : List Part
   pub back : List Part
   pub is : parts ≡ front ++ back
-  pub first : AllGrown of nonce nodes records gs front
-  pub second : AllGrown of nonce nodes records hs back
+  pub first : AllGrown digest_of nonce nodes records gs front
+  pub second : AllGrown digest_of nonce nodes records hs back
 
-pub AllGrown-split : (of : List ℕ → List ℕ) (nonce : List ℕ) (nodes : List Node) (records : List Record) (gs hs : List Growing) (parts : List Part)
-    → AllGrown of nonce nodes records (gs ++ hs) parts → IsSplit of nonce nodes records gs hs parts
-AllGrown-split of nonce nodes records [] hs parts all = record { front = []; back = parts; is = refl; first = tt; second = all }
-AllGrown-split of nonce nodes records (g ∷ gs) hs [] all = absurd all
-AllGrown-split of nonce nodes records (g ∷ gs) hs (part ∷ parts) all =
-    let rest = AllGrown-split of nonce nodes records gs hs parts all.1 in
+pub AllGrown-split : (digest_of : List ℕ → List ℕ) (nonce : List ℕ) (nodes : List Node) (records : List Record) (gs hs : List Growing) (parts : List Part)
+    → AllGrown digest_of nonce nodes records (gs ++ hs) parts → IsSplit digest_of nonce nodes records gs hs parts
+AllGrown-split digest_of nonce nodes records [] hs parts all = record { front = []; back = parts; is = refl; first = tt; second = all }
+AllGrown-split digest_of nonce nodes records (g ∷ gs) hs [] all = absurd all
+AllGrown-split digest_of nonce nodes records (g ∷ gs) hs (part ∷ parts) all =
+    let rest = AllGrown-split digest_of nonce nodes records gs hs parts all.1 in
     record { front = part ∷ rest.front; back = rest.back; is = ap (λ xs. part ∷ xs) rest.is; first = (all.0, rest.first); second = rest.second }
 
-AllGrown-none : (of : List ℕ → List ℕ) (nonce : List ℕ) (nodes : List Node) (records : List Record) (parts : List Part) → AllGrown of nonce nodes records [] parts → parts ≡ []
-AllGrown-none of nonce nodes records [] all = refl
-AllGrown-none of nonce nodes records (part ∷ parts) all = absurd all
+AllGrown-none : (digest_of : List ℕ → List ℕ) (nonce : List ℕ) (nodes : List Node) (records : List Record) (parts : List Part) → AllGrown digest_of nonce nodes records [] parts → parts ≡ []
+AllGrown-none digest_of nonce nodes records [] all = refl
+AllGrown-none digest_of nonce nodes records (part ∷ parts) all = absurd all
 
 -- ---- a side
 
 -- without changes a part stays
-pub grown-same : (of : List ℕ → List ℕ) (nonce : List ℕ) (nodes : List Node) (records : List Record) (p : List Bool) (part : Part) (cs : List Change)
-    → cs ≡ [] → Fits (length nodes) (length p) part → IsGrown of nonce nodes records p part cs part
-grown-same of nonce nodes records p part cs none fits = record {
+pub grown-same : (digest_of : List ℕ → List ℕ) (nonce : List ℕ) (nodes : List Node) (records : List Record) (p : List Bool) (part : Part) (cs : List Change)
+    → cs ≡ [] → Fits (length nodes) (length p) part → IsGrown digest_of nonce nodes records p part cs part
+grown-same digest_of nonce nodes records p part cs none fits = record {
   fits = fits;
   placed = λ all more placed each. placed;
   count = λ old. omega (arith, count-unmade part old);
   new = λ old below entries ordered apart s.
-      new-unchanged of nonce nodes records part p (length p) entries (entries_of cs) (ap entries_of none) old (omega (arith, below, ap length none)) s;
+      new-unchanged digest_of nonce nodes records part p (length p) entries (entries_in cs) (ap entries_in none) old (omega (arith, below, ap length none)) s;
   keeps = λ none. none;
   stands = λ entries ordered apart s.
-      subst (Stands of nonce nodes records part p) (sym (ap (λ xs. overwritten entries (entries_of xs)) none ∙ overwritten-nothing entries)) s;
+      subst (Stands digest_of nonce nodes records part p) (sym (ap (λ xs. overwritten entries (entries_in xs)) none ∙ overwritten-nothing entries)) s;
 }
 
 -- a change that leaves one entry
-pub grown-one : (of : List ℕ → List ℕ) (nonce : List ℕ) (nodes : List Node) (records : List Record) (p : List Bool) (part : Part) (cs : List Change) (c : Change) (level : ℕ)
+pub grown-one : (digest_of : List ℕ → List ℕ) (nonce : List ℕ) (nodes : List Node) (records : List Record) (p : List Bool) (part : Part) (cs : List Change) (c : Change) (level : ℕ)
     → level ≡ length p → length p ≤ 256 → ((all : List Record) → AllPlaced all cs → Placed all (Entry c))
-    → ((entries : List Numbered) → AreApart level (overwritten entries (entries_of cs)) → Stands of nonce nodes records part p entries
-    → overwritten entries (entries_of cs) ≡ entry_of_change c ∷ [])
-    → IsGrown of nonce nodes records p part cs (Entry c)
-grown-one of nonce nodes records p part cs c level at short placed one = record {
+    → ((entries : List Numbered) → AreApart level (overwritten entries (entries_in cs)) → Stands digest_of nonce nodes records part p entries
+    → overwritten entries (entries_in cs) ≡ entry_of_change c ∷ [])
+    → IsGrown digest_of nonce nodes records p part cs (Entry c)
+grown-one digest_of nonce nodes records p part cs c level at short placed one = record {
   fits = short;
   placed = λ all more old each. placed all each;
   count = λ old. omega arith;
   new = λ old below entries ordered apart s.
-      let left = one entries (subst (λ k. AreApart k (overwritten entries (entries_of cs))) (sym at) apart) s in
-      sym (new-one (length p) entries (entries_of cs) (omega (arith, ap length left)));
+      let left = one entries (subst (λ k. AreApart k (overwritten entries (entries_in cs))) (sym at) apart) s in
+      sym (new-one (length p) entries (entries_in cs) (omega (arith, ap length left)));
   keeps = λ none. tt;
-  stands = λ entries ordered apart s. one entries (subst (λ k. AreApart k (overwritten entries (entries_of cs))) (sym at) apart) s;
+  stands = λ entries ordered apart s. one entries (subst (λ k. AreApart k (overwritten entries (entries_in cs))) (sym at) apart) s;
 }
 
 -- a side that is done
-pub side_done : (of : List ℕ → List ℕ) (nonce : List ℕ) (nodes : List Node) (records : List Record) (p : List Bool) (part : Part) (cs : List Change) (done : Part)
-    → IsGrown of nonce nodes records p part cs done → SideGrows of nonce nodes records p part cs (Some done) []
-side_done of nonce nodes records p part cs done grown = λ below rest all. (grown, ap (λ xs. xs ++ rest) (AllGrown-none of nonce nodes records below all))
+pub side_done : (digest_of : List ℕ → List ℕ) (nonce : List ℕ) (nodes : List Node) (records : List Record) (p : List Bool) (part : Part) (cs : List Change) (done : Part)
+    → IsGrown digest_of nonce nodes records p part cs done → SideGrows digest_of nonce nodes records p part cs (Some done) []
+side_done digest_of nonce nodes records p part cs done grown = λ below rest all. (grown, ap (λ xs. xs ++ rest) (AllGrown-none digest_of nonce nodes records below all))
 
 -- ---- a part with its two sides
 
 -- a part and its changes, cut in two
-pub record IsCut (of : List ℕ → List ℕ) (nonce : List ℕ) (nodes : List Node) (records : List Record) (p : List Bool) (part : Part) (cs : List Change) (l r : Part) (csl csr : List Change) :
+pub record IsCut (digest_of : List ℕ → List ℕ) (nonce : List ℕ) (nodes : List Node) (records : List Record) (p : List Bool) (part : Part) (cs : List Change) (l r : Part) (csl csr : List Change) :
     Type 0 where
   pub short : length p < 256
   pub some : 0 < length cs
   pub unmade : is_made part ≡ false → (is_made l ≡ false) × (is_made r ≡ false)
   pub placed : (all : List Record) → Extends records all → Placed all part → Placed all l × Placed all r
   pub keeps : KeepsNone part → KeepsNone l × KeepsNone r
-  pub stands : (entries : List Numbered) → Stands of nonce nodes records part p entries
-      → Stands of nonce nodes records l (child p false) (half false (length p) entries) × Stands of nonce nodes records r (child p true) (half true (length p) entries)
+  pub stands : (entries : List Numbered) → Stands digest_of nonce nodes records part p entries
+      → Stands digest_of nonce nodes records l (child p false) (half false (length p) entries) × Stands digest_of nonce nodes records r (child p true) (half true (length p) entries)
   pub all_changes : length csl + length csr ≡ length cs
   pub each : (all : List Record) → AllPlaced all cs → AllPlaced all csl × AllPlaced all csr
-  pub on_left : AreInOrder (length p) (entries_of cs) → entries_of csl ≡ half false (length p) (entries_of cs)
-  pub on_right : AreInOrder (length p) (entries_of cs) → entries_of csr ≡ half true (length p) (entries_of cs)
+  pub on_left : AreInOrder (length p) (entries_in cs) → entries_in csl ≡ half false (length p) (entries_in cs)
+  pub on_right : AreInOrder (length p) (entries_in cs) → entries_in csr ≡ half true (length p) (entries_in cs)
 
 grown-height : (p : List Bool) (b : Bool) (n c : ℕ) → c ≤ 1 + 2 * ((256 - length (child p b)) * n) → c ≤ 1 + 2 * ((255 - length p) * n)
 grown-height p b n c few = let same : 256 - length (child p b) ≡ 255 - length p = omega (arith, length-child p b) in subst (λ h. c ≤ 1 + 2 * (h * n)) same few
@@ -117,11 +117,11 @@ grown-count p l r all a b joined short all-is some ha hb join =
     (count_sum (255 - length p) l r a b joined (grown-height p false l a ha) (grown-height p true r b hb) join (omega arith)))
 
 -- the two sides, grown, are those of the part that grows
-pub divided : (of : List ℕ → List ℕ) (nonce : List ℕ) (nodes : List Node) (records : List Record)
+pub divided : (digest_of : List ℕ → List ℕ) (nonce : List ℕ) (nodes : List Node) (records : List Record)
     → (p : List Bool) (part : Part) (cs : List Change) (l r : Part) (csl csr : List Change) (l' r' : Part)
-    → IsCut of nonce nodes records p part cs l r csl csr
-    → IsGrown of nonce nodes records (child p false) l csl l' → IsGrown of nonce nodes records (child p true) r csr r' → IsDivided of nonce nodes records p part cs l' r'
-divided of nonce nodes records p part cs l r csl csr l' r' cut left right = record {
+    → IsCut digest_of nonce nodes records p part cs l r csl csr
+    → IsGrown digest_of nonce nodes records (child p false) l csl l' → IsGrown digest_of nonce nodes records (child p true) r csr r' → IsDivided digest_of nonce nodes records p part cs l' r'
+divided digest_of nonce nodes records p part cs l r csl csr l' r' cut left right = record {
   short = cut.short;
   left_fits = subst (λ k. Fits (length nodes) k l') (omega (arith, length-child p false)) left.fits;
   right_fits = subst (λ k. Fits (length nodes) k r') (omega (arith, length-child p true)) right.fits;
@@ -139,98 +139,98 @@ divided of nonce nodes records p part cs l r csl csr l' r' cut left right = reco
         let both = cut.stands entries s in
         let left_side = length-child p false in
         let right_side = length-child p true in
-        new_joined of nonce nodes records l' r' (node_count whole) p entries (entries_of cs) cut.short (omega (arith, cut.some, length-map cs entry_of_change))
-        (new_side of nonce nodes records l (node_count l') false p (child p false) entries (entries_of cs) (entries_of csl) refl cut.short
+        new_joined digest_of nonce nodes records l' r' (node_count whole) p entries (entries_in cs) cut.short (omega (arith, cut.some, length-map cs entry_of_change))
+        (new_side digest_of nonce nodes records l (node_count l') false p (child p false) entries (entries_in cs) (entries_in csl) refl cut.short
         (cut.on_left ordered) ordered apart (left.new unmade.0 (omega (arith, left_side)) (half false (length p) entries)) both.0)
-        (new_side of nonce nodes records r (node_count r') true p (child p true) entries (entries_of cs) (entries_of csr) refl cut.short
+        (new_side digest_of nonce nodes records r (node_count r') true p (child p true) entries (entries_in cs) (entries_in csr) refl cut.short
         (cut.on_right ordered) ordered apart (right.new unmade.1 (omega (arith, right_side)) (half true (length p) entries)) both.1)
-        (grown_side of nonce nodes records l l' false p (child p false) entries (entries_of cs) (entries_of csl) refl cut.short
+        (grown_side digest_of nonce nodes records l l' false p (child p false) entries (entries_in cs) (entries_in csl) refl cut.short
         (cut.on_left ordered) ordered apart (left.stands (half false (length p) entries)) both.0)
-        (grown_side of nonce nodes records r r' true p (child p true) entries (entries_of cs) (entries_of csr) refl cut.short
+        (grown_side digest_of nonce nodes records r r' true p (child p true) entries (entries_in cs) (entries_in csr) refl cut.short
         (cut.on_right ordered) ordered apart (right.stands (half true (length p) entries)) both.1)
         j.new;
     keeps = λ none. let both = cut.keeps none in j.keeps (left.keeps both.0) (right.keeps both.1);
     stands = λ entries ordered apart s.
         let both = cut.stands entries s in
-        j.stands records (overwritten entries (entries_of cs))
-        (grown_side of nonce nodes records l l' false p (child p false) entries (entries_of cs) (entries_of csl) refl cut.short
+        j.stands records (overwritten entries (entries_in cs))
+        (grown_side digest_of nonce nodes records l l' false p (child p false) entries (entries_in cs) (entries_in csl) refl cut.short
         (cut.on_left ordered) ordered apart (left.stands (half false (length p) entries)) both.0)
-        (grown_side of nonce nodes records r r' true p (child p true) entries (entries_of cs) (entries_of csr) refl cut.short
+        (grown_side digest_of nonce nodes records r r' true p (child p true) entries (entries_in cs) (entries_in csr) refl cut.short
         (cut.on_right ordered) ordered apart (right.stands (half true (length p) entries)) both.1);
   };
 }
 
-pub divides : (of : List ℕ → List ℕ) (nonce : List ℕ) (nodes : List Node) (records : List Record) (p : List Bool) (part : Part) (cs : List Change) (l r : Part) (csl csr : List Change)
+pub divides : (digest_of : List ℕ → List ℕ) (nonce : List ℕ) (nodes : List Node) (records : List Record) (p : List Bool) (part : Part) (cs : List Change) (l r : Part) (csl csr : List Change)
     (left right : Option Part) (on_left on_right : List Growing)
-    → IsCut of nonce nodes records p part cs l r csl csr
-    → SideGrows of nonce nodes records (child p false) l csl left on_left → SideGrows of nonce nodes records (child p true) r csr right on_right
-    → Divides of nonce nodes records p part cs left right (on_left ++ on_right)
-divides of nonce nodes records p part cs l r csl csr left right on_left on_right cut grows-left grows-right = λ below rest all.
-    let s = AllGrown-split of nonce nodes records on_left on_right below all in
+    → IsCut digest_of nonce nodes records p part cs l r csl csr
+    → SideGrows digest_of nonce nodes records (child p false) l csl left on_left → SideGrows digest_of nonce nodes records (child p true) r csr right on_right
+    → Divides digest_of nonce nodes records p part cs left right (on_left ++ on_right)
+divides digest_of nonce nodes records p part cs l r csl csr left right on_left on_right cut grows-left grows-right = λ below rest all.
+    let s = AllGrown-split digest_of nonce nodes records on_left on_right below all in
     let first = grows-left s.front (s.back ++ rest) s.first in
     let second = grows-right s.back rest s.second in
     let whole : s.front ++ (s.back ++ rest) ≡ below ++ rest = sym (ap (λ xs. xs ++ rest) s.is ∙ append_assoc s.front s.back rest) in
-    subst (λ xs. IsDivided of nonce nodes records p part cs (side_from left xs) (side_from right (left_by left xs)) × (left_by right (left_by left xs) ≡ rest)) whole
-    (subst (λ xs. IsDivided of nonce nodes records p part cs (side_from left (s.front ++ (s.back ++ rest))) (side_from right xs) × (left_by right xs ≡ rest)) (sym first.1)
-    (divided of nonce nodes records p part cs l r csl csr _ _ cut first.0 second.0, second.1))
+    subst (λ xs. IsDivided digest_of nonce nodes records p part cs (side_from left xs) (side_from right (left_by left xs)) × (left_by right (left_by left xs) ≡ rest)) whole
+    (subst (λ xs. IsDivided digest_of nonce nodes records p part cs (side_from left (s.front ++ (s.back ++ rest))) (side_from right xs) × (left_by right xs ≡ rest)) (sym first.1)
+    (divided digest_of nonce nodes records p part cs l r csl csr _ _ cut first.0 second.0, second.1))
 
 -- ---- a level
 
 -- one more of the parts that grow is opened
-pub AllDivide-step : (of : List ℕ → List ℕ) (nonce : List ℕ) (nodes : List Node) (records : List Record) (before gs : List Growing) (g : Growing) (o : Opened) (os : List Opened)
+pub AllDivide-step : (digest_of : List ℕ → List ℕ) (nonce : List ℕ) (nodes : List Node) (records : List Record) (before gs : List Growing) (g : Growing) (o : Opened) (os : List Opened)
     (more next : List Growing)
-    → before ≡ g ∷ gs → g.prefix ≡ o.prefix → Divides of nonce nodes records g.prefix g.part g.changes.now o.left o.right more
-    → AllDivide of nonce nodes records gs os next → AllDivide of nonce nodes records before (o ∷ os) (more ++ next)
-AllDivide-step of nonce nodes records before gs g o os more next is same one others = λ below all.
-    let s = AllGrown-split of nonce nodes records more next below all in
+    → before ≡ g ∷ gs → g.prefix ≡ o.prefix → Divides digest_of nonce nodes records g.prefix g.part g.changes.now o.left o.right more
+    → AllDivide digest_of nonce nodes records gs os next → AllDivide digest_of nonce nodes records before (o ∷ os) (more ++ next)
+AllDivide-step digest_of nonce nodes records before gs g o os more next is same one others = λ below all.
+    let s = AllGrown-split digest_of nonce nodes records more next below all in
     let here = one s.front s.back s.first in
     let whole : s.front ++ s.back ≡ below = sym s.is in
-    let filled-rest : AllDivided of nonce nodes records gs (filled os (left_by o.right (left_by o.left (s.front ++ s.back)))) =
-    subst (λ xs. AllDivided of nonce nodes records gs (filled os xs)) (sym here.1) (others s.back s.second) in
-    subst (λ hs. AllDivided of nonce nodes records hs (filled (o ∷ os) below)) (sym is)
-    (subst (λ xs. AllDivided of nonce nodes records (g ∷ gs) (filled (o ∷ os) xs)) whole (same, here.0, filled-rest))
+    let filled-rest : AllDivided digest_of nonce nodes records gs (filled os (left_by o.right (left_by o.left (s.front ++ s.back)))) =
+    subst (λ xs. AllDivided digest_of nonce nodes records gs (filled os xs)) (sym here.1) (others s.back s.second) in
+    subst (λ hs. AllDivided digest_of nonce nodes records hs (filled (o ∷ os) below)) (sym is)
+    (subst (λ xs. AllDivided digest_of nonce nodes records (g ∷ gs) (filled (o ∷ os) xs)) whole (same, here.0, filled-rest))
 
 -- the pairs fit
-pub divided-fit : (of : List ℕ → List ℕ) (nonce : List ℕ) (nodes : List Node) (records : List Record) (gs : List Growing) (pairs : List Pair) → AllDivided of nonce nodes records gs pairs
+pub divided-fit : (digest_of : List ℕ → List ℕ) (nonce : List ℕ) (nodes : List Node) (records : List Record) (gs : List Growing) (pairs : List Pair) → AllDivided digest_of nonce nodes records gs pairs
     → PairsFit (length nodes) pairs
-divided-fit of nonce nodes records [] [] all = tt
-divided-fit of nonce nodes records [] (pair ∷ pairs) all = absurd all
-divided-fit of nonce nodes records (g ∷ gs) [] all = absurd all
-divided-fit of nonce nodes records (g ∷ gs) (pair ∷ pairs) all =
+divided-fit digest_of nonce nodes records [] [] all = tt
+divided-fit digest_of nonce nodes records [] (pair ∷ pairs) all = absurd all
+divided-fit digest_of nonce nodes records (g ∷ gs) [] all = absurd all
+divided-fit digest_of nonce nodes records (g ∷ gs) (pair ∷ pairs) all =
     let at = ap length all.0 in (
       record {
         short = subst (λ k. k < 256) at all.1.short;
         left = subst (λ k. Fits (length nodes) (k + 1) pair.left) at all.1.left_fits;
         right = subst (λ k. Fits (length nodes) (k + 1) pair.right) at all.1.right_fits;
       },
-      divided-fit of nonce nodes records gs pairs all.2,
+      divided-fit digest_of nonce nodes records gs pairs all.2,
     )
 
 -- the joined pairs are what grows
-pub joined-grown : (of : List ℕ → List ℕ) (nonce : List ℕ) (nodes : List Node) (records : List Record) (gs : List Growing) (pairs : List Pair) (parts : List Part)
-    → AllDivided of nonce nodes records gs pairs → AllJoined of nonce nodes pairs parts → AllGrown of nonce nodes records gs parts
-joined-grown of nonce nodes records [] [] [] all js = tt
-joined-grown of nonce nodes records [] [] (part ∷ parts) all js = absurd js
-joined-grown of nonce nodes records [] (pair ∷ pairs) parts all js = absurd all
-joined-grown of nonce nodes records (g ∷ gs) [] parts all js = absurd all
-joined-grown of nonce nodes records (g ∷ gs) (pair ∷ pairs) [] all js = absurd js
-joined-grown of nonce nodes records (g ∷ gs) (pair ∷ pairs) (part ∷ parts) all js =
-    (all.1.joined part (subst (λ q. IsJoined of nonce nodes q pair.left pair.right part) (sym all.0) js.0), joined-grown of nonce nodes records gs pairs parts all.2 js.1)
+pub joined-grown : (digest_of : List ℕ → List ℕ) (nonce : List ℕ) (nodes : List Node) (records : List Record) (gs : List Growing) (pairs : List Pair) (parts : List Part)
+    → AllDivided digest_of nonce nodes records gs pairs → AllJoined digest_of nonce nodes pairs parts → AllGrown digest_of nonce nodes records gs parts
+joined-grown digest_of nonce nodes records [] [] [] all js = tt
+joined-grown digest_of nonce nodes records [] [] (part ∷ parts) all js = absurd js
+joined-grown digest_of nonce nodes records [] (pair ∷ pairs) parts all js = absurd all
+joined-grown digest_of nonce nodes records (g ∷ gs) [] parts all js = absurd all
+joined-grown digest_of nonce nodes records (g ∷ gs) (pair ∷ pairs) [] all js = absurd js
+joined-grown digest_of nonce nodes records (g ∷ gs) (pair ∷ pairs) (part ∷ parts) all js =
+    (all.1.joined part (subst (λ q. IsJoined digest_of nonce nodes q pair.left pair.right part) (sym all.0) js.0), joined-grown digest_of nonce nodes records gs pairs parts all.2 js.1)
 
 -- all of the parts that grow are opened
-pub AllDivide-end : (of : List ℕ → List ℕ) (nonce : List ℕ) (nodes : List Node) (records : List Record) (all gs : List Growing) (os : List Opened) (next : List Growing)
-    → gs ≡ [] → (AllDivide of nonce nodes records gs [] [] → AllDivide of nonce nodes records all (os ++ []) (next ++ [])) → AllDivide of nonce nodes records all os next
-AllDivide-end of nonce nodes records all gs os next none closing =
-    let nothing : AllDivide of nonce nodes records gs [] [] = λ below grown. subst (λ xs. AllDivided of nonce nodes records xs []) (sym none) tt in
-    subst (λ xs. AllDivide of nonce nodes records all xs next) (append-nil os) (subst (AllDivide of nonce nodes records all (os ++ [])) (append-nil next) (closing nothing))
+pub AllDivide-end : (digest_of : List ℕ → List ℕ) (nonce : List ℕ) (nodes : List Node) (records : List Record) (all gs : List Growing) (os : List Opened) (next : List Growing)
+    → gs ≡ [] → (AllDivide digest_of nonce nodes records gs [] [] → AllDivide digest_of nonce nodes records all (os ++ []) (next ++ [])) → AllDivide digest_of nonce nodes records all os next
+AllDivide-end digest_of nonce nodes records all gs os next none closing =
+    let nothing : AllDivide digest_of nonce nodes records gs [] [] = λ below grown. subst (λ xs. AllDivided digest_of nonce nodes records xs []) (sym none) tt in
+    subst (λ xs. AllDivide digest_of nonce nodes records all xs next) (append-nil os) (subst (AllDivide digest_of nonce nodes records all (os ++ [])) (append-nil next) (closing nothing))
 
 -- the two sides of one part, where nothing else grows below
-pub divided_by : (of : List ℕ → List ℕ) (nonce : List ℕ) (nodes : List Node) (records : List Record) (p : List Bool) (part : Part) (cs : List Change) (left right : Option Part)
+pub divided_by : (digest_of : List ℕ → List ℕ) (nonce : List ℕ) (nodes : List Node) (records : List Record) (p : List Bool) (part : Part) (cs : List Change) (left right : Option Part)
     (none more next : List Growing) (below after : List Part) (l r : Part)
-    → none ≡ [] → next ≡ none ++ more → Divides of nonce nodes records p part cs left right more → AllGrown of nonce nodes records next below
-    → l ≡ side_from left below → after ≡ left_by left below → r ≡ side_from right after → IsDivided of nonce nodes records p part cs l r
-divided_by of nonce nodes records p part cs left right none more next below after l r none-is next-is divides grown l-is after-is r-is =
-    let all = subst (λ gs. AllGrown of nonce nodes records gs below) (next-is ∙ ap (λ gs. gs ++ more) none-is) grown in
-    let both = subst (λ xs. IsDivided of nonce nodes records p part cs (side_from left xs) (side_from right (left_by left xs))) (append-nil below) (divides below [] all).0 in
-    subst (λ x. IsDivided of nonce nodes records p part cs x r) (sym l-is)
-    (subst (IsDivided of nonce nodes records p part cs (side_from left below)) (sym (r-is ∙ ap (side_from right) after-is)) both)
+    → none ≡ [] → next ≡ none ++ more → Divides digest_of nonce nodes records p part cs left right more → AllGrown digest_of nonce nodes records next below
+    → l ≡ side_from left below → after ≡ left_by left below → r ≡ side_from right after → IsDivided digest_of nonce nodes records p part cs l r
+divided_by digest_of nonce nodes records p part cs left right none more next below after l r none-is next-is divides grown l-is after-is r-is =
+    let all = subst (λ gs. AllGrown digest_of nonce nodes records gs below) (next-is ∙ ap (λ gs. gs ++ more) none-is) grown in
+    let both = subst (λ xs. IsDivided digest_of nonce nodes records p part cs (side_from left xs) (side_from right (left_by left xs))) (append-nil below) (divides below [] all).0 in
+    subst (λ x. IsDivided digest_of nonce nodes records p part cs x r) (sym l-is)
+    (subst (IsDivided digest_of nonce nodes records p part cs (side_from left below)) (sym (r-is ∙ ap (side_from right) after-is)) both)

@@ -12,7 +12,7 @@ use Rattle.std.proofs.lemmas.List.{nil_from_length, take_more}
 use Rattle.std.proofs.lemmas.Option.{slice_get_within, get_or_from_slice_get}
 use Rattle.coniks_proof.specs.Changes.{overwritten, AreInOrder, AreApart}
 use Rattle.coniks_tree.specs.Table.{Numbered, hash_of_node}
-use Rattle.coniks_tree.specs.Parts.{Stands, Fits, node_count, entry_of_change, weight_of, entries_of, is_made, Placed, AllPlaced}
+use Rattle.coniks_tree.specs.Parts.{Stands, Fits, node_count, entry_of_change, weight_of, entries_in, is_made, Placed, AllPlaced}
 use Rattle.coniks_tree.specs.Counts.{new_nodes}
 use Rattle.coniks_tree.proofs.TableLemmas.{Shows-hash}
 use Rattle.coniks_tree.specs.declared.table.Node.{Node}
@@ -62,8 +62,10 @@ pub join_many : (hash : List ℕ → List ℕ) (nonce : List ℕ) (nodes : List 
 join_many hash nonce nodes records left right p es heavy sl sr =
     omega (arith, length-halves (length p) es, weight-Stands hash nonce nodes records left p false _ sl, weight-Stands hash nonce nodes records right p true _ sr)
 
-pub join_left : (hash : List ℕ → List ℕ) (nonce : List ℕ) (nodes : List Node) (records : List Record) (left right : Part) (p : List Bool) (es : List Numbered) → weight_of left ≡ 1 → weight_of right ≡ 0
-    → Stands hash nonce nodes records left (child p false) (half false (length p) es) → Stands hash nonce nodes records right (child p true) (half true (length p) es) → Stands hash nonce nodes records left p es
+pub join_left : (hash : List ℕ → List ℕ) (nonce : List ℕ) (nodes : List Node) (records : List Record) (left right : Part) (p : List Bool) (es : List Numbered)
+    → weight_of left ≡ 1 → weight_of right ≡ 0
+    → Stands hash nonce nodes records left (child p false) (half false (length p) es)
+    → Stands hash nonce nodes records right (child p true) (half true (length p) es) → Stands hash nonce nodes records left p es
 join_left hash nonce nodes records (Entry c) Nothing p es one none sl sr = sym (all_left (length p) es sr) ∙ sl
 join_left hash nonce nodes records Nothing right p es one none sl sr = absurd (omega arith)
 join_left hash nonce nodes records (Kept root) right p es one none sl sr = absurd (omega arith)
@@ -72,8 +74,10 @@ join_left hash nonce nodes records (Entry c) (Entry c') p es one none sl sr = ab
 join_left hash nonce nodes records (Entry c) (Kept root) p es one none sl sr = absurd (omega arith)
 join_left hash nonce nodes records (Entry c) (Made' ptr d lh rh count l r) p es one none sl sr = absurd (omega arith)
 
-pub join_right : (hash : List ℕ → List ℕ) (nonce : List ℕ) (nodes : List Node) (records : List Record) (left right : Part) (p : List Bool) (es : List Numbered) → weight_of left ≡ 0 → weight_of right ≤ 1
-    → Stands hash nonce nodes records left (child p false) (half false (length p) es) → Stands hash nonce nodes records right (child p true) (half true (length p) es) → Stands hash nonce nodes records right p es
+pub join_right : (hash : List ℕ → List ℕ) (nonce : List ℕ) (nodes : List Node) (records : List Record) (left right : Part) (p : List Bool) (es : List Numbered)
+    → weight_of left ≡ 0 → weight_of right ≤ 1
+    → Stands hash nonce nodes records left (child p false) (half false (length p) es)
+    → Stands hash nonce nodes records right (child p true) (half true (length p) es) → Stands hash nonce nodes records right p es
 join_right hash nonce nodes records Nothing Nothing p es none few sl sr = sym (all_right (length p) es sl) ∙ sr
 join_right hash nonce nodes records Nothing (Entry c) p es none few sl sr = sym (all_right (length p) es sl) ∙ sr
 join_right hash nonce nodes records Nothing (Kept root) p es none few sl sr = absurd (omega arith)
@@ -96,7 +100,8 @@ replaced-Nothing hash nonce nodes records part p es new is s =
     let none : es ≡ [] = subst (λ q. Stands hash nonce nodes records q p es) is s in
     ap (λ xs. overwritten xs (new ∷ [])) none ∙ overwritten-empty (new ∷ [])
 
-pub replaced-Entry : (hash : List ℕ → List ℕ) (nonce : List ℕ) (nodes : List Node) (records : List Record) (part : Part) (p : List Bool) (es : List Numbered) (new : Numbered) (c : Change) (index : List ℕ) (same : Bool)
+pub replaced-Entry : (hash : List ℕ → List ℕ) (nonce : List ℕ) (nodes : List Node) (records : List Record)
+    (part : Part) (p : List Bool) (es : List Numbered) (new : Numbered) (c : Change) (index : List ℕ) (same : Bool)
     → part ≡ Entry c → Stands hash nonce nodes records part p es → new.index ≡ index → same ≡ bytes_eq index c.index.0 → same ≡ true → overwritten es (new ∷ []) ≡ new ∷ []
 replaced-Entry hash nonce nodes records part p es new c index same is s new-is same-is true-is =
     let one : es ≡ entry_of_change c ∷ [] = subst (λ q. Stands hash nonce nodes records q p es) is s in
@@ -108,32 +113,34 @@ with_first [] first at = cc
 with_first (c ∷ cs) first at = let same : c ≡ first = cc in (cs, ap (λ x. x ∷ cs) same)
 
 -- the changes of a part at the last level leave one entry
-pub only_last : (es : List Numbered) (cs : List Change) (first : Change) (level : ℕ) → slice_get cs 0 ≡ Some first → level ≡ 256 → AreApart level (overwritten es (entries_of cs)) → overwritten es (entries_of cs) ≡ entry_of_change first ∷ []
+pub only_last : (es : List Numbered) (cs : List Change) (first : Change) (level : ℕ) → slice_get cs 0 ≡ Some first
+    → level ≡ 256 → AreApart level (overwritten es (entries_in cs)) → overwritten es (entries_in cs) ≡ entry_of_change first ∷ []
 only_last es cs first level at last apart =
     let named = with_first cs first at in
-    let shape : entries_of cs ≡ entry_of_change first ∷ entries_of named.0 = ap entries_of named.1 in
-    let apart' : AreApart 256 (overwritten es (entry_of_change first ∷ entries_of named.0)) = subst (λ xs. AreApart 256 (overwritten es xs)) shape (subst (λ l. AreApart l (overwritten es (entries_of cs))) last apart) in
-    ap (overwritten es) shape ∙ overwritten-one es (entry_of_change first) (entries_of named.0) (apart-last _ apart')
+    let shape : entries_in cs ≡ entry_of_change first ∷ entries_in named.0 = ap entries_in named.1 in
+    let apart' : AreApart 256 (overwritten es (entry_of_change first ∷ entries_in named.0)) = subst
+    (λ xs. AreApart 256 (overwritten es xs)) shape (subst (λ l. AreApart l (overwritten es (entries_in cs))) last apart) in
+    ap (overwritten es) shape ∙ overwritten-one es (entry_of_change first) (entries_in named.0) (apart-last _ apart')
 
 -- one change
-pub only_first : (cs : List Change) (first : Change) → slice_get cs 0 ≡ Some first → length cs ≡ 1 → entries_of cs ≡ entry_of_change first ∷ []
+pub only_first : (cs : List Change) (first : Change) → slice_get cs 0 ≡ Some first → length cs ≡ 1 → entries_in cs ≡ entry_of_change first ∷ []
 only_first cs first at one =
     let named = with_first cs first at in
     let rest : named.0 ≡ [] = nil_from_length named.0 (omega (arith, ap length named.1)) in
-    ap entries_of named.1 ∙ ap (λ xs. entry_of_change first ∷ entries_of xs) rest
+    ap entries_in named.1 ∙ ap (λ xs. entry_of_change first ∷ entries_in xs) rest
 
 -- the changes that go left come first
-pub changes_left : (cs : List Change) (k cut : ℕ) → k < 256 → AreInOrder k (entries_of cs) → cut ≡ length (half false k (entries_of cs)) → entries_of (take cut cs) ≡ half false k (entries_of cs)
+pub changes_left : (cs : List Change) (k cut : ℕ) → k < 256 → AreInOrder k (entries_in cs) → cut ≡ length (half false k (entries_in cs)) → entries_in (take cut cs) ≡ half false k (entries_in cs)
 changes_left cs k cut short ordered cut-is =
-    let parts = (in_order-split k (entries_of cs) short ordered).parts in
-    sym (take-map entry_of_change cut cs) ∙ ap (λ n. take n (entries_of cs)) cut-is ∙ ap (take (length (half false k (entries_of cs)))) parts
-    ∙ take-append_seam (half false k (entries_of cs)) (half true k (entries_of cs))
+    let parts = (in_order-split k (entries_in cs) short ordered).parts in
+    sym (take-map entry_of_change cut cs) ∙ ap (λ n. take n (entries_in cs)) cut-is ∙ ap (take (length (half false k (entries_in cs)))) parts
+    ∙ take-append_seam (half false k (entries_in cs)) (half true k (entries_in cs))
 
-pub changes_right : (cs : List Change) (k cut : ℕ) → k < 256 → AreInOrder k (entries_of cs) → cut ≡ length (half false k (entries_of cs)) → entries_of (drop cut cs) ≡ half true k (entries_of cs)
+pub changes_right : (cs : List Change) (k cut : ℕ) → k < 256 → AreInOrder k (entries_in cs) → cut ≡ length (half false k (entries_in cs)) → entries_in (drop cut cs) ≡ half true k (entries_in cs)
 changes_right cs k cut short ordered cut-is =
-    let parts = (in_order-split k (entries_of cs) short ordered).parts in
-    sym (drop-map entry_of_change cut cs) ∙ ap (λ n. drop n (entries_of cs)) cut-is ∙ ap (drop (length (half false k (entries_of cs)))) parts
-    ∙ drop-append_seam (half false k (entries_of cs)) (half true k (entries_of cs))
+    let parts = (in_order-split k (entries_in cs) short ordered).parts in
+    sym (drop-map entry_of_change cut cs) ∙ ap (λ n. drop n (entries_in cs)) cut-is ∙ ap (drop (length (half false k (entries_in cs)))) parts
+    ∙ drop-append_seam (half false k (entries_in cs)) (half true k (entries_in cs))
 
 split_side : (b : Bool) (k : ℕ) (es : List Numbered) → IsSplit k es → AreInOrder (suc k) (half b k es)
 split_side true k es s = s.right
@@ -194,7 +201,8 @@ count-unmade (Kept root) old = omega arith
 count-unmade (Made' ptr d lh rh count l r) old = cc
 
 -- how many nodes one side takes that grew
-count_side : (before after : Part) (h n : ℕ) → is_made before ≡ false → (n ≡ 0 → after ≡ before) → (is_made before ≡ false → 0 < n → node_count after ≤ 1 + 2 * (h * n)) → node_count after ≤ 1 + 2 * (h * n)
+count_side : (before after : Part) (h n : ℕ) → is_made before ≡ false → (n ≡ 0 → after ≡ before)
+    → (is_made before ≡ false → 0 < n → node_count after ≤ 1 + 2 * (h * n)) → node_count after ≤ 1 + 2 * (h * n)
 count_side before after h zero old same more = omega (arith, count-unmade before old, ap node_count (same refl))
 count_side before after h (suc n) old same more = more old (omega arith)
 

@@ -8,7 +8,7 @@ use Rattle.coniks_proof.specs.Paths.{siblings, end_of}
 use Rattle.coniks_proof.proofs.Lemmas.{end_of-empty, end_of-in, end_of-inner, end_of-leaf, end_of-present, length-child, length-halves, siblings-empty, siblings-inner, siblings-leaf}
 use Rattle.coniks_proof.specs.declared.values.Digest.{Digest}
 use Rattle.coniks_tree.specs.Table.{Numbered, registered_at, registered_by, Shows, shows_empty, shows_leaf, shows_inner, hash_of_node, entry_of_record}
-use Rattle.coniks_tree.specs.Paths.{Finds, IsAt, IsStep, StopsAt}
+use Rattle.coniks_tree.specs.Paths.{Finds, IsAt, IsStep, PathStopsAt}
 use Rattle.coniks_tree.proofs.TableLemmas.{Shows-hash}
 use Rattle.coniks_tree.specs.declared.table.Node.{Node}
 use Rattle.coniks_tree.specs.declared.table.Node.TheVariants.{Leaf, Inner}
@@ -43,7 +43,8 @@ Shows-record hash nonce nodes records _ _ _ place d r at here (shows_leaf n p es
     one ∙ ap (λ (q : RecordNo). entry_of_record q.0 r' ∷ []) place-is ∙ ap (λ q. entry_of_record place.0 q ∷ []) same
 
 -- a way from the root, as far as it has come
-pub record OnWay (hash : List ℕ → List ℕ) (nonce : List ℕ) (nodes : List Node) (records : List Record) (index : List ℕ) (entries : List Numbered) (so_far : List (List ℕ)) (number level : ℕ) : Type 0 where
+pub record OnWay (hash : List ℕ → List ℕ) (nonce : List ℕ) (nodes : List Node) (records : List Record)
+    (index : List ℕ) (entries : List Numbered) (so_far : List (List ℕ)) (number level : ℕ) : Type 0 where
   pub prefix : List Bool
   pub below : List Numbered
   pub at : length prefix ≡ level
@@ -55,7 +56,8 @@ pub way_begins : (hash : List ℕ → List ℕ) (nonce : List ℕ) (nodes : List
     → Shows hash nonce nodes records number [] entries → OnWay hash nonce nodes records index entries [] number 0
 way_begins hash nonce nodes records index entries number s = record { prefix = []; below = entries; at = refl; shows = s; told = refl; ends = refl }
 
-pub way_goes_on : (hash : List ℕ → List ℕ) (nonce : List ℕ) (nodes : List Node) (records : List Record) (index : List ℕ) (entries : List Numbered) (so_far : List (List ℕ)) (number near level : ℕ) (sibling : Digest)
+pub way_goes_on : (hash : List ℕ → List ℕ) (nonce : List ℕ) (nodes : List Node) (records : List Record)
+    (index : List ℕ) (entries : List Numbered) (so_far : List (List ℕ)) (number near level : ℕ) (sibling : Digest)
     → (w : OnWay hash nonce nodes records index entries so_far number level) → IsStep hash nonce nodes records (bit_at index level) w.prefix w.below near sibling
     → OnWay hash nonce nodes records index entries (so_far ++ sibling.0 ∷ []) near (level + 1)
 way_goes_on hash nonce nodes records index entries so_far number near level sibling w s =
@@ -67,7 +69,8 @@ way_goes_on hash nonce nodes records index entries so_far number near level sibl
       below = half b (length w.prefix) w.below;
       at = omega (arith, length-child w.prefix b, w.at);
       shows = s.shows;
-      told = append_assoc so_far (sibling.0 ∷ []) _ ∙ ap (λ x. so_far ++ x ∷ siblings hash nonce (child w.prefix b) index (half b (length w.prefix) w.below)) s.beside ∙ ap (λ xs. so_far ++ xs) (sym told) ∙ w.told;
+      told = append_assoc so_far (sibling.0 ∷ []) _ ∙ ap (λ x. so_far ++ x ∷ siblings hash nonce (child w.prefix b) index (half b (length w.prefix) w.below))
+          s.beside ∙ ap (λ xs. so_far ++ xs) (sym told) ∙ w.told;
       ends = sym (end_of-inner w.prefix index w.below b b-is s.short s.many) ∙ w.ends;
     }
 
@@ -145,7 +148,7 @@ found_at (Here place) = Some place
 
 -- what the way to an index stops at is what the whole map has there
 pub stop_found : (records : List Record) (index : List ℕ) (entries : List Numbered) (stop : Stop)
-    → AreApart 0 entries → StopsAt records index stop (end_of [] index entries) → Finds records index (found_at stop) entries
+    → AreApart 0 entries → PathStopsAt records index stop (end_of [] index entries) → Finds records index (found_at stop) entries
 stop_found records index entries Empty apart none = λ e there same.
     let one = end_of-present 256 [] index entries e refl apart same there in
     let nothing : (let xs : List Numbered = [] in xs ≡ e ∷ []) = sym none ∙ one in cc

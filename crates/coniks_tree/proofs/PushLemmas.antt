@@ -123,7 +123,8 @@ Stands-same hash nonce nodes records (Made' ptr d lh rh count l r) p es fs me mf
       is_hash = s.is_hash ∙ node-same hash nonce p es fs me mf same;
       left = record {
         is_hash = s.left.is_hash ∙ at false;
-        stands = Stands-same hash nonce nodes records l (child p false) (half false k es) (half false k fs) (half_map false k es me) (half_map false k fs mf) (half_same false k es fs same) s.left.stands;
+        stands = Stands-same hash nonce nodes records l (child p false) (half false k es) (half false k fs)
+            (half_map false k es me) (half_map false k fs mf) (half_same false k es fs same) s.left.stands;
       };
       right = record {
         is_hash = s.right.is_hash ∙ at true;

@@ -49,5 +49,7 @@ Shows-same hash nonce nodes records _ _ _ fs me mf same (shows_leaf n p es d pla
 Shows-same hash nonce nodes records _ _ _ fs me mf same (shows_inner n p es d l r at short many is left right) =
     let side : (b : Bool) → Numbered → Bool = λ b e. turns b (length p) e.index in
     shows_inner n p fs d l r at short (many_in es fs me mf same many) (is ∙ node-same hash nonce p es fs me mf same)
-    (Shows-same hash nonce nodes records l _ (half false (length p) es) (half false (length p) fs) (IsMap-filter (side false) es me) (IsMap-filter (side false) fs mf) (SameEntries-filter (side false) es fs same) left)
-    (Shows-same hash nonce nodes records r _ (half true (length p) es) (half true (length p) fs) (IsMap-filter (side true) es me) (IsMap-filter (side true) fs mf) (SameEntries-filter (side true) es fs same) right)
+    (Shows-same hash nonce nodes records l _ (half false (length p) es) (half false (length p) fs)
+    (IsMap-filter (side false) es me) (IsMap-filter (side false) fs mf) (SameEntries-filter (side false) es fs same) left)
+    (Shows-same hash nonce nodes records r _ (half true (length p) es) (half true (length p) fs)
+    (IsMap-filter (side true) es me) (IsMap-filter (side true) fs mf) (SameEntries-filter (side true) es fs same) right)

@@ -26,6 +26,6 @@ new_within (suc height) level entries (c ∷ cs) =
 unfoldable pub new_nodes : ℕ → List Numbered → List Numbered → ℕ
 new_nodes level entries changes = new_within (256 - level) level entries changes
 
--- how many nodes two parts take as the part above: one where at most one entry is left
+-- the number of nodes of two joined parts: one if at most one entry is left
 abbrev pub joined_count : Part → Part → ℕ
 joined_count left right = if nat_lt (weight_of left + weight_of right) 2 then 1 else node_count left + node_count right + 1

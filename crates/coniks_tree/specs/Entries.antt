@@ -4,7 +4,7 @@ use Rattle.coniks_proof.specs.Changes.{AreInOrder}
 use Rattle.coniks_proof.specs.Entries.{half}
 use Rattle.coniks_proof.specs.Maps.{IsMap, SameEntries}
 use Rattle.coniks_tree.specs.Table.{Numbered, entry_of_record}
-use Rattle.coniks_tree.specs.Parts.{entries_of}
+use Rattle.coniks_tree.specs.Parts.{entries_in}
 use Rattle.coniks_tree.specs.declared.part.Change.{Change}
 use Rattle.coniks_tree.specs.declared.table.Record.{Record}
 use Rattle.coniks_tree.specs.declared.table.RecordNo.{RecordNo}
@@ -19,7 +19,7 @@ in_order_within (suc height) level entries =
 unfoldable pub in_order : ℕ → List Numbered → List Numbered
 in_order level entries = in_order_within (256 - level) level entries
 
--- the entry of the record of a number, where there is one
+-- the entry of the record with a number, if there is one
 abbrev pub entry_at : ℕ → Option Record → List Numbered
 entry_at n None = []
 entry_at n (Some r) = entry_of_record n r ∷ []
@@ -29,13 +29,13 @@ abbrev pub entries_at : List Record → List RecordNo → List Numbered
 entries_at records [] = []
 entries_at records (place ∷ places) = entry_at place.0 (slice_get records place.0) ++ entries_at records places
 
--- there are so many records that each of the places is one's
+-- each of the places is the place of a record
 abbrev pub AreStored : ℕ → List RecordNo → Type 0
 AreStored n [] = Unit {0}
 AreStored n (place ∷ places) = (place.0 < n) × AreStored n places
 
 -- the changes are those that build the map from nothing: its entries, and no others, in increasing order of index, and so each once
 pub record Lists (changes : List Change) (entries : List Numbered) : Type 0 where
-  pub order : AreInOrder 0 (entries_of changes)
-  pub same : SameEntries entries (entries_of changes)
-  pub once : IsMap entries → IsMap (entries_of changes)
+  pub order : AreInOrder 0 (entries_in changes)
+  pub same : SameEntries entries (entries_in changes)
+  pub once : IsMap entries → IsMap (entries_in changes)

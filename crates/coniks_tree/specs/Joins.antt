@@ -24,7 +24,8 @@ asked_at nonce prefix (Made' p hash lh rh count left right) = []
 -- what is hashed for the sides of the pairs that have no hash yet, from left to right
 abbrev pub asked_of : List ℕ → List Pair → List (List ℕ)
 asked_of nonce [] = []
-asked_of nonce (pair ∷ pairs) = asked_at nonce (child pair.prefix false) pair.left ++ (asked_at nonce (child pair.prefix true) pair.right ++ asked_of nonce pairs)
+asked_of nonce (pair ∷ pairs) = asked_at nonce (child pair.prefix false) pair.left
+    ++ (asked_at nonce (child pair.prefix true) pair.right ++ asked_of nonce pairs)
 
 -- the two parts of the pair speak of the first `n` nodes, and are of the prefixes below the pair's
 pub record PairFits (n : ℕ) (pair : Pair) : Type 0 where
@@ -39,7 +40,8 @@ PairsFit n (pair ∷ pairs) = PairFits n pair × PairsFit n pairs
 
 -- the digest is the hash of the part at the prefix
 abbrev pub IsHashAt : (List ℕ → List ℕ) → List ℕ → List Node → List Bool → Part → Digest → Type 0
-IsHashAt hash nonce nodes prefix part d = (records : List Record) (entries : List Numbered) → Stands hash nonce nodes records part prefix entries → d.0 ≡ node hash nonce prefix entries
+IsHashAt hash nonce nodes prefix part d = (records : List Record) (entries : List Numbered)
+    → Stands hash nonce nodes records part prefix entries → d.0 ≡ node hash nonce prefix entries
 
 -- the pair's two parts have these hashes
 pub record IsHalved (hash : List ℕ → List ℕ) (nonce : List ℕ) (nodes : List Node) (halved : Halved) : Type 0 where
@@ -56,7 +58,8 @@ abbrev pub inner_of : Halved → List ℕ
 inner_of halved = inner_preimage halved.left_hash.0 halved.right_hash.0
 
 -- the part is the pair's two as the part of the prefix above
-pub record IsJoined (hash : List ℕ → List ℕ) (nonce : List ℕ) (nodes : List Node) (prefix : List Bool) (left right joined : Part) : Type 0 where
+pub record IsJoined (hash : List ℕ → List ℕ) (nonce : List ℕ)
+    (nodes : List Node) (prefix : List Bool) (left right joined : Part) : Type 0 where
   pub fits : Fits (length nodes) (length prefix) joined
   pub count : node_count joined ≤ node_count left + node_count right + 1
   pub new : node_count joined ≡ joined_count left right
@@ -72,4 +75,5 @@ abbrev pub AllJoined : (List ℕ → List ℕ) → List ℕ → List Node → Li
 AllJoined hash nonce nodes [] [] = Unit {0}
 AllJoined hash nonce nodes [] (part ∷ parts) = ⊥
 AllJoined hash nonce nodes (pair ∷ pairs) [] = ⊥
-AllJoined hash nonce nodes (pair ∷ pairs) (part ∷ parts) = IsJoined hash nonce nodes pair.prefix pair.left pair.right part × AllJoined hash nonce nodes pairs parts
+AllJoined hash nonce nodes (pair ∷ pairs) (part ∷ parts) = IsJoined hash nonce nodes pair.prefix pair.left pair.right part
+    × AllJoined hash nonce nodes pairs parts

@@ -3,7 +3,7 @@ use Rattle.std.specs.Prelude.{◌≡◌, ◌<◌, ◌≤◌, ◌+◌, ◌*◌, �
 use Rattle.coniks_proof.specs.Changes.{overwritten, AreApart, AreInOrder}
 use Rattle.coniks_tree.specs.Table.{Extends, Numbered}
 use Rattle.coniks_tree.specs.Counts.{new_nodes}
-use Rattle.coniks_tree.specs.Parts.{Stands, Fits, KeepsNone, Placed, AllPlaced, node_count, is_made, entries_of}
+use Rattle.coniks_tree.specs.Parts.{Stands, Fits, KeepsNone, Placed, AllPlaced, node_count, is_made, entries_in}
 use Rattle.coniks_tree.specs.Joins.{IsJoined}
 use Rattle.coniks_tree.specs.declared.table.Node.{Node}
 use Rattle.coniks_tree.specs.declared.table.Node.TheVariants.{Empty, Leaf, Inner}
@@ -38,9 +38,10 @@ abbrev pub interior_of : List Node → Option Node → ℕ
 interior_of nodes None = 0
 interior_of nodes (Some (Empty hash)) = 0
 interior_of nodes (Some (Leaf place hash)) = 0
-interior_of nodes (Some (Inner left right hash)) = cond (is_interior (slice_get nodes left)) 1 0 + cond (is_interior (slice_get nodes right)) 1 0
+interior_of nodes (Some (Inner left right hash)) = cond
+    (is_interior (slice_get nodes left)) 1 0 + cond (is_interior (slice_get nodes right)) 1 0
 
--- how many of the two nodes below a part are, where a node stands for it
+-- the number of child nodes of a part, if it is a node
 abbrev pub interior_below : List Node → Part → ℕ
 interior_below nodes Nothing = 0
 interior_below nodes (Entry change) = 0
@@ -64,11 +65,12 @@ left_by (Some part) below = below
 left_by None [] = []
 left_by None (part ∷ below) = below
 
--- the opened parts with all their sides, which are taken from below in order where they aren't done
+-- the opened parts with all their sides; sides that are not done are taken from below in order
 abbrev pub filled : List Opened → List Part → List Pair
 filled [] below = []
 filled (o ∷ os) below =
-    record { prefix = o.prefix; left = side_from o.left below; right = side_from o.right (left_by o.left below) } ∷ filled os (left_by o.right (left_by o.left below))
+    record { prefix = o.prefix; left = side_from o.left below; right = side_from o.right (left_by o.left below) } ∷
+    filled os (left_by o.right (left_by o.left below))
 
 module _ (hash : List ℕ → List ℕ) (nonce : List ℕ) (nodes : List Node) (records : List Record) where
   -- the part of a prefix, overwritten by changes
@@ -77,16 +79,16 @@ module _ (hash : List ℕ → List ℕ) (nonce : List ℕ) (nodes : List Node) (
     pub placed : (all : List Record) → Extends records all → Placed all part → AllPlaced all changes → Placed all grown
     pub count : is_made part ≡ false → node_count grown ≤ 1 + 2 * ((256 - length prefix) * length changes)
     pub new : is_made part ≡ false → 0 < length prefix + length changes → (entries : List Numbered)
-        → AreInOrder (length prefix) (entries_of changes)
-        → AreApart (length prefix) (overwritten entries (entries_of changes))
+        → AreInOrder (length prefix) (entries_in changes)
+        → AreApart (length prefix) (overwritten entries (entries_in changes))
         → Stands hash nonce nodes records part prefix entries
-        → node_count grown ≡ new_nodes (length prefix) entries (entries_of changes)
+        → node_count grown ≡ new_nodes (length prefix) entries (entries_in changes)
     pub keeps : KeepsNone part → KeepsNone grown
     pub stands : (entries : List Numbered)
-        → AreInOrder (length prefix) (entries_of changes)
-        → AreApart (length prefix) (overwritten entries (entries_of changes))
+        → AreInOrder (length prefix) (entries_in changes)
+        → AreApart (length prefix) (overwritten entries (entries_in changes))
         → Stands hash nonce nodes records part prefix entries
-        → Stands hash nonce nodes records grown prefix (overwritten entries (entries_of changes))
+        → Stands hash nonce nodes records grown prefix (overwritten entries (entries_in changes))
 
   -- the parts are, in order, those that grow
   abbrev pub AllGrown : List Growing → List Part → Type 0
@@ -107,7 +109,8 @@ module _ (hash : List ℕ → List ℕ) (nonce : List ℕ) (nodes : List Node) (
   AllDivided [] [] = Unit {0}
   AllDivided [] (pair ∷ pairs) = ⊥
   AllDivided (g ∷ gs) [] = ⊥
-  AllDivided (g ∷ gs) (pair ∷ pairs) = (g.prefix ≡ pair.prefix) × IsDivided g.prefix g.part g.changes.now pair.left pair.right × AllDivided gs pairs
+  AllDivided (g ∷ gs) (pair ∷ pairs) = (g.prefix ≡ pair.prefix)
+      × IsDivided g.prefix g.part g.changes.now pair.left pair.right × AllDivided gs pairs
 
   -- the side is the part overwritten by the changes, or what the one that is left to grow below becomes
   abbrev pub SideGrows : List Bool → Part → List Change → Option Part → List Growing → Type 0

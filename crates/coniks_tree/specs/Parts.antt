@@ -1,4 +1,4 @@
--- What a part stands for, and how many nodes it takes.
+-- What a part represents, and how many nodes it needs.
 use Rattle.std.specs.Prelude.{◌≡◌, ◌<◌, ◌≤◌, ◌+◌, ◌^◌, ◌-◌, ℕ, suc, List, [], ◌∷◌, length, Bool, true, false, Some, slice_get, min, map}
 use Rattle.coniks_proof.specs.Bits.{child}
 use Rattle.coniks_proof.specs.Entries.{half}
@@ -15,8 +15,8 @@ abbrev pub entry_of_change : Change → Numbered
 entry_of_change c = record { index = c.index.0; commitment = c.commitment.0; behind = c.place.0 }
 
 -- the entries that the changes put into the map
-abbrev pub entries_of : List Change → List Numbered
-entries_of changes = map entry_of_change changes
+abbrev pub entries_in : List Change → List Numbered
+entries_in changes = map entry_of_change changes
 
 -- how many nodes it takes to attach the part
 abbrev pub node_count : Part → ℕ
@@ -33,13 +33,15 @@ Fits n level (Kept root) = root.0 < n
 Fits n level (Made' p hash lh rh count left right) =
     (level < 256) × (count ≡ min (node_count left + node_count right + 1) (2 ^ 64 - 1)) × Fits n (suc level) left × Fits n (suc level) right
 
--- one side of a new subtree: its hash is that of the node there, and its part stands for the entries that go there
-pub record IsSide (hash : List ℕ → List ℕ) (nonce : List ℕ) (prefix : List Bool) (entries : List Numbered) (bit : Bool) (d : Digest) (StandsFor : List Bool → List Numbered → Type 0) : Type 0 where
+-- one side of a new subtree: its hash is that of its node, and its part represents the entries of that side
+pub record IsSide (hash : List ℕ → List ℕ) (nonce : List ℕ) (prefix : List Bool) (entries : List Numbered)
+    (bit : Bool) (d : Digest) (StandsFor : List Bool → List Numbered → Type 0) : Type 0 where
   pub is_hash : d.0 ≡ node hash nonce (child prefix bit) (half bit (length prefix) entries)
   pub stands : StandsFor (child prefix bit) (half bit (length prefix) entries)
 
 -- a new subtree: two entries or more, with the hash of its node and its two sides
-pub record IsSubtree (hash : List ℕ → List ℕ) (nonce : List ℕ) (prefix : List Bool) (entries : List Numbered) (d lh rh : Digest) (Left Right : List Bool → List Numbered → Type 0) : Type 0 where
+pub record IsSubtree (hash : List ℕ → List ℕ) (nonce : List ℕ) (prefix : List Bool)
+    (entries : List Numbered) (d lh rh : Digest) (Left Right : List Bool → List Numbered → Type 0) : Type 0 where
   pub many : 2 ≤ length entries
   pub is_hash : d.0 ≡ node hash nonce prefix entries
   pub left : IsSide hash nonce prefix entries false lh Left
@@ -49,7 +51,8 @@ pub record IsSubtree (hash : List ℕ → List ℕ) (nonce : List ℕ) (prefix :
 abbrev pub Stands : (List ℕ → List ℕ) → List ℕ → List Node → List Record → Part → List Bool → List Numbered → Type 0
 Stands hash nonce nodes records Nothing prefix entries = entries ≡ []
 Stands hash nonce nodes records (Entry c) prefix entries = entries ≡ entry_of_change c ∷ []
-Stands hash nonce nodes records (Kept root) prefix entries = Shows hash nonce nodes records root.0 prefix entries × (0 < length prefix → 2 ≤ length entries)
+Stands hash nonce nodes records (Kept root) prefix entries = Shows hash nonce nodes records root.0 prefix entries
+    × (0 < length prefix → 2 ≤ length entries)
 Stands hash nonce nodes records (Made' p d lh rh count left right) prefix entries =
     IsSubtree hash nonce prefix entries d lh rh (Stands hash nonce nodes records left) (Stands hash nonce nodes records right)
 

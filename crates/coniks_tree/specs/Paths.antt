@@ -1,4 +1,4 @@
--- The way to an index, from a root down to where at most one entry is left.
+-- The path to an index, from a root down to a level with at most one entry.
 use Rattle.std.specs.Prelude.{◌≡◌, ◌≢◌, ◌<◌, ◌≤◌, ℕ, List, [], ◌∷◌, length, Bool, not, Option, Some, None, slice_get}
 use Rattle.coniks_proof.specs.Bits.{child}
 use Rattle.coniks_proof.specs.Entries.{IsIn, half}
@@ -11,15 +11,17 @@ use Rattle.coniks_tree.specs.declared.table.RecordNo.{RecordNo}
 use Rattle.coniks_tree.specs.declared.path.Stop.{Stop}
 use Rattle.coniks_tree.specs.declared.path.Stop.TheVariants.{Empty, Other, Here}
 
--- the record of this number stands alone, at the index
+-- the record with this number is the only one, at the index
 abbrev pub IsAt : List Record → List ℕ → RecordNo → List Numbered → Type 0
-IsAt records index place entries = (r : Record) × (slice_get records place.0 ≡ Some r) × (entries ≡ entry_of_record place.0 r ∷ []) × (r.index.0 ≡ index)
+IsAt records index place entries = (r : Record) × (slice_get records place.0 ≡ Some r)
+    × (entries ≡ entry_of_record place.0 r ∷ []) × (r.index.0 ≡ index)
 
 -- what the way to an index ends with
-abbrev pub StopsAt : List Record → List ℕ → Stop → List Numbered → Type 0
-StopsAt records index Empty entries = entries ≡ []
-StopsAt records index (Other i c) entries = (n : ℕ) × (entries ≡ record { index = i.0; commitment = c.0; behind = n } ∷ []) × (i.0 ≢ index)
-StopsAt records index (Here place) entries = IsAt records index place entries
+abbrev pub PathStopsAt : List Record → List ℕ → Stop → List Numbered → Type 0
+PathStopsAt records index Empty entries = entries ≡ []
+PathStopsAt records index (Other i c) entries = (n : ℕ)
+    × (entries ≡ record { index = i.0; commitment = c.0; behind = n } ∷ []) × (i.0 ≢ index)
+PathStopsAt records index (Here place) entries = IsAt records index place entries
 
 -- the record that the way ends with is there
 abbrev pub IsKnown : ℕ → Stop → Type 0
@@ -35,7 +37,8 @@ pub record IsStep (hash : List ℕ → List ℕ) (nonce : List ℕ) (nodes : Lis
   pub beside : sibling.0 ≡ node hash nonce (child prefix (not bit)) (half (not bit) (length prefix) entries)
   pub shows : Shows hash nonce nodes records number (child prefix bit) (half bit (length prefix) entries)
 
--- the record at an index: none where no entry of the map has the index, or the one whose entry is in the map and has it
+-- the record at an index: the one whose entry is in the map and has the index, or none if no entry has it
 abbrev pub Finds : List Record → List ℕ → Option RecordNo → List Numbered → Type 0
 Finds records index None entries = (e : Numbered) → IsIn e entries → e.index ≢ index
-Finds records index (Some place) entries = (r : Record) × (slice_get records place.0 ≡ Some r) × IsIn (entry_of_record place.0 r) entries × (r.index.0 ≡ index)
+Finds records index (Some place) entries = (r : Record) × (slice_get records place.0 ≡ Some r)
+    × IsIn (entry_of_record place.0 r) entries × (r.index.0 ≡ index)

@@ -10,7 +10,7 @@ use Rattle.coniks_tree.specs.declared.table.Node.TheVariants.{Empty, Leaf, Inner
 use Rattle.coniks_tree.specs.declared.table.Record.{Record}
 use Rattle.coniks_tree.specs.declared.table.RecordNo.{RecordNo}
 
--- an entry with the number of the record that stands behind it
+-- an entry with the number of its record
 abbrev pub Numbered : Type 0
 Numbered = Entry ℕ
 
@@ -24,7 +24,7 @@ hash_of_node (Inner l r d) = d
 abbrev pub entry_of_record : ℕ → Record → Numbered
 entry_of_record n r = record { index = r.index.0; commitment = r.commitment.0; behind = n }
 
--- what a record binds; an empty binding where there is no record
+-- what a record binds; an empty binding if there is no record
 abbrev pub registered_by : Option Record → Registered
 registered_by (Some r) = record { name = r.binding.name; key = r.binding.key; opening = r.opening.0 }
 registered_by None = record { name = []; key = []; opening = [] }
@@ -33,19 +33,21 @@ registered_by None = record { name = []; key = []; opening = [] }
 abbrev pub registered_at : List Record → ℕ → Registered
 registered_at records n = registered_by (slice_get records n)
 
--- the node of this number stands at the prefix, with these entries under it
-pub data Shows (hash : List ℕ → List ℕ) (nonce : List ℕ) (nodes : List Node) (records : List Record) : ℕ → List Bool → List Numbered → Type 0 where
+-- the node with this number is that of the prefix, with these entries under it
+pub data Shows (hash : List ℕ → List ℕ) (nonce : List ℕ) (nodes : List Node) (records : List Record) : ℕ
+    → List Bool → List Numbered → Type 0 where
   shows_empty : (n : ℕ) (p : List Bool) (es : List Numbered) (d : Digest)
       → slice_get nodes n ≡ Some (Empty d) → es ≡ [] → d.0 ≡ node hash nonce p es → Shows hash nonce nodes records n p es
   shows_leaf : (n : ℕ) (p : List Bool) (es : List Numbered) (d : Digest) (place : RecordNo) (r : Record)
-      → slice_get nodes n ≡ Some (Leaf place d) → slice_get records place.0 ≡ Some r → es ≡ entry_of_record place.0 r ∷ [] → d.0 ≡ node hash nonce p es → Shows hash nonce nodes records n p es
+      → slice_get nodes n ≡ Some (Leaf place d) → slice_get records place.0 ≡ Some r
+      → es ≡ entry_of_record place.0 r ∷ [] → d.0 ≡ node hash nonce p es → Shows hash nonce nodes records n p es
   shows_inner : (n : ℕ) (p : List Bool) (es : List Numbered) (d : Digest) (l r : ℕ)
       → slice_get nodes n ≡ Some (Inner l r d) → length p < 256 → 2 ≤ length es → d.0 ≡ node hash nonce p es
       → Shows hash nonce nodes records l (child p false) (half false (length p) es)
       → Shows hash nonce nodes records r (child p true) (half true (length p) es)
       → Shows hash nonce nodes records n p es
 
--- what stood at a number still stands there
+-- the new list begins with the old one
 abbrev pub Extends : {T : Type 0} → List T → List T → Type 0
 Extends {T} old new = (k : ℕ) (v : T) → slice_get old k ≡ Some v → slice_get new k ≡ Some v
 
@@ -54,7 +56,7 @@ pub record IsTable (nodes : List Node) (records : List Record) : Type 0 where
   pub lower : (n : ℕ) (l r : ℕ) (d : Digest) → slice_get nodes n ≡ Some (Inner l r d) → (l < n) × (r < n)
   pub stored : (n : ℕ) (place : RecordNo) (d : Digest) → slice_get nodes n ≡ Some (Leaf place d) → place.0 < length records
 
--- the node may stand at the end of a table of `n` nodes
+-- the node may be the last of a table of `n` nodes
 abbrev pub NodeFits : ℕ → List Record → Node → Type 0
 NodeFits n records (Empty d) = Unit {0}
 NodeFits n records (Leaf place d) = place.0 < length records

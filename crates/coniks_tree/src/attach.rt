@@ -1,4 +1,4 @@
-//! A part becomes nodes at the end of the table.
+//! Makes nodes at the end of the table from a part.
 
 ghost use Rattle.std.specs.Prelude.{◌≡◌, ◌++◌, ◌∷◌, [], ◌<◌, ◌≤◌, ◌+◌, ◌*◌, ◌-◌, List, ℕ, length, slice_get, vec_len, vec_capacity, Bool};
 ghost use Rattle.coniks_proof.specs.Tree.{node};
@@ -9,7 +9,7 @@ use crate::part::{Part, Subtree};
 use crate::table::{Node, Record};
 use coniks_proof::Digest;
 
-/// Puts a node at the end, where there is room for it.
+/// Appends a node, for which there is room.
 fn put(nodes: &mut Vec<Node>, node: Node)
     requires { length nodes.old.items < vec_capacity nodes.old }
     ensures items { nodes.new.items ≡ nodes.old.items ++ node ∷ [] }
@@ -19,7 +19,7 @@ fn put(nodes: &mut Vec<Node>, node: Node)
     let _ = nodes.push(node);
 }
 
-/// Puts a node at the end, where there is room for it, and answers its number.
+/// Appends a node, for which there is room, and returns its number.
 pub(crate) fn push_node(nodes: &mut Vec<Node>, node: Node) -> usize
     requires { length nodes.old.items < vec_capacity nodes.old }
     ensures number { result ≡ length nodes.old.items }
@@ -27,15 +27,17 @@ pub(crate) fn push_node(nodes: &mut Vec<Node>, node: Node) -> usize
     ensures room { vec_capacity nodes.old ≤ vec_capacity nodes.new }
     ensures at { slice_get nodes.new.items result ≡ Some node }
     ensures extends { Extends nodes.old.items nodes.new.items }
-    ensures table { (records : List Record) → NodeFits (length nodes.old.items) records node → IsTable nodes.old.items records → IsTable nodes.new.items records }
+    ensures table { (records : List Record) → NodeFits (length nodes.old.items) records node
+        → IsTable nodes.old.items records → IsTable nodes.new.items records }
 {
     let number = nodes.len();
     put(nodes, node);
     number
 }
 
-/// Puts a part's nodes at the end, and answers the number of the node that stands for the part. The part is of a prefix
-/// of `level` bits and has this hash. Nothing is hashed.
+/// Appends a part's nodes, and returns the number of the node that stands for the part.
+///
+/// The part is of a prefix of `level` bits and has this hash. Computes no hash.
 pub(crate) fn append(nodes: &mut Vec<Node>, level: usize, hash: &Digest, part: &Part) -> usize
     requires fits { Fits (length nodes.old.items) level part.now }
     requires room { length nodes.old.items + node_count part.now ≤ vec_capacity nodes.old }
@@ -44,10 +46,10 @@ pub(crate) fn append(nodes: &mut Vec<Node>, level: usize, hash: &Digest, part: &
     ensures known { result < length nodes.new.items }
     ensures extends { Extends nodes.old.items nodes.new.items }
     ensures table { (records : List Record) → Placed records part.now → IsTable nodes.old.items records → IsTable nodes.new.items records }
-    ensures shows { (of : List ℕ → List ℕ) (nonce : List ℕ) (records : List Record) (prefix : List Bool) (entries : List Numbered)
-        → length prefix ≡ level → Placed records part.now → hash.now.0 ≡ node of nonce prefix entries
-        → Stands of nonce nodes.old.items records part.now prefix entries
-        → Shows of nonce nodes.new.items records result prefix entries }
+    ensures shows { (digest_of : List ℕ → List ℕ) (nonce : List ℕ) (records : List Record) (prefix : List Bool) (entries : List Numbered)
+        → length prefix ≡ level → Placed records part.now → hash.now.0 ≡ node digest_of nonce prefix entries
+        → Stands digest_of nonce nodes.old.items records part.now prefix entries
+        → Shows digest_of nonce nodes.new.items records result prefix entries }
 {
     match part {
         Part::Nothing => push_node(nodes, Node::Empty(*hash)),

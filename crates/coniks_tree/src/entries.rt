@@ -2,7 +2,7 @@
 
 ghost use Rattle.std.specs.Prelude.{◌≡◌, ◌++◌, [], ◌<◌, ◌-◌, List, ℕ, length, slice_get, IfOk, OnOk, Bool};
 ghost use Rattle.coniks_tree.specs.Entries.{AreStored, Lists, entries_at, entry_at, in_order};
-ghost use Rattle.coniks_tree.specs.Parts.{AllPlaced, entries_of};
+ghost use Rattle.coniks_tree.specs.Parts.{AllPlaced, entries_in};
 ghost use Rattle.coniks_tree.specs.Table.{Extends, IsTable, Numbered, Shows};
 
 use crate::halving::change_at;
@@ -11,8 +11,9 @@ use crate::table::{Node, Record, RecordNo, node_of};
 use coniks_proof::MAX_LEVEL;
 use std::alloc::{AllocError, Global};
 
-/// Puts the places of the records under a node at the end of a list, in the order of their indices. The node stands at a
-/// prefix of `level` bits.
+/// Appends the numbers of the records under a node to a list, in the order of their indices.
+///
+/// The node is at a prefix of `level` bits.
 pub(crate) fn list_places(
     nodes: &[Node],
     level: usize,
@@ -21,8 +22,10 @@ pub(crate) fn list_places(
 ) -> Result<(), AllocError>
     requires table { (records : List Record) × IsTable nodes.now records }
     requires known { number < length nodes.now }
-    ensures stored { OnOk result ((records : List Record) → IsTable nodes.now records → AreStored (length records) listed.old.items → AreStored (length records) listed.new.items) }
-    ensures lists { OnOk result ((hash : List ℕ → List ℕ) (nonce : List ℕ) (records : List Record) (prefix : List Bool) (entries : List Numbered) → length prefix ≡ level
+    ensures stored { OnOk result ((records : List Record) → IsTable nodes.now records
+        → AreStored (length records) listed.old.items → AreStored (length records) listed.new.items) }
+    ensures lists { OnOk result ((hash : List ℕ → List ℕ) (nonce : List ℕ) (records : List Record) (prefix : List Bool) (entries : List Numbered)
+        → length prefix ≡ level
         → Shows hash nonce nodes.now records number prefix entries
         → entries_at records listed.new.items ≡ entries_at records listed.old.items ++ in_order level entries) }
 {
@@ -39,7 +42,7 @@ pub(crate) fn list_places(
     }
 }
 
-/// Puts the record at a place at the end of changes.
+/// Appends the record of a number to changes.
 fn push_change(
     records: &[Record],
     place: RecordNo,
@@ -47,13 +50,12 @@ fn push_change(
 ) -> Result<(), AllocError>
     requires { place.0 < length records.now }
     ensures placed { OnOk result ((all : List Record) → Extends records.now all → AllPlaced all changes.old.items → AllPlaced all changes.new.items) }
-    ensures entry { OnOk result (entries_of changes.new.items ≡ entries_of changes.old.items ++ entry_at place.0 (slice_get records.now place.0)) }
+    ensures entry { OnOk result (entries_in changes.new.items ≡ entries_in changes.old.items ++ entry_at place.0 (slice_get records.now place.0)) }
 {
     Ok(changes.push(change_at(records, place))?)
 }
 
-/// The records at these places as changes. They are read one after another and nothing between, so that memory answers for
-/// many of them at once.
+/// Returns the records of these numbers as changes. It reads them one after another, and nothing else in between.
 fn changes_at(
     alloc: Global,
     records: &[Record],
@@ -61,7 +63,7 @@ fn changes_at(
 ) -> Result<Vec<Change>, AllocError>
     requires { AreStored (length records.now) places.now }
     ensures placed { IfOk result (λ changes. (all : List Record) → Extends records.now all → AllPlaced all changes.items) }
-    ensures same { IfOk result (λ changes. entries_of changes.items ≡ entries_at records.now places.now) }
+    ensures same { IfOk result (λ changes. entries_in changes.items ≡ entries_at records.now places.now) }
 {
     let mut changes = Vec::with_capacity(alloc, places.len())?;
     let mut rest = places;
@@ -72,7 +74,7 @@ fn changes_at(
     Ok(changes)
 }
 
-/// The entries under a root as changes.
+/// Returns the entries under a root as changes.
 pub(crate) fn entries_from(
     alloc: Global,
     nodes: &[Node],

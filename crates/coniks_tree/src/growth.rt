@@ -1,12 +1,12 @@
-//! A part overwritten by changes.
+//! Parts that are overwritten by changes.
 
-ghost use Rattle.std.specs.Prelude.{◌≡◌, ◌∷◌, [], ◌<◌, ◌≤◌, ◌+◌, ◌*◌, ◌-◌, List, ℕ, length, slice_get, IfOk, IfSome, Some, None, Bool, false, true};
+ghost use Rattle.std.specs.Prelude.{◌≡◌, ◌∷◌, [], ◌<◌, ◌≤◌, ◌+◌, ◌*◌, ◌-◌, List, ℕ, length, slice_get, IfOk, IfSome, Some, None, Bool, drop, false, take, true};
 ghost use Rattle.coniks_proof.specs.Entries.{half};
 ghost use Rattle.coniks_proof.specs.Changes.{overwritten, AreApart, AreInOrder};
 ghost use Rattle.coniks_tree.specs.Table.{Extends, IsTable, Numbered};
 ghost use Rattle.coniks_tree.specs.declared.part.Part.{Entry};
 ghost use Rattle.coniks_tree.specs.Counts.{new_nodes};
-ghost use Rattle.coniks_tree.specs.Parts.{Stands, Fits, KeepsNone, Placed, AllPlaced, node_count, is_made, entries_of, entry_of_change};
+ghost use Rattle.coniks_tree.specs.Parts.{Stands, Fits, KeepsNone, Placed, AllPlaced, node_count, is_made, entries_in, entry_of_change};
 
 use crate::halving::opened;
 use crate::levels::grow_by_levels;
@@ -15,27 +15,31 @@ use crate::table::{Node, Record};
 use coniks_proof::{Hash32, Index, MAX_LEVEL, Nonce, Prefix};
 use std::alloc::{AllocError, Global};
 
-/// The fewest changes for which a part is grown level by level: with fewer, four nodes of a level are too seldom there.
+/// The fewest changes for which a part is grown level by level.
 const FEWEST_BY_LEVELS: usize = 8;
 
-/// The most: with more, what is kept for a level would show beside the part itself, and leave the processor's own memory.
+/// The most changes for which a part is grown level by level.
 const MOST_BY_LEVELS: usize = 256;
 
-/// The changes that go left at a level, and those that go right.
+/// Splits changes into those that go left at a level, and those that go right.
 pub fn sides(changes: &[Change], level: usize) -> (&[Change], &[Change])
     requires { level < 256 }
     ensures all { length result.0.now + length result.1.now ≡ length changes.now }
+    ensures cut { length result.0.now ≡ length (half false level (entries_in changes.now)) }
+    ensures front { entries_in result.0.now ≡ take (length (half false level (entries_in changes.now))) (entries_in changes.now) }
+    ensures back { entries_in result.1.now ≡ drop (length (half false level (entries_in changes.now))) (entries_in changes.now) }
     ensures placed { (all : List Record) → AllPlaced all changes.now → AllPlaced all result.0.now × AllPlaced all result.1.now }
-    ensures left { AreInOrder level (entries_of changes.now) → entries_of result.0.now ≡ half false level (entries_of changes.now) }
-    ensures right { AreInOrder level (entries_of changes.now) → entries_of result.1.now ≡ half true level (entries_of changes.now) }
+    ensures left { AreInOrder level (entries_in changes.now) → entries_in result.0.now ≡ half false level (entries_in changes.now) }
+    ensures right { AreInOrder level (entries_in changes.now) → entries_in result.1.now ≡ half true level (entries_in changes.now) }
 {
     let cut = lefts(changes, level);
     changes.split_at(cut)
 }
 
-/// Whether a change of this index leaves a part with no other entry.
+/// Returns whether a change of this index leaves a part with no other entry.
 pub(crate) fn is_replaced(part: &Part, index: &Index) -> bool
-    ensures { (hash : List ℕ → List ℕ) (nonce : List ℕ) (nodes : List Node) (records : List Record) (prefix : List Bool) (entries : List Numbered) (new : Numbered)
+    ensures { (hash : List ℕ → List ℕ) (nonce : List ℕ) (nodes : List Node)
+        (records : List Record) (prefix : List Bool) (entries : List Numbered) (new : Numbered)
         → Stands hash nonce nodes records part.now prefix entries → new.index ≡ index.now.0 → result ≡ true → overwritten entries (new ∷ []) ≡ new ∷ [] }
 {
     match part {
@@ -46,7 +50,7 @@ pub(crate) fn is_replaced(part: &Part, index: &Index) -> bool
     }
 }
 
-/// The first of the changes.
+/// Returns the first of the changes.
 fn first_of(changes: &[Change]) -> Change
     requires { 0 < length changes.now }
     ensures { slice_get changes.now 0 ≡ Some result }
@@ -54,15 +58,16 @@ fn first_of(changes: &[Change]) -> Change
     changes[0]
 }
 
-/// The change that leaves one entry, where there is such a one.
+/// Returns the change that leaves one entry, if there is one.
 pub(crate) fn only_change(level: usize, part: &Part, changes: &[Change]) -> Option<Change>
     requires short { level ≤ 256 }
     requires some { 0 < length changes.now }
     ensures none { result ≡ None → level < 256 }
     ensures placed { IfSome result (λ change. (all : List Record) → AllPlaced all changes.now → Placed all (Entry change)) }
-    ensures stands { IfSome result (λ change. (hash : List ℕ → List ℕ) (nonce : List ℕ) (nodes : List Node) (records : List Record) (prefix : List Bool) (entries : List Numbered)
-        → AreApart level (overwritten entries (entries_of changes.now))
-        → Stands hash nonce nodes records part.now prefix entries → overwritten entries (entries_of changes.now) ≡ entry_of_change change ∷ []) }
+    ensures stands { IfSome result
+        (λ change. (hash : List ℕ → List ℕ) (nonce : List ℕ) (nodes : List Node) (records : List Record) (prefix : List Bool) (entries : List Numbered)
+        → AreApart level (overwritten entries (entries_in changes.now))
+        → Stands hash nonce nodes records part.now prefix entries → overwritten entries (entries_in changes.now) ≡ entry_of_change change ∷ []) }
 {
     let first = first_of(changes);
     if level == MAX_LEVEL {
@@ -78,7 +83,7 @@ pub(crate) fn only_change(level: usize, part: &Part, changes: &[Change]) -> Opti
     }
 }
 
-/// The part overwritten by the changes.
+/// Returns the part overwritten by the changes.
 pub(crate) fn grow_part<H: Hash32>(
     alloc: Global,
     nodes: &[Node],
@@ -94,18 +99,19 @@ pub(crate) fn grow_part<H: Hash32>(
     ensures fits { IfOk result (λ grown. Fits (length nodes.now) (length prefix.now) grown) }
     ensures same { IfOk result (λ grown. length changes.now ≡ 0 → grown ≡ part) }
     ensures placed { IfOk result (λ grown. (all : List Record) → Extends records.now all → Placed all part → AllPlaced all changes.now → Placed all grown) }
-    ensures count { IfOk result (λ grown. is_made part ≡ false → 0 < length changes.now → node_count grown ≤ 1 + 2 * ((256 - length prefix.now) * length changes.now)) }
+    ensures count { IfOk result (λ grown. is_made part ≡ false → 0 < length changes.now
+        → node_count grown ≤ 1 + 2 * ((256 - length prefix.now) * length changes.now)) }
     ensures new { IfOk result (λ grown. is_made part ≡ false → 0 < length prefix.now + length changes.now → (entries : List Numbered)
-        → AreInOrder (length prefix.now) (entries_of changes.now)
-        → AreApart (length prefix.now) (overwritten entries (entries_of changes.now))
+        → AreInOrder (length prefix.now) (entries_in changes.now)
+        → AreApart (length prefix.now) (overwritten entries (entries_in changes.now))
         → Stands (H.digest_of h.now) nonce.now.0 nodes.now records.now part prefix.now entries
-        → node_count grown ≡ new_nodes (length prefix.now) entries (entries_of changes.now)) }
+        → node_count grown ≡ new_nodes (length prefix.now) entries (entries_in changes.now)) }
     ensures keeps { IfOk result (λ grown. KeepsNone part → KeepsNone grown) }
     ensures stands { IfOk result (λ grown. (entries : List Numbered)
-        → AreInOrder (length prefix.now) (entries_of changes.now)
-        → AreApart (length prefix.now) (overwritten entries (entries_of changes.now))
+        → AreInOrder (length prefix.now) (entries_in changes.now)
+        → AreApart (length prefix.now) (overwritten entries (entries_in changes.now))
         → Stands (H.digest_of h.now) nonce.now.0 nodes.now records.now part prefix.now entries
-        → Stands (H.digest_of h.now) nonce.now.0 nodes.now records.now grown prefix.now (overwritten entries (entries_of changes.now))) }
+        → Stands (H.digest_of h.now) nonce.now.0 nodes.now records.now grown prefix.now (overwritten entries (entries_in changes.now))) }
 {
     if changes.is_empty() {
         return Ok(part);

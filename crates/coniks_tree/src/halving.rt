@@ -1,4 +1,4 @@
-//! A part as the two parts of the prefixes below.
+//! A part, opened to the two parts of the prefixes below.
 
 ghost use Rattle.std.specs.Prelude.{◌≡◌, ◌∷◌, [], ◌<◌, ◌≤◌, ◌+◌, List, ℕ, length, slice_get, Some, Bool, false, true};
 ghost use Rattle.coniks_proof.specs.Bits.{child};
@@ -11,7 +11,7 @@ use crate::part::{Change, Part, Subtree};
 use crate::table::{Node, Record, RecordNo, Root, node_of, record_of};
 use coniks_proof::bit;
 
-/// The part that stands where a node stands.
+/// Returns the part that a node stands for.
 pub(crate) fn kept(nodes: &[Node], records: &[Record], number: usize) -> Part
     requires table { IsTable nodes.now records.now }
     requires known { number < length nodes.now }
@@ -28,7 +28,7 @@ pub(crate) fn kept(nodes: &[Node], records: &[Record], number: usize) -> Part
     }
 }
 
-/// A record as a change.
+/// Returns a record as a change.
 pub(crate) fn change_at(records: &[Record], place: RecordNo) -> Change
     requires { place.0 < length records.now }
     ensures same_place { result.place ≡ place }
@@ -43,7 +43,7 @@ pub(crate) fn change_at(records: &[Record], place: RecordNo) -> Change
     }
 }
 
-/// The parts of the two prefixes below.
+/// Returns the parts of the two prefixes below.
 pub(crate) fn opened(nodes: &[Node], records: &[Record], level: usize, part: Part) -> (Part, Part)
     requires table { IsTable nodes.now records.now }
     requires fits { Fits (length nodes.now) level part }
@@ -69,7 +69,7 @@ pub(crate) fn opened(nodes: &[Node], records: &[Record], level: usize, part: Par
     }
 }
 
-/// An entry as the parts of the two prefixes below.
+/// Returns an entry as the parts of the two prefixes below.
 pub(crate) fn aside(level: usize, change: Change) -> (Part, Part)
     requires { level < 256 }
     ensures fits { (n : ℕ) → Fits n (level + 1) result.0 × Fits n (level + 1) result.1 }
@@ -88,7 +88,7 @@ pub(crate) fn aside(level: usize, change: Change) -> (Part, Part)
     }
 }
 
-/// What stands below a node.
+/// Returns the parts below a node.
 pub(crate) fn below(nodes: &[Node], records: &[Record], level: usize, root: Root) -> (Part, Part)
     requires table { IsTable nodes.now records.now }
     requires known { root.0 < length nodes.now }

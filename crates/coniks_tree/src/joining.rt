@@ -1,4 +1,4 @@
-//! Joins of many pairs of parts, hashed by fours.
+//! Joins many pairs of parts, and computes their hashes four at a time.
 
 ghost use Rattle.std.specs.Prelude.{◌≡◌, ◌++◌, ◌∷◌, ◌<◌, ◌≤◌, ◌+◌, [], List, ℕ, length, map, IfOk, OnOk, Bool, false, true};
 ghost use Rattle.coniks_proof.specs.Bits.{child};
@@ -31,7 +31,7 @@ pub(crate) struct Halved {
     pub(crate) right_hash: Digest,
 }
 
-/// Puts what is hashed for a side at the end of a list, where it has no hash yet.
+/// Appends the message of a side to a list, if the side has no hash yet.
 fn ask(
     prefix: &Prefix,
     right: bool,
@@ -39,7 +39,8 @@ fn ask(
     messages: &mut Vec<Message>,
 ) -> Result<(), AllocError>
     requires { length prefix.now < 256 }
-    ensures { OnOk result ((nonce : List ℕ) → map (preimage_of nonce) messages.new.items ≡ map (preimage_of nonce) messages.old.items ++ asked_at nonce (child prefix.now right) part.now) }
+    ensures { OnOk result ((nonce : List ℕ)
+        → map (preimage_of nonce) messages.new.items ≡ map (preimage_of nonce) messages.old.items ++ asked_at nonce (child prefix.now right) part.now) }
 {
     match part {
         Part::Nothing => Ok(messages.push(empty_message(prefix.child(right)))?),
@@ -52,7 +53,7 @@ fn ask(
     }
 }
 
-/// What is hashed for the sides of pairs that have no hash yet, from left to right.
+/// Returns the messages of the sides of pairs that have no hash yet, from left to right.
 fn asked(alloc: Global, pairs: &[Pair]) -> Result<Vec<Message>, AllocError>
     requires { (n : ℕ) × PairsFit n pairs.now }
     ensures { IfOk result (λ messages. (nonce : List ℕ) → map (preimage_of nonce) messages.items ≡ asked_of nonce pairs.now) }
@@ -67,7 +68,7 @@ fn asked(alloc: Global, pairs: &[Pair]) -> Result<Vec<Message>, AllocError>
     Ok(messages)
 }
 
-/// The first of the hashes.
+/// Returns the first of the hashes.
 fn first_hash(hashes: &mut VecDeque<Digest>) -> Digest
     requires { 0 < length hashes.old.items }
     ensures { hashes.old.items ≡ result ∷ hashes.new.items }
@@ -78,7 +79,7 @@ fn first_hash(hashes: &mut VecDeque<Digest>) -> Digest
     hash
 }
 
-/// The hash of a side: its own, or else the first of the hashes that were asked for.
+/// Returns the hash of a side: its own, or else the first of the hashes that were asked for.
 fn side_hash(nodes: &[Node], part: &Part, hashes: &mut VecDeque<Digest>) -> Digest
     requires fits { (level : ℕ) × Fits (length nodes.now) level part.now }
     requires some { length (asked_at [] [] part.now) ≤ length hashes.old.items }
@@ -95,14 +96,15 @@ fn side_hash(nodes: &[Node], part: &Part, hashes: &mut VecDeque<Digest>) -> Dige
     }
 }
 
-/// A pair with the hashes of its two parts, of which those that were asked for are the first of the hashes.
+/// Returns a pair with the hashes of its two parts. Those that were asked for are the first of the hashes.
 fn halve(nodes: &[Node], pair: Pair, hashes: &mut VecDeque<Digest>) -> Halved
     requires fits { PairFits (length nodes.now) pair }
     requires some { length (asked_at [] [] pair.left) + length (asked_at [] [] pair.right) ≤ length hashes.old.items }
     ensures same { result.pair ≡ pair }
     ensures len { length hashes.new.items + length (asked_at [] [] pair.left) + length (asked_at [] [] pair.right) ≡ length hashes.old.items }
     ensures halved { (hash : List ℕ → List ℕ) (nonce : List ℕ) (rest : List (List ℕ))
-        → map (λ d. d.0) hashes.old.items ≡ map hash (asked_at nonce (child pair.prefix false) pair.left ++ (asked_at nonce (child pair.prefix true) pair.right ++ rest))
+        → map (λ d. d.0) hashes.old.items ≡ map hash
+        (asked_at nonce (child pair.prefix false) pair.left ++ (asked_at nonce (child pair.prefix true) pair.right ++ rest))
         → IsHalved hash nonce nodes.now result × (map (λ d. d.0) hashes.new.items ≡ map hash rest) }
 {
     let left_hash = side_hash(nodes, &pair.left, hashes);
@@ -114,7 +116,7 @@ fn halve(nodes: &[Node], pair: Pair, hashes: &mut VecDeque<Digest>) -> Halved
     }
 }
 
-/// The pairs with the hashes of their parts, and what is hashed for the nodes over them.
+/// Returns the pairs with the hashes of their parts, and the messages of the nodes over them.
 fn halve_all(
     alloc: Global,
     nodes: &[Node],
@@ -139,18 +141,18 @@ fn halve_all(
     Ok((halved, messages))
 }
 
-/// Two parts, whose hashes and whose node's hash are known, as the part of the prefix above.
+/// Joins two parts, whose hashes and whose node's hash are known, to the part of the prefix above.
 fn joined(alloc: Global, halved: Halved, hash: Digest) -> Result<Part, AllocError>
     ensures fits { IfOk result (λ part. (n : ℕ) → PairFits n halved.pair → Fits n (length halved.pair.prefix) part) }
     ensures count { IfOk result (λ part. node_count part ≤ node_count halved.pair.left + node_count halved.pair.right + 1) }
     ensures new { IfOk result (λ part. node_count part ≡ joined_count halved.pair.left halved.pair.right) }
     ensures keeps { IfOk result (λ part. KeepsNone halved.pair.left → KeepsNone halved.pair.right → KeepsNone part) }
     ensures placed { IfOk result (λ part. (all : List Record) → Placed all halved.pair.left → Placed all halved.pair.right → Placed all part) }
-    ensures stands { IfOk result (λ part. (of : List ℕ → List ℕ) (nonce : List ℕ) (nodes : List Node) (records : List Record) (entries : List Numbered)
-        → length halved.pair.prefix < 256 → IsHalved of nonce nodes halved → hash.0 ≡ of (inner_of halved)
-        → Stands of nonce nodes records halved.pair.left (child halved.pair.prefix false) (half false (length halved.pair.prefix) entries)
-        → Stands of nonce nodes records halved.pair.right (child halved.pair.prefix true) (half true (length halved.pair.prefix) entries)
-        → Stands of nonce nodes records part halved.pair.prefix entries) }
+    ensures stands { IfOk result (λ part. (digest_of : List ℕ → List ℕ) (nonce : List ℕ) (nodes : List Node) (records : List Record) (entries : List Numbered)
+        → length halved.pair.prefix < 256 → IsHalved digest_of nonce nodes halved → hash.0 ≡ digest_of (inner_of halved)
+        → Stands digest_of nonce nodes records halved.pair.left (child halved.pair.prefix false) (half false (length halved.pair.prefix) entries)
+        → Stands digest_of nonce nodes records halved.pair.right (child halved.pair.prefix true) (half true (length halved.pair.prefix) entries)
+        → Stands digest_of nonce nodes records part halved.pair.prefix entries) }
 {
     let Halved {
         pair,
@@ -168,16 +170,17 @@ fn joined(alloc: Global, halved: Halved, hash: Digest) -> Result<Part, AllocErro
     Ok(made(alloc, left, right, left_hash, right_hash, hash)?)
 }
 
-/// The pairs joined, whose nodes have these hashes.
+/// Joins the pairs, whose nodes have these hashes.
 fn joined_all(
     alloc: Global,
     mut halved: VecDeque<Halved>,
     mut hashes: VecDeque<Digest>,
 ) -> Result<VecDeque<Part>, AllocError>
     requires { length halved.items ≡ length hashes.items }
-    ensures { IfOk result (λ parts. (of : List ℕ → List ℕ) (nonce : List ℕ) (nodes : List Node) → PairsFit (length nodes) (map (λ h. h.pair) halved.items)
-        → AllHalved of nonce nodes halved.items → map (λ d. d.0) hashes.items ≡ map (λ h. of (inner_of h)) halved.items
-        → AllJoined of nonce nodes (map (λ h. h.pair) halved.items) parts.items) }
+    ensures { IfOk result (λ parts. (digest_of : List ℕ → List ℕ) (nonce : List ℕ) (nodes : List Node)
+        → PairsFit (length nodes) (map (λ h. h.pair) halved.items)
+        → AllHalved digest_of nonce nodes halved.items → map (λ d. d.0) hashes.items ≡ map (λ h. digest_of (inner_of h)) halved.items
+        → AllJoined digest_of nonce nodes (map (λ h. h.pair) halved.items) parts.items) }
 {
     let mut parts = VecDeque::with_capacity(alloc, halved.len())?;
     while let Some(one) = halved.pop_front() {
@@ -187,8 +190,9 @@ fn joined_all(
     Ok(parts)
 }
 
-/// The parts of pairs, in their order, each as the part of the prefix above. The hashes that the sides lack are made by
-/// fours, and then those of the nodes above them.
+/// Joins the parts of pairs, in their order, each pair to the part of the prefix above.
+///
+/// The missing hashes of the sides are computed four at a time, and then those of the nodes above them.
 pub(crate) fn join_all<H: Hash32>(
     alloc: Global,
     nodes: &[Node],

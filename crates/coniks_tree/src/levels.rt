@@ -1,4 +1,4 @@
-//! A part overwritten by many changes, level by level.
+//! Overwrites a part with many changes, level by level.
 
 ghost use Rattle.std.specs.Prelude.{◌≡◌, ◌++◌, ◌∷◌, ◌<◌, ◌≤◌, ◌+◌, ◌-◌, ◌^◌, [], List, ℕ, length, slice_get, min, IfOk, Bool, false, true};
 ghost use Rattle.coniks_proof.specs.Bits.{child};
@@ -16,7 +16,7 @@ use std::alloc::{AllocError, Global};
 use std::cmp::max;
 use std::collections::VecDeque;
 
-/// The part of a prefix that is to be overwritten by changes, for which it has to be opened.
+/// The part of a prefix that changes overwrite, for which it has to be opened.
 #[derive(Drop)]
 pub(crate) struct Growing<'a> {
     pub(crate) part: Part,
@@ -32,16 +32,17 @@ pub(crate) struct Opened {
     pub(crate) right: Option<Part>,
 }
 
-/// A part overwritten by changes, where that takes no opening. Else it is put at the end of those that grow.
+/// Returns a part overwritten by changes, if that needs no opening, and else appends it to the parts that grow.
 fn settle<'a>(
     part: Part,
     prefix: Prefix,
     changes: &'a [Change],
     next: &mut VecDeque<Growing<'a>>,
 ) -> Result<Option<Part>, AllocError>
-    ensures { IfOk result (λ side. (of : List ℕ → List ℕ) (nonce : List ℕ) (nodes : List Node) (records : List Record) → Fits (length nodes) (length prefix) part
+    ensures { IfOk result (λ side. (digest_of : List ℕ → List ℕ) (nonce : List ℕ) (nodes : List Node) (records : List Record)
+        → Fits (length nodes) (length prefix) part
         → (more : List Growing) × (next.new.items ≡ next.old.items ++ more) × AllOpen (length nodes) (length prefix) more
-        × SideGrows of nonce nodes records prefix part changes.now side more) }
+        × SideGrows digest_of nonce nodes records prefix part changes.now side more) }
 {
     if changes.is_empty() {
         return Ok(Some(part));
@@ -57,7 +58,7 @@ fn settle<'a>(
     Ok(None)
 }
 
-/// A part, opened for its changes. What is left to grow below is put at the end of those that grow.
+/// Opens a part for its changes. The parts below that are left to grow are appended to the parts that grow.
 fn divide<'a>(
     nodes: &[Node],
     records: &[Record],
@@ -70,9 +71,9 @@ fn divide<'a>(
     requires short { length prefix.now < 256 }
     requires some { 0 < length changes.now }
     requires fits { Fits (length nodes.now) (length prefix.now) part }
-    ensures { IfOk result (λ both. (of : List ℕ → List ℕ) (nonce : List ℕ)
+    ensures { IfOk result (λ both. (digest_of : List ℕ → List ℕ) (nonce : List ℕ)
         → (more : List Growing) × (next.new.items ≡ next.old.items ++ more) × AllOpen (length nodes.now) (length prefix.now + 1) more
-        × Divides of nonce nodes.now records.now prefix.now part changes.now both.0 both.1 more) }
+        × Divides digest_of nonce nodes.now records.now prefix.now part changes.now both.0 both.1 more) }
 {
     let level = prefix.len();
     let (left, right) = opened(nodes, records, level, part);
@@ -82,14 +83,14 @@ fn divide<'a>(
     Ok((left, right))
 }
 
-/// Whether the node of this number is an interior one.
+/// Returns whether the node of this number is an interior node.
 fn is_inner(nodes: &[Node], number: usize) -> bool
     ensures { result ≡ is_interior (slice_get nodes.now number) }
 {
     matches!(nodes.get(number), Some(Node::Inner(_, _, _)))
 }
 
-/// How many of the two nodes below a part are interior ones.
+/// Returns the number of interior nodes among the two nodes below a part.
 fn inner_below(nodes: &[Node], part: &Part) -> usize
     ensures { result ≡ interior_below nodes.now part.now }
 {
@@ -100,8 +101,9 @@ fn inner_below(nodes: &[Node], part: &Part) -> usize
     is_inner(nodes, *left) as usize + is_inner(nodes, *right) as usize
 }
 
-/// How many of the nodes below parts are interior ones. It reads one after another and nothing between, so that memory
-/// answers for many of them at once; what then opens the parts finds them near.
+/// Returns the number of interior nodes among the nodes below parts.
+///
+/// It reads them one after another, and nothing else in between.
 fn all_inner_below(nodes: &[Node], growing: &VecDeque<Growing>) -> usize
     ensures { result ≡ min (all_interior_below nodes.now growing.now.items) (2 ^ 64 - 1) }
 {
@@ -112,7 +114,7 @@ fn all_inner_below(nodes: &[Node], growing: &VecDeque<Growing>) -> usize
     count
 }
 
-/// The parts of a level, opened for their changes, and those that are left to grow at the next one.
+/// Opens the parts of a level for their changes, and returns those that are left to grow at the next level.
 fn divide_all<'a>(
     alloc: Global,
     nodes: &[Node],
@@ -123,7 +125,8 @@ fn divide_all<'a>(
     requires table { IsTable nodes.now records.now }
     requires growing { AllOpen (length nodes.now) level growing.items }
     ensures below { IfOk result (λ both. AllOpen (length nodes.now) (level + 1) both.1.items) }
-    ensures divide { IfOk result (λ both. (of : List ℕ → List ℕ) (nonce : List ℕ) → AllDivide of nonce nodes.now records.now growing.entry.items both.0.items both.1.items) }
+    ensures divide { IfOk result (λ both. (digest_of : List ℕ → List ℕ) (nonce : List ℕ)
+        → AllDivide digest_of nonce nodes.now records.now growing.entry.items both.0.items both.1.items) }
 {
     let _ = level;
     let mut opened = VecDeque::with_capacity(alloc, growing.len())?;
@@ -145,7 +148,7 @@ fn divide_all<'a>(
     Ok((opened, next))
 }
 
-/// A side that is done, and else the first of the parts from below.
+/// Returns a side that is done, and else the first of the parts from below.
 fn side_or_first(side: Option<Part>, below: &mut VecDeque<Part>) -> Part
     ensures part { result ≡ side_from side below.old.items }
     ensures below { below.new.items ≡ left_by side below.old.items }
@@ -156,7 +159,7 @@ fn side_or_first(side: Option<Part>, below: &mut VecDeque<Part>) -> Part
     }
 }
 
-/// The opened parts with all their sides.
+/// Returns the opened parts with all their sides.
 fn fill(
     alloc: Global,
     mut opened: VecDeque<Opened>,
@@ -182,7 +185,8 @@ fn fill(
     Ok(pairs)
 }
 
-/// The parts of a level, overwritten by their changes: opened, grown at the next level, and joined, by fours.
+/// Returns the parts of a level, overwritten by their changes: opened, grown at the next level, and joined four at a
+/// time.
 fn grow_level<H: Hash32>(
     alloc: Global,
     nodes: &[Node],
@@ -205,8 +209,9 @@ fn grow_level<H: Hash32>(
     Ok(join_all(alloc, nodes, h, nonce, pairs)?)
 }
 
-/// The part overwritten by changes, for which it has to be opened, level by level. It is kept out of its caller's frame,
-/// which a recursion has once for each level.
+/// Returns the part overwritten by changes, for which it has to be opened, level by level.
+///
+/// It is not part of its caller's stack frame, which a recursion has once for each level.
 #[inline(never)]
 pub(crate) fn grow_by_levels<H: Hash32>(
     alloc: Global,

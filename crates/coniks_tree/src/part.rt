@@ -1,4 +1,4 @@
-//! Parts: what is to stand under one prefix.
+//! Parts: the new contents of one prefix.
 
 ghost use Rattle.std.specs.Prelude.{◌≡◌, ◌<◌, ◌≤◌, ◌+◌, ◌-◌, ◌^◌, List, ℕ, length, Bool, IfOk, false, true, min};
 ghost use Rattle.coniks_proof.specs.Bits.{child};
@@ -6,13 +6,13 @@ ghost use Rattle.coniks_proof.specs.Entries.{half};
 ghost use Rattle.coniks_proof.specs.Tree.{node};
 ghost use Rattle.coniks_tree.specs.Table.{Numbered};
 ghost use Rattle.coniks_tree.specs.Counts.{joined_count};
-ghost use Rattle.coniks_tree.specs.Parts.{Stands, Fits, KeepsNone, Placed, IsSubtree, entries_of, node_count, weight_of};
+ghost use Rattle.coniks_tree.specs.Parts.{Stands, Fits, KeepsNone, Placed, IsSubtree, entries_in, node_count, weight_of};
 
 use crate::table::{Node, Record, RecordNo, Root, node_of};
 use coniks_proof::{Digest, Hash32, Index, Nonce, Prefix, bit, empty_hash, inner_hash, leaf_hash};
 use std::alloc::{AllocError, Global};
 
-/// A commitment that is to stand at an index, and the number of the record behind it.
+/// A commitment to be stored at an index, and the number of its record.
 #[derive(Clone, Copy, Debug)]
 pub struct Change {
     pub index: Index,
@@ -20,11 +20,11 @@ pub struct Change {
     pub place: RecordNo,
 }
 
-/// How many changes go left at a level.
+/// Returns the number of changes that go left at a level.
 pub fn lefts(changes: &[Change], level: usize) -> usize
     requires { level < 256 }
     ensures within { result ≤ length changes.now }
-    ensures count { result ≡ length (half false level (entries_of changes.now)) }
+    ensures count { result ≡ length (half false level (entries_in changes.now)) }
 {
     let mut count = 0;
     for change in changes {
@@ -35,7 +35,7 @@ pub fn lefts(changes: &[Change], level: usize) -> usize
     count
 }
 
-/// What is to stand under one prefix, in a tree that has it only once it is attached.
+/// The new contents of one prefix, which the tree has only after `attach`.
 #[derive(Drop)]
 #[cycle(part)]
 pub enum Part {
@@ -43,9 +43,9 @@ pub enum Part {
     Nothing,
     /// One entry: a leaf.
     Entry(Change),
-    /// What a node of the tree shows: two entries or more below the root, whatever it shows at the root.
+    /// The entries that a node of the tree shows: two or more below the root, and any number at the root.
     Kept(Root),
-    /// Two entries or more under nodes that are new.
+    /// Two or more entries under new nodes.
     Made(Box<Subtree>),
 }
 
@@ -56,13 +56,13 @@ pub struct Subtree {
     pub hash: Digest,
     pub left_hash: Digest,
     pub right_hash: Digest,
-    /// How many nodes it takes to attach it, `usize::MAX` where that is more.
+    /// The number of nodes that an attach adds, or `usize::MAX` if there are more.
     pub count: usize,
     pub left: Part,
     pub right: Part,
 }
 
-/// The hash of a part of this prefix.
+/// Returns the hash of a part of this prefix.
 pub(crate) fn hash_at<H: Hash32>(
     nodes: &[Node],
     h: &H,
@@ -71,7 +71,8 @@ pub(crate) fn hash_at<H: Hash32>(
     part: &Part,
 ) -> Digest
     requires { Fits (length nodes.now) (length prefix.now) part.now }
-    ensures { (records : List Record) (entries : List Numbered) → Stands (H.digest_of h.now) nonce.now.0 nodes.now records part.now prefix.now entries → result.0 ≡ node (H.digest_of h.now) nonce.now.0 prefix.now entries }
+    ensures { (records : List Record) (entries : List Numbered) → Stands (H.digest_of h.now) nonce.now.0 nodes.now records part.now prefix.now entries
+        → result.0 ≡ node (H.digest_of h.now) nonce.now.0 prefix.now entries }
 {
     match part {
         Part::Nothing => empty_hash(h, nonce, prefix),
@@ -81,7 +82,7 @@ pub(crate) fn hash_at<H: Hash32>(
     }
 }
 
-/// How many nodes it takes to attach a part.
+/// Returns the number of nodes that an attach of a part adds.
 pub(crate) fn new_nodes(part: &Part) -> usize
     ensures { (n level : ℕ) → Fits n level part.now → result ≡ min (node_count part.now) (2 ^ 64 - 1) }
 {
@@ -93,7 +94,7 @@ pub(crate) fn new_nodes(part: &Part) -> usize
     }
 }
 
-/// At least how many entries a part below the root has, counted up to two.
+/// Returns a lower bound of the number of entries of a part below the root, counted up to two.
 pub(crate) fn weight(part: &Part) -> usize
     ensures { result ≡ weight_of part.now }
 {
@@ -105,7 +106,7 @@ pub(crate) fn weight(part: &Part) -> usize
     }
 }
 
-/// A new subtree over two parts, whose hashes and whose node's hash are given.
+/// Returns a new subtree over two parts. The parts' hashes and its node's hash are arguments.
 #[inline(always)]
 pub(crate) fn made(
     alloc: Global,
@@ -119,9 +120,11 @@ pub(crate) fn made(
     ensures count { IfOk result (λ part. node_count part ≡ node_count left + node_count right + 1) }
     ensures keeps { IfOk result (λ part. KeepsNone left → KeepsNone right → KeepsNone part) }
     ensures placed { IfOk result (λ part. (all : List Record) → Placed all left → Placed all right → Placed all part) }
-    ensures stands { IfOk result (λ part. (of : List ℕ → List ℕ) (nonce : List ℕ) (nodes : List Node) (records : List Record) (prefix : List Bool) (entries : List Numbered)
-        → IsSubtree of nonce prefix entries hash left_hash right_hash (Stands of nonce nodes records left) (Stands of nonce nodes records right)
-        → Stands of nonce nodes records part prefix entries) }
+    ensures stands { IfOk result (λ part. (digest_of : List ℕ → List ℕ) (nonce : List ℕ)
+        (nodes : List Node) (records : List Record) (prefix : List Bool) (entries : List Numbered)
+        → IsSubtree digest_of nonce prefix entries hash left_hash right_hash
+        (Stands digest_of nonce nodes records left) (Stands digest_of nonce nodes records right)
+        → Stands digest_of nonce nodes records part prefix entries) }
 {
     let count = new_nodes(&left)
         .saturating_add(new_nodes(&right))
@@ -139,7 +142,7 @@ pub(crate) fn made(
     )?))
 }
 
-/// Two parts of neighbouring prefixes as the part of the prefix above.
+/// Joins two parts of neighbouring prefixes to the part of the prefix above.
 pub(crate) fn join_parts<H: Hash32>(
     alloc: Global,
     nodes: &[Node],

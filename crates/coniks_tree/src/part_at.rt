@@ -1,4 +1,4 @@
-//! What stands under a prefix.
+//! The part under a prefix.
 
 ghost use Rattle.std.specs.Prelude.{◌≡◌, ◌<◌, ◌≤◌, ◌+◌, List, ℕ, length, Bool, false, []};
 ghost use Rattle.coniks_proof.specs.Entries.{half, under};
@@ -11,7 +11,7 @@ use crate::part::Part;
 use crate::table::{Node, Record, Root};
 use coniks_proof::Prefix;
 
-/// The part of one of the two prefixes below.
+/// Returns the part of one of the two prefixes below.
 pub(crate) fn side(
     nodes: &[Node],
     records: &[Record],
@@ -26,13 +26,14 @@ pub(crate) fn side(
     ensures unmade { is_made part ≡ false → is_made result ≡ false }
     ensures placed { (all : List Record) → Extends records.now all → Placed all part → Placed all result }
     ensures stands { (hash : List ℕ → List ℕ) (nonce : List ℕ) (prefix : List Bool) (entries : List Numbered) → length prefix ≡ level
-        → Stands hash nonce nodes.now records.now part prefix entries → Stands hash nonce nodes.now records.now result (child prefix right) (half right level entries) }
+        → Stands hash nonce nodes.now records.now part prefix entries
+        → Stands hash nonce nodes.now records.now result (child prefix right) (half right level entries) }
 {
     let (below_left, below_right) = opened(nodes, records, level, part);
     if right { below_right } else { below_left }
 }
 
-/// The part of the entries under a prefix. It copies no subtree.
+/// Returns the part of the entries under a prefix. It copies no subtree.
 pub(crate) fn part_under(nodes: &[Node], records: &[Record], root: usize, prefix: &Prefix) -> Part
     requires table { IsTable nodes.now records.now }
     requires known { root < length nodes.now }

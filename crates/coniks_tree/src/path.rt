@@ -1,17 +1,17 @@
-//! The way to an index: what stands at its end, and the path.
+//! The way to an index: its end, and the authentication path.
 
 ghost use Rattle.std.specs.Prelude.{◌≡◌, ◌++◌, ◌∷◌, [], ◌<◌, ◌≤◌, ◌+◌, List, ℕ, length, slice_get, IfOk, IfSome, None, Bool, not, map};
 ghost use Rattle.coniks_proof.specs.Bits.{bit_at};
 ghost use Rattle.coniks_proof.specs.Entries.{backed_by};
 ghost use Rattle.coniks_proof.specs.Paths.{EndIs, IsPath, end_of};
 ghost use Rattle.coniks_tree.specs.Table.{IsTable, Numbered, Shows, registered_at};
-ghost use Rattle.coniks_tree.specs.Paths.{Finds, IsKnown, IsStep, StopsAt};
+ghost use Rattle.coniks_tree.specs.Paths.{Finds, IsKnown, IsStep, PathStopsAt};
 
 use crate::table::{Node, Record, RecordNo, node_of, record_of};
 use coniks_proof::{Bytes, Digest, Digests, End, Index, MAX_LEVEL, Proof, bit};
 use std::alloc::{AllocError, Global};
 
-/// What the way to an index ends with: nothing, a leaf of another index, or the leaf of the index.
+/// The end of the way to an index: nothing, a leaf of another index, or the leaf of the index.
 #[derive(Clone, Copy, Debug)]
 pub(crate) enum Stop {
     Empty,
@@ -19,7 +19,7 @@ pub(crate) enum Stop {
     Here(RecordNo),
 }
 
-/// The node below on the way to an index, and the hash beside it.
+/// Returns the node below on the way to an index, and the hash beside it.
 pub(crate) fn step(
     nodes: &[Node],
     records: &[Record],
@@ -32,7 +32,8 @@ pub(crate) fn step(
     ensures known { IfSome result (λ s. s.0 < length nodes.now) }
     ensures short { IfSome result (λ _. level < 256) }
     ensures down { IfSome result (λ s. (hash : List ℕ → List ℕ) (nonce : List ℕ) (prefix : List Bool) (entries : List Numbered) → length prefix ≡ level
-        → Shows hash nonce nodes.now records.now number prefix entries → IsStep hash nonce nodes.now records.now (bit_at index.now.0 level) prefix entries s.0 s.1) }
+        → Shows hash nonce nodes.now records.now number prefix entries
+        → IsStep hash nonce nodes.now records.now (bit_at index.now.0 level) prefix entries s.0 s.1) }
     ensures last { result ≡ None → (hash : List ℕ → List ℕ) (nonce : List ℕ) (prefix : List Bool) (entries : List Numbered) → length prefix ≡ level
         → Shows hash nonce nodes.now records.now number prefix entries → length entries ≤ 1 }
 {
@@ -52,13 +53,13 @@ pub(crate) fn step(
     }
 }
 
-/// What stands at a node that is no interior node.
+/// Returns the end at a node that is not an interior node.
 pub(crate) fn stop_at(nodes: &[Node], records: &[Record], number: usize, index: &Index) -> Stop
     requires table { IsTable nodes.now records.now }
     requires known { number < length nodes.now }
     ensures known { IsKnown (length records.now) result }
     ensures stops { (hash : List ℕ → List ℕ) (nonce : List ℕ) (prefix : List Bool) (entries : List Numbered)
-        → length entries ≤ 1 → Shows hash nonce nodes.now records.now number prefix entries → StopsAt records.now index.now.0 result entries }
+        → length entries ≤ 1 → Shows hash nonce nodes.now records.now number prefix entries → PathStopsAt records.now index.now.0 result entries }
 {
     match node_of(nodes, number) {
         Node::Empty(_) => Stop::Empty,
@@ -74,11 +75,11 @@ pub(crate) fn stop_at(nodes: &[Node], records: &[Record], number: usize, index: 
     }
 }
 
-/// The end of a path, with a copy of the binding that it shows.
+/// Returns the end of a path, with a copy of the binding that it shows.
 pub(crate) fn end_of_path(alloc: Global, records: &[Record], stop: Stop) -> Result<End, AllocError>
     requires { IsKnown (length records.now) stop }
     ensures { IfOk result (λ end. (index : List ℕ) (entries : List Numbered)
-        → StopsAt records.now index stop entries → EndIs index (map (backed_by (registered_at records.now)) entries) end) }
+        → PathStopsAt records.now index stop entries → EndIs index (map (backed_by (registered_at records.now)) entries) end) }
 {
     match stop {
         Stop::Empty => Ok(End::Empty),
@@ -96,7 +97,7 @@ pub(crate) fn end_of_path(alloc: Global, records: &[Record], stop: Stop) -> Resu
     }
 }
 
-/// The path to an index.
+/// Returns the authentication path to an index.
 pub(crate) fn path_from(
     alloc: Global,
     nodes: &[Node],
@@ -125,13 +126,14 @@ pub(crate) fn path_from(
     })
 }
 
-/// The number of the node at which the way to an index ends.
+/// Returns the number of the node at which the way to an index ends.
 pub(crate) fn last_number(nodes: &[Node], records: &[Record], root: usize, index: &Index) -> usize
     requires table { IsTable nodes.now records.now }
     requires known { root < length nodes.now }
     ensures known { result < length nodes.now }
     ensures ends { (hash : List ℕ → List ℕ) (nonce : List ℕ) (entries : List Numbered) → Shows hash nonce nodes.now records.now root [] entries
-        → (prefix : List Bool) × Shows hash nonce nodes.now records.now result prefix (end_of [] index.now.0 entries) × (length (end_of [] index.now.0 entries) ≤ 1) }
+        → (prefix : List Bool) × Shows hash nonce nodes.now records.now result prefix (end_of [] index.now.0 entries)
+        × (length (end_of [] index.now.0 entries) ≤ 1) }
 {
     let mut number = root;
     let mut level = 0;
@@ -143,7 +145,7 @@ pub(crate) fn last_number(nodes: &[Node], records: &[Record], root: usize, index
     number
 }
 
-/// The record at an index.
+/// Returns the record at an index.
 pub(crate) fn find_from(
     nodes: &[Node],
     records: &[Record],

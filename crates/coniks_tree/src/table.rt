@@ -5,27 +5,30 @@ ghost use Rattle.coniks_tree.specs.Table.{hash_of_node};
 
 use coniks_proof::{Binding, Digest, Index, Opening};
 
-/// A record's number: its place in the list of a tree's records, from 0.
+/// The number of a record: its position in the list of a tree's records, from 0.
 #[derive(Clone, Copy, Debug, PartialEq, Eq)]
 pub struct RecordNo(pub usize);
 
-/// A node's number: its place in the list of a tree's nodes, from 0. An epoch's root is the number of the node that stands
-/// at the empty prefix.
+/// The number of a node: its position in the list of a tree's nodes, from 0.
+///
+/// An epoch's root is the number of the node at the empty prefix.
 #[derive(Clone, Copy, Debug, PartialEq, Eq)]
 pub struct Root(pub usize);
 
-/// What stands behind a leaf: the binding at an index, and what opens its commitment.
+/// The record of a leaf: the binding at an index, with its commitment and the opening of the commitment.
 #[derive(Drop)]
 pub struct Record {
     pub index: Index,
-    /// What the leaf holds in the binding's place.
+    /// The commitment to the binding, which the leaf contains.
     pub commitment: Digest,
     pub opening: Opening,
     pub binding: Binding,
 }
 
-/// A node with its hash (CONIKS, section 3.1), in at most 56 bytes. A leaf has its record's number; an interior node has its
-/// children's numbers, the left one first, which are smaller than its own.
+/// A node with its hash (CONIKS, section 3.1), in at most 56 bytes.
+///
+/// A leaf has its record's number. An interior node has its children's numbers, the left one first, which are smaller
+/// than its own.
 #[derive(Clone, Copy, Debug)]
 pub enum Node {
     Empty(Digest),
@@ -33,7 +36,7 @@ pub enum Node {
     Inner(usize, usize, Digest),
 }
 
-/// The node of this number.
+/// Returns the node of this number.
 pub(crate) fn node_of(nodes: &[Node], number: usize) -> Node
     requires { number < length nodes.now }
     ensures { slice_get nodes.now number ≡ Some result }
@@ -41,7 +44,7 @@ pub(crate) fn node_of(nodes: &[Node], number: usize) -> Node
     nodes[number]
 }
 
-/// The record of this number.
+/// Returns the record of this number.
 pub(crate) fn record_of(records: &[Record], place: RecordNo) -> &Record
     requires { place.0 < length records.now }
     ensures { slice_get records.now place.0 ≡ Some result.now }
@@ -50,7 +53,7 @@ pub(crate) fn record_of(records: &[Record], place: RecordNo) -> &Record
 }
 
 impl Node {
-    /// Its hash.
+    /// Returns the node's hash.
     pub(crate) fn hash(&self) -> Digest
         ensures { result ≡ hash_of_node self.now }
     {

@@ -1,4 +1,4 @@
-//! The tree: a table of nodes, and records.
+//! The tree: a table of nodes, and a list of records.
 
 ghost use Rattle.std.specs.Prelude.{◌≡◌, ◌++◌, ◌∷◌, [], ◌<◌, ◌≤◌, ◌+◌, ◌*◌, ◌-◌, ◌^◌, List, ℕ, length, slice_get, IfOk, IfSome, Some, OnOk, OnErr, vec_capacity, Bool, false, true, map, min};
 ghost use Rattle.coniks_proof.specs.Bits.{child};
@@ -9,25 +9,24 @@ ghost use Rattle.coniks_proof.specs.Tree.{node};
 ghost use Rattle.coniks_tree.specs.Entries.{Lists};
 ghost use Rattle.coniks_tree.specs.Table.{Extends, IsTable, Numbered, Shows, registered_at};
 ghost use Rattle.coniks_tree.specs.Counts.{joined_count, new_nodes};
-ghost use Rattle.coniks_tree.specs.Parts.{Stands, Fits, KeepsNone, Placed, AllPlaced, node_count, is_made, entries_of};
+ghost use Rattle.coniks_tree.specs.Parts.{Stands, Fits, KeepsNone, Placed, AllPlaced, node_count, is_made, entries_in};
 ghost use Rattle.coniks_tree.specs.Paths.{Finds};
 
 use crate::attach::append;
 use crate::entries::entries_from;
 use crate::growth::grow_part;
-use crate::memory::OutOfMemory;
 use crate::part::{Change, Part, hash_at, join_parts, new_nodes};
 use crate::part_at::part_under;
 use crate::path::{find_from, path_from};
 use crate::table::{Node, Record, RecordNo, Root, node_of, record_of};
-use coniks_proof::{Digest, Hash32, Index, Nonce, Prefix, Proof};
+use coniks_proof::{Digest, Hash32, Index, Nonce, OutOfMemory, Prefix, Proof};
 use std::alloc::Global;
 
-/// Nodes that epochs share, and the records behind their leaves. Both lists only grow, and at their ends.
+/// The nodes that epochs share, and the records of their leaves. Both lists only grow, at their ends.
 ///
-/// A part or a root is meant for the tree that gave it, and with the hash and the nonce that it was made with: what a
-/// call then answers is said for a part that stands for a map, or a root that shows one. With another tree, hash or nonce a
-/// call is safe and answers something else.
+/// A part or a root belongs to the tree that returned it, and to the hash and the nonce that it was made with. The
+/// postconditions are for a part that stands for a map, or a root that shows one. With another tree, hash or nonce a call
+/// is memory-safe and terminates, but returns something else.
 #[derive(Drop)]
 pub struct Tree {
     nodes: Vec<Node>,
@@ -37,7 +36,7 @@ pub struct Tree {
 }
 
 impl Tree {
-    /// A tree with no nodes and no records.
+    /// Returns a tree without nodes and records.
     pub fn new(alloc: Global) -> Tree
         ensures nodes { result.nodes.items ≡ [] }
         ensures records { result.records.items ≡ [] }
@@ -49,21 +48,21 @@ impl Tree {
         }
     }
 
-    /// How many nodes it holds.
+    /// Returns the number of nodes that the tree holds.
     pub fn nodes(&self) -> usize
         ensures { result ≡ length self.now.nodes.items }
     {
         self.nodes.len()
     }
 
-    /// How many records it holds.
+    /// Returns the number of records that the tree holds.
     pub fn records(&self) -> usize
         ensures { result ≡ length self.now.records.items }
     {
         self.records.len()
     }
 
-    /// The record of this number.
+    /// Returns the record of this number.
     pub fn record(&self, place: RecordNo) -> &Record
         requires { place.0 < length self.now.records.items }
         ensures { slice_get self.now.records.items place.0 ≡ Some result.now }
@@ -71,7 +70,7 @@ impl Tree {
         record_of(&self.records, place)
     }
 
-    /// The hash of a node, which was made when the node was. Nothing is hashed.
+    /// Returns the hash of a node, which is stored in the node. Computes no hash.
     pub fn node_hash(&self, root: Root) -> Digest
         requires { root.0 < length self.now.nodes.items }
         ensures { (hash : List ℕ → List ℕ) (nonce : List ℕ) (prefix : List Bool) (entries : List Numbered)
@@ -80,8 +79,9 @@ impl Tree {
         node_of(&self.nodes, root.0).hash()
     }
 
-    /// The number of the record at an index, or none where the root shows no entry there. It takes no memory and hashes
-    /// nothing.
+    /// Returns the number of the record at an index, or `None` if the root shows no entry there.
+    ///
+    /// Allocates nothing and computes no hash.
     pub fn find(&self, root: Root, index: &Index) -> Option<RecordNo>
         requires { root.0 < length self.now.nodes.items }
         ensures known { IfSome result (λ place. place.0 < length self.now.records.items) }
@@ -91,9 +91,14 @@ impl Tree {
         find_from(&self.nodes, &self.records, root.0, index)
     }
 
-    /// The authentication path to an index, present or not (CONIKS, section 3.1): 0 to 256 siblings, and the end. It
-    /// copies the name and the key of its end and no other, and hashes nothing. The tree is only read, also where memory is
-    /// refused.
+    /// Returns the authentication path to an index, present or not (CONIKS, section 3.1).
+    ///
+    /// The path has 0 to 256 siblings and an end. The call copies the name and the key of that end only, and computes no
+    /// hash.
+    ///
+    /// # Errors
+    ///
+    /// `OutOfMemory` if an allocation fails.
     pub fn path(&self, root: Root, index: &Index) -> Result<Proof, OutOfMemory>
         requires { root.0 < length self.now.nodes.items }
         ensures { IfOk result (λ path. (hash : List ℕ → List ℕ) (nonce : List ℕ) (entries : List Numbered)
@@ -103,8 +108,13 @@ impl Tree {
         Ok(path_from(self.alloc, &self.nodes, &self.records, root.0, index)?)
     }
 
-    /// The map that a root shows, as the changes that build it from nothing: in increasing order of index, each with the
-    /// number of its record. It hashes nothing. The tree is only read, also where memory is refused.
+    /// Returns the map that a root shows, as the changes that build it from the empty map.
+    ///
+    /// They are in increasing order of index, each with the number of its record. The call computes no hash.
+    ///
+    /// # Errors
+    ///
+    /// `OutOfMemory` if an allocation fails.
     pub fn entries(&self, root: Root) -> Result<Vec<Change>, OutOfMemory>
         requires { root.0 < length self.now.nodes.items }
         ensures placed { IfOk result (λ changes. (all : List Record) → Extends self.now.records.items all → AllPlaced all changes.items) }
@@ -114,8 +124,9 @@ impl Tree {
         Ok(entries_from(self.alloc, &self.nodes, &self.records, root.0)?)
     }
 
-    /// The part of the entries that a root shows under a prefix; at the empty prefix it is the root itself, kept. It takes
-    /// no memory and hashes nothing.
+    /// Returns the part of the entries that a root shows under a prefix. At the empty prefix it is the root itself, kept.
+    ///
+    /// Allocates nothing and computes no hash.
     pub fn part_at(&self, root: Root, prefix: &Prefix) -> Part
         requires { root.0 < length self.now.nodes.items }
         ensures fits { Fits (length self.now.nodes.items) (length prefix.now) result }
@@ -130,7 +141,9 @@ impl Tree {
         part_under(&self.nodes, &self.records, root.0, prefix)
     }
 
-    /// The hash of the root that a part of the empty prefix becomes. Only a lone entry or an empty part is hashed, once.
+    /// Returns the hash of the root that a part of the empty prefix becomes.
+    ///
+    /// Computes a hash only for a single entry or an empty part, and only one.
     pub fn part_hash<H: Hash32>(&self, h: &H, nonce: &Nonce, part: &Part) -> Digest
         requires { Fits (length self.now.nodes.items) 0 part.now }
         ensures { (entries : List Numbered) → Stands (H.digest_of h.now) nonce.now.0 self.now.nodes.items self.now.records.items part.now [] entries
@@ -139,9 +152,14 @@ impl Tree {
         hash_at(&self.nodes, h, nonce, &Prefix::root(), part)
     }
 
-    /// Two parts of neighbouring prefixes, the left one first, as the part of the prefix above, which is given. One entry
-    /// and nothing are that entry; two or more entries are a new subtree, whose node is hashed here, once. After a refusal
-    /// the tree is as it was, and both parts are gone.
+    /// Joins two parts of neighbouring prefixes, the left one first, to the part of the prefix above, which is an
+    /// argument.
+    ///
+    /// One entry and nothing are that entry. Two or more entries are a new subtree, whose node is hashed here, once.
+    ///
+    /// # Errors
+    ///
+    /// `OutOfMemory` if an allocation fails. The tree is then unchanged, and both parts are dropped.
     pub fn join<H: Hash32>(
         &self,
         h: &H,
@@ -159,16 +177,23 @@ impl Tree {
         ensures keeps { IfOk result (λ part. KeepsNone left → KeepsNone right → KeepsNone part) }
         ensures placed { IfOk result (λ part. (all : List Record) → Placed all left → Placed all right → Placed all part) }
         ensures stands { IfOk result (λ part. (entries : List Numbered)
-            → Stands (H.digest_of h.now) nonce.now.0 self.now.nodes.items self.now.records.items left (child prefix.now false) (half false (length prefix.now) entries)
-            → Stands (H.digest_of h.now) nonce.now.0 self.now.nodes.items self.now.records.items right (child prefix.now true) (half true (length prefix.now) entries)
+            → Stands (H.digest_of h.now) nonce.now.0 self.now.nodes.items self.now.records.items
+            left (child prefix.now false) (half false (length prefix.now) entries)
+            → Stands (H.digest_of h.now) nonce.now.0 self.now.nodes.items self.now.records.items
+            right (child prefix.now true) (half true (length prefix.now) entries)
             → Stands (H.digest_of h.now) nonce.now.0 self.now.nodes.items self.now.records.items part prefix.now entries) }
     {
         Ok(join_parts(self.alloc, &self.nodes, h, nonce, prefix, left, right)?)
     }
 
-    /// The part of a prefix, which is given, overwritten by changes of indices under it, in increasing order and each index
-    /// once. No changes give the part itself. Each interior node that it makes is hashed here, once, with the leaves and
-    /// empty nodes below it. After a refusal the tree is as it was, and the part is gone.
+    /// Overwrites the part of a prefix, which is an argument, with changes, and returns the new part.
+    ///
+    /// The changes are of indices under the prefix, in increasing order and each index once. Without changes it returns
+    /// the part itself. Each interior node that it makes is hashed here, once, with the leaves and empty nodes below it.
+    ///
+    /// # Errors
+    ///
+    /// `OutOfMemory` if an allocation fails. The tree is then unchanged, and the part is dropped.
     pub fn grow<H: Hash32>(
         &self,
         h: &H,
@@ -180,19 +205,22 @@ impl Tree {
         requires { Fits (length self.now.nodes.items) (length prefix.now) part }
         ensures fits { IfOk result (λ grown. Fits (length self.now.nodes.items) (length prefix.now) grown) }
         ensures same { IfOk result (λ grown. length changes.now ≡ 0 → grown ≡ part) }
-        ensures placed { IfOk result (λ grown. (all : List Record) → Extends self.now.records.items all → Placed all part → AllPlaced all changes.now → Placed all grown) }
-        ensures count { IfOk result (λ grown. is_made part ≡ false → 0 < length changes.now → node_count grown ≤ 1 + 2 * ((256 - length prefix.now) * length changes.now)) }
+        ensures placed { IfOk result (λ grown. (all : List Record) → Extends self.now.records.items all
+            → Placed all part → AllPlaced all changes.now → Placed all grown) }
+        ensures count { IfOk result (λ grown. is_made part ≡ false → 0 < length changes.now
+            → node_count grown ≤ 1 + 2 * ((256 - length prefix.now) * length changes.now)) }
         ensures new { IfOk result (λ grown. is_made part ≡ false → 0 < length prefix.now + length changes.now → (entries : List Numbered)
-            → AreInOrder (length prefix.now) (entries_of changes.now)
-            → AreApart (length prefix.now) (overwritten entries (entries_of changes.now))
+            → AreInOrder (length prefix.now) (entries_in changes.now)
+            → AreApart (length prefix.now) (overwritten entries (entries_in changes.now))
             → Stands (H.digest_of h.now) nonce.now.0 self.now.nodes.items self.now.records.items part prefix.now entries
-            → node_count grown ≡ new_nodes (length prefix.now) entries (entries_of changes.now)) }
+            → node_count grown ≡ new_nodes (length prefix.now) entries (entries_in changes.now)) }
         ensures keeps { IfOk result (λ grown. KeepsNone part → KeepsNone grown) }
         ensures stands { IfOk result (λ grown. (entries : List Numbered)
-            → AreInOrder (length prefix.now) (entries_of changes.now)
-            → AreApart (length prefix.now) (overwritten entries (entries_of changes.now))
+            → AreInOrder (length prefix.now) (entries_in changes.now)
+            → AreApart (length prefix.now) (overwritten entries (entries_in changes.now))
             → Stands (H.digest_of h.now) nonce.now.0 self.now.nodes.items self.now.records.items part prefix.now entries
-            → Stands (H.digest_of h.now) nonce.now.0 self.now.nodes.items self.now.records.items grown prefix.now (overwritten entries (entries_of changes.now))) }
+            → Stands (H.digest_of h.now) nonce.now.0 self.now.nodes.items self.now.records.items
+            grown prefix.now (overwritten entries (entries_in changes.now))) }
     {
         Ok(grow_part(
             self.alloc,
@@ -206,16 +234,22 @@ impl Tree {
         )?)
     }
 
-    /// How many nodes it takes to attach a part, its empty nodes and its topmost one included; `usize::MAX` where that
-    /// is more.
+    /// Returns the number of nodes that an attach of a part adds, its empty nodes and its topmost one included.
+    ///
+    /// Returns `usize::MAX` if there are more.
     pub fn new_nodes(&self, part: &Part) -> usize
         ensures { (level : ℕ) → Fits (length self.now.nodes.items) level part.now → result ≡ min (node_count part.now) (2 ^ 64 - 1) }
     {
         new_nodes(part)
     }
 
-    /// Makes room for the nodes of a part and for so many records, so that `attach` asks for no memory. Nodes and records
-    /// stay as they were, also where memory is refused.
+    /// Reserves room for the nodes of a part and for this number of records, so that `attach` allocates nothing.
+    ///
+    /// The nodes and records are unchanged, also after an error.
+    ///
+    /// # Errors
+    ///
+    /// `OutOfMemory` if an allocation fails.
     pub fn reserve(&mut self, part: &Part, records: usize) -> Result<(), OutOfMemory>
         requires { Fits (length self.old.nodes.items) 0 part.now }
         ensures nodes { self.new.nodes.items ≡ self.old.nodes.items }
@@ -232,9 +266,11 @@ impl Tree {
         Ok(())
     }
 
-    /// Adds records and a part of the empty prefix, for which `reserve` made room, and answers the root that shows the
-    /// part's entries. A kept root is answered as it is. Each older root shows what it showed. No node below the root is
-    /// hashed again.
+    /// Adds records and a part of the empty prefix, for which `reserve` made room, and returns the root that shows its
+    /// entries.
+    ///
+    /// Returns a kept root as it is. Each older root shows the same entries as before. No node below the root is hashed
+    /// again.
     pub fn attach<H: Hash32>(
         &mut self,
         h: &H,

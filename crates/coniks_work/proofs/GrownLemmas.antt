@@ -9,7 +9,7 @@ use Rattle.coniks_proof.proofs.Lemmas.{apart-halves, half-overwritten, length-ch
 use Rattle.coniks_tree.specs.Table.{Numbered, Extends}
 use Rattle.coniks_tree.specs.Counts.{joined_count, new_nodes}
 use Rattle.coniks_tree.proofs.Lemmas.{new-unchanged, new_joined}
-use Rattle.coniks_tree.specs.Parts.{Stands, Fits, KeepsNone, Placed, AllPlaced, node_count, is_made, entries_of, entry_of_change}
+use Rattle.coniks_tree.specs.Parts.{Stands, Fits, KeepsNone, Placed, AllPlaced, node_count, is_made, entries_in, entry_of_change}
 use Rattle.coniks_tree.specs.declared.table.Node.{Node}
 use Rattle.coniks_tree.specs.declared.table.Record.{Record}
 use Rattle.coniks_tree.specs.declared.table.Root.{Root}
@@ -23,11 +23,11 @@ use Rattle.coniks_work.specs.Places.{AllFrom}
 use Rattle.coniks_work.proofs.SideLemmas.{lefts_few, length-left, length-right, side_is_half, side_in_order}
 use Rattle.coniks_work.proofs.JobLemmas.{IsAt, at_start, at_left, at_right, in_range-at}
 
-pub stored : (all : List Record) (cs : List Change) → AllPlaced all cs → AllStored all (entries_of cs)
+pub stored : (all : List Record) (cs : List Change) → AllPlaced all cs → AllStored all (entries_in cs)
 stored all [] h = tt
 stored all (c ∷ cs) h = (h.0, stored all cs h.1)
 
-pub stored_back : (all : List Record) (cs : List Change) → AllStored all (entries_of cs) → AllPlaced all cs
+pub stored_back : (all : List Record) (cs : List Change) → AllStored all (entries_in cs) → AllPlaced all cs
 stored_back all [] h = tt
 stored_back all (c ∷ cs) h = (h.0, stored_back all cs h.1)
 
@@ -47,7 +47,7 @@ under_none p = go 0 p
 some_same : {x y : Job} → Some x ≡ Some y → x ≡ y
 some_same e = cc
 
-pub range_of_entries : (j : Job) (cs : List Change) → entries_of (in_range j cs) ≡ in_range j (entries_of cs)
+pub range_of_entries : (j : Job) (cs : List Change) → entries_in (in_range j cs) ≡ in_range j (entries_in cs)
 range_of_entries j cs = sym (take-map entry_of_change (j.to - j.from) (drop j.from cs)) ∙ ap (take (j.to - j.from)) (sym (drop-map entry_of_change j.from cs))
 
 count_sum : (h l r a b joined : ℕ) → a ≤ 1 + 2 * (h * l) → b ≤ 1 + 2 * (h * r) → joined ≤ a + b + 1 → 0 < l + r → joined ≤ 1 + 2 * ((h + 1) * (l + r))
@@ -55,7 +55,8 @@ count_sum h l r a b joined ha hb hj some = omega arith
 
 module _ (hash : List ℕ → List ℕ) (nonce : List ℕ) (nodes : List Node) (records : List Record) (root : Option Root) where
   -- what was there is what no change makes
-  pub old_grown : (p : List Bool) (part : Part) → is_made part ≡ false → Fits (length nodes) (length p) part → node_count part ≤ 1 → (root ≡ None → KeepsNone part) → ((all : List Record) → Extends records all → Placed all part)
+  pub old_grown : (p : List Bool) (part : Part) → is_made part ≡ false → Fits (length nodes) (length p) part
+      → node_count part ≤ 1 → (root ≡ None → KeepsNone part) → ((all : List Record) → Extends records all → Placed all part)
       → ((old : List Numbered) → IsOldMap hash nonce nodes records root old → Stands hash nonce nodes records part p (under p old)) → IsGrown hash nonce nodes records root p [] part
   old_grown p part unmade fits few keeps placed stands = record {
     fits = fits;
@@ -67,16 +68,18 @@ module _ (hash : List ℕ → List ℕ) (nonce : List ℕ) (nodes : List Node) (
   }
 
   -- a part that grew
-  pub grown_from : (p : List Bool) (cs : List Change) (before after : Part) → is_made before ≡ false → node_count before ≤ 1 → (root ≡ None → KeepsNone before) → ((all : List Record) → Extends records all → Placed all before)
+  pub grown_from : (p : List Bool) (cs : List Change) (before after : Part) → is_made before ≡ false → node_count before ≤ 1
+      → (root ≡ None → KeepsNone before) → ((all : List Record) → Extends records all → Placed all before)
       → ((old : List Numbered) → IsOldMap hash nonce nodes records root old → Stands hash nonce nodes records before p (under p old))
       → Fits (length nodes) (length p) after → (length cs ≡ 0 → after ≡ before)
       → ((all : List Record) → Extends records all → Placed all before → AllPlaced all cs → Placed all after)
       → (is_made before ≡ false → 0 < length cs → node_count after ≤ 1 + 2 * ((256 - length p) * length cs))
-      → ((entries : List Numbered) → AreInOrder (length p) (entries_of cs) → AreApart (length p) (overwritten entries (entries_of cs)) → Stands hash nonce nodes records before p entries → Stands hash nonce nodes records after p (overwritten entries (entries_of cs)))
+      → ((entries : List Numbered) → AreInOrder (length p) (entries_in cs) → AreApart (length p) (overwritten entries (entries_in cs))
+      → Stands hash nonce nodes records before p entries → Stands hash nonce nodes records after p (overwritten entries (entries_in cs)))
       → (KeepsNone before → KeepsNone after)
-      → (is_made before ≡ false → 0 < length p + length cs → (entries : List Numbered) → AreInOrder (length p) (entries_of cs) → AreApart (length p) (overwritten entries (entries_of cs))
-      → Stands hash nonce nodes records before p entries → node_count after ≡ new_nodes (length p) entries (entries_of cs))
-      → IsGrown hash nonce nodes records root p (entries_of cs) after
+      → (is_made before ≡ false → 0 < length p + length cs → (entries : List Numbered) → AreInOrder (length p) (entries_in cs) → AreApart (length p) (overwritten entries (entries_in cs))
+      → Stands hash nonce nodes records before p entries → node_count after ≡ new_nodes (length p) entries (entries_in cs))
+      → IsGrown hash nonce nodes records root p (entries_in cs) after
   grown_from p cs before after old few none placed stood fits same places counts stands keeps news = record {
     fits = fits;
     count = subst (λ n. node_count after ≤ 1 + 2 * ((256 - length p) * n)) (sym (length-map cs entry_of_change)) (bound cs same counts);
@@ -86,7 +89,8 @@ module _ (hash : List ℕ → List ℕ) (nonce : List ℕ) (nodes : List Node) (
     stands = λ map is ordered apart. stands (under p map) ordered apart (stood map is);
   }
     where
-      bound : (ds : List Change) → (length ds ≡ 0 → after ≡ before) → (is_made before ≡ false → 0 < length ds → node_count after ≤ 1 + 2 * ((256 - length p) * length ds)) → node_count after ≤ 1 + 2 * ((256 - length p) * length ds)
+      bound : (ds : List Change) → (length ds ≡ 0 → after ≡ before)
+          → (is_made before ≡ false → 0 < length ds → node_count after ≤ 1 + 2 * ((256 - length p) * length ds)) → node_count after ≤ 1 + 2 * ((256 - length p) * length ds)
       bound [] s c = omega (arith, ap node_count (s refl))
       bound (d ∷ ds) s c = c old (omega arith)
 
@@ -104,7 +108,8 @@ module _ (hash : List ℕ → List ℕ) (nonce : List ℕ) (nodes : List Node) (
       half-overwritten b (length p) (under p old) es ∙ ap (λ z. overwritten z (half b (length p) es)) (sym (under-child p b old)) ∙ ap (overwritten (under (child p b) old)) (sym some-is) in
       let ordered' = side_in_order b p es short ordered in
       let apart' : AreApart (length (child p b)) (overwritten (under (child p b) old) some) =
-      subst (λ k. AreApart k (overwritten (under (child p b) old) some)) (sym (length-child p b)) (subst (AreApart (suc (length p))) whole (apart-halves b (length p) (overwritten (under p old) es) short apart)) in
+      subst (λ k. AreApart k (overwritten (under (child p b) old) some)) (sym (length-child p b))
+      (subst (AreApart (suc (length p))) whole (apart-halves b (length p) (overwritten (under p old) es) short apart)) in
       record {
         stands = subst (Stands hash nonce nodes records part (child p b)) (sym whole) (g.stands old is ordered' apart');
         new = g.new old is (omega (arith, length-child p b)) ordered' apart' ∙ ap (λ k. new_nodes k (under (child p b) old) some) (length-child p b)
@@ -123,7 +128,8 @@ module _ (hash : List ℕ → List ℕ) (nonce : List ℕ) (nodes : List Node) (
       → Fits (length nodes) (length p) part → node_count part ≤ node_count left + node_count right + 1
       → node_count part ≡ joined_count left right → (KeepsNone left → KeepsNone right → KeepsNone part)
       → ((all : List Record) → Placed all left → Placed all right → Placed all part)
-      → ((entries : List Numbered) → Stands hash nonce nodes records left (child p false) (half false (length p) entries) → Stands hash nonce nodes records right (child p true) (half true (length p) entries) → Stands hash nonce nodes records part p entries)
+      → ((entries : List Numbered) → Stands hash nonce nodes records left (child p false) (half false (length p) entries)
+      → Stands hash nonce nodes records right (child p true) (half true (length p) entries) → Stands hash nonce nodes records part p entries)
       → IsGrown hash nonce nodes records root p es part
   joined_grown p es left right part short some gl gr fits few new keeps placed stands =
       let l = length (side false (length p) es) in
@@ -142,7 +148,8 @@ module _ (hash : List ℕ → List ℕ) (nonce : List ℕ) (nodes : List Node) (
             let on-left = side_of false p es old left short gl is ordered apart in
             let on-right = side_of true p es old right short gr is ordered apart in
             new_joined hash nonce nodes records left right (node_count part) p (under p old) es short some on-left.new on-right.new on-left.stands on-right.stands new;
-        stands = λ old is ordered apart. stands (overwritten (under p old) es) (side_of false p es old left short gl is ordered apart).stands (side_of true p es old right short gr is ordered apart).stands;
+        stands = λ old is ordered apart. stands (overwritten (under p old) es)
+            (side_of false p es old left short gl is ordered apart).stands (side_of true p es old right short gr is ordered apart).stands;
       }
 
   -- the parts of the jobs of one side, and of the other
@@ -156,7 +163,8 @@ module _ (hash : List ℕ → List ℕ) (nonce : List ℕ) (nodes : List Node) (
   done_none all [] h = refl
   done_none all (x ∷ xs) h = absurd h
 
-  done_one : (all : List Numbered) (j : Job) (xs : List Part) → AreDone hash nonce nodes records root all (j ∷ []) xs → (x : Part) × (xs ≡ x ∷ []) × IsGrown hash nonce nodes records root j.prefix (in_range j all) x
+  done_one : (all : List Numbered) (j : Job) (xs : List Part) → AreDone hash nonce nodes records root all (j ∷ []) xs
+      → (x : Part) × (xs ≡ x ∷ []) × IsGrown hash nonce nodes records root j.prefix (in_range j all) x
   done_one all j [] h = absurd h
   done_one all j (x ∷ xs) h = (x, ap (λ l. x ∷ l) (done_none all xs h.1), h.0)
 
@@ -169,7 +177,8 @@ module _ (hash : List ℕ → List ℕ) (nonce : List ℕ) (nodes : List Node) (
       let one = done_one all (job_of p from (from + length (e ∷ es))) xs d in
       (one.0, one.1, subst (λ z. IsGrown hash nonce nodes records root p z one.0) (in_range-at p from all (e ∷ es) at) one.2)
   done_grown (suc h) p from all (e ∷ es) xs at d =
-      let both = done_append all (jobs_below h (child p false) from (side false (length p) (e ∷ es))) (jobs_below h (child p true) (from + lefts (length p) (e ∷ es)) (side true (length p) (e ∷ es))) xs d in (
+      let both = done_append all (jobs_below h (child p false) from (side false (length p) (e ∷ es)))
+      (jobs_below h (child p true) (from + lefts (length p) (e ∷ es)) (side true (length p) (e ∷ es))) xs d in (
         both.0,
         both.1,
         both.2,
@@ -223,12 +232,14 @@ module _ (hash : List ℕ → List ℕ) (nonce : List ℕ) (nodes : List Node) (
 
   -- the parts of the jobs, by their numbers
   module _ (cs : List Change) (jobs : List Job) (part : ℕ → Part → Type 0)
-      (each : (n : ℕ) (x : Part) → part n x → (job : Job) × (slice_get jobs n ≡ Some job) × IsGrown hash nonce nodes records root job.prefix (entries_of (in_range job cs)) x) where
-    pub numbered_done : (k : ℕ) (before js : List Job) (xs : List Part) → jobs ≡ before ++ js → length before ≡ k → AllFrom part k xs → length xs ≡ length js → AreDone hash nonce nodes records root (entries_of cs) js xs
+      (each : (n : ℕ) (x : Part) → part n x → (job : Job) × (slice_get jobs n ≡ Some job) × IsGrown hash nonce nodes records root job.prefix (entries_in (in_range job cs)) x) where
+    pub numbered_done : (k : ℕ) (before js : List Job) (xs : List Part) → jobs ≡ before ++ js → length before ≡ k
+        → AllFrom part k xs → length xs ≡ length js → AreDone hash nonce nodes records root (entries_in cs) js xs
     numbered_done k before [] [] is at h same = tt
     numbered_done k before [] (x ∷ xs) is at h same = absurd (omega arith)
     numbered_done k before (j ∷ js) [] is at h same = absurd (omega arith)
-    numbered_done k before (j ∷ js) (x ∷ xs) is at h same = (here, numbered_done (suc k) (before ++ j ∷ []) js xs (is ∙ sym (append_assoc before (j ∷ []) js)) (omega (arith, length-append before (j ∷ []))) h.1 (omega arith))
+    numbered_done k before (j ∷ js) (x ∷ xs) is at h same =
+        (here, numbered_done (suc k) (before ++ j ∷ []) js xs (is ∙ sym (append_assoc before (j ∷ []) js)) (omega (arith, length-append before (j ∷ []))) h.1 (omega arith))
       where
         there : (bs : List Job) (n : ℕ) → length bs ≡ n → slice_get (bs ++ j ∷ js) n ≡ Some j
         there [] zero e = refl
@@ -236,22 +247,25 @@ module _ (hash : List ℕ → List ℕ) (nonce : List ℕ) (nodes : List Node) (
         there (b ∷ bs) zero e = absurd (omega arith)
         there (b ∷ bs) (suc n) e = there bs n (omega arith)
 
-        here : IsGrown hash nonce nodes records root j.prefix (in_range j (entries_of cs)) x
+        here : IsGrown hash nonce nodes records root j.prefix (in_range j (entries_in cs)) x
         here = let f = each k x h.0 in
             let same_job : f.0 ≡ j = some_same (sym f.1 ∙ ap (λ l. slice_get l k) is ∙ there before k at) in
-            let same_range : entries_of (in_range j cs) ≡ in_range j (entries_of cs) = range_of_entries j cs in
-            subst (λ es. IsGrown hash nonce nodes records root j.prefix es x) same_range (subst (λ (b : Job). IsGrown hash nonce nodes records root b.prefix (entries_of (in_range b cs)) x) same_job f.2)
+            let same_range : entries_in (in_range j cs) ≡ in_range j (entries_in cs) = range_of_entries j cs in
+            subst (λ es. IsGrown hash nonce nodes records root j.prefix es x) same_range
+            (subst (λ (b : Job). IsGrown hash nonce nodes records root b.prefix (entries_in (in_range b cs)) x) same_job f.2)
 
   -- the parts of all jobs, from the root on
-  pub parts_ready : (depth : ℕ) (p : List Bool) (es : List Numbered) (js made : List Job) (xs : List Part) → p ≡ [] → js ≡ made → made ≡ jobs_below depth [] 0 es → AreDone hash nonce nodes records root es js xs
+  pub parts_ready : (depth : ℕ) (p : List Bool) (es : List Numbered) (js made : List Job) (xs : List Part)
+      → p ≡ [] → js ≡ made → made ≡ jobs_below depth [] 0 es → AreDone hash nonce nodes records root es js xs
       → AreGrown hash nonce nodes records root (depth - length p) p es xs
   parts_ready depth p es js made xs p-is js-is made-is done =
       subst (λ z. AreGrown hash nonce nodes records root (depth - length z) z es xs) (sym p-is)
-      (let whole : depth ≡ depth - 0 = omega arith in subst (λ h. AreGrown hash nonce nodes records root h [] es xs) whole (done_grown depth [] 0 es es xs (at_start es) (subst (λ l. AreDone hash nonce nodes records root es l xs) (js-is ∙ made-is) done)))
+      (let whole : depth ≡ depth - 0 = omega arith in subst (λ h. AreGrown hash nonce nodes records root h [] es xs) whole
+      (done_grown depth [] 0 es es xs (at_start es) (subst (λ l. AreDone hash nonce nodes records root es l xs) (js-is ∙ made-is) done)))
 
   -- without changes
   pub unchanged_stands : (cs : List Change) (entries : List Numbered) (part : Part) → part ≡ unchanged root → length cs ≡ 0 → IsOldMap hash nonce nodes records root entries
-      → Stands hash nonce nodes records part [] (overwritten entries (entries_of cs))
+      → Stands hash nonce nodes records part [] (overwritten entries (entries_in cs))
   unchanged_stands [] entries part is none old =
       subst (Stands hash nonce nodes records part []) (sym (overwritten-nothing entries)) (subst (λ x. Stands hash nonce nodes records x [] entries) (sym is) (go root old))
     where

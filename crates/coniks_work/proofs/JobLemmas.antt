@@ -10,7 +10,7 @@ use Rattle.coniks_proof.proofs.Lemmas.{length-child}
 use Rattle.coniks_shared.specs.Limits.{most_numbers}
 use Rattle.coniks_tree.specs.Table.{Numbered}
 use Rattle.coniks_work.specs.Sides.{lefts, side}
-use Rattle.coniks_work.specs.Jobs.{in_range, Cover, IsLeftOf, AreRising, TakeTheirs, LieWithin, job_of, jobs_below}
+use Rattle.coniks_work.specs.Jobs.{in_range, Cover, IsLeftOf, AreJobsRising, TakeTheirs, LieWithin, job_of, jobs_below}
 use Rattle.coniks_work.specs.declared.jobs.Job.{Job}
 use Rattle.coniks_work.specs.declared.jobs.TheConstants.{MAX_DEPTH}
 use Rattle.coniks_work.proofs.SideLemmas.{lefts_few, length-left, length-right, sides_whole, side_in_order, side_under}
@@ -31,7 +31,8 @@ jobs_cover zero p from (e ∷ es) = (refl, omega arith, refl)
 jobs_cover (suc h) p from (e ∷ es) =
     let all = e ∷ es in
     let n = lefts (length p) all in
-    let left = subst (λ x. Cover from (from + x) (jobs_below h (child p false) from (side false (length p) all))) (length-left (length p) all) (jobs_cover h (child p false) from (side false (length p) all)) in
+    let left = subst (λ x. Cover from (from + x) (jobs_below h (child p false) from (side false (length p) all)))
+    (length-left (length p) all) (jobs_cover h (child p false) from (side false (length p) all)) in
     let end : (from + n) + length (side true (length p) all) ≡ from + length all = omega (arith, length-right (length p) all, lefts_few (length p) all) in
     let right = subst (λ x. Cover (from + n) x (jobs_below h (child p true) (from + n) (side true (length p) all))) end (jobs_cover h (child p true) (from + n) (side true (length p) all)) in
     Cover-append from (from + n) (from + length all) _ _ left right
@@ -87,14 +88,17 @@ jobs_go_on zero p from [] = All-nil (λ (j : Job). GoesOn p j.prefix)
 jobs_go_on (suc h) p from [] = All-nil (λ (j : Job). GoesOn p j.prefix)
 jobs_go_on zero p from (e ∷ es) = All-cons (λ (j : Job). GoesOn p j.prefix) _ [] ([], sym (append-nil p)) (All-nil (λ (j : Job). GoesOn p j.prefix))
 jobs_go_on (suc h) p from (e ∷ es) = All-append (λ (j : Job). GoesOn p j.prefix) _ _
-    (All-weaker (λ (j : Job). GoesOn (child p false) j.prefix) (λ (j : Job). GoesOn p j.prefix) (λ j g. goes_on_longer p j.prefix false g) _ (jobs_go_on h (child p false) from (side false (length p) (e ∷ es))))
-    (All-weaker (λ (j : Job). GoesOn (child p true) j.prefix) (λ (j : Job). GoesOn p j.prefix) (λ j g. goes_on_longer p j.prefix true g) _ (jobs_go_on h (child p true) (from + lefts (length p) (e ∷ es)) (side true (length p) (e ∷ es))))
+    (All-weaker (λ (j : Job). GoesOn (child p false) j.prefix) (λ (j : Job). GoesOn p j.prefix)
+    (λ j g. goes_on_longer p j.prefix false g) _ (jobs_go_on h (child p false) from (side false (length p) (e ∷ es))))
+    (All-weaker (λ (j : Job). GoesOn (child p true) j.prefix) (λ (j : Job). GoesOn p j.prefix) (λ j g. goes_on_longer p j.prefix true g)
+    _ (jobs_go_on h (child p true) (from + lefts (length p) (e ∷ es)) (side true (length p) (e ∷ es))))
 
 left_of : (p q r : List Bool) → GoesOn (child p false) q → GoesOn (child p true) r → IsLeftOf q r
 left_of p q r g h = record { common = p; after_left = g.0; after_right = h.0; left = g.1; right = h.1 }
 
 -- the jobs on the left, and then those on the right
-rising_append : (p : List Bool) (js ks : List Job) → All (λ (j : Job). GoesOn (child p false) j.prefix) js → All (λ (j : Job). GoesOn (child p true) j.prefix) ks → AreRising js → AreRising ks → AreRising (js ++ ks)
+rising_append : (p : List Bool) (js ks : List Job) → All (λ (j : Job). GoesOn (child p false) j.prefix) js
+    → All (λ (j : Job). GoesOn (child p true) j.prefix) ks → AreJobsRising js → AreJobsRising ks → AreJobsRising (js ++ ks)
 rising_append p [] ks on_left on_right r s = s
 rising_append p (j ∷ js) ks on_left on_right r s = (
   All-append (λ (k : Job). IsLeftOf j.prefix k.prefix) js ks r.0
@@ -102,7 +106,7 @@ rising_append p (j ∷ js) ks on_left on_right r s = (
   rising_append p js ks (λ i d less. on_left (suc i) d (omega arith)) on_right r.1 s,
 )
 
-pub jobs_rise : (h : ℕ) (p : List Bool) (from : ℕ) (es : List Numbered) → AreRising (jobs_below h p from es)
+pub jobs_rise : (h : ℕ) (p : List Bool) (from : ℕ) (es : List Numbered) → AreJobsRising (jobs_below h p from es)
 jobs_rise zero p from [] = tt
 jobs_rise (suc h) p from [] = tt
 jobs_rise zero p from (e ∷ es) = (λ i d less. absurd (omega arith), tt)
@@ -147,29 +151,36 @@ in_range-at p from all es h =
     ∙ ap (take (length es)) (drop-append_seam h.before (es ++ h.after))
     ∙ take-append_seam es h.after
 
-pub jobs_theirs : (h : ℕ) (p : List Bool) (from : ℕ) (es all : List Numbered) → length p + h ≤ 256 → IsAt all from es → es ≡ under p all → AreInOrder (length p) es → TakeTheirs all (jobs_below h p from es)
+pub jobs_theirs : (h : ℕ) (p : List Bool) (from : ℕ) (es all : List Numbered) → length p + h ≤ 256
+    → IsAt all from es → es ≡ under p all → AreInOrder (length p) es → TakeTheirs all (jobs_below h p from es)
 jobs_theirs zero p from [] all short at is ordered = All-nil (λ (j : Job). in_range j all ≡ under j.prefix all)
 jobs_theirs (suc h) p from [] all short at is ordered = All-nil (λ (j : Job). in_range j all ≡ under j.prefix all)
 jobs_theirs zero p from (e ∷ es) all short at is ordered =
-    All-cons (λ (j : Job). in_range j all ≡ under j.prefix all) (job_of p from (from + length (e ∷ es))) [] (in_range-at p from all (e ∷ es) at ∙ is) (All-nil (λ (j : Job). in_range j all ≡ under j.prefix all))
+    All-cons (λ (j : Job). in_range j all ≡ under j.prefix all) (job_of p from (from + length (e ∷ es))) []
+    (in_range-at p from all (e ∷ es) at ∙ is) (All-nil (λ (j : Job). in_range j all ≡ under j.prefix all))
 jobs_theirs (suc h) p from (e ∷ es) all short at is ordered =
     let less : length p < 256 = omega arith in
     All-append (λ (j : Job). in_range j all ≡ under j.prefix all) _ _
-    (jobs_theirs h (child p false) from (side false (length p) (e ∷ es)) all (omega (arith, length-child p false)) (at_left all from (length p) (e ∷ es) at) (side_under false p (e ∷ es) all less ordered is) (side_in_order false p (e ∷ es) less ordered))
-    (jobs_theirs h (child p true) (from + lefts (length p) (e ∷ es)) (side true (length p) (e ∷ es)) all (omega (arith, length-child p true)) (at_right all from (length p) (e ∷ es) at) (side_under true p (e ∷ es) all less ordered is) (side_in_order true p (e ∷ es) less ordered))
+    (jobs_theirs h (child p false) from (side false (length p) (e ∷ es)) all (omega (arith, length-child p false))
+    (at_left all from (length p) (e ∷ es) at) (side_under false p (e ∷ es) all less ordered is) (side_in_order false p (e ∷ es) less ordered))
+    (jobs_theirs h (child p true) (from + lefts (length p) (e ∷ es)) (side true (length p) (e ∷ es)) all (omega (arith, length-child p true))
+    (at_right all from (length p) (e ∷ es) at) (side_under true p (e ∷ es) all less ordered is) (side_in_order true p (e ∷ es) less ordered))
 
 -- the jobs of one side and of the other
 pub jobs_of_sides : (depth : ℕ) (p : List Bool) (from : ℕ) (es : List Numbered) → length p < depth → 0 < length es
     → jobs_below (depth - length p) p from es
-    ≡ jobs_below (depth - length (child p false)) (child p false) from (side false (length p) es) ++ jobs_below (depth - length (child p true)) (child p true) (from + lefts (length p) es) (side true (length p) es)
+    ≡ jobs_below (depth - length (child p false)) (child p false) from (side false (length p) es) ++ jobs_below
+    (depth - length (child p true)) (child p true) (from + lefts (length p) es) (side true (length p) es)
 jobs_of_sides depth p from [] less some = absurd (omega arith)
 jobs_of_sides depth p from (e ∷ es) less some =
     let left : depth - length (child p false) ≡ depth - suc (length p) = ap (λ k. depth - k) (length-child p false) in
     let right : depth - length (child p true) ≡ depth - suc (length p) = ap (λ k. depth - k) (length-child p true) in
     let here : depth - length p ≡ suc (depth - suc (length p)) = omega arith in
     ap (λ h. jobs_below h p from (e ∷ es)) here
-    ∙ ap (λ h. jobs_below h (child p false) from (side false (length p) (e ∷ es)) ++ jobs_below (depth - suc (length p)) (child p true) (from + lefts (length p) (e ∷ es)) (side true (length p) (e ∷ es))) (sym left)
-    ∙ ap (λ h. jobs_below (depth - length (child p false)) (child p false) from (side false (length p) (e ∷ es)) ++ jobs_below h (child p true) (from + lefts (length p) (e ∷ es)) (side true (length p) (e ∷ es))) (sym right)
+    ∙ ap (λ h. jobs_below h (child p false) from (side false (length p) (e ∷ es)) ++ jobs_below (depth - suc (length p))
+    (child p true) (from + lefts (length p) (e ∷ es)) (side true (length p) (e ∷ es))) (sym left)
+    ∙ ap (λ h. jobs_below (depth - length (child p false)) (child p false) from (side false (length p) (e ∷ es))
+    ++ jobs_below h (child p true) (from + lefts (length p) (e ∷ es)) (side true (length p) (e ∷ es))) (sym right)
 
 -- the one job of the last level
 pub job_of_all : (depth : ℕ) (p : List Bool) (from : ℕ) (es : List Numbered) → length p ≡ depth → 0 < length es → jobs_below (depth - length p) p from es ≡ job_of p from (from + length es) ∷ []
@@ -192,7 +203,8 @@ split_both depth level from next p q r es ls rs js after_left after_right level-
     let on_left : jobs_below (depth - length q) q from ls ≡ jobs_below (depth - length (child p false)) (child p false) from (side false (length p) es) =
     ap (λ z. jobs_below (depth - length z) z from ls) q-is ∙ ap (jobs_below (depth - length (child p false)) (child p false) from) ls' in
     let on_right : jobs_below (depth - length r) r next rs ≡ jobs_below (depth - length (child p true)) (child p true) (from + lefts (length p) es) (side true (length p) es) =
-    ap (λ z. jobs_below (depth - length z) z next rs) r-is ∙ ap (λ n. jobs_below (depth - length (child p true)) (child p true) n rs) next' ∙ ap (jobs_below (depth - length (child p true)) (child p true) (from + lefts (length p) es)) rs' in
+    ap (λ z. jobs_below (depth - length z) z next rs) r-is ∙ ap (λ n. jobs_below (depth - length (child p true)) (child p true) n rs)
+    next' ∙ ap (jobs_below (depth - length (child p true)) (child p true) (from + lefts (length p) es)) rs' in
     right ∙ ap (λ x. x ++ jobs_below (depth - length r) r next rs) left
     ∙ append_assoc js (jobs_below (depth - length q) q from ls) (jobs_below (depth - length r) r next rs)
     ∙ ap (λ x. js ++ (x ++ jobs_below (depth - length r) r next rs)) on_left

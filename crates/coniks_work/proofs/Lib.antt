@@ -1,4 +1,4 @@
-mod CrewLemmas
+mod PoolLemmas
 mod GrownLemmas
 mod JobLemmas
 mod PlaceLemmas

@@ -39,16 +39,19 @@ module _ (part : ℕ → Part → Type 0) where
       (λ (n : k ≢ j). ⊎_elim (λ (s : StandsAt part cur k). (s.0, get_or-set_other cur j k (Some x) None n ∙ s.1, s.2)) (λ (e : k ≡ j). absurd (n e)) h)
 
   -- one more part was put into its place
-  pub place_next : (old cur : List (Option Part)) (ns before left : List ℕ) (j : ℕ) (x : Part) → before ≡ left ++ j ∷ [] → Places part old cur ns before → j < length cur → part j x → Places part old (set cur j (Some x)) ns left
+  pub place_next : (old cur : List (Option Part)) (ns before left : List ℕ) (j : ℕ) (x : Part) → before ≡ left ++ j ∷ []
+      → Places part old cur ns before → j < length cur → part j x → Places part old (set cur j (Some x)) ns left
   place_next old cur ns before left j x e h less is = record {
     kept = λ k s. stands_set cur j k x less is (inl (h.kept k s));
     put = λ k some_time. ⊎_elim (λ (s : StandsAt part cur k). inl (stands_set cur j k x less is (inl s)))
-        (λ (t : 0 < times k before). dite (ℕ_discrete k j) (λ (same : k ≡ j). inl (stands_set cur j k x less is (inr same))) (λ (n : k ≢ j). inr (at_least k n (subst (λ (l : List ℕ). 0 < times k l) e t))))
+        (λ (t : 0 < times k before). dite (ℕ_discrete k j) (λ (same : k ≡ j). inl (stands_set cur j k x less is (inr same)))
+        (λ (n : k ≢ j). inr (at_least k n (subst (λ (l : List ℕ). 0 < times k l) e t))))
         (h.put k some_time);
   }
     where
       at_least : (k : ℕ) → k ≢ j → 0 < times k (left ++ j ∷ []) → 0 < times k left
-      at_least k n s = let a = times_append k left (j ∷ []) in dite (ℕ_discrete (times k (j ∷ [])) 0) (λ (z : times k (j ∷ []) ≡ 0). omega arith) (λ (z : times k (j ∷ []) ≢ 0). absurd (n (times_of_one k j (omega arith))))
+      at_least k n s = let a = times_append k left (j ∷ []) in dite (ℕ_discrete (times k (j ∷ [])) 0)
+          (λ (z : times k (j ∷ []) ≡ 0). omega arith) (λ (z : times k (j ∷ []) ≢ 0). absurd (n (times_of_one k j (omega arith))))
 
   pub place_none : (old : List (Option Part)) (ns : List ℕ) → Places part old old ns ns
   place_none old ns = record { kept = λ k s. s; put = λ k s. inr s }

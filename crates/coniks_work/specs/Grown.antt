@@ -1,4 +1,4 @@
--- What stands under a prefix once the changes are made.
+-- The entries under a prefix after the changes.
 use Rattle.std.specs.Prelude.{◌≡◌, ◌<◌, ◌≤◌, ◌+◌, ◌*◌, ◌-◌, ℕ, zero, suc, List, [], ◌∷◌, ◌++◌, length, Bool, true, false, Option, Some, None, slice_get}
 use Rattle.coniks_proof.specs.Bits.{child}
 use Rattle.coniks_proof.specs.Entries.{under}
@@ -14,12 +14,12 @@ use Rattle.coniks_work.specs.Jobs.{in_range}
 use Rattle.coniks_work.specs.Sides.{side}
 use Rattle.coniks_work.specs.declared.jobs.Job.{Job}
 
--- the old map is what the root shows; where there is no root it is empty
+-- the old map is that of the root, empty if there is no root
 abbrev pub IsOldMap : (List ℕ → List ℕ) → List ℕ → List Node → List Record → Option Root → List Numbered → Type 0
 IsOldMap hash nonce nodes records (Some root) entries = Shows hash nonce nodes records root.0 [] entries
 IsOldMap hash nonce nodes records None entries = entries ≡ []
 
--- the part where nothing changes: the old root, kept, and nothing where there is none
+-- the part without changes: the old root, kept, or nothing if there is none
 abbrev pub unchanged : Option Root → Part
 unchanged (Some root) = Kept root
 unchanged None = Nothing
@@ -27,7 +27,8 @@ unchanged None = Nothing
 -- the records of the entries are there
 abbrev pub AllStored : List Record → List Numbered → Type 0
 AllStored records [] = Unit {0}
-AllStored records (e ∷ es) = ((r : Record) × (slice_get records e.behind ≡ Some r) × (entry_of_record e.behind r ≡ e)) × AllStored records es
+AllStored records (e ∷ es) = ((r : Record) × (slice_get records e.behind ≡ Some r) × (entry_of_record e.behind r ≡ e))
+    × AllStored records es
 
 module _ (hash : List ℕ → List ℕ) (nonce : List ℕ) (nodes : List Node) (records : List Record) (root : Option Root) where
   -- the part is what the old map has under the prefix, overwritten by the entries, which are under the prefix

@@ -15,7 +15,7 @@ abbrev pub Cover : ℕ → ℕ → List Job → Type 0
 Cover from to [] = from ≡ to
 Cover from to (job ∷ jobs) = (job.from ≡ from) × (from < job.to) × Cover job.to to jobs
 
--- at the first bit where the prefixes part, the first one goes left and the second one right
+-- at the first bit that differs, the first prefix goes left and the second one right
 pub record IsLeftOf (p q : List Bool) : Type 0 where
   pub common : List Bool
   pub after_left : List Bool
@@ -24,15 +24,15 @@ pub record IsLeftOf (p q : List Bool) : Type 0 where
   pub right : q ≡ child common true ++ after_right
 
 -- the prefixes are in increasing order
-abbrev pub AreRising : List Job → Type 0
-AreRising [] = Unit {0}
-AreRising (job ∷ jobs) = All (λ (later : Job). IsLeftOf job.prefix later.prefix) jobs × AreRising jobs
+abbrev pub AreJobsRising : List Job → Type 0
+AreJobsRising [] = Unit {0}
+AreJobsRising (job ∷ jobs) = All (λ (later : Job). IsLeftOf job.prefix later.prefix) jobs × AreJobsRising jobs
 
 -- each job's entries are those under its prefix
 abbrev pub TakeTheirs : List Numbered → List Job → Type 0
 TakeTheirs entries jobs = All (λ (job : Job). in_range job entries ≡ under job.prefix entries) jobs
 
--- each job's range lies within so many
+-- each job's range is within this number of changes
 abbrev pub LieWithin : ℕ → List Job → Type 0
 LieWithin n jobs = All (λ (job : Job). (job.from < job.to) × (job.to ≤ n)) jobs
 

@@ -1,4 +1,4 @@
-pub mod Crews
+pub mod Pools
 pub mod Grown
 pub mod Jobs
 pub mod Places

@@ -18,11 +18,11 @@ module _ (part : ℕ → Part → Type 0) where
   AllFrom k [] = Unit {0}
   AllFrom k (x ∷ xs) = part k x × AllFrom (suc k) xs
 
-  -- a part for this number stands in its place
+  -- a part with this number is in its place
   abbrev pub StandsAt : List (Option Part) → ℕ → Type 0
   StandsAt placed j = (x : Part) × (slice_index_or placed j None ≡ Some x) × part j x
 
-  -- what stood stands, and parts for these numbers do, but for the numbers that are left
+  -- filled places stay filled, and parts with these numbers are in their places, except for the remaining numbers
   pub record Places (old new : List (Option Part)) (ns left : List ℕ) : Type 0 where
     pub kept : (j : ℕ) → StandsAt old j → StandsAt new j
     pub put : (j : ℕ) → 0 < times j ns → StandsAt new j ⊎ (0 < times j left)

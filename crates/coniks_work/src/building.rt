@@ -4,32 +4,34 @@ ghost use Rattle.std.specs.Prelude.{◌≡◌, ◌<◌, ◌≤◌, ◌+◌, ◌*
 ghost use Rattle.coniks_proof.specs.Changes.{overwritten, AreApart, AreInOrder};
 ghost use Rattle.coniks_tree.specs.Table.{Extends, Numbered};
 ghost use Rattle.coniks_tree.specs.Counts.{new_nodes};
-ghost use Rattle.coniks_tree.specs.Parts.{Stands, Fits, KeepsNone, Placed, AllPlaced, node_count, entries_of};
+ghost use Rattle.coniks_tree.specs.Parts.{Stands, Fits, KeepsNone, Placed, AllPlaced, node_count, entries_in};
 ghost use Rattle.coniks_tree.specs.declared.table.Record.{Record};
 ghost use Rattle.coniks_work.specs.Grown.{IsOldMap, unchanged};
 
-use crate::crew::all_parts;
 use crate::gate::Gate;
 use crate::growing::Growing;
 use crate::jobs::{MAX_DEPTH, all_jobs};
-use crate::rise::rise;
+use crate::pool::all_parts;
+use crate::upwards::join_upwards;
 use coniks_proof::{Hash32, Nonce, Prefix};
 use coniks_tree::{Change, OutOfMemory, Part, Root, Tree};
 use std::alloc::Global;
 use std::cmp::min;
 use std::thread::Threads;
 
-/// The most workers that one build has.
+/// The largest number of workers of one build.
 pub const MAX_WORKERS: usize = 64;
 
-/// 2 to this power are the jobs of each worker beyond which more of them only cost.
+/// The base-2 logarithm of the largest number of jobs for each worker, with few changes.
 const ENOUGH_JOBS: u32 = 5;
 
-/// So many changes for each worker are jobs large enough that twice as many even out more than they cost.
+/// The number of changes for each worker from which the number of jobs is doubled.
 const MANY_CHANGES: usize = 4096;
 
-/// How deep changes are cut for so many workers: no deeper than was asked for, nor than gives each of them 32 jobs, or 64
-/// where there are `MANY_CHANGES` for each.
+/// Returns the split depth in use for this number of workers.
+///
+/// It is at most the depth that was asked for. It is also at most the one that gives each worker 32 jobs, or 64 jobs if
+/// there are `MANY_CHANGES` for each.
 pub(crate) fn cut_for(workers: usize, changes: usize, depth: usize) -> usize
     requires { 1 ≤ workers }
     ensures { result ≤ depth }
@@ -42,7 +44,7 @@ pub(crate) fn cut_for(workers: usize, changes: usize, depth: usize) -> usize
     }
 }
 
-/// The part where nothing changes.
+/// Returns the part for no changes.
 fn unchanged_part(root: Option<Root>) -> Part
     ensures { result ≡ unchanged root }
 {
@@ -52,19 +54,25 @@ fn unchanged_part(root: Option<Root>) -> Part
     }
 }
 
-/// The part of the empty prefix for an epoch: what the old root shows, or the empty map where there is none, overwritten
-/// by the changes. It is the same for every number of workers and every depth, and so is the count of its new nodes: that
-/// of the old map and the changes (`new`). From no root it keeps no node of the tree.
+/// Builds the part of the empty prefix for an epoch, with several worker threads.
 ///
-/// `workers` is 1 to `MAX_WORKERS`, and `depth`, the length in bits of the prefixes that are grown apart, 0 to `MAX_DEPTH`;
-/// they are shorter where that gives each worker 32 jobs, or 64 of many changes, since more would only cost.
-/// The changes are in increasing order of index, and each index once. The caller's thread is one of the workers; there
-/// are never more workers than jobs, so a lone job starts no thread. Where a thread, a drawer or the claims can't be had
-/// there are fewer workers. It is `OutOfMemory` where a job is refused memory, in whatever worker, or the call itself. The
-/// tree is only read.
+/// The part is the map of the old root, or the empty map if there is none, overwritten by the changes. The part and the
+/// number of its new nodes (`new`) are the same for every number of workers and every split depth. Without an old root
+/// the part keeps no node of the tree. The call only reads the tree.
 ///
-/// For b changes, b at least 1, the part has at most `512 * b + 1` new nodes. Without changes it is the old root, kept, or
-/// nothing.
+/// `workers` is 1 to `MAX_WORKERS`. The split depth `depth`, the length in bits of the prefixes that are built apart, is
+/// 0 to `MAX_DEPTH`. The prefixes are shorter if about 32 jobs for each worker are reached before, or about 64 if each has
+/// at least 4096 changes. The changes are in increasing order of index, and each index occurs once.
+///
+/// The caller's thread is one of the workers. There are never more workers than jobs, so a single job starts no thread.
+/// If a thread cannot be started, or a drawer or the claims cannot be allocated, there are fewer workers.
+///
+/// For b changes, b at least 1, the part has at most `512 * b + 1` new nodes. Without changes it is the old root, kept,
+/// or nothing.
+///
+/// # Errors
+///
+/// `OutOfMemory` if an allocation fails, in a job of any worker or in the call itself.
 pub fn build<H: Hash32 + Sync, G: Gate + Sync, R: Threads + Sync>(
     rt: &R,
     alloc: Global,
@@ -87,14 +95,14 @@ pub fn build<H: Hash32 + Sync, G: Gate + Sync, R: Threads + Sync>(
     ensures keeps { IfOk result (λ part. root ≡ None → KeepsNone part) }
     ensures new { IfOk result (λ part. 0 < length changes.now → (entries : List Numbered)
         → IsOldMap (H.digest_of h.now) nonce.now.0 tree.now.nodes.items tree.now.records.items root entries
-        → AreInOrder 0 (entries_of changes.now)
-        → AreApart 0 (overwritten entries (entries_of changes.now))
-        → node_count part ≡ new_nodes 0 entries (entries_of changes.now)) }
+        → AreInOrder 0 (entries_in changes.now)
+        → AreApart 0 (overwritten entries (entries_in changes.now))
+        → node_count part ≡ new_nodes 0 entries (entries_in changes.now)) }
     ensures stands { IfOk result (λ part. (entries : List Numbered)
         → IsOldMap (H.digest_of h.now) nonce.now.0 tree.now.nodes.items tree.now.records.items root entries
-        → AreInOrder 0 (entries_of changes.now)
-        → AreApart 0 (overwritten entries (entries_of changes.now))
-        → Stands (H.digest_of h.now) nonce.now.0 tree.now.nodes.items tree.now.records.items part [] (overwritten entries (entries_of changes.now))) }
+        → AreInOrder 0 (entries_in changes.now)
+        → AreApart 0 (overwritten entries (entries_in changes.now))
+        → Stands (H.digest_of h.now) nonce.now.0 tree.now.nodes.items tree.now.records.items part [] (overwritten entries (entries_in changes.now))) }
 {
     if changes.is_empty() {
         return Ok(unchanged_part(root));
@@ -110,7 +118,7 @@ pub fn build<H: Hash32 + Sync, G: Gate + Sync, R: Threads + Sync>(
         jobs: &jobs,
     };
     let mut parts = all_parts(rt, alloc, jobs.len(), workers, &growing, gate)?;
-    Ok(rise(
+    Ok(join_upwards(
         tree,
         h,
         nonce,

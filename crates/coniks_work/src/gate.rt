@@ -1,12 +1,12 @@
-//! What a worker passes before each job.
+//! The gate that a worker passes before each job.
 
-/// What a worker passes before each job that it does, once, on its own thread. It returns.
+/// A gate that each worker passes before each job, once, on its own thread. It returns.
 pub trait Gate {
-    /// A worker comes with the number of the job that it is about to do.
+    /// Called by a worker with the number of the job that it is about to do.
     fn enter(&self, job: usize);
 }
 
-/// Lets each job pass.
+/// A gate that lets each job pass.
 #[derive(Clone, Copy, Debug, Drop)]
 pub struct Open;
 

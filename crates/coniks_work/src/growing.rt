@@ -4,7 +4,7 @@ ghost use Rattle.std.specs.Prelude.{◌≡◌, ◌<◌, ◌≤◌, ℕ, List, []
 ghost use Rattle.std.proofs.Props.{props};
 ghost use Rattle.coniks_proof.specs.Entries.{under};
 ghost use Rattle.coniks_tree.specs.Table.{Extends, Numbered};
-ghost use Rattle.coniks_tree.specs.Parts.{entries_of, is_made, node_count, Fits, KeepsNone, Placed, Stands};
+ghost use Rattle.coniks_tree.specs.Parts.{entries_in, is_made, node_count, Fits, KeepsNone, Placed, Stands};
 ghost use Rattle.coniks_tree.specs.declared.table.Record.{Record};
 ghost use Rattle.coniks_work.specs.Grown.{IsGrown, IsOldMap};
 ghost use Rattle.coniks_work.specs.Jobs.{in_range, LieWithin};
@@ -14,7 +14,7 @@ use crate::work::Work;
 use coniks_proof::{Hash32, Nonce, Prefix};
 use coniks_tree::{Change, OutOfMemory, Part, Root, Tree};
 
-/// What the old root shows under a prefix, and nothing where there is no root.
+/// Returns the part that the old root shows under a prefix, or nothing if there is no root.
 pub(crate) fn old_part(tree: &Tree, root: Option<Root>, prefix: &Prefix) -> Part
     requires { IfSome root (λ r. r.0 < length tree.now.nodes.items) }
     ensures unmade { is_made result ≡ false }
@@ -33,7 +33,7 @@ pub(crate) fn old_part(tree: &Tree, root: Option<Root>, prefix: &Prefix) -> Part
     }
 }
 
-/// What the old root shows under a prefix, overwritten by changes of indices under it.
+/// Returns the part that the old root shows under a prefix, overwritten by changes of indices under it.
 pub(crate) fn grown_part<H: Hash32>(
     tree: &Tree,
     h: &H,
@@ -43,13 +43,14 @@ pub(crate) fn grown_part<H: Hash32>(
     changes: &[Change],
 ) -> Result<Part, OutOfMemory>
     requires { IfSome root (λ r. r.0 < length tree.now.nodes.items) }
-    ensures { IfOk result (λ part. IsGrown (H.digest_of h.now) nonce.now.0 tree.now.nodes.items tree.now.records.items root prefix.now (entries_of changes.now) part) }
+    ensures { IfOk result (λ part. IsGrown (H.digest_of h.now) nonce.now.0
+        tree.now.nodes.items tree.now.records.items root prefix.now (entries_in changes.now) part) }
 {
     let old = old_part(tree, root, prefix);
     Ok(tree.grow(h, nonce, old, prefix, changes)?)
 }
 
-/// A job of this number.
+/// Returns the job of this number.
 fn job_at(jobs: &[Job], number: usize) -> &Job
     requires { number < length jobs.now }
     ensures { slice_get jobs.now number ≡ Some result.now }
@@ -57,7 +58,7 @@ fn job_at(jobs: &[Job], number: usize) -> &Job
     &jobs[number]
 }
 
-/// Jobs, and what they are done with.
+/// The jobs, and the values that they need.
 #[derive(Drop)]
 pub(crate) struct Growing<'a, H> {
     pub(crate) tree: &'a Tree,
@@ -72,7 +73,7 @@ pub(crate) struct Growing<'a, H> {
 
 impl<'a, H: Hash32> Work for Growing<'a, H> {
     ghost use Rattle.std.specs.Prelude.{◌≡◌, length, slice_get, Some};
-    ghost use Rattle.coniks_tree.specs.Parts.{entries_of};
+    ghost use Rattle.coniks_tree.specs.Parts.{entries_in};
     ghost use Rattle.coniks_work.specs.Grown.{IsGrown};
     ghost use Rattle.coniks_work.specs.Jobs.{in_range};
     ghost use Rattle.coniks_work.specs.declared.jobs.Job.{Job};
@@ -80,7 +81,8 @@ impl<'a, H: Hash32> Work for Growing<'a, H> {
     ghost count = { λ w. length w.jobs.now };
 
     ghost part = { λ w number part. (job : Job) × (slice_get w.jobs.now number ≡ Some job)
-        × IsGrown (H.digest_of w.h.now) w.nonce.now.0 w.tree.now.nodes.items w.tree.now.records.items w.root job.prefix (entries_of (in_range job w.changes.now)) part };
+        × IsGrown (H.digest_of w.h.now) w.nonce.now.0 w.tree.now.nodes.items
+        w.tree.now.records.items w.root job.prefix (entries_in (in_range job w.changes.now)) part };
 
     fn run(&self, number: usize) -> Result<Part, OutOfMemory> {
         let job = job_at(self.jobs, number);

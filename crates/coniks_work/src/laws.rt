@@ -1,4 +1,4 @@
-//! Laws of the definitions, each the contract of a function that does nothing.
+//! Lemmas about the definitions, each the contract of a function that does nothing.
 
 ghost use Rattle.std.specs.Prelude.{◌≡◌};
 ghost use Rattle.coniks_work.specs.Limits.{deepest_cut, most_workers};
@@ -6,7 +6,7 @@ ghost use Rattle.coniks_work.specs.Limits.{deepest_cut, most_workers};
 use crate::building::MAX_WORKERS;
 use crate::jobs::MAX_DEPTH;
 
-/// The limits that callers read are those of the specification.
+/// Proves that the public limits are those of the specification.
 pub fn limits()
     ensures workers { MAX_WORKERS ≡ most_workers }
     ensures depth { MAX_DEPTH ≡ deepest_cut }

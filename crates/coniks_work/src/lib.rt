@@ -1,12 +1,12 @@
-//! One epoch's part, built by several workers.
+//! Builds the part of one epoch with several worker threads.
 //!
-//! The changes of a batch are split into jobs, one for each prefix of the cutting depth under which an index changes.
-//! Workers draw the numbers of the jobs from one word, and each grows the part of the prefixes that it drew (Melara,
-//! Blankstein, Bonneau, Felten, Freedman: CONIKS, USENIX Security 2015, section 3.1, for the tree). The parts are joined
-//! upwards. The part is the same for every number of workers and every depth.
+//! The changes of a batch are split into jobs, one for each prefix of the split depth under which an index changes.
+//! Workers draw the numbers of the jobs from one shared word. Each builds the parts of the prefixes that it drew, and the
+//! parts are joined upwards. The result is the same for every number of workers and every split depth. The tree is that
+//! of Melara, Blankstein, Bonneau, Felten, Freedman: CONIKS, USENIX Security 2015, section 3.1.
 //!
-//! A directory (`coniks_directory`) calls `build` for its batches, and is given but a `Gate`, which `Open` is. For a tree
-//! alone:
+//! A directory (`coniks_directory`) calls `build` for its batches, and takes only a `Gate`, for example `Open`. For a
+//! tree alone:
 //!
 //! ```rust
 //! // Indices that differ in their first bit are jobs of their own, and two workers draw them.
@@ -21,16 +21,15 @@
 #![tactic(auto)]
 
 mod building;
-mod crew;
 mod gate;
 mod growing;
 mod jobs;
 pub mod laws;
 mod places;
-mod rise;
-mod sides;
+mod pool;
 #[cfg(test)]
 mod tests;
+mod upwards;
 mod work;
 mod worker;
 

@@ -1,4 +1,4 @@
-//! Parts in the places of their numbers.
+//! Parts at the positions of their numbers.
 
 ghost use Rattle.std.specs.Prelude.{◌≡◌, ℕ, ◌≤◌, ◌<◌, [], length, IfOk, Some};
 ghost use Rattle.std.proofs.Math.ListN.{set};
@@ -10,7 +10,7 @@ use coniks_tree::Part;
 use std::alloc::{AllocError, Global};
 use std::mem::replace;
 
-/// Room for so many parts.
+/// Reserves room for this number of parts.
 pub(crate) fn room(alloc: Global, count: usize) -> Result<Vec<Option<Part>>, AllocError>
     ensures { IfOk result (λ placed. length placed.items ≡ count) }
 {
@@ -21,7 +21,7 @@ pub(crate) fn room(alloc: Global, count: usize) -> Result<Vec<Option<Part>>, All
     Ok(placed)
 }
 
-/// Puts one part into its place.
+/// Stores one part at its position.
 fn put(placed: &mut [Option<Part>], job: usize, part: Part)
     requires { (job < length placed.old) × (length placed.old ≤ most_numbers) }
     ensures { placed.new ≡ set placed.old job (Some part) }
@@ -29,7 +29,7 @@ fn put(placed: &mut [Option<Part>], job: usize, part: Part)
     drop(replace(&mut placed[job], Some(part)));
 }
 
-/// Puts each part into its place.
+/// Stores each part at its position.
 pub(crate) fn place<W: Work>(placed: &mut [Option<Part>], mut done: Vec<(usize, Part)>, work: &W)
     requires parts { AreParts (W.part work.now) (length placed.old) done.items }
     requires few { length placed.old ≤ most_numbers }
@@ -42,7 +42,7 @@ pub(crate) fn place<W: Work>(placed: &mut [Option<Part>], mut done: Vec<(usize, 
     }
 }
 
-/// The parts, each of which is there.
+/// Returns the parts, each of which is there.
 pub(crate) fn unwrapped<W: Work>(
     alloc: Global,
     placed: &mut [Option<Part>],

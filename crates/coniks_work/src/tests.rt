@@ -2,8 +2,8 @@
 
 mod batches;
 mod before;
-mod crews;
 mod epochs;
 mod gates;
+mod pools;
 mod refused;
 mod sharing;

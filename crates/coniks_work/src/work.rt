@@ -1,4 +1,4 @@
-//! What is to be done for each job.
+//! The work of each job.
 
 ghost use Rattle.std.specs.Prelude.{ℕ, ◌<◌, IfOk};
 
@@ -9,10 +9,10 @@ pub(crate) trait Work {
     ghost use Rattle.std.specs.Prelude.{ℕ};
     ghost use Rattle.coniks_tree.specs.declared.part.Part.{Part};
 
-    /// How many jobs there are.
+    /// The number of jobs.
     ghost count: { Self → ℕ };
 
-    /// A part is what the job of this number makes.
+    /// The part that the job of this number makes.
     ghost part: { Self → ℕ → Part → Type 0 };
 
     /// Does the job of this number.

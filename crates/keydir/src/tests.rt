@@ -1,3 +1,4 @@
+mod boards;
 mod failing;
 mod program;
 mod refused;

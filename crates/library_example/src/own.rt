@@ -6,7 +6,7 @@
 ghost use Rattle.std.specs.Prelude.{◌≡◌, ◌++◌, ◌∷◌, []};
 ghost use Rattle.coniks_proof.specs.Sha256.{sha256};
 
-use coniks_chain::{Signature, SignatureSource, Verify};
+use coniks_chain::{BODY_BYTES, Signature, SignatureSource, Verify};
 use coniks_directory::IndexSource;
 use coniks_proof::{Digest, Hash32, Index, Sha256Hash};
 
@@ -46,7 +46,7 @@ pub struct DemoKey {
 
 impl DemoKey {
     /// The signature of a body's bytes.
-    fn seal(&self, body: &[u8; 145]) -> Signature
+    fn seal(&self, body: &[u8; BODY_BYTES]) -> Signature
         ensures { result.0 ≡ sha256 (3 ∷ self.now.key ++ body.now) ++ sha256 (3 ∷ self.now.key ++ body.now) }
     {
         let half = Sha256Hash.hash(&[&[3], &self.key, body]);
@@ -59,7 +59,7 @@ impl Verify for DemoKey {
 
     ghost verdict_of = { λ demo body signature. bytes_eq signature (sha256 (3 ∷ demo.key ++ body) ++ sha256 (3 ∷ demo.key ++ body)) };
 
-    fn verdict(&self, body: &[u8; 145], signature: &Signature) -> bool {
+    fn verdict(&self, body: &[u8; BODY_BYTES], signature: &Signature) -> bool {
         signature.0 == self.seal(body).0
     }
 }
@@ -69,7 +69,7 @@ impl SignatureSource for DemoKey {
 
     ghost gives = { λ demo body given _. IfSome given (λ signature. signature.0 ≡ sha256 (3 ∷ demo.key ++ body) ++ sha256 (3 ∷ demo.key ++ body)) };
 
-    fn signature(&mut self, body: &[u8; 145]) -> Option<Signature> {
+    fn signature(&mut self, body: &[u8; BODY_BYTES]) -> Option<Signature> {
         Some(self.seal(body))
     }
 }

@@ -42,8 +42,8 @@ Example:
 Status:
   0  every line was accepted
   1  a line was refused
-  2  the command line was refused
-  3  a stream failed, or an allocation failed";
+  2  the command line is wrong
+  3  a stream or an allocation failed";
 
 /// Reads the command line, whose first word is the program's name.
 pub fn choose<T: Threads>(rt: &T, alloc: Global, words: &[String]) -> Result<Choice, Refusal>
@@ -84,16 +84,16 @@ fn command<'a>(alloc: Global) -> Result<Command<'a>, AllocError> {
         .value_parser(numbers.range(1..=64))
         .value_name("1-64")
         .help(
-            "How many worker threads build an epoch, 1 to 64; by default as many as the machine has processors",
+            "The number of worker threads that build an epoch, 1 to 64; the default is the number of processors",
         );
     let depth = Arg::new(alloc, "depth")
         .long("depth")
         .value_parser(numbers.range(0..=12))
         .value_name("0-12")
         .default_value("12")
-        .help("The split depth: the length in bits of the prefixes that are built apart, 0 to 12");
+        .help("The split depth in bits, 0 to 12");
     Command::new(alloc, "provider")
-        .version("0.1.0")
+        .version("1.0.0")
         .about("Runs a key directory whose indices and signatures come from outside")
         .after_help(EXAMPLE)
         .arg(workers)?

@@ -34,7 +34,7 @@ fn main(rt: HostRuntime) -> ExitCode {
     ExitCode::from(status)
 }
 
-/// Why the program ends without an answer to each line.
+/// Why the program ends without a reply to each line.
 #[derive(Drop)]
 enum Ending {
     /// An argument isn't UTF-8.

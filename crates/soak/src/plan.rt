@@ -21,7 +21,7 @@ pub struct Plan {
     /// Whether what differs from run to run is printed.
     pub is_measured: bool,
     ghost some: { (1 ≤ epochs) × (epochs ≤ most_heads) },
-    ghost crew: { (1 ≤ workers) × (workers ≤ most_workers) },
+    ghost worker_count: { (1 ≤ workers) × (workers ≤ most_workers) },
     ghost watched: { 1 ≤ watchers },
 }
 

@@ -55,7 +55,8 @@ impl<'a> Provider<'a> {
 
     /// Installs an update. None where it is refused.
     pub fn install(&mut self, update: Prepared, t: u64) -> Option<Entry>
-        requires { IsUpdateOf (⟦<Sha256Hash as Hash32>⟧.digest_of self.old.directory.hash) (⟦<DemoIndex as IndexSource>⟧.index_of self.old.directory.index) self.old.directory.state update }
+        requires { IsUpdateOf (⟦<Sha256Hash as Hash32>⟧.digest_of self.old.directory.hash)
+            (⟦<DemoIndex as IndexSource>⟧.index_of self.old.directory.index) self.old.directory.state update }
         ensures { self.new.board.now.table ≡ self.old.board.now.table }
     {
         if self.signer.made() == u64::MAX {
@@ -79,7 +80,8 @@ pub fn prepared<R: Threads + Sync>(
     ops: &[Op],
     workers: usize,
 ) -> Option<Prepared>
-    ensures { IfSome result (IsUpdateOf (⟦<Sha256Hash as Hash32>⟧.digest_of directory.now.hash) (⟦<DemoIndex as IndexSource>⟧.index_of directory.now.index) directory.now.state) }
+    ensures { IfSome result (IsUpdateOf (⟦<Sha256Hash as Hash32>⟧.digest_of directory.now.hash)
+        (⟦<DemoIndex as IndexSource>⟧.index_of directory.now.index) directory.now.state) }
 {
     updates_stay();
     directory.prepare(rt, ops, 8, workers, &Open).ok()

@@ -217,14 +217,14 @@ impl<'a, H: Hash32 + Sync> Clerk<'a, H> {
     pub fn prepare_under<R: Threads + Sync>(
         &self,
         rt: &R,
-        brought: Option<Nonce>,
+        new_nonce: Option<Nonce>,
         ops: &[Op],
         depth: usize,
         workers: usize,
     ) -> Result<Prepared, BatchFault>
         ensures { IfOk result (IsUpdateOf (H.digest_of self.now.directory.hash) index_of_letter self.now.directory.state) }
     {
-        match brought {
+        match new_nonce {
             Some(nonce) => self
                 .directory
                 .prepare_with(rt, nonce, ops, depth, workers, &Open),

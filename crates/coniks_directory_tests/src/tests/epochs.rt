@@ -24,7 +24,7 @@ fn commits<R: Threads + Sync>(
 }
 
 /// Commits no names twice, then three of them, then a change of one.
-fn commit_four<R: Threads + Sync + Abort>(rt: &R, clerk: &mut Clerk<Sha256Hash>) {
+fn commit_hash_four<R: Threads + Sync + Abort>(rt: &R, clerk: &mut Clerk<Sha256Hash>) {
     let empty = "1aa9b40c9d34d625d7329003c097925b7d4c7809b864b047b71defb140aca216";
     assert!(rt; commits(rt, clerk, 1, &[], 1, digest(rt, empty)));
     assert!(rt; commits(rt, clerk, 2, &[], 1, digest(rt, empty)));
@@ -42,7 +42,7 @@ fn commit_four<R: Threads + Sync + Abort>(rt: &R, clerk: &mut Clerk<Sha256Hash>)
 
 /// Commits four epochs, and looks names up in them.
 fn commit_and_ask<R: Threads + Sync + Abort>(rt: &R, clerk: &mut Clerk<Sha256Hash>) {
-    commit_four(rt, clerk);
+    commit_hash_four(rt, clerk);
     are_told(
         rt,
         &clerk.directory,

@@ -28,8 +28,11 @@ fn prepare<R: Threads + Sync + Abort>(
     written: &[Written],
     indices: &[Index],
 ) -> Result<Prepared, SuppliedBatchFault>
-    ensures update { IfOk result (λ p. (index : List ℕ → List ℕ) × IsUpdate (⟦<Sha256Hash as Hash32>⟧.digest_of directory.now.hash) index directory.now.state p) }
-    ensures installable { IfOk result (λ p. (index : List ℕ → List ℕ) × IsSuppliedUpdate (⟦<Sha256Hash as Hash32>⟧.digest_of directory.now.hash) (supplied_index directory.now.index) (registry directory.now) directory.now.state p index) }
+    ensures update { IfOk result (λ p. (index : List ℕ → List ℕ)
+        × IsUpdate (⟦<Sha256Hash as Hash32>⟧.digest_of directory.now.hash) index directory.now.state p) }
+    ensures installable { IfOk result
+        (λ p. (index : List ℕ → List ℕ)
+        × IsSuppliedUpdate (⟦<Sha256Hash as Hash32>⟧.digest_of directory.now.hash) (supplied_index directory.now.index) directory.now.state p index) }
 {
     let ops = ops_of(alloc, written).expect(rt, "operations");
     assert!(rt; ops.len() == indices.len());

@@ -11,6 +11,10 @@ ghost use Rattle.coniks_directory.specs.Supplied.{supplied_index};
 ghost use Rattle.coniks_directory.specs.SuppliedBatches.{IsSuppliedUpdate};
 ghost use Rattle.coniks_directory.specs.Updates.{IsUpdateOf};
 
+mod install;
+mod lookup;
+mod prepare;
+
 use crate::tests::answers::{Told, asked, digest};
 use crate::tests::clerk::{
     Clerk, Letters, NONCE, POLICY, RENEWED, Stamp, Written, new_board, ops_of, refusing, with_clerk,
@@ -88,19 +92,19 @@ fn batch(rt: &impl Abort, alloc: Global, written: &[Written]) -> Vec<Op> {
 fn prepare_at_last<R: Threads + Sync + Abort>(
     rt: &R,
     clerk: &Clerk<Sha256Hash>,
-    brought: Option<Nonce>,
+    new_nonce: Option<Nonce>,
     ops: &[Op],
     workers: usize,
 ) -> (Prepared, bool)
     ensures { IsUpdateOf (⟦<Sha256Hash as Hash32>⟧.digest_of clerk.now.directory.hash) index_of_letter clerk.now.directory.state result.0 }
 {
     let before = seen(clerk);
-    match clerk.prepare_under(rt, brought, ops, 1, workers) {
+    match clerk.prepare_under(rt, new_nonce, ops, 1, workers) {
         Ok(update) => (update, false),
         Err(fault) => {
             assert!(rt; fault == BatchFault::OutOfMemory, "{fault}");
             assert!(rt; seen(clerk) == before);
-            let again = clerk.prepare_under(rt, brought, ops, 1, workers);
+            let again = clerk.prepare_under(rt, new_nonce, ops, 1, workers);
             (again.expect(rt, "an update"), true)
         }
     }
@@ -140,13 +144,13 @@ fn first_epoch<R: Threads + Sync + Abort>(rt: &R, clerk: &mut Clerk<Sha256Hash>)
 fn second_by<R: Threads + Sync + Abort>(
     rt: &R,
     clerk: &mut Clerk<Sha256Hash>,
-    brought: Option<Nonce>,
+    new_nonce: Option<Nonce>,
     workers: usize,
     link: &str,
 ) -> bool {
     first_epoch(rt, clerk);
     let ops = batch(rt, clerk.alloc, &SECOND);
-    let (update, refused) = prepare_at_last(rt, clerk, brought, &ops, workers);
+    let (update, refused) = prepare_at_last(rt, clerk, new_nonce, &ops, workers);
     assert!(rt; update.new_nodes() == 5);
     install_at_last(rt, clerk, update, 2);
     assert!(rt; ends_with(rt, &clerk.publisher, 2, link));
@@ -183,12 +187,6 @@ fn tell<F: FnOnce(&mut Clerk<Sha256Hash>) -> bool, R: Abort + AllocGlobal + Prin
     write(rt, with_clerk(rt, rt.alloc(), 4, u64::MAX, steps));
 }
 
-/// Where a lone worker builds the epoch, each refusal is the call's.
-#[test]
-fn prepare_by_one(rt: HostRuntime) {
-    tell(&rt, |clerk| second_epoch(&rt, clerk, 1));
-}
-
 /// With three workers a refusal in a job of either is the call's, and one that only costs a worker changes no answer.
 #[test]
 fn prepare_by_three(rt: HostRuntime) {
@@ -205,12 +203,6 @@ fn renew_by_one(rt: HostRuntime) {
 #[test]
 fn renew_by_three(rt: HostRuntime) {
     tell(&rt, |clerk| renewed_epoch(&rt, clerk, 3));
-}
-
-/// Room for the first nodes, records, epochs and entries.
-#[test]
-fn install(rt: HostRuntime) {
-    tell(&rt, |clerk| first_epoch(&rt, clerk));
 }
 
 /// Memory that is refused while a commit prepares, and while it installs.
@@ -273,11 +265,6 @@ fn look_up_three<R: Threads + Sync + Abort>(rt: &R, clerk: &mut Clerk<Sha256Hash
     let before = asked_at_last(rt, clerk, 1, "b", Told::Key(1, b'k'));
     let absent = asked_at_last(rt, clerk, 2, "d", Told::Absent(2));
     now || before || absent
-}
-
-#[test]
-fn lookup(rt: HostRuntime) {
-    tell(&rt, |clerk| look_up_three(&rt, clerk));
 }
 
 /// Looks a name up at its index, once more where memory is refused, and says whether it was.
@@ -368,7 +355,9 @@ impl<'a> SuppliedClerk<'a> {
         indices: &[Index],
     ) -> Result<Prepared, SuppliedBatchFault>
         requires { length ops.now ≡ length indices.now }
-        ensures { IfOk result (λ p. (index : List ℕ → List ℕ) × IsSuppliedUpdate (⟦<Sha256Hash as Hash32>⟧.digest_of self.now.directory.hash) (supplied_index self.now.directory.index) (registry self.now.directory) self.now.directory.state p index) }
+        ensures { IfOk result (λ p. (index : List ℕ → List ℕ)
+            × IsSuppliedUpdate (⟦<Sha256Hash as Hash32>⟧.digest_of self.now.directory.hash)
+            (supplied_index self.now.directory.index) self.now.directory.state p index) }
     {
         let batch = SuppliedBatch {
             nonce: None,
@@ -385,8 +374,12 @@ impl<'a> SuppliedClerk<'a> {
         update: Prepared,
         t: u64,
     ) -> Result<Entry, (InstallFault, Prepared)>
-        requires { (index : List ℕ → List ℕ) × IsSuppliedUpdate (⟦<Sha256Hash as Hash32>⟧.digest_of self.old.directory.hash) (supplied_index self.old.directory.index) (registry self.old.directory) self.old.directory.state update index }
-        ensures { IfErr result (λ r. (index : List ℕ → List ℕ) × IsSuppliedUpdate (⟦<Sha256Hash as Hash32>⟧.digest_of self.new.directory.hash) (supplied_index self.new.directory.index) (registry self.new.directory) self.new.directory.state r.1 index) }
+        requires { (index : List ℕ → List ℕ)
+            × IsSuppliedUpdate (⟦<Sha256Hash as Hash32>⟧.digest_of self.old.directory.hash)
+            (supplied_index self.old.directory.index) self.old.directory.state update index }
+        ensures { IfErr result (λ r. (index : List ℕ → List ℕ)
+            × IsSuppliedUpdate (⟦<Sha256Hash as Hash32>⟧.digest_of self.new.directory.hash)
+            (supplied_index self.new.directory.index) self.new.directory.state r.1 index) }
     {
         assert!(rt; self.signer.made() < u64::MAX && self.signer.refused() < u64::MAX);
         self.directory.install_supplied(
@@ -407,7 +400,9 @@ fn prepare_supplied_at_last<R: Threads + Sync + Abort>(
     written: &[Written],
     indices: &[Index],
 ) -> (Prepared, bool)
-    ensures { (index : List ℕ → List ℕ) × IsSuppliedUpdate (⟦<Sha256Hash as Hash32>⟧.digest_of clerk.now.directory.hash) (supplied_index clerk.now.directory.index) (registry clerk.now.directory) clerk.now.directory.state result.0 index }
+    ensures { (index : List ℕ → List ℕ)
+        × IsSuppliedUpdate (⟦<Sha256Hash as Hash32>⟧.digest_of clerk.now.directory.hash)
+        (supplied_index clerk.now.directory.index) clerk.now.directory.state result.0 index }
 {
     let ops = batch(rt, clerk.alloc, written);
     assert!(rt; ops.len() == indices.len());
@@ -433,7 +428,9 @@ fn install_supplied_at_last(
     update: Prepared,
     t: u64,
 ) -> bool
-    requires { (index : List ℕ → List ℕ) × IsSuppliedUpdate (⟦<Sha256Hash as Hash32>⟧.digest_of clerk.old.directory.hash) (supplied_index clerk.old.directory.index) (registry clerk.old.directory) clerk.old.directory.state update index }
+    requires { (index : List ℕ → List ℕ)
+        × IsSuppliedUpdate (⟦<Sha256Hash as Hash32>⟧.digest_of clerk.old.directory.hash)
+        (supplied_index clerk.old.directory.index) clerk.old.directory.state update index }
 {
     let before = clerk.seen();
     let supplied = clerk.supplied(rt);

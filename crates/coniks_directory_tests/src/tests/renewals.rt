@@ -27,13 +27,13 @@ fn install_by<R: Threads + Sync + Abort>(
     rt: &R,
     clerk: &mut Clerk<Sha256Hash>,
     t: u64,
-    brought: Option<Nonce>,
+    new_nonce: Option<Nonce>,
     written: &[Written],
     depth: usize,
     workers: usize,
 ) -> usize {
     let ops = ops_of(clerk.alloc, written).expect(rt, "memory");
-    let update = clerk.prepare_under(rt, brought, &ops, depth, workers);
+    let update = clerk.prepare_under(rt, new_nonce, &ops, depth, workers);
     let update = update.expect(rt, "an update");
     let nodes = update.new_nodes();
     assert!(rt; clerk.install(update, t).is_ok());
@@ -120,7 +120,7 @@ fn same_for_every_crew(rt: HostRuntime) {
 
 /// Registers two names, and then installs a batch that brings a nonce, so that it adds this many nodes and the last entry
 /// has this body.
-fn renews<R: Threads + Sync + Abort>(
+fn rotates<R: Threads + Sync + Abort>(
     rt: &R,
     clerk: &mut Clerk<Sha256Hash>,
     nonce: Nonce,
@@ -139,7 +139,7 @@ fn same_nonce_again(rt: HostRuntime) {
     let body =
         "020000000000000002000000000000000146de554c28df523fe8bbcbf7cf90c45cc1f44d29be6fc4bf4fa5fd416437b6ba9efd9e7911a2ebeef55ec07b8784e4a86ec0ffd7569f4d6aefdbc195087a129811111111111111111111111111111111111111111111111111111111111111113333333333333333333333333333333333333333333333333333333333333333";
     with_clerk(&rt, rt.alloc(), 2, u64::MAX, |clerk| {
-        renews(&rt, clerk, NONCE, &[], 3, body);
+        rotates(&rt, clerk, NONCE, &[], 3, body);
     });
 }
 
@@ -148,7 +148,7 @@ fn renew_with_changes<R: Threads + Sync + Abort>(rt: &R, clerk: &mut Clerk<Sha25
     let changes = [(Register, b'c', b'k'), (Change, b'a', b'l')];
     let body =
         "0200000000000000020000000000000001401b565952d54840231da87b96d9653a8f4d8e09bbbcfa701769fb762352473e9efd9e7911a2ebeef55ec07b8784e4a86ec0ffd7569f4d6aefdbc195087a129844444444444444444444444444444444444444444444444444444444444444443333333333333333333333333333333333333333333333333333333333333333";
-    renews(rt, clerk, RENEWED, &changes, 5, body);
+    rotates(rt, clerk, RENEWED, &changes, 5, body);
     for (name, key) in [("a", b'l'), ("c", b'k')] {
         let told = asked_under(&RENEWED, &clerk.directory, 2, name);
         assert!(rt; told == Told::Key(2, key));

@@ -46,7 +46,8 @@ fn prepare_renewed<H: Hash32 + Sync, X: IndexSource, R: Threads + Sync>(
     nonce: Nonce,
     ops: &[Op],
 ) -> Result<Prepared, BatchFault>
-    ensures { IfOk result (IsPreparedOf (H.digest_of directory.now.hash) (X.index_of directory.now.index) directory.now.state (Some nonce.0) (operations ops.now) 1 2) }
+    ensures { IfOk result (IsPreparedOf (H.digest_of directory.now.hash)
+        (X.index_of directory.now.index) directory.now.state (Some nonce.0) (operations ops.now) 1 2) }
 {
     directory.prepare_with(rt, nonce, ops, 1, 2, &Open)
 }
@@ -65,11 +66,14 @@ pub fn install_next<H: Hash32, X: IndexSource, S: Sign>(
     requires refused { S.refused_of signer.old < 2 ^ 64 - 1 }
     requires table { publisher.old.table ≡ board.now.table }
     requires published { publisher.old.heads ≡ heads_of (H.digest_of directory.old.hash) directory.old.state.chain }
-    ensures run { OnOk result ((then : List ℕ → List ℕ) (nonce policy : List ℕ) (batches : List Batch) (earlier : State) (brought : Option (List ℕ)) (ops : List Operation) (depth workers : ℕ)
+    ensures run { OnOk result ((then : List ℕ → List ℕ) (nonce policy : List ℕ) (batches : List Batch)
+        (earlier : State) (new_nonce : Option (List ℕ)) (ops : List Operation) (depth workers : ℕ)
         → Run (H.digest_of directory.old.hash) (X.index_of directory.old.index) nonce policy batches directory.old.state
-        → IsPreparedOf (H.digest_of directory.old.hash) then earlier brought ops depth workers update → AgreeOn then (X.index_of directory.old.index) (registry_after earlier update)
+        → IsPreparedOf (H.digest_of directory.old.hash) then earlier new_nonce ops depth workers update
+        → AgreeOn then (X.index_of directory.old.index) (registry_after earlier update)
         → Grows earlier directory.old.state
-        → Run (H.digest_of directory.new.hash) (X.index_of directory.new.index) nonce policy (batches ++ record { t = t; brought = brought; ops = ops } ∷ []) directory.new.state) }
+        → Run (H.digest_of directory.new.hash) (X.index_of directory.new.index) nonce policy
+        (batches ++ record { t = t; new_nonce = new_nonce; ops = ops } ∷ []) directory.new.state) }
     ensures heads { publisher.new.heads ≡ heads_of (H.digest_of directory.new.hash) directory.new.state.chain }
     ensures table { publisher.new.table ≡ publisher.old.table }
 {
@@ -83,9 +87,11 @@ pub fn prepare_supplied_next<H: Hash32 + Sync, X: IndexSource, R: Threads + Sync
     batch: &SuppliedBatch<'_>,
 ) -> Result<Prepared, SuppliedBatchFault>
     requires { length batch.now.ops.now ≡ length batch.now.indices.now }
-    ensures prepared { IfOk result (IsPreparedOf (H.digest_of directory.now.hash) (index_in (X.index_of directory.now.index) (registry directory.now) (indexed batch.now.ops.now batch.now.indices.now))
+    ensures prepared { IfOk result
+        (IsPreparedOf (H.digest_of directory.now.hash)
+        (index_in (X.index_of directory.now.index) (registry directory.now) (indexed batch.now.ops.now batch.now.indices.now))
         directory.now.state (option_map (λ (n : Nonce). n.0) batch.now.nonce) (operations batch.now.ops.now) 1 2) }
-    ensures installable { IfOk result (λ p. IsSuppliedUpdate (H.digest_of directory.now.hash) (X.index_of directory.now.index) (registry directory.now) directory.now.state p
+    ensures installable { IfOk result (λ p. IsSuppliedUpdate (H.digest_of directory.now.hash) (X.index_of directory.now.index) directory.now.state p
         (index_in (X.index_of directory.now.index) (registry directory.now) (indexed batch.now.ops.now batch.now.indices.now))) }
 {
     directory.prepare_supplied(rt, batch, 1, 2, &Open)
@@ -100,16 +106,19 @@ pub fn install_supplied_next<H: Hash32, S: Sign>(
     publisher: &mut Publisher,
     board: &Board,
 ) -> Result<Entry, (InstallFault, Prepared)>
-    requires update { (index : List ℕ → List ℕ) × IsSuppliedUpdate (H.digest_of directory.old.hash) (supplied_index directory.old.index) (registry directory.old) directory.old.state update index }
+    requires update { (index : List ℕ → List ℕ)
+        × IsSuppliedUpdate (H.digest_of directory.old.hash) (supplied_index directory.old.index) directory.old.state update index }
     requires made { S.made_of signer.old < 2 ^ 64 - 1 }
     requires refused { S.refused_of signer.old < 2 ^ 64 - 1 }
     requires table { publisher.old.table ≡ board.now.table }
     requires published { publisher.old.heads ≡ heads_of (H.digest_of directory.old.hash) directory.old.state.chain }
-    ensures run { OnOk result ((index : List ℕ → List ℕ) (nonce policy : List ℕ) (batches : List Batch) (brought : Option (List ℕ)) (ops : List Operation) (depth workers : ℕ)
+    ensures run { OnOk result ((index : List ℕ → List ℕ) (nonce policy : List ℕ)
+        (batches : List Batch) (new_nonce : Option (List ℕ)) (ops : List Operation) (depth workers : ℕ)
         → Run (H.digest_of directory.old.hash) (supplied_index directory.old.index) nonce policy batches directory.old.state
-        → IsSuppliedUpdate (H.digest_of directory.old.hash) (supplied_index directory.old.index) (registry directory.old) directory.old.state update index
-        → IsPreparedOf (H.digest_of directory.old.hash) index directory.old.state brought ops depth workers update
-        → Run (H.digest_of directory.new.hash) (supplied_index directory.new.index) nonce policy (batches ++ record { t = t; brought = brought; ops = ops } ∷ []) directory.new.state) }
+        → IsSuppliedUpdate (H.digest_of directory.old.hash) (supplied_index directory.old.index) directory.old.state update index
+        → IsPreparedOf (H.digest_of directory.old.hash) index directory.old.state new_nonce ops depth workers update
+        → Run (H.digest_of directory.new.hash) (supplied_index directory.new.index) nonce policy
+        (batches ++ record { t = t; new_nonce = new_nonce; ops = ops } ∷ []) directory.new.state) }
     ensures heads { publisher.new.heads ≡ heads_of (H.digest_of directory.new.hash) directory.new.state.chain }
     ensures table { publisher.new.table ≡ publisher.old.table }
 {
@@ -166,7 +175,8 @@ pub fn commit_next<H: Hash32 + Sync, X: IndexSource, S: Sign, R: Threads + Sync>
     requires published { publisher.old.heads ≡ heads_of (H.digest_of directory.old.hash) directory.old.state.chain }
     ensures run { OnOk result ((nonce policy : List ℕ) (batches : List Batch)
         → Run (H.digest_of directory.old.hash) (X.index_of directory.old.index) nonce policy batches directory.old.state
-        → Run (H.digest_of directory.new.hash) (X.index_of directory.new.index) nonce policy (batches ++ record { t = t; brought = None; ops = operations ops.now } ∷ []) directory.new.state) }
+        → Run (H.digest_of directory.new.hash) (X.index_of directory.new.index) nonce policy
+        (batches ++ record { t = t; new_nonce = None; ops = operations ops.now } ∷ []) directory.new.state) }
     ensures heads { publisher.new.heads ≡ heads_of (H.digest_of directory.new.hash) directory.new.state.chain }
     ensures table { publisher.new.table ≡ publisher.old.table }
 {
@@ -177,7 +187,8 @@ pub fn commit_next<H: Hash32 + Sync, X: IndexSource, S: Sign, R: Threads + Sync>
 pub fn root_of<H: Hash32, X: IndexSource>(directory: &Directory<H, X>, t: u64) -> Option<Digest>
     ensures { (nonce policy : List ℕ) (batches : List Batch)
         → Run (H.digest_of directory.now.hash) (X.index_of directory.now.index) nonce policy batches directory.now.state
-        → option_map (λ root. root.0) result ≡ option_map (root_at (H.digest_of directory.now.hash) (X.index_of directory.now.index)) (shown_at (defined nonce batches) t) }
+        → option_map (λ root. root.0) result ≡ option_map
+        (root_at (H.digest_of directory.now.hash) (X.index_of directory.now.index)) (shown_at (defined nonce batches) t) }
 {
     directory_theorem();
     directory.root_at(t)

@@ -89,7 +89,8 @@ fn prepare_change<R: Threads + Sync + Abort>(
     alloc: Global,
     directory: &Directory<Sha256Hash, SuppliedIndices>,
 ) -> Prepared
-    ensures { IsUpdateOf (⟦<Sha256Hash as Hash32>⟧.digest_of directory.now.hash) (⟦<SuppliedIndices as IndexSource>⟧.index_of directory.now.index) directory.now.state result }
+    ensures { IsUpdateOf (⟦<Sha256Hash as Hash32>⟧.digest_of directory.now.hash)
+        (⟦<SuppliedIndices as IndexSource>⟧.index_of directory.now.index) directory.now.state result }
 {
     updates_stay();
     let ops = ops_of(alloc, &[(Change, b'b', b'l')]).expect(rt, "operations");

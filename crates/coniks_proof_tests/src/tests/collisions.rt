@@ -166,7 +166,7 @@ fn found_at_last(
 /// Two proofs with what they give, whether or not memory is refused. `faults/run` refuses each request for memory in turn,
 /// and is told by what the test writes whether it was one of `extract`.
 #[test]
-fn refused(rt: HostRuntime) {
+fn refused_in_turn(rt: HostRuntime) {
     let alloc = rt.alloc();
     let k = shaped(&rt, alloc, ending(Some(ONES), Some(b'k')));
     let l = shaped(&rt, alloc, ending(Some(ONES), Some(b'l')));

@@ -3,7 +3,7 @@
 use crate::tests::{OPENING, digest, repeated};
 use coniks_proof::{
     CommitmentPreimage, Digest, Flat, Hash32, MAX_KEY, MAX_NAME, Message, Nonce, Sha256Hash,
-    commit_four, hash_all,
+    commit_hash_four, hash_all,
 };
 use std::alloc::Global;
 use std::process::Abort;
@@ -89,7 +89,7 @@ fn preimage<'a>(rt: &impl Abort, key: &'a [u8]) -> CommitmentPreimage<'a> {
 fn commitments(rt: HostRuntime) {
     let alloc = rt.alloc();
     for [a, b, c, d] in GROUPS {
-        let got = commit_four(
+        let got = commit_hash_four(
             &Sha256Hash,
             &preimage(&rt, &key(&rt, alloc, a)),
             &preimage(&rt, &key(&rt, alloc, b)),

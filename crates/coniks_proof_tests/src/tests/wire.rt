@@ -2,8 +2,8 @@
 
 use crate::tests::{NONCE, OPENING, ZERO, beside, half, here, index_of, proof_of, repeated};
 use coniks_proof::{
-    Answer, BorrowedEnd, BorrowedProof, BytesFault, CheckFault, Digest, End, Proof, Sha256Hash,
-    WireFault, check_borrowed, inner_hash,
+    Answer, BytesFault, CheckFault, Digest, End, EndRef, Proof, ProofRef, Sha256Hash, WireFault,
+    check_ref, inner_hash,
 };
 use std::alloc::Global;
 use std::process::Abort;
@@ -63,7 +63,7 @@ fn written(rt: HostRuntime) {
 
 /// How many siblings the proof of these bytes has; 1,000 where they are no proof's.
 fn count_in(bytes: &[u8]) -> usize {
-    match BorrowedProof::read(bytes) {
+    match ProofRef::read(bytes) {
         Ok(proof) => proof.siblings().len(),
         Err(_) => 1000,
     }
@@ -71,11 +71,11 @@ fn count_in(bytes: &[u8]) -> usize {
 
 /// Whether the end of these bytes' proof is a leaf of `a` with the key `kk`.
 fn is_here(bytes: &[u8]) -> bool {
-    let Ok(proof) = BorrowedProof::read(bytes) else {
+    let Ok(proof) = ProofRef::read(bytes) else {
         return false;
     };
     match proof.end() {
-        BorrowedEnd::Here { name, key, opening } => {
+        EndRef::Here { name, key, opening } => {
             name == b"a".as_slice() && key == b"kk".as_slice() && opening == OPENING
         }
         _ => false,
@@ -84,19 +84,19 @@ fn is_here(bytes: &[u8]) -> bool {
 
 /// Whether the end of these bytes' proof is a leaf of index 0x40.. with the commitment of aa...
 fn is_other(bytes: &[u8]) -> bool {
-    let Ok(proof) = BorrowedProof::read(bytes) else {
+    let Ok(proof) = ProofRef::read(bytes) else {
         return false;
     };
     match proof.end() {
-        BorrowedEnd::Other { index, commitment } => index == index_of(0x40) && commitment == FIRST,
+        EndRef::Other { index, commitment } => index == index_of(0x40) && commitment == FIRST,
         _ => false,
     }
 }
 
 /// Whether the end of these bytes' proof is empty.
 fn is_empty(bytes: &[u8]) -> bool {
-    match BorrowedProof::read(bytes) {
-        Ok(proof) => matches!(proof.end(), BorrowedEnd::Empty),
+    match ProofRef::read(bytes) {
+        Ok(proof) => matches!(proof.end(), EndRef::Empty),
         Err(_) => false,
     }
 }
@@ -117,7 +117,7 @@ fn read(rt: HostRuntime) {
 
 /// Why the first bytes of these are no proof's.
 fn fault_of_first(bytes: &[u8], count: usize) -> Option<WireFault> {
-    BorrowedProof::read(bytes.get(..count).unwrap_or(&[])).err()
+    ProofRef::read(bytes.get(..count).unwrap_or(&[])).err()
 }
 
 /// Whether as many of the first bytes as this, up to that, left out, are refused by one fault.
@@ -164,21 +164,21 @@ fn more_and_unknown(rt: HostRuntime) {
         of_here(&rt, alloc),
     ] {
         bytes.push(0).expect(&rt, "memory");
-        let fault = BorrowedProof::read(&bytes).err();
+        let fault = ProofRef::read(&bytes).err();
         assert_eq!(rt; fault, Some(WireFault::BytesFollow));
     }
     for kind in 3..=255u8 {
-        let fault = BorrowedProof::read(&[kind]).err();
+        let fault = ProofRef::read(&[kind]).err();
         assert_eq!(rt; fault, Some(WireFault::UnknownKind));
     }
 }
 
 /// What bytes say of `a`, of index 0, in a tree of `a` and `b`: the length of the key, 0 where `a` is absent.
 fn told(bytes: &[u8], root: &Digest) -> Result<usize, CheckFault> {
-    let Ok(proof) = BorrowedProof::read(bytes) else {
+    let Ok(proof) = ProofRef::read(bytes) else {
         return Ok(1000);
     };
-    match check_borrowed(&Sha256Hash, &NONCE, root, &index_of(0), b"a", &proof)? {
+    match check_ref(&Sha256Hash, &NONCE, root, &index_of(0), b"a", &proof)? {
         Answer::Key(key) => Ok(key.len()),
         Answer::Absent => Ok(0),
     }

@@ -1,30 +1,30 @@
-//! Laws of what `audit` answers, each the contract of a function that only reads.
+//! Lemmas about the answers of `audit`, each the contract of a function that only reads.
 
 ghost use Rattle.std.specs.Prelude.{◌≡◌, ◌↔◌, ℕ, List, Bool, false, Option, None, Some};
 ghost use Rattle.coniks_proof.specs.Sha256.{sha256};
-ghost use Rattle.coniks_chain.specs.Chain.{Follows, GoodChain, IsFirstFault};
+ghost use Rattle.coniks_chain.specs.Chain.{Follows, GoodChain, IsFirstEntryFault};
 ghost use Rattle.coniks_chain.specs.declared.auditor.AuditFault.{AuditFault};
-ghost use Rattle.coniks_chain.specs.declared.auditor.Before.{Before};
+ghost use Rattle.coniks_chain.specs.declared.auditor.AuditorState.{AuditorState};
 ghost use Rattle.coniks_chain.specs.declared.entry.Entry.{Entry};
 ghost use Rattle.coniks_tool.specs.Audit.{AuditState, audit_answer, none_audited};
 ghost use Rattle.coniks_tool.specs.AuditChain.{accepted_entries};
 ghost use Rattle.coniks_tool.specs.AuditFaults.{audit_fault};
 ghost use Rattle.coniks_tool.specs.Seal.{is_seal};
 
-/// An entry has no fault exactly where it follows, and the fault that is told is its first one.
+/// Proves that an entry has no error if and only if it follows, and that the printed error is its first one.
 pub fn told_fault_is_the_first()
-    ensures none { (verdict : List ℕ → List ℕ → Bool) (before : Option Before) (entry : Entry)
+    ensures none { (verdict : List ℕ → List ℕ → Bool) (before : Option AuditorState) (entry : Entry)
         → (audit_fault verdict before entry ≡ None) ↔ Follows verdict before entry }
-    ensures some { (verdict : List ℕ → List ℕ → Bool) (before : Option Before) (entry : Entry) (fault : AuditFault)
-        → (audit_fault verdict before entry ≡ Some fault) ↔ IsFirstFault verdict before entry fault }
+    ensures some { (verdict : List ℕ → List ℕ → Bool) (before : Option AuditorState) (entry : Entry) (fault : AuditFault)
+        → (audit_fault verdict before entry ≡ Some fault) ↔ IsFirstEntryFault verdict before entry fault }
 {}
 
-/// The entries of the lines that are accepted are a good chain, whatever lines stand between them.
+/// Proves that the entries of the accepted lines are a good chain, whatever lines are between them.
 pub fn accepted_lines_are_a_chain()
     ensures { (key : List ℕ) (lines : List (List ℕ)) → GoodChain sha256 (is_seal key) (accepted_entries (none_audited key) lines) }
 {}
 
-/// A refused line leaves what the next entry is compared with.
+/// Proves that a refused line does not change the state that the next entry is compared with.
 pub fn refused_line_changes_no_auditor()
     ensures { (s : AuditState) (line : List ℕ) → (audit_answer s line).accepted ≡ false → (audit_answer s line).state ≡ s }
 {}

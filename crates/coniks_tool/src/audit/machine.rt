@@ -16,8 +16,11 @@ use coniks_chain::{Auditor, Entry};
 use coniks_lines::{ByteIn, ByteOut, LineMachine, RunFault, run_lines};
 use coniks_proof::{Head, Sha256Hash};
 use std::alloc::{AllocError, Global};
+use std::marker::Model;
 
-/// Audits the entries of lines, each after the one that was accepted last.
+/// A machine that audits the entries of lines, each after the last accepted one.
+///
+/// Contracts see it as the key and the auditor's state.
 #[derive(Drop)]
 pub struct Auditing {
     alloc: Global,
@@ -25,10 +28,18 @@ pub struct Auditing {
     auditor: Auditor<Sha256Hash>,
 }
 
+impl Model for Auditing {
+    ghost use Rattle.coniks_tool.specs.Audit.{AuditState};
+
+    ghost Value = { AuditState };
+
+    ghost view = { λ a. record { key = a.seal.key; before = a.auditor.1 } };
+}
+
 impl Auditing {
-    /// Audits under the seal of a key, and has accepted no entry.
+    /// Returns a machine that audits under the seal of a key, and has accepted no entry.
     fn new(alloc: Global, key: [u8; 32]) -> Auditing
-        ensures { record { key = result.seal.key; before = result.auditor.1 } ≡ none_audited key }
+        ensures { result ≡ none_audited key }
     {
         Auditing {
             alloc,
@@ -39,8 +50,8 @@ impl Auditing {
 
     /// Feeds an entry to the auditor.
     fn judge(&mut self, entry: &Entry) -> AuditReply
-        ensures reply { audit_outcome result ≡ (entry_turn (record { key = self.old.seal.key; before = self.old.auditor.1 }) (Some entry.now)).outcome }
-        ensures state { record { key = self.new.seal.key; before = self.new.auditor.1 } ≡ (entry_turn (record { key = self.old.seal.key; before = self.old.auditor.1 }) (Some entry.now)).state }
+        ensures reply { audit_outcome result ≡ (entry_turn self.old (Some entry.now)).outcome }
+        ensures state { self.new ≡ (entry_turn self.old (Some entry.now)).state }
     {
         if let Err(fault) = self.auditor.feed(entry, &self.seal) {
             return AuditReply::AtFault(fault);
@@ -52,8 +63,8 @@ impl Auditing {
     }
 
     fn reply(&mut self, line: &[u8]) -> Result<AuditReply, AllocError>
-        ensures reply { IfOk result (λ reply. audit_outcome reply ≡ (audit_turn (record { key = self.old.seal.key; before = self.old.auditor.1 }) line.now).outcome) }
-        ensures state { OnOk result (record { key = self.new.seal.key; before = self.new.auditor.1 } ≡ (audit_turn (record { key = self.old.seal.key; before = self.old.auditor.1 }) line.now).state) }
+        ensures reply { IfOk result (λ reply. audit_outcome reply ≡ (audit_turn self.old line.now).outcome) }
+        ensures state { OnOk result (self.new ≡ (audit_turn self.old line.now).state) }
     {
         let Some(object) = read_object(self.alloc, line)? else {
             return Ok(AuditReply::NotJson);
@@ -70,7 +81,7 @@ impl LineMachine for Auditing {
 
     ghost State = { AuditState };
 
-    ghost state = { λ a. record { key = a.seal.key; before = a.auditor.1 } };
+    ghost state = { λ a. a };
 
     ghost answer = { audit_answer };
 
@@ -83,14 +94,14 @@ impl LineMachine for Auditing {
     }
 }
 
-/// Audits the entries that the lines of the reader hold, under the demonstration seal of a key: each line is answered by
-/// one line and one flush, until a read answers 0. Tells whether each line was accepted.
+/// Audits the entries in the reader's lines, under the demonstration seal of a key.
 ///
-/// An entry is compared with the last one that was accepted; a refused line changes nothing.
+/// Answers each line with one line and one flush, until a read returns 0. Returns whether each line was accepted. An
+/// entry is compared with the last accepted one. A refused line changes nothing.
 ///
 /// # Errors
 ///
-/// Those of `run_lines`.
+/// The errors of `run_lines`.
 pub fn run_audit<R: ByteIn, W: ByteOut>(
     alloc: Global,
     key: [u8; 32],
@@ -107,8 +118,8 @@ pub fn run_audit<R: ByteIn, W: ByteOut>(
         (R.source reader.old) (R.source reader.new)
         (W.sink writer.old) (W.sink writer.new)) }
 
-    // Where the reader tells its bytes: after Ok each of them is answered, and after a fault a beginning of what
-    // answers them was written. Each line is accepted exactly where the lines hold a good chain.
+    // If the reader's bytes are known: after Ok each of them is answered, and after an error a prefix of their answers
+    // was written. Each line is accepted if and only if the lines hold a good chain.
     ensures all_of { (input : List ℕ) → (R.source reader.old).left ≡ Some input
         → IfOk result (λ all. (state : AuditState) × AnswersAll audit_answer (none_audited key) input
         (W.sink writer.old) (W.sink writer.new)

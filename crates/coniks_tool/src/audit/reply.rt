@@ -1,4 +1,4 @@
-//! What `audit` answers to a line, and its text.
+//! The answers of `audit` to a line, and their text.
 
 ghost use Rattle.std.specs.Prelude.{◌≡◌, IfOk};
 ghost use Rattle.serde_json.specs.View.{view};
@@ -11,23 +11,23 @@ use coniks_chain::AuditFault;
 use coniks_proof::Digest;
 use std::alloc::{AllocError, Global};
 
-/// What `audit` answers to a line.
+/// The answer of `audit` to a line.
 #[derive(Clone, Copy)]
 pub enum AuditReply {
-    /// The entry follows the one that was accepted last.
+    /// The entry follows the last accepted one.
     Audited { epoch: u64, link: Digest },
-    /// The line isn't a JSON object.
+    /// The line is not a JSON object.
     NotJson,
     /// The member `entry` is missing, of another kind or of a wrong text.
     NoEntry,
-    /// The entry doesn't follow.
+    /// The entry does not follow.
     AtFault(AuditFault),
 }
 
 impl AuditReply {
     ghost use Rattle.coniks_tool.specs.AuditReplies.{is_audited};
 
-    /// Whether the line was accepted.
+    /// Returns whether the line was accepted.
     pub fn is_accepted(&self) -> bool
         ensures { result ≡ is_audited (audit_outcome self.now) }
     {
@@ -37,7 +37,11 @@ impl AuditReply {
         }
     }
 
-    /// The object that is printed.
+    /// Returns the object that is printed.
+    ///
+    /// # Errors
+    ///
+    /// `AllocError` if an allocation fails.
     pub fn object(&self, alloc: Global) -> Result<Printable, AllocError>
         ensures { IfOk result (λ object. view object.value ≡ audit_data (audit_outcome self.now)) }
     {
@@ -50,7 +54,7 @@ impl AuditReply {
     }
 }
 
-/// The name of a fault.
+/// Returns the name of an error.
 pub fn audit_fault_text(fault: AuditFault) -> &'static str
     ensures { result.now ≡ audit_fault_name fault }
 {

@@ -1,4 +1,4 @@
-//! Laws of what `check` answers, each the contract of a function that only reads.
+//! Lemmas about the answers of `check`, each the contract of a function that only reads.
 
 ghost use Rattle.std.specs.Prelude.{◌≡◌, ◌↔◌, ℕ, List, None, Some};
 ghost use Rattle.coniks_proof.specs.Faults.{Has, IsFirst};
@@ -8,7 +8,9 @@ ghost use Rattle.coniks_proof.specs.declared.paths.Proof.{Proof};
 ghost use Rattle.coniks_tool.specs.Check.{Stateless, check_answer};
 ghost use Rattle.coniks_tool.specs.CheckFaults.{check_fault};
 
-/// A proof has no fault exactly where it is accepted with what its end says, and the fault that is told is its first one.
+/// Proves that a proof has no error if and only if it is accepted with the answer of its end.
+///
+/// The printed error is its first one.
 pub fn told_fault_of_a_proof_is_the_first()
     ensures none { (hash : List ℕ → List ℕ) (nonce root index name : List ℕ) (proof : Proof)
         → (check_fault hash nonce root index name proof ≡ None) ↔ (Accepts hash nonce root index name proof (answer_of proof.end)) }
@@ -16,7 +18,7 @@ pub fn told_fault_of_a_proof_is_the_first()
         → (check_fault hash nonce root index name proof ≡ Some fault) ↔ (IsFirst (Has hash nonce root index name proof) fault) }
 {}
 
-/// No line changes how the next one is answered.
+/// Proves that no line changes the answer to the next one.
 pub fn lines_are_checked_apart()
     ensures { (s : Stateless) (line : List ℕ) → (check_answer s line).state ≡ s }
 {}

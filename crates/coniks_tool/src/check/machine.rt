@@ -16,13 +16,13 @@ use coniks_proof::{Sha256Hash, check};
 use serde_json::Value;
 use std::alloc::{AllocError, Global};
 
-/// Checks the proofs of lines, each by itself.
+/// A machine that checks the proofs of lines, each on its own.
 #[derive(Drop)]
 pub struct Checking {
     alloc: Global,
 }
 
-/// Judges the proof of a question.
+/// Checks the proof of a question.
 fn judge<'q>(question: &'q Question<'_>) -> CheckReply<'q>
     ensures { check_outcome result ≡ question_outcome (Ok (asked_by question.now)) }
 {
@@ -39,7 +39,7 @@ fn judge<'q>(question: &'q Question<'_>) -> CheckReply<'q>
     }
 }
 
-/// Adds a reply's text, and tells whether the line was accepted.
+/// Appends a reply's text, and returns whether the line was accepted.
 fn reply(alloc: Global, reply: &CheckReply<'_>, out: &mut Vec<u8>) -> Result<bool, AllocError>
     ensures text { OnOk result (out.new.items ≡ out.old.items ++ compact_text (check_data (check_outcome reply.now))) }
     ensures accepted { IfOk result (λ accepted. accepted ≡ is_answered (check_outcome reply.now)) }
@@ -67,7 +67,7 @@ impl LineMachine for Checking {
     }
 }
 
-/// Answers a line that is an object.
+/// Replies to a line that is an object.
 fn answer(alloc: Global, object: &Value, out: &mut Vec<u8>) -> Result<bool, AllocError>
     ensures text { OnOk result (out.new.items ≡ out.old.items ++ compact_text (check_data (question_outcome (asked_in (view object.now))))) }
     ensures accepted { IfOk result (λ accepted. accepted ≡ is_answered (question_outcome (asked_in (view object.now)))) }
@@ -78,12 +78,13 @@ fn answer(alloc: Global, object: &Value, out: &mut Vec<u8>) -> Result<bool, Allo
     }
 }
 
-/// Checks the proofs that the lines of the reader hold, each with its index, name, nonce and root: each line is
-/// answered by one line and one flush, until a read answers 0. Tells whether each line was accepted.
+/// Checks the proofs in the reader's lines, each with its index, name, nonce and root.
+///
+/// Answers each line with one line and one flush, until a read returns 0. Returns whether each line was accepted.
 ///
 /// # Errors
 ///
-/// Those of `run_lines`.
+/// The errors of `run_lines`.
 pub fn run_check<R: ByteIn, W: ByteOut>(
     alloc: Global,
     reader: &mut R,
@@ -99,8 +100,8 @@ pub fn run_check<R: ByteIn, W: ByteOut>(
         (R.source reader.old) (R.source reader.new)
         (W.sink writer.old) (W.sink writer.new)) }
 
-    // Where the reader tells its bytes: after Ok each of them is answered, and after a fault a beginning of what
-    // answers them was written.
+    // If the reader's bytes are known: after Ok each of them is answered, and after an error a prefix of their answers
+    // was written.
     ensures all_of { (input : List ℕ) → (R.source reader.old).left ≡ Some input
         → IfOk result (λ all. (state : Stateless) × AnswersAll check_answer stateless input
         (W.sink writer.old) (W.sink writer.new)

@@ -1,4 +1,4 @@
-//! What a line asks of the checker.
+//! The question in a line for the checker.
 
 ghost use Rattle.std.specs.Prelude.{◌≡◌, IfOk};
 ghost use Rattle.serde_json.specs.View.{view};
@@ -11,7 +11,7 @@ use coniks_proof::{Digest, Index, Nonce, Proof};
 use serde_json::Value;
 use std::alloc::{AllocError, Global};
 
-/// Whether a proof is accepted for a name and its index, under a root and a nonce.
+/// A question: whether a proof is accepted for a name and its index, under a root and a nonce.
 #[derive(Drop)]
 pub struct Question<'v> {
     pub index: Index,
@@ -21,8 +21,13 @@ pub struct Question<'v> {
     pub proof: Proof,
 }
 
-/// The question of a line, or the first of its members that is missing, of another kind or of a
-/// wrong text: `index`, `name`, `nonce`, `root`, `proof`.
+/// Reads the question of a line, or returns the first bad member in the order `index`, `name`, `nonce`, `root`, `proof`.
+///
+/// A bad member is missing, of another kind or of a wrong text.
+///
+/// # Errors
+///
+/// `AllocError` if an allocation fails.
 pub fn read_question<'v>(
     alloc: Global,
     object: &'v Value,

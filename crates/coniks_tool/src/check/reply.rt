@@ -1,4 +1,4 @@
-//! What `check` answers to a line, and its text.
+//! The answers of `check` to a line, and their text.
 
 ghost use Rattle.std.specs.Prelude.{◌≡◌, IfOk};
 ghost use Rattle.serde_json.specs.View.{view};
@@ -11,23 +11,23 @@ use crate::lines::printing::{Member, bad_member, fault, member_text};
 use coniks_proof::{Answer, CheckFault};
 use std::alloc::{AllocError, Global};
 
-/// What `check` answers to a line.
+/// The answer of `check` to a line.
 #[derive(Clone, Copy)]
 pub enum CheckReply<'a> {
-    /// The proof is accepted, and says this of the name.
+    /// The proof is accepted, with this answer about the name.
     Answered(Answer<'a>),
-    /// The line isn't a JSON object.
+    /// The line is not a JSON object.
     NotJson,
     /// A member is missing, of another kind or of a wrong text.
     NoMember(Member),
-    /// The proof isn't accepted.
+    /// The proof is not accepted.
     AtFault(CheckFault),
 }
 
 impl CheckReply<'_> {
     ghost use Rattle.coniks_tool.specs.CheckReplies.{is_answered};
 
-    /// Whether the line was accepted.
+    /// Returns whether the line was accepted.
     pub fn is_accepted(&self) -> bool
         ensures { result ≡ is_answered (check_outcome self.now) }
     {
@@ -37,7 +37,11 @@ impl CheckReply<'_> {
         }
     }
 
-    /// The object that is printed.
+    /// Returns the object that is printed.
+    ///
+    /// # Errors
+    ///
+    /// `AllocError` if an allocation fails.
     pub fn object(&self, alloc: Global) -> Result<Printable, AllocError>
         ensures { IfOk result (λ object. view object.value ≡ check_data (check_outcome self.now)) }
     {
@@ -78,7 +82,7 @@ fn key_value(alloc: Global, key: &[u8]) -> Result<Printable, AllocError>
     )
 }
 
-/// The name of a fault.
+/// Returns the name of an error.
 pub fn check_fault_text(fault: CheckFault) -> &'static str
     ensures { result.now ≡ check_fault_name fault }
 {

@@ -6,11 +6,12 @@ use coniks_directory::IndexSource;
 use coniks_proof::{Hash32, Index, Sha256Hash};
 use std::marker::Model;
 
-/// The byte that stands before what an index is hashed from.
+/// The byte before the preimage of an index.
 const INDEX_TAG: u8 = 0x56;
 
-/// Gives each name an index under a key. For demonstrations: it claims no security. Contracts see
-/// it as the list of its key's bytes.
+/// A demonstration source, which gives each name an index under a key. It claims no security.
+///
+/// Contracts see it as the list of its key's bytes.
 #[derive(Clone, Copy)]
 pub struct DemoIndex {
     key: [u8; 32],
@@ -27,7 +28,7 @@ impl Model for DemoIndex {
 }
 
 impl DemoIndex {
-    /// The index source of a key.
+    /// Returns the index source of a key.
     pub fn new(key: [u8; 32]) -> DemoIndex
         ensures { result ≡ key }
     {
@@ -40,7 +41,7 @@ impl IndexSource for DemoIndex {
 
     ghost index_of = { λ source name. demo_index source name };
 
-    /// SHA-256 of the byte 56 (hexadecimal), the key and the name.
+    /// Returns SHA-256 of the byte 56 (hexadecimal), the key and the name.
     fn index(&self, name: &[u8]) -> Index {
         let digest = Sha256Hash.hash(&[&[INDEX_TAG], &self.key, name]);
         Index(digest.0)

@@ -6,19 +6,20 @@ ghost use Rattle.coniks_chain.specs.Entries.{IsBody, body_bytes, signed};
 ghost use Rattle.coniks_chain.specs.declared.entry.Body.{Body};
 ghost use Rattle.coniks_tool.specs.Seal.{is_seal, seal_of};
 
-use coniks_chain::{Entry, Sign, Signature, Signings, Verify};
+use coniks_chain::{BODY_BYTES, Entry, Sign, Signature, Signings, Verify};
 use coniks_proof::{Digest, Hash32, Sha256Hash};
 use std::marker::Model;
 
-/// The byte that stands before what the first half of a seal is hashed from.
+/// The byte before the preimage of the first half of a seal.
 const LOW_TAG: u8 = 0x41;
 
-/// The byte that stands before what the second half is hashed from.
+/// The byte before the preimage of the second half.
 const HIGH_TAG: u8 = 0x42;
 
-/// Signs bodies under a key, and judges such signatures. For demonstrations: it claims no security, and who can judge a
-/// signature can also make one. It never refuses, and its verdict on what it made is proved, so nothing is judged twice.
-/// Contracts see its key, how many signatures it gave, and the last entry.
+/// A demonstration signer, which signs bodies under a key and verifies such signatures. It claims no security.
+///
+/// Anyone who can verify a signature can forge it. It never refuses. That its own signatures verify is proved, so none is
+/// verified twice. Contracts see its key, the number of signatures that it made, and the last entry.
 #[derive(Drop)]
 pub struct DemoSeal {
     key: [u8; 32],
@@ -34,7 +35,7 @@ impl Model for DemoSeal {
 }
 
 impl DemoSeal {
-    /// The seal of a key, which has signed nothing.
+    /// Returns the seal of a key, which has signed nothing.
     pub fn new(key: [u8; 32]) -> DemoSeal
         ensures { result ≡ record { key = key; made = 0; last = None } }
     {
@@ -44,15 +45,15 @@ impl DemoSeal {
         }
     }
 
-    /// SHA-256 of a tag, the key and a body.
-    fn half(&self, tag: u8, body: &[u8; 145]) -> Digest
+    /// Returns SHA-256 of a tag, the key and a body.
+    fn half(&self, tag: u8, body: &[u8; BODY_BYTES]) -> Digest
         ensures { result.0 ≡ sha256 (tag ∷ self.now.key ++ body.now) }
     {
         Sha256Hash.hash(&[&[tag], &self.key, body])
     }
 
-    /// The seal of a body's bytes.
-    fn seal(&self, body: &[u8; 145]) -> Signature
+    /// Returns the seal of a body's bytes.
+    fn seal(&self, body: &[u8; BODY_BYTES]) -> Signature
         ensures { result.0 ≡ seal_of self.now.key body.now }
     {
         let low = self.half(LOW_TAG, body);
@@ -66,9 +67,11 @@ impl Verify for DemoSeal {
 
     ghost verdict_of = { λ seal body signature. is_seal seal.key body signature };
 
-    /// Yes exactly where the signature is SHA-256 of the byte 41 (hexadecimal), the key and the body, followed by SHA-256
-    /// of the byte 42, the key and the body.
-    fn verdict(&self, body: &[u8; 145], signature: &Signature) -> bool {
+    /// Returns whether the signature is the seal of the body.
+    ///
+    /// The first half of the seal is SHA-256 of the byte 41 (hexadecimal), the key and the body. The second half is
+    /// SHA-256 of the byte 42, the key and the body.
+    fn verdict(&self, body: &[u8; BODY_BYTES], signature: &Signature) -> bool {
         signature.0 == self.seal(body).0
     }
 }
@@ -85,8 +88,8 @@ impl Sign for DemoSeal {
 
     ghost last_of = { λ seal. seal.last };
 
-    /// The one signature of which the verdict is yes.
-    fn sign(&mut self, body: &[u8; 145]) -> Option<Signature>
+    /// Returns the one signature that verifies.
+    fn sign(&mut self, body: &[u8; BODY_BYTES]) -> Option<Signature>
         requires made_below { self.old.made < 2 ^ 64 - 1 }
         ensures given { IsSome result }
         ensures seal { IfSome result (λ signature. signature.0 ≡ seal_of self.old.key body.now) }

@@ -8,7 +8,7 @@ use crate::lines::members::{bytes_of_digits, text};
 use coniks_chain::Entry;
 use serde_json::Value;
 
-/// The entry of a line: its member `entry`, in 418 hexadecimal digits of either case.
+/// Reads the entry of a line: its member `entry`, in 418 hexadecimal digits of either case.
 pub fn read_entry(object: &Value) -> Option<Entry>
     ensures { result ≡ entry_in (view object.now) }
 {

@@ -1,18 +1,26 @@
-//! A line of JSON and its members.
+//! The members of a line of JSON.
 
 ghost use Rattle.std.specs.Prelude.{◌≡◌, IfOk, option_map};
 ghost use Rattle.std.specs.Result.{result_ok};
 ghost use Rattle.serde_json.specs.View.{view, items_view};
 ghost use Rattle.hex.specs.Hex.{decode_sized};
+ghost use Rattle.coniks_directory.specs.History.{nonce_bytes};
 ghost use Rattle.coniks_tool.specs.Members.{object_in, text_in, number_in, array_in, digits_in, if_there, base64_in, bytes_in};
 
 use base64::DecodeAllocError;
 use base64::engine::general_purpose::STANDARD;
+use coniks_proof::Nonce;
 use serde_json::Value;
 use std::alloc::{AllocError, Global};
 
-/// The object that a line is. `None`: the line isn't UTF-8, isn't a JSON text, nests deeper than
-/// 127 or is another value. A carriage return at the line's end is white space.
+/// Reads the object of a line.
+///
+/// Returns `None` if the line is not UTF-8, is not a JSON text, nests deeper than 127 or is another value. A carriage
+/// return at the line's end is white space.
+///
+/// # Errors
+///
+/// `AllocError` if an allocation fails.
 pub fn read_object(alloc: Global, line: &[u8]) -> Result<Option<Value>, AllocError>
     ensures { IfOk result (λ object. option_map view object ≡ object_in line.now) }
 {
@@ -32,22 +40,23 @@ pub fn read_object(alloc: Global, line: &[u8]) -> Result<Option<Value>, AllocErr
     }
 }
 
-/// The text of a member. Of a member that stands twice the last one counts, here and below.
+/// Returns the text of a member. If a member occurs twice, the last one counts, here and below.
 pub fn text<'v>(object: &'v Value, name: &str) -> Option<&'v str>
     ensures { option_map (λ text. text.now) result ≡ text_in name.now (view object.now) }
 {
     object.get(name)?.as_str()
 }
 
-/// The number of a member that is written as a whole number from 0 to 2^64 - 1: `1.0`, `1e3` and
-/// `-0` aren't.
+/// Returns the number of a member that is written as a whole number from 0 to 2^64 - 1.
+///
+/// `1.0`, `1e3` and `-0` are not.
 pub fn number(object: &Value, name: &str) -> Option<u64>
     ensures { result ≡ number_in name.now (view object.now) }
 {
     object.get(name)?.as_u64()
 }
 
-/// The elements of a member that is an array.
+/// Returns the elements of a member that is an array.
 pub fn array<'v>(object: &'v Value, name: &str) -> Option<&'v [Value]>
     ensures { option_map (λ elements. items_view elements.now) result ≡ array_in name.now (view object.now) }
 {
@@ -55,7 +64,7 @@ pub fn array<'v>(object: &'v Value, name: &str) -> Option<&'v [Value]>
     Some(elements.as_slice())
 }
 
-/// The 32 bytes of a member, in 64 hexadecimal digits of either case.
+/// Returns the 32 bytes of a member, in 64 hexadecimal digits of either case.
 pub fn digits32(object: &Value, name: &str) -> Option<[u8; 32]>
     ensures { result ≡ digits_in 32 name.now (view object.now) }
 {
@@ -63,7 +72,9 @@ pub fn digits32(object: &Value, name: &str) -> Option<[u8; 32]>
     bytes_of_digits(digits)
 }
 
-/// The same of a member that may be missing: none where it is, and nothing where it is there but holds no such text.
+/// Returns the 32 bytes of an optional member, as `digits32` does.
+///
+/// Returns `Some(None)` if the member is missing, and `None` if it is there without such a text.
 pub fn digits32_if_there(object: &Value, name: &str) -> Option<Option<[u8; 32]>>
     ensures { result ≡ if_there name.now (view object.now) (digits_in 32 name.now (view object.now)) }
 {
@@ -76,7 +87,7 @@ pub fn digits32_if_there(object: &Value, name: &str) -> Option<Option<[u8; 32]>>
     }
 }
 
-/// N bytes in 2N hexadecimal digits of either case.
+/// Returns the N bytes of 2N hexadecimal digits of either case.
 pub fn bytes_of_digits<const N: usize>(digits: &str) -> Option<[u8; N]>
     ensures { result ≡ result_ok (decode_sized digits.now N) }
 {
@@ -87,7 +98,11 @@ pub fn bytes_of_digits<const N: usize>(digits: &str) -> Option<[u8; N]>
     Some(bytes)
 }
 
-/// The bytes of a member, in base64 of the standard alphabet with its padding.
+/// Returns the bytes of a member, in base64 of the standard alphabet with its padding.
+///
+/// # Errors
+///
+/// `AllocError` if an allocation fails.
 pub fn base64(alloc: Global, object: &Value, name: &str) -> Result<Option<Vec<u8>>, AllocError>
     ensures { IfOk result (λ bytes. option_map (λ found. found.items) bytes ≡ base64_in name.now (view object.now)) }
 {
@@ -97,7 +112,11 @@ pub fn base64(alloc: Global, object: &Value, name: &str) -> Result<Option<Vec<u8
     }
 }
 
-/// The bytes of a text in base64 of the standard alphabet with its padding.
+/// Returns the bytes of a text in base64 of the standard alphabet with its padding.
+///
+/// # Errors
+///
+/// `AllocError` if an allocation fails.
 pub fn bytes_of_base64(alloc: Global, text: &str) -> Result<Option<Vec<u8>>, AllocError>
     ensures { IfOk result (λ bytes. option_map (λ found. found.items) bytes ≡ bytes_in text.now) }
 {
@@ -105,5 +124,15 @@ pub fn bytes_of_base64(alloc: Global, text: &str) -> Result<Option<Vec<u8>>, All
         Ok(bytes) => Ok(Some(bytes)),
         Err(DecodeAllocError::OutOfMemory) => Err(AllocError),
         Err(DecodeAllocError::DecodeError(_)) => Ok(None),
+    }
+}
+
+/// Returns the nonce of these bytes, if there are any.
+pub fn nonce_of(bytes: Option<[u8; 32]>) -> Option<Nonce>
+    ensures { nonce_bytes result ≡ bytes }
+{
+    match bytes {
+        Some(bytes) => Some(Nonce(bytes)),
+        None => None,
     }
 }

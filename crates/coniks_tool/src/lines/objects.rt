@@ -34,7 +34,11 @@ pub enum Shown<'a> {
 #[derive(Clone, Copy)]
 pub struct Field<'a>(pub &'a str, pub Shown<'a>);
 
-/// The value of a member as JSON has it.
+/// Returns the JSON value of a member.
+///
+/// # Errors
+///
+/// `AllocError` if an allocation fails.
 pub fn value_of(alloc: Global, shown: Shown<'_>) -> Result<Value, AllocError>
     ensures { IfOk result (λ value. view value ≡ data_of shown.entry) }
 {
@@ -48,7 +52,7 @@ pub fn value_of(alloc: Global, shown: Shown<'_>) -> Result<Value, AllocError>
     }
 }
 
-/// The members, in the order of their names' bytes.
+/// Returns the members, in the order of their names' bytes.
 fn members(alloc: Global, fields: &[Field<'_>]) -> Result<Map<String, Value>, AllocError>
     ensures { IfOk result (λ map. members_view map.entries ≡ with_all fields.now no_members) }
 {
@@ -60,7 +64,11 @@ fn members(alloc: Global, fields: &[Field<'_>]) -> Result<Map<String, Value>, Al
     Ok(map)
 }
 
-/// The object of these members.
+/// Returns the object of these members.
+///
+/// # Errors
+///
+/// `AllocError` if an allocation fails.
 pub fn object(alloc: Global, fields: &[Field<'_>]) -> Result<Printable, AllocError>
     ensures { IfOk result (λ object. view object.value ≡ object_of (with_all fields.now no_members)) }
 {

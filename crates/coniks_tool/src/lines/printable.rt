@@ -7,7 +7,7 @@ ghost use Rattle.serde_json.specs.Written.{compact_text, has_float};
 use serde_json::Value;
 use std::alloc::{AllocError, Global};
 
-/// An object that is printed. It has no float, so its text is known.
+/// An object that is printed. It contains no float.
 #[derive(Drop)]
 pub struct Printable {
     pub value: Value,
@@ -15,7 +15,13 @@ pub struct Printable {
 }
 
 impl Printable {
-    /// Adds the object's text, with no newline: its members in the order of their names' bytes, and no white space.
+    /// Appends the object's text, without a newline.
+    ///
+    /// Members are in the order of their names' bytes, without white space.
+    ///
+    /// # Errors
+    ///
+    /// `AllocError` if an allocation fails.
     pub fn print(&self, alloc: Global, out: &mut Vec<u8>) -> Result<(), AllocError>
         ensures ok { OnOk result (out.new.items ≡ out.old.items ++ compact_text (view self.now.value)) }
         ensures err { OnErr result (out.new.items ≡ out.old.items) }

@@ -1,4 +1,4 @@
-//! Members of lines, and what all engines print.
+//! Members of lines, and the objects that all engines print.
 
 ghost use Rattle.std.specs.Prelude.{◌≡◌, IfOk, codes};
 ghost use Rattle.serde_json.specs.Data.{member, no_members, put, string, object as object_of};
@@ -26,7 +26,7 @@ pub enum Member {
     Signature,
 }
 
-/// The name of a member.
+/// Returns the name of a member.
 pub fn member_text(member: Member) -> &'static str
     ensures { result.now ≡ member_name member }
 {
@@ -45,23 +45,36 @@ pub fn member_text(member: Member) -> &'static str
     }
 }
 
-/// A refusal by its fault alone.
+/// Returns a refusal that contains only its error.
+///
+/// # Errors
+///
+/// `AllocError` if an allocation fails.
 pub fn fault(alloc: Global, name: &str) -> Result<Printable, AllocError>
     ensures { IfOk result (λ object. view object.value ≡ fault_data name.now) }
 {
     object(alloc, &[Field("fault", Shown::Text(name))])
 }
 
-/// The refusal of a line for one of its members.
+/// Returns the refusal of a line for one of its members.
+///
+/// # Errors
+///
+/// `AllocError` if an allocation fails.
 pub fn bad_member(alloc: Global, name: &str) -> Result<Printable, AllocError>
     ensures { IfOk result (λ object. view object.value ≡ bad_member_data name.now) }
 {
     fault_with(alloc, "Member", Field("member", Shown::Text(name)))
 }
 
-/// A refusal by its fault and one more member.
+/// Returns a refusal that contains its error and one more member.
+///
+/// # Errors
+///
+/// `AllocError` if an allocation fails.
 pub fn fault_with(alloc: Global, name: &str, more: Field<'_>) -> Result<Printable, AllocError>
-    ensures { IfOk result (λ object. view object.value ≡ object_of (put more.entry.0.now (data_of more.entry.1) (member (codes "fault") (string name.now) no_members))) }
+    ensures { IfOk result (λ object. view object.value ≡ object_of
+        (put more.entry.0.now (data_of more.entry.1) (member (codes "fault") (string name.now) no_members))) }
 {
     object(alloc, &[Field("fault", Shown::Text(name)), more])
 }

@@ -1,4 +1,4 @@
-//! The proof that a line holds.
+//! The proof in a line.
 
 ghost use Rattle.std.specs.Prelude.{◌≡◌, IfOk, codes, option_and_then};
 ghost use Rattle.serde_json.specs.View.{view, items_view};
@@ -10,9 +10,14 @@ use coniks_proof::{Bytes, Digest, Digests, End, Index, Opening, Proof};
 use serde_json::Value;
 use std::alloc::{AllocError, Global};
 
-/// The proof of a line: its member `proof`, with `end` and `siblings` from the root down. `None`: it
-/// is missing, or anything in it is missing, of another kind or of a wrong text. Neither a length nor
-/// the number of siblings is refused here.
+/// Reads the proof of a line: its member `proof`, with `end` and `siblings` from the root down.
+///
+/// Returns `None` if it is missing, or anything in it is missing, of another kind or of a wrong text. Any length and any
+/// number of siblings is accepted.
+///
+/// # Errors
+///
+/// `AllocError` if an allocation fails.
 pub fn read_proof(alloc: Global, object: &Value) -> Result<Option<Proof>, AllocError>
     ensures { IfOk result (λ proof. proof ≡ proof_in (view object.now)) }
 {
@@ -37,7 +42,7 @@ fn proof_at(alloc: Global, value: &Value) -> Result<Option<Proof>, AllocError>
     Ok(Some(Proof { siblings, end }))
 }
 
-/// The digests of the elements, where each is one.
+/// Reads the digests of the elements, or returns `None` if one is no digest.
 fn digests(alloc: Global, elements: &[Value]) -> Result<Option<Digests>, AllocError>
     ensures { IfOk result (λ digests. digests ≡ digests_in (items_view elements.now)) }
 {
@@ -60,7 +65,7 @@ fn digest(value: &Value) -> Option<Digest>
     }
 }
 
-/// The end of a proof object.
+/// Reads the end of a proof object.
 fn end(alloc: Global, proof: &Value) -> Result<Option<End>, AllocError>
     ensures { IfOk result (λ end. end ≡ option_and_then end_in (get (codes "end") (view proof.now))) }
 {

@@ -1,4 +1,4 @@
-//! How a proof is printed: a JSON object with its members in the order of their names' bytes.
+//! The printed form of a proof: a JSON object with its members in the order of their names' bytes.
 
 ghost use Rattle.std.specs.Prelude.{◌≡◌, IfOk, map};
 ghost use Rattle.serde_json.specs.Data.{array};
@@ -12,7 +12,11 @@ use coniks_proof::{Bytes, Digest, End, Index, Opening, Proof};
 use serde_json::{Value, json};
 use std::alloc::{AllocError, Global};
 
-/// The object of a proof: `end`, and `siblings` from the root down.
+/// Returns the object of a proof: `end`, and `siblings` from the root down.
+///
+/// # Errors
+///
+/// `AllocError` if an allocation fails.
 pub fn proof_value(alloc: Global, proof: &Proof) -> Result<Value, AllocError>
     ensures { IfOk result (λ value. view value ≡ proof_data (path_of proof.now)) }
 {
@@ -22,14 +26,14 @@ pub fn proof_value(alloc: Global, proof: &Proof) -> Result<Value, AllocError>
     })
 }
 
-/// The array of the siblings.
+/// Returns the array of the siblings.
 fn siblings_value(alloc: Global, siblings: &[Digest]) -> Result<Value, AllocError>
     ensures { IfOk result (λ value. view value ≡ array (items_of (map digits (digests siblings.now)))) }
 {
     Ok(Value::Array(digits_of(alloc, siblings)?))
 }
 
-/// The object of an end, by its kind.
+/// Returns the object of an end, by its kind.
 fn end_value(alloc: Global, end: &End) -> Result<Value, AllocError>
     ensures { IfOk result (λ value. view value ≡ end_data (end_shown end.now)) }
 {
@@ -66,7 +70,7 @@ fn here_end(
     })
 }
 
-/// Each digest in 64 lower case hexadecimal digits.
+/// Returns each digest in 64 lower case hexadecimal digits.
 fn digits_of(alloc: Global, list: &[Digest]) -> Result<Vec<Value>, AllocError>
     ensures { IfOk result (λ values. map view values.items ≡ map digits (digests list.now)) }
 {

@@ -1,4 +1,4 @@
-//! Answers that several engines print.
+//! Replies that several engines print.
 
 ghost use Rattle.std.specs.Prelude.{◌≡◌, IfOk};
 ghost use Rattle.serde_json.specs.View.{view};
@@ -26,14 +26,22 @@ pub fn fault_text(fault: OpFault) -> &'static str
     }
 }
 
-/// Returns the answer to an accepted `open`.
+/// Returns the reply to an accepted `open`.
+///
+/// # Errors
+///
+/// `AllocError` if an allocation fails.
 pub fn opened(alloc: Global) -> Result<Printable, AllocError>
     ensures { IfOk result (λ object. view object.value ≡ opened_data) }
 {
     object(alloc, &[Field("ok", Shown::Text("open"))])
 }
 
-/// Returns the answer to an accepted lookup.
+/// Returns the reply to an accepted lookup.
+///
+/// # Errors
+///
+/// `AllocError` if an allocation fails.
 pub fn looked_up<'a>(
     alloc: Global,
     name: &'a str,
@@ -58,6 +66,10 @@ pub fn looked_up<'a>(
 }
 
 /// Returns the refusal of a batch for the operation at a position.
+///
+/// # Errors
+///
+/// `AllocError` if an allocation fails.
 pub fn placed_fault(alloc: Global, name: &str, position: usize) -> Result<Printable, AllocError>
     ensures { IfOk result (λ object. view object.value ≡ placed_fault_data name.now position) }
 {
@@ -69,6 +81,10 @@ pub fn placed_fault(alloc: Global, name: &str, position: usize) -> Result<Printa
 }
 
 /// Returns the refusal of a batch line whose element of `ops` at a position is no operation.
+///
+/// # Errors
+///
+/// `AllocError` if an allocation fails.
 pub fn bad_operation(alloc: Global, position: usize) -> Result<Printable, AllocError>
     ensures { IfOk result (λ object. view object.value ≡ bad_operation_data position) }
 {
@@ -82,7 +98,11 @@ pub fn bad_operation(alloc: Global, position: usize) -> Result<Printable, AllocE
     )
 }
 
-/// Returns the refusal of a batch whose epoch isn't later than the latest one.
+/// Returns the refusal of a batch whose epoch is not later than the latest one.
+///
+/// # Errors
+///
+/// `AllocError` if an allocation fails.
 pub fn epoch_not_later(alloc: Global, latest: u64) -> Result<Printable, AllocError>
     ensures { IfOk result (λ object. view object.value ≡ epoch_not_later_data latest) }
 {

@@ -1,4 +1,4 @@
-//! The key that a client expects of its name, or that it expects none.
+//! The expectation of a client: a key of its name, or none.
 
 ghost use Rattle.std.specs.Prelude.{◌≡◌, IfOk, option_map};
 ghost use Rattle.serde_json.specs.View.{view};
@@ -9,8 +9,14 @@ use coniks_proof::Bytes;
 use serde_json::Value;
 use std::alloc::{AllocError, Global};
 
-/// What a text expects, in base64 of the standard alphabet with its padding. No text expects no key; the empty text
-/// expects the empty key, which no accepted proof shows. `None`: the text is no base64.
+/// Returns the expectation of a text, in base64 of the standard alphabet with its padding.
+///
+/// No text expects no key. The empty text expects the empty key, which no accepted proof shows. Returns `None` if the
+/// text is not base64.
+///
+/// # Errors
+///
+/// `AllocError` if an allocation fails.
 pub fn expectation(alloc: Global, text: Option<&str>) -> Result<Option<Option<Bytes>>, AllocError>
     ensures { IfOk result (λ expected. expected ≡ expectation_in (option_map (λ t. t.now) text.entry)) }
 {
@@ -23,8 +29,13 @@ pub fn expectation(alloc: Global, text: Option<&str>) -> Result<Option<Option<By
     }
 }
 
-/// What the member `key` of a line expects: `null` no key, a text its bytes. `None`: it is missing, of another kind,
-/// or no base64.
+/// Reads the expectation of the member `key` of a line: `null` expects no key, and a text its bytes.
+///
+/// Returns `None` if the member is missing, of another kind or not base64.
+///
+/// # Errors
+///
+/// `AllocError` if an allocation fails.
 pub fn read_expectation(alloc: Global, object: &Value) -> Result<Option<Option<Bytes>>, AllocError>
     ensures { IfOk result (λ expected. expected ≡ expected_in (view object.now)) }
 {

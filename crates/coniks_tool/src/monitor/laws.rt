@@ -1,4 +1,4 @@
-//! Laws of what `monitor` answers, each the contract of a function that only reads.
+//! Lemmas about the answers of `monitor`, each the contract of a function that only reads.
 
 ghost use Rattle.std.specs.Prelude.{◌≡◌, ◌↔◌, ◌⊎◌, ℕ, List};
 ghost use Rattle.coniks_proof.specs.Proofs.{answer_of};
@@ -13,8 +13,10 @@ ghost use Rattle.coniks_tool.specs.Monitor.{MonitorState, monitor_turn, step_tur
 ghost use Rattle.coniks_tool.specs.MonitorReplies.{at_fault, expecting, watched};
 ghost use Rattle.coniks_tool.specs.Seal.{is_seal};
 
-/// Entry and proof are accepted exactly where the step is sound: the entry follows, and the proof is accepted under its
-/// root and nonce for the name at its index. The fault that is told is the first one, the entry's before the proof's.
+/// Proves that an entry and a proof are accepted if and only if the step is sound.
+///
+/// A step is sound if the entry follows, and the proof is accepted under its root and nonce for the name at its index.
+/// The printed error is the first one, the entry's before the proof's.
 pub fn told_fault_of_a_step_is_the_first()
     ensures sound { (s : MonitorState) (entry : Entry) (proof : Proof)
         → ((step_turn s entry proof).outcome ≡ watched entry.body.t (seen_of s.expected (answer_of proof.end)))
@@ -24,7 +26,7 @@ pub fn told_fault_of_a_step_is_the_first()
         ↔ (IsFirstStepFault sha256 (is_seal s.key) s.before s.name s.index entry proof fault) }
 {}
 
-/// Only a line that sets the expectation, or whose entry and proof are accepted, changes the monitor.
+/// Proves that only a line that sets the expectation, or whose entry and proof are accepted, changes the monitor.
 pub fn refused_line_changes_no_monitor()
     ensures { (s : MonitorState) (line : List ℕ)
         → (monitor_turn s line).state ≡ s

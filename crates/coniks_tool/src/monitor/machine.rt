@@ -7,7 +7,7 @@ ghost use Rattle.coniks_lines.specs.Runs.{AnswersAll, EndsBadly, EndsWell, Write
 ghost use Rattle.coniks_tool.specs.EntryLines.{entry_in};
 ghost use Rattle.coniks_tool.specs.Expectations.{expected_in};
 ghost use Rattle.coniks_tool.specs.Members.{text_in};
-ghost use Rattle.coniks_tool.specs.Monitor.{MonitorState, expect_turn, is_expect, monitor_answer, monitor_turn, none_watched, object_turn, step_turn, watch_turn, watching};
+ghost use Rattle.coniks_tool.specs.Monitor.{MonitorState, expect_turn, is_expect, monitor_answer, monitor_turn, none_watched, object_turn, step_turn, watch_turn};
 ghost use Rattle.coniks_tool.specs.MonitorReplies.{monitor_outcome};
 ghost use Rattle.coniks_tool.specs.ProofObjects.{proof_in};
 
@@ -25,8 +25,11 @@ use coniks_lines::{ByteIn, ByteOut, LineMachine, RunFault, run_lines};
 use coniks_proof::{Bytes, Proof, Sha256Hash};
 use serde_json::Value;
 use std::alloc::{AllocError, Global};
+use std::marker::Model;
 
-/// Watches one name over the entries of lines, each with its proof.
+/// A machine that monitors one name over the entries of lines, each with its proof.
+///
+/// Contracts see it as the state that the lines lead to.
 #[derive(Drop)]
 pub struct Monitoring {
     alloc: Global,
@@ -34,11 +37,20 @@ pub struct Monitoring {
     monitor: Monitor<Sha256Hash>,
 }
 
+impl Model for Monitoring {
+    ghost use Rattle.coniks_tool.specs.Monitor.{MonitorState, watching};
+
+    ghost Value = { MonitorState };
+
+    ghost view = { λ m. watching m.seal.key m.monitor };
+}
+
 impl Monitoring {
-    /// Watches a name under the seal and the index of a key, for a client that expects a key of it, or none. It has seen no
-    /// entry.
+    /// Returns a machine that monitors a name under the seal and the index of a key, and has seen no entry.
+    ///
+    /// The client expects a key of the name, or none.
     fn new(alloc: Global, key: [u8; 32], name: Bytes, expected: Option<Bytes>) -> Monitoring
-        ensures { watching result.seal.key result.monitor ≡ none_watched key name expected }
+        ensures { result ≡ none_watched key name expected }
     {
         let index = DemoIndex::new(key).index(name.as_slice());
         Monitoring {
@@ -48,23 +60,24 @@ impl Monitoring {
         }
     }
 
-    /// Shows the monitor an entry and its proof.
+    /// Passes an entry and its proof to the monitor.
     fn judge(&mut self, entry: &Entry, proof: &Proof) -> MonitorReply
-        ensures reply { monitor_outcome result ≡ (step_turn (watching self.old.seal.key self.old.monitor) entry.now proof.now).outcome }
-        ensures state { watching self.new.seal.key self.new.monitor ≡ (step_turn (watching self.old.seal.key self.old.monitor) entry.now proof.now).state }
+        ensures reply { monitor_outcome result ≡ (step_turn self.old entry.now proof.now).outcome }
+        ensures state { self.new ≡ (step_turn self.old entry.now proof.now).state }
     {
-        match self.monitor.step(entry, proof, &self.seal) {
-            Ok(seen) => MonitorReply::Watched {
-                epoch: entry.body.t,
-                seen,
-            },
-            Err(fault) => MonitorReply::AtFault(fault),
+        let seen = match self.monitor.step(entry, proof, &self.seal) {
+            Ok(seen) => seen,
+            Err(fault) => return MonitorReply::AtFault(fault),
+        };
+        MonitorReply::Watched {
+            epoch: entry.body.t,
+            seen,
         }
     }
 
     fn watch(&mut self, object: &Value) -> Result<MonitorReply, AllocError>
-        ensures reply { IfOk result (λ reply. monitor_outcome reply ≡ (watch_turn (watching self.old.seal.key self.old.monitor) (entry_in (view object.now)) (proof_in (view object.now))).outcome) }
-        ensures state { OnOk result (watching self.new.seal.key self.new.monitor ≡ (watch_turn (watching self.old.seal.key self.old.monitor) (entry_in (view object.now)) (proof_in (view object.now))).state) }
+        ensures reply { IfOk result (λ reply. monitor_outcome reply ≡ (watch_turn self.old (entry_in (view object.now)) (proof_in (view object.now))).outcome) }
+        ensures state { OnOk result (self.new ≡ (watch_turn self.old (entry_in (view object.now)) (proof_in (view object.now))).state) }
     {
         let Some(entry) = read_entry(object) else {
             return Ok(MonitorReply::NoMember(Member::Entry));
@@ -76,8 +89,8 @@ impl Monitoring {
     }
 
     fn expect(&mut self, object: &Value) -> Result<MonitorReply, AllocError>
-        ensures reply { IfOk result (λ reply. monitor_outcome reply ≡ (expect_turn (watching self.old.seal.key self.old.monitor) (expected_in (view object.now))).outcome) }
-        ensures state { OnOk result (watching self.new.seal.key self.new.monitor ≡ (expect_turn (watching self.old.seal.key self.old.monitor) (expected_in (view object.now))).state) }
+        ensures reply { IfOk result (λ reply. monitor_outcome reply ≡ (expect_turn self.old (expected_in (view object.now))).outcome) }
+        ensures state { OnOk result (self.new ≡ (expect_turn self.old (expected_in (view object.now))).state) }
     {
         match read_expectation(self.alloc, object)? {
             Some(expected) => {
@@ -88,9 +101,9 @@ impl Monitoring {
         }
     }
 
-    fn obey(&mut self, object: &Value) -> Result<MonitorReply, AllocError>
-        ensures reply { IfOk result (λ reply. monitor_outcome reply ≡ (object_turn (watching self.old.seal.key self.old.monitor) (view object.now)).outcome) }
-        ensures state { OnOk result (watching self.new.seal.key self.new.monitor ≡ (object_turn (watching self.old.seal.key self.old.monitor) (view object.now)).state) }
+    fn dispatch(&mut self, object: &Value) -> Result<MonitorReply, AllocError>
+        ensures reply { IfOk result (λ reply. monitor_outcome reply ≡ (object_turn self.old (view object.now)).outcome) }
+        ensures state { OnOk result (self.new ≡ (object_turn self.old (view object.now)).state) }
     {
         if is_expect(object) {
             return self.expect(object);
@@ -99,17 +112,17 @@ impl Monitoring {
     }
 
     fn reply(&mut self, line: &[u8]) -> Result<MonitorReply, AllocError>
-        ensures reply { IfOk result (λ reply. monitor_outcome reply ≡ (monitor_turn (watching self.old.seal.key self.old.monitor) line.now).outcome) }
-        ensures state { OnOk result (watching self.new.seal.key self.new.monitor ≡ (monitor_turn (watching self.old.seal.key self.old.monitor) line.now).state) }
+        ensures reply { IfOk result (λ reply. monitor_outcome reply ≡ (monitor_turn self.old line.now).outcome) }
+        ensures state { OnOk result (self.new ≡ (monitor_turn self.old line.now).state) }
     {
         match read_object(self.alloc, line)? {
-            Some(object) => self.obey(&object),
+            Some(object) => self.dispatch(&object),
             None => Ok(MonitorReply::NotJson),
         }
     }
 }
 
-/// Whether a line sets the expectation.
+/// Returns whether a line sets the expectation.
 fn is_expect(object: &Value) -> bool
     ensures { result ≡ is_expect (text_in (codes "cmd") (view object.now)) }
 {
@@ -120,11 +133,11 @@ fn is_expect(object: &Value) -> bool
 }
 
 impl LineMachine for Monitoring {
-    ghost use Rattle.coniks_tool.specs.Monitor.{MonitorState, monitor_answer, watching};
+    ghost use Rattle.coniks_tool.specs.Monitor.{MonitorState, monitor_answer};
 
     ghost State = { MonitorState };
 
-    ghost state = { λ m. watching m.seal.key m.monitor };
+    ghost state = { λ m. m };
 
     ghost answer = { monitor_answer };
 
@@ -137,18 +150,19 @@ impl LineMachine for Monitoring {
     }
 }
 
-/// Watches a name over the entries that the lines of the reader hold, each with its proof, for a client that expects a
-/// key of it, or none: the entries are audited under the demonstration seal of a key, and the proofs checked at the
-/// name's demonstration index under it. Each line is answered by one line and one flush, until a read answers 0. Tells
-/// whether each line was accepted and showed what is expected.
+/// Monitors a name over the entries in the reader's lines, for a client that expects a key of it or none.
 ///
-/// A line whose `cmd` is `expect` sets what is expected from then on. A line that shows something else is kept as what
-/// the next entry is compared with; a refused line changes nothing. A name of no bytes or of more than 255 is taken, and
-/// then no proof is accepted.
+/// Each entry comes with its proof. The entries are audited under the demonstration seal of a key. The proofs are checked
+/// at the name's demonstration index under that key. Answers each line with one line and one flush, until a read returns
+/// 0. Returns whether each line was accepted and showed the expected key.
+///
+/// A line whose `cmd` is `expect` sets the expected key from then on. After a line that shows something else, the next
+/// entry is compared with that line's entry. A refused line changes nothing. A name that is empty or longer than 255
+/// bytes is allowed, but then no proof is accepted.
 ///
 /// # Errors
 ///
-/// Those of `run_lines`.
+/// The errors of `run_lines`.
 pub fn run_monitor<R: ByteIn, W: ByteOut>(
     alloc: Global,
     key: [u8; 32],
@@ -167,8 +181,8 @@ pub fn run_monitor<R: ByteIn, W: ByteOut>(
         (R.source reader.old) (R.source reader.new)
         (W.sink writer.old) (W.sink writer.new)) }
 
-    // Where the reader tells its bytes: after Ok each of them is answered, and after a fault a beginning of what
-    // answers them was written.
+    // If the reader's bytes are known: after Ok each of them is answered, and after an error a prefix of their answers
+    // was written.
     ensures all_of { (input : List ℕ) → (R.source reader.old).left ≡ Some input
         → IfOk result (λ all. (state : MonitorState) × AnswersAll monitor_answer (none_watched key name expected) input
         (W.sink writer.old) (W.sink writer.new)

@@ -1,4 +1,4 @@
-//! What `monitor` answers to a line, and its text.
+//! The answers of `monitor` to a line, and their text.
 
 ghost use Rattle.std.specs.Prelude.{◌≡◌, IfOk};
 ghost use Rattle.serde_json.specs.View.{view};
@@ -12,25 +12,25 @@ use crate::lines::printing::{Member, bad_member, fault, member_text};
 use coniks_chain::{MonitorFault, Seen};
 use std::alloc::{AllocError, Global};
 
-/// What `monitor` answers to a line.
+/// The answer of `monitor` to a line.
 #[derive(Clone, Copy)]
 pub enum MonitorReply {
-    /// Entry and proof are accepted: the entry's epoch, and what the proof says against the expectation.
+    /// Entry and proof are accepted: the entry's epoch, and the proof's answer compared with the expectation.
     Watched { epoch: u64, seen: Seen },
-    /// Another key is expected from now on, or none.
+    /// From now on another key is expected, or none.
     Expecting,
-    /// The line isn't a JSON object.
+    /// The line is not a JSON object.
     NotJson,
     /// A member is missing, of another kind or of a wrong text.
     NoMember(Member),
-    /// The entry doesn't follow, or the proof isn't accepted.
+    /// The entry does not follow, or the proof is not accepted.
     AtFault(MonitorFault),
 }
 
 impl MonitorReply {
     ghost use Rattle.coniks_tool.specs.MonitorReplies.{is_as_expected};
 
-    /// Whether the line was accepted, and showed the expected answer where it holds a proof.
+    /// Returns whether the line was accepted, and showed the expected answer if it contains a proof.
     pub fn is_as_expected(&self) -> bool
         ensures { result ≡ is_as_expected (monitor_outcome self.now) }
     {
@@ -41,7 +41,11 @@ impl MonitorReply {
         }
     }
 
-    /// The object that is printed.
+    /// Returns the object that is printed.
+    ///
+    /// # Errors
+    ///
+    /// `AllocError` if an allocation fails.
     pub fn object(&self, alloc: Global) -> Result<Printable, AllocError>
         ensures { IfOk result (λ object. view object.value ≡ monitor_data (monitor_outcome self.now)) }
     {

@@ -2,10 +2,10 @@
 
 use coniks_directory::Op;
 
-/// A batch of a line: the epoch that it is to be, the nonce that it brings, if it brings one, and its operations.
+/// A batch of a line: the epoch that it is to be, the new nonce, if it has one, and its operations.
 #[derive(Clone, Copy)]
 pub struct Batch<'a> {
     pub epoch: u64,
-    pub brought: Option<[u8; 32]>,
+    pub new_nonce: Option<[u8; 32]>,
     pub ops: &'a [Op],
 }

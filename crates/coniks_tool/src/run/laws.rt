@@ -1,4 +1,4 @@
-//! Laws of what `run` answers, each the contract of a function that only reads.
+//! Lemmas about the answers of `run`, each the contract of a function that only reads.
 
 ghost use Rattle.std.specs.Prelude.{◌≡◌, codes, false, true, ℕ, List, Some};
 ghost use Rattle.std.specs.Str.{is_utf8};
@@ -9,22 +9,24 @@ ghost use Rattle.coniks_tool.specs.Limits.{most_epochs};
 ghost use Rattle.coniks_tool.specs.Paths.{its_entry, Path};
 ghost use Rattle.coniks_tool.specs.ProofTexts.{end_data};
 ghost use Rattle.coniks_tool.specs.Replies.{looked_up_data};
-ghost use Rattle.coniks_tool.specs.Script.{State, script_answer};
+ghost use Rattle.coniks_tool.specs.Script.{ScriptState, script_answer};
 
 use crate::run::store::BOARD_HEADS;
 
-/// The limit that callers read is that of the specification.
+/// Proves that the public limit is that of the specification.
 pub fn limits()
     ensures epochs { BOARD_HEADS ≡ most_epochs }
 {}
 
-/// A refused line leaves the directory as it was.
+/// Proves that a refused line leaves the directory unchanged.
 pub fn refused_line_changes_no_directory()
-    ensures { (s : State) (line : List ℕ) → (script_answer s line).accepted ≡ false → (script_answer s line).state ≡ s }
+    ensures { (s : ScriptState) (line : List ℕ) → (script_answer s line).accepted ≡ false → (script_answer s line).state ≡ s }
 {}
 
-/// The member `name` of a printed lookup is the name asked, and that of its proof's end is the name there, where this is
-/// UTF-8, as each name in a line is.
+/// Proves that a printed lookup contains the right names.
+///
+/// The member `name` is the name asked. The name of the proof's end is the name there, if it is UTF-8, as each name in a
+/// line is.
 pub fn printed_name_is_the_name()
     ensures asked { (entry : Entry) (index name : List ℕ) (path : Path) → get (codes "name") (looked_up_data entry index name path) ≡ Some (string name) }
     ensures shown { (name key opening : List ℕ) → is_utf8 name ≡ true → get (codes "name") (end_data (its_entry name key opening)) ≡ Some (string name) }

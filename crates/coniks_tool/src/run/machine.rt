@@ -8,13 +8,13 @@ ghost use Rattle.coniks_lines.specs.Runs.{AnswersAll, EndsWell, WritesPart};
 ghost use Rattle.coniks_work.specs.declared.jobs.TheConstants.{MAX_DEPTH};
 ghost use Rattle.coniks_tool.specs.Members.{array_in, digits_in, if_there, number_in, text_in};
 ghost use Rattle.coniks_tool.specs.Replies.{outcome_of};
-ghost use Rattle.coniks_tool.specs.Script.{State, ScriptFails, batch_turn, command_turn, lookup_outcome, open_turn, script_answer, turn};
+ghost use Rattle.coniks_tool.specs.Script.{ScriptState, ScriptFails, batch_turn, command_turn, lookup_outcome, open_turn, script_answer, turn};
 
 use crate::lines::members::{array, digits32, digits32_if_there, number, read_object, text};
 use crate::lines::printing::Member;
 use crate::run::batch::Batch;
-use crate::run::crew::Crew;
 use crate::run::operations::read_ops;
+use crate::run::parallelism::Parallelism;
 use crate::run::reply::Reply;
 use crate::run::store::Store;
 use coniks_lines::{ByteIn, ByteOut, LineMachine, RunFault, run_lines};
@@ -22,11 +22,11 @@ use serde_json::Value;
 use std::alloc::{AllocError, Global};
 use std::thread::Threads;
 
-/// Answers the lines of a script, with the crew that builds its epochs.
+/// A machine that answers the lines of a script, with the worker threads that build its epochs.
 #[derive(Drop)]
 pub struct Script<'r, T: Threads + Sync> {
     alloc: Global,
-    crew: Crew<'r, T>,
+    parallelism: Parallelism<'r, T>,
     store: Store,
 }
 
@@ -58,7 +58,7 @@ impl<'r, T: Threads + Sync> Script<'r, T> {
         let Some(epoch) = number(object, "epoch") else {
             return Ok(Reply::BadMember(Member::Epoch));
         };
-        let Some(brought) = digits32_if_there(object, "nonce") else {
+        let Some(new_nonce) = digits32_if_there(object, "nonce") else {
             return Ok(Reply::BadMember(Member::Nonce));
         };
         let Some(elements) = array(object, "ops") else {
@@ -68,17 +68,18 @@ impl<'r, T: Threads + Sync> Script<'r, T> {
             Ok(ops) => {
                 let batch = Batch {
                     epoch,
-                    brought,
+                    new_nonce,
                     ops: &ops,
                 };
-                self.store.install(&self.crew, &batch)
+                self.store.install(&self.parallelism, &batch)
             }
             Err(place) => Ok(Reply::BadOperation(place)),
         }
     }
 
     fn lookup(&self, object: &Value) -> Result<Reply, AllocError>
-        ensures { IfOk result (λ reply. outcome_of reply ≡ lookup_outcome self.now.store (number_in (codes "epoch") (view object.now)) (text_in (codes "name") (view object.now))) }
+        ensures { IfOk result (λ reply. outcome_of reply ≡ lookup_outcome self.now.store
+            (number_in (codes "epoch") (view object.now)) (text_in (codes "name") (view object.now))) }
     {
         let Some(epoch) = number(object, "epoch") else {
             return Ok(Reply::BadMember(Member::Epoch));
@@ -90,7 +91,8 @@ impl<'r, T: Threads + Sync> Script<'r, T> {
     }
 
     fn command(&mut self, object: &Value) -> Result<Reply, AllocError>
-        ensures reply { IfOk result (λ reply. outcome_of reply ≡ (command_turn self.old.store (view object.now) (text_in (codes "cmd") (view object.now))).outcome) }
+        ensures reply { IfOk result (λ reply. outcome_of reply ≡
+            (command_turn self.old.store (view object.now) (text_in (codes "cmd") (view object.now))).outcome) }
         ensures state { OnOk result (self.new.store ≡ (command_turn self.old.store (view object.now) (text_in (codes "cmd") (view object.now))).state) }
     {
         let Some(name) = text(object, "cmd") else {
@@ -121,9 +123,9 @@ impl<'r, T: Threads + Sync> Script<'r, T> {
 
 impl<'r, T: Threads + Sync> LineMachine for Script<'r, T> {
     ghost use Rattle.std.specs.Thread.{IsSync};
-    ghost use Rattle.coniks_tool.specs.Script.{State, script_answer};
+    ghost use Rattle.coniks_tool.specs.Script.{ScriptState, script_answer};
 
-    ghost State = { State };
+    ghost State = { ScriptState };
 
     ghost state = { λ s. s.store };
 
@@ -138,14 +140,16 @@ impl<'r, T: Threads + Sync> LineMachine for Script<'r, T> {
     }
 }
 
-/// Answers each line of the reader by one line and one flush, until a read answers 0: `open`, `batch` and `lookup` over
-/// one directory, whose epochs are built by `workers` workers over prefixes of `depth` bits, both within the limits of
-/// `coniks_work::build`. No answer depends on either. Tells whether each line was accepted. It may wait, as it joins its
-/// workers.
+/// Answers the lines of a script: `open`, `batch` and `lookup` over one directory.
+///
+/// Answers each line with one line and one flush, until a read returns 0. Returns whether each line was accepted.
+/// `workers` worker threads build the epochs, at the split depth `depth` in bits, both within the limits of
+/// `coniks_work::build`. No answer depends on either. The call can wait, because it joins its worker threads.
 ///
 /// # Errors
 ///
-/// Those of `run_lines`, and `NoBoard` where the board for the directory's heads can't be had; nothing was read then.
+/// The errors of `run_lines`, and `NoBoard` if the board for the directory's heads cannot be allocated. Nothing is read
+/// then.
 pub fn run_script<T: Threads + Sync, R: ByteIn, W: ByteOut>(
     rt: &T,
     alloc: Global,
@@ -158,7 +162,7 @@ pub fn run_script<T: Threads + Sync, R: ByteIn, W: ByteOut>(
     requires depth { depth ≤ MAX_DEPTH }
     requires reads { (R.source reader.old).failed + 1 < 2 ^ 64 }
     requires writes { (W.sink writer.old).failed + 1 < 2 ^ 64 }
-    ensures ok { IfOk result (λ all. (state : State) × EndsWell script_answer None
+    ensures ok { IfOk result (λ all. (state : ScriptState) × EndsWell script_answer None
         (R.source reader.old) (R.source reader.new)
         (W.sink writer.old) (W.sink writer.new)
         state all) }
@@ -166,10 +170,10 @@ pub fn run_script<T: Threads + Sync, R: ByteIn, W: ByteOut>(
         (R.source reader.old) (R.source reader.new)
         (W.sink writer.old) (W.sink writer.new)) }
 
-    // Where the reader tells its bytes: after Ok each of them is answered, and after a fault a beginning of what
-    // answers them was written.
+    // If the reader's bytes are known: after Ok each of them is answered, and after an error a prefix of their answers
+    // was written.
     ensures all_of { (input : List ℕ) → (R.source reader.old).left ≡ Some input
-        → IfOk result (λ all. (state : State) × AnswersAll script_answer None input
+        → IfOk result (λ all. (state : ScriptState) × AnswersAll script_answer None input
         (W.sink writer.old) (W.sink writer.new)
         state all) }
     ensures part_of { (input : List ℕ) → (R.source reader.old).left ≡ Some input
@@ -177,7 +181,11 @@ pub fn run_script<T: Threads + Sync, R: ByteIn, W: ByteOut>(
         (W.sink writer.old) (W.sink writer.new)) }
 {
     let store = Store::new(alloc)?;
-    let crew = Crew { rt, workers, depth };
-    let mut script = Script { alloc, crew, store };
+    let parallelism = Parallelism { rt, workers, depth };
+    let mut script = Script {
+        alloc,
+        parallelism,
+        store,
+    };
     run_lines(alloc, &mut script, reader, writer)
 }

@@ -2,7 +2,7 @@
 
 ghost use Rattle.std.specs.Prelude.{◌≡◌, IfOk, option_map};
 ghost use Rattle.serde_json.specs.View.{view, items_view};
-ghost use Rattle.coniks_directory.specs.Batches.{kind_of, operation_of};
+ghost use Rattle.coniks_directory.specs.Batches.{op_kind, operation_of};
 ghost use Rattle.coniks_tool.specs.Operations.{kind_in, operation_in, operations_in, operations_read};
 
 use crate::lines::members::{base64, digits32, text};
@@ -11,8 +11,14 @@ use coniks_proof::{Bytes, Opening};
 use serde_json::Value;
 use std::alloc::{AllocError, Global};
 
-/// The operations of the elements, or the place of the first element that is none: it isn't an
-/// object, or a member is missing, of another kind or of a wrong text. No length is refused here.
+/// Reads the operations of the elements, or returns the position of the first element that is none.
+///
+/// Such an element is not an object, or one of its members is missing, of another kind or of a wrong text. Any length is
+/// accepted.
+///
+/// # Errors
+///
+/// `AllocError` if an allocation fails.
 pub fn read_ops(alloc: Global, list: &[Value]) -> Result<Result<Vec<Op>, usize>, AllocError>
     ensures { IfOk result (λ ops. operations_read ops ≡ operations_in (items_view list.now)) }
 {
@@ -26,8 +32,13 @@ pub fn read_ops(alloc: Global, list: &[Value]) -> Result<Result<Vec<Op>, usize>,
     Ok(Ok(found))
 }
 
-/// Reads the operation of an element: `key` in base64, `name`, `op`, and `opening` in 64 digits. `None`: it isn't an object, or
-/// one of these is missing, of another kind or of a wrong text.
+/// Reads the operation of an element: `key` in base64, `name`, `op`, and `opening` in 64 digits.
+///
+/// Returns `None` if the element is not an object, or one of these is missing, of another kind or of a wrong text.
+///
+/// # Errors
+///
+/// `AllocError` if an allocation fails.
 pub fn read_op(alloc: Global, element: &Value) -> Result<Option<Op>, AllocError>
     ensures { IfOk result (λ op. option_map operation_of op ≡ operation_in (view element.now)) }
 {
@@ -53,7 +64,7 @@ pub fn read_op(alloc: Global, element: &Value) -> Result<Option<Op>, AllocError>
 }
 
 fn kind(element: &Value) -> Option<OpKind>
-    ensures { option_map kind_of result ≡ kind_in (view element.now) }
+    ensures { option_map op_kind result ≡ kind_in (view element.now) }
 {
     let name = text(element, "op")?;
     if name == "register" {

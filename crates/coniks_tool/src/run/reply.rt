@@ -1,4 +1,4 @@
-//! What a line is answered by, and its text.
+//! The answers of `run` to a line, and their text.
 
 ghost use Rattle.std.specs.Prelude.{◌≡◌, IfOk};
 ghost use Rattle.serde_json.specs.View.{view};
@@ -15,34 +15,34 @@ use coniks_directory::{OpFault, SignedProof};
 use coniks_proof::Digest;
 use std::alloc::{AllocError, Global};
 
-/// What a line is answered by.
+/// The answer of `run` to a line.
 #[derive(Drop)]
 pub enum Reply {
     /// The registry is open.
     Opened,
     /// A batch was installed: the entry that it added to the chain, and the entry's link.
     Installed { entry: Entry, link: Digest },
-    /// A lookup found the path to the name's index in the tree of the epoch with this entry.
+    /// A lookup found the authentication path to the name's index in the tree of the epoch with this entry.
     LookedUp { name: String, found: SignedProof },
-    /// The line isn't a JSON object.
+    /// The line is not a JSON object.
     NotJson,
     /// The line has no known command.
     NoCommand,
     /// A member is missing, of another kind or of a wrong text.
     BadMember(Member),
-    /// The element of `ops` at this place is no operation.
+    /// The element of `ops` at this position is no operation.
     BadOperation(usize),
-    /// The registry isn't open yet.
+    /// The registry is not open.
     NotOpen,
     /// The registry is open already.
     AlreadyOpen,
     /// A batch has too many operations.
     BatchTooLong,
-    /// The operation at this place is at fault.
+    /// The operation at this position has an error.
     BadBatch { position: usize, fault: OpFault },
-    /// The epoch isn't later than the latest one.
+    /// The epoch is not later than the latest one.
     EpochNotLater { latest: u64 },
-    /// The board has no room for a further head.
+    /// The board has no room for another head.
     BoardFull,
     /// No epoch has exactly the number asked.
     UnknownEpoch,
@@ -53,7 +53,7 @@ pub enum Reply {
 impl Reply {
     ghost use Rattle.coniks_tool.specs.Replies.{is_accepted};
 
-    /// Whether the line was accepted.
+    /// Returns whether the line was accepted.
     pub fn is_accepted(&self) -> bool
         ensures { result ≡ is_accepted (outcome_of self.now) }
     {
@@ -74,7 +74,11 @@ impl Reply {
         }
     }
 
-    /// The object that is printed.
+    /// Returns the object that is printed.
+    ///
+    /// # Errors
+    ///
+    /// `AllocError` if an allocation fails.
     pub fn object(&self, alloc: Global) -> Result<Printable, AllocError>
         ensures { IfOk result (λ object. view object.value ≡ reply_data (outcome_of self.now)) }
     {

@@ -1,4 +1,4 @@
-//! The directory that a script opens, who signs its entries, and the board on which its heads are published.
+//! The directory that a script opens, the signer of its entries, and the board of its heads.
 
 ghost use Rattle.std.specs.Prelude.{◌≡◌, [], Option, None, Some, IfErr, IfOk, OnErr, OnOk, option_map};
 ghost use Rattle.coniks_chain.specs.Entries.{link_preimage};
@@ -17,23 +17,24 @@ ghost use Rattle.coniks_tool.specs.Stores.{batch_of, opened_of, IsServed};
 
 use crate::demo::index::DemoIndex;
 use crate::demo::seal::DemoSeal;
+use crate::lines::members::nonce_of;
 use crate::run::batch::Batch;
-use crate::run::committing::commit;
-use crate::run::crew::Crew;
+use crate::run::parallelism::Parallelism;
 use crate::run::reply::Reply;
 use coniks_chain::Entry;
 use coniks_directory::{BatchFault, CommitFault, Directory, InstallFault, LookupFault};
 use coniks_lines::RunFault;
 use coniks_proof::{Nonce, Sha256Hash};
 use coniks_shared::{Board, Publisher};
+use coniks_work::Open;
 use std::alloc::{AllocError, Global};
 use std::marker::Model;
 use std::thread::Threads;
 
-/// How many heads the board of a run takes, and so how many epochs a run may have.
+/// The number of heads that the board of a run takes, which limits the number of its epochs.
 pub const BOARD_HEADS: usize = 1024;
 
-/// A directory that was opened, and who signs its entries.
+/// An open directory, and the signer of its entries.
 #[derive(Drop)]
 pub struct Service {
     directory: Directory<Sha256Hash, DemoIndex>,
@@ -41,7 +42,7 @@ pub struct Service {
 }
 
 impl Service {
-    /// A directory with no epochs, whose indices and signatures are those of a key.
+    /// Returns a directory without epochs, whose indices and signatures are those of a key.
     fn open(alloc: Global, key: [u8; 32], nonce: [u8; 32], policy: [u8; 32]) -> Service
         ensures state { opened_of result ≡ record { key = key; nonce = nonce; policy = policy; history = [] } }
         ensures served { (published : BoardEnd) → published.heads ≡ [] → IsServed published result }
@@ -53,10 +54,10 @@ impl Service {
         }
     }
 
-    /// Commits a batch, which may bring a nonce, and publishes the head of its entry.
+    /// Commits a batch, under a new nonce if it has one, and publishes the head of its entry.
     fn commit<T: Threads + Sync>(
         &mut self,
-        crew: &Crew<'_, T>,
+        parallelism: &Parallelism<'_, T>,
         batch: &Batch<'_>,
         publisher: &mut Publisher,
         board: &Board,
@@ -68,18 +69,23 @@ impl Service {
         ensures served { IsServed publisher.new self.new }
         ensures ok { IfOk result (λ entry. Installs (opened_of self.old) (batch_of batch.now) entry (opened_of self.new)) }
         ensures last { IfOk result (λ entry. last_of publisher.new.heads ≡ Some (head_at sha256 entry)) }
-        ensures refused { IfErr result (IsRefusedBy (refusal (demo_index (opened_of self.old).key) (opened_of self.old).history batch.now.epoch (operations batch.now.ops.now))) }
+        ensures refused { IfErr result
+            (IsRefusedBy (refusal (demo_index (opened_of self.old).key) (opened_of self.old).history batch.now.epoch (operations batch.now.ops.now))) }
         ensures unchanged { OnErr result (opened_of self.new ≡ opened_of self.old) }
     {
-        let committed = commit(
-            &mut self.directory,
+        let committed = self.directory.commit_with(
+            parallelism.rt,
+            nonce_of(batch.new_nonce),
+            batch.ops,
+            parallelism.depth,
+            parallelism.workers,
+            &Open,
+            batch.epoch,
             &mut self.signer,
-            crew,
-            batch,
             publisher,
             board,
         );
-        // The directory tells what its chain is.
+        // The contract of `chain` gives the properties of the chain.
         let _chain = self.directory.chain();
         committed
     }
@@ -95,14 +101,14 @@ impl Service {
             Err(LookupFault::NameLength) => return Ok(Reply::NameLength),
             Err(LookupFault::OutOfMemory) => return Err(AllocError),
         };
-        // The directory tells what its chain is.
+        // The contract of `chain` gives the properties of the chain.
         let _chain = self.directory.chain();
         let name = String::from_str(alloc, name)?;
         Ok(Reply::LookedUp { name, found })
     }
 }
 
-/// The reply to an installed batch, whose head is the last that is published.
+/// Returns the reply to an installed batch, whose head is the last published one.
 fn installed_by(entry: Entry, publisher: &Publisher) -> Reply
     requires { last_of publisher.now.heads ≡ Some (head_at sha256 entry) }
     ensures { outcome_of result ≡ installed entry (sha256 (link_preimage entry)) }
@@ -116,10 +122,11 @@ fn installed_by(entry: Entry, publisher: &Publisher) -> Reply
     }
 }
 
-/// The reply to a batch that isn't accepted.
+/// Returns the reply to a batch that is not accepted.
 fn batch_refusal(fault: BatchFault) -> Result<Reply, AllocError>
     requires { (why : Option Refusal) × IsRefusedBy why (CommitFault.Batch fault) }
-    ensures { (why : Option Refusal) → IsRefusedBy why (CommitFault.Batch fault) → IfOk result (λ reply. option_map refusal_outcome why ≡ Some (outcome_of reply)) }
+    ensures { (why : Option Refusal) → IsRefusedBy why (CommitFault.Batch fault)
+        → IfOk result (λ reply. option_map refusal_outcome why ≡ Some (outcome_of reply)) }
 {
     match fault {
         BatchFault::BatchTooLong => Ok(Reply::BatchTooLong),
@@ -129,10 +136,11 @@ fn batch_refusal(fault: BatchFault) -> Result<Reply, AllocError>
     }
 }
 
-/// The reply to an update that isn't installed.
+/// Returns the reply to an update that is not installed.
 fn install_refusal(fault: InstallFault) -> Result<Reply, AllocError>
     requires { (why : Option Refusal) × IsRefusedBy why (CommitFault.Install fault) }
-    ensures { (why : Option Refusal) → IsRefusedBy why (CommitFault.Install fault) → IfOk result (λ reply. option_map refusal_outcome why ≡ Some (outcome_of reply)) }
+    ensures { (why : Option Refusal) → IsRefusedBy why (CommitFault.Install fault)
+        → IfOk result (λ reply. option_map refusal_outcome why ≡ Some (outcome_of reply)) }
 {
     match fault {
         InstallFault::EpochNotLater { latest } => Ok(Reply::EpochNotLater { latest }),
@@ -142,7 +150,7 @@ fn install_refusal(fault: InstallFault) -> Result<Reply, AllocError>
     }
 }
 
-/// The reply to a batch that isn't committed.
+/// Returns the reply to a batch that is not committed.
 fn refusal_of(fault: CommitFault) -> Result<Reply, AllocError>
     requires { (why : Option Refusal) × IsRefusedBy why fault }
     ensures { (why : Option Refusal) → IsRefusedBy why fault → IfOk result (λ reply. option_map refusal_outcome why ≡ Some (outcome_of reply)) }
@@ -153,7 +161,9 @@ fn refusal_of(fault: CommitFault) -> Result<Reply, AllocError>
     }
 }
 
-/// The directory of a run, once a line opens it, and the board for its heads. Contracts see it as the state of the run.
+/// The directory of a run, after a line has opened it, and the board for its heads.
+///
+/// Contracts see it as the state of the run.
 #[derive(Drop)]
 pub struct Store {
     alloc: Global,
@@ -163,23 +173,23 @@ pub struct Store {
 }
 
 impl Model for Store {
-    ghost use Rattle.coniks_tool.specs.Script.{State};
+    ghost use Rattle.coniks_tool.specs.Script.{ScriptState};
 
-    ghost Value = { State };
+    ghost Value = { ScriptState };
 
-    ghost use Rattle.coniks_tool.specs.Stores.{IsKept, state_of};
+    ghost use Rattle.coniks_tool.specs.Stores.{IsKept, script_state_of};
 
-    ghost view = { λ s. state_of s.opened };
+    ghost view = { λ s. script_state_of s.opened };
 
     ghost invariant = { λ s. IsKept s.board s.publisher s.opened };
 }
 
 impl Store {
-    /// A store with an empty board, in which nothing is open.
+    /// Returns a store with an empty board, in which nothing is open.
     ///
     /// # Errors
     ///
-    /// `NoBoard` where the board can't be had.
+    /// `NoBoard` if the board cannot be allocated.
     pub fn new(alloc: Global) -> Result<Store, RunFault>
         ensures ok { IfOk result (λ store. store ≡ None) }
         ensures err { IfErr result (λ fault. fault ≡ NoBoard) }
@@ -195,7 +205,7 @@ impl Store {
         })
     }
 
-    /// Opens a directory, once.
+    /// Opens a directory, or returns `AlreadyOpen` if one is open.
     pub fn open_with(&mut self, key: [u8; 32], nonce: [u8; 32], policy: [u8; 32]) -> Reply
         ensures reply { outcome_of result ≡ (open_with self.old key nonce policy).outcome }
         ensures state { self.new ≡ (open_with self.old key nonce policy).state }
@@ -207,10 +217,14 @@ impl Store {
         Reply::Opened
     }
 
-    /// Installs a batch that was read.
+    /// Installs a batch that was read, and returns the reply.
+    ///
+    /// # Errors
+    ///
+    /// `AllocError` if an allocation fails.
     pub fn install<T: Threads + Sync>(
         &mut self,
-        crew: &Crew<'_, T>,
+        parallelism: &Parallelism<'_, T>,
         batch: &Batch<'_>,
     ) -> Result<Reply, AllocError>
         ensures reply { IfOk result (λ reply. outcome_of reply ≡ (batch_with self.old (batch_of batch.now)).outcome) }
@@ -219,7 +233,7 @@ impl Store {
         let Some(mut service) = self.opened.take() else {
             return Ok(Reply::NotOpen);
         };
-        let committed = service.commit(crew, batch, &mut self.publisher, &self.board);
+        let committed = service.commit(parallelism, batch, &mut self.publisher, &self.board);
         self.opened = Some(service);
         let entry = match committed {
             Ok(entry) => entry,
@@ -228,7 +242,11 @@ impl Store {
         Ok(installed_by(entry, &self.publisher))
     }
 
-    /// Looks a name up at an epoch.
+    /// Looks up a name at an epoch, and returns the reply.
+    ///
+    /// # Errors
+    ///
+    /// `AllocError` if an allocation fails.
     pub fn look_up(&self, epoch: u64, name: &str) -> Result<Reply, AllocError>
         ensures { IfOk result (λ reply. outcome_of reply ≡ lookup_with self.now epoch name.now) }
     {

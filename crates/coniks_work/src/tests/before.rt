@@ -2,7 +2,7 @@
 
 ghost use Rattle.std.specs.Prelude.{ℕ};
 
-use crate::crew::all_parts;
+use crate::pool::all_parts;
 use crate::tests::gates::Counts;
 use crate::work::Work;
 use coniks_tree::{OutOfMemory, Part};

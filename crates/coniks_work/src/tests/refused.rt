@@ -2,8 +2,8 @@
 
 ghost use Rattle.std.specs.Prelude.{ℕ};
 
-use crate::crew::{all_parts, alone};
 use crate::gate::Open;
+use crate::pool::{all_parts, alone};
 use crate::work::Work;
 use coniks_tree::{OutOfMemory, Part};
 

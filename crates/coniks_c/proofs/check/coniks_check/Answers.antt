@@ -18,8 +18,8 @@ returns-in-Ok-Key-clause-key c zero =
     )
 
 -- the bytes are those of one proof, which was refused
-pub returns-in-Err-check_borrowed-clause-exact : goal.returns-in-Err-check_borrowed-clause-exact
-returns-in-Err-check_borrowed-clause-exact c answer shows =
+pub returns-in-Err-check_ref-clause-exact : goal.returns-in-Err-check_ref-clause-exact
+returns-in-Err-check_ref-clause-exact c answer shows =
     let same : c.in-Ok.read ≡ shows.0 = c.in-Ok.ensures.exact shows.0 shows.1 in
-    absurd (c.in-Err-check_borrowed.ensures.exact answer
+    absurd (c.in-Err-check_ref.ensures.exact answer
     (subst (λ (proof : Proof). Accepts sha256 c.args.nonce.now.bytes c.args.root.now.bytes c.args.index.now.bytes c.args.name.now proof answer) (sym same) shows.2))

@@ -2,7 +2,7 @@ use Rattle.std.proofs.Common.{ap, arith, sym, subst, ◌≡◌, ◌<◌, length,
 use Rattle.std.proofs.lemmas.Bool.Decides.{nat_tests}
 use Rattle.coniks_directory.proofs.Words.{entry_of_change, length-map, nil_from_length, overwritten}
 use Rattle.coniks_tree.specs.Entries.{in_order}
-use Rattle.coniks_tree.specs.Parts.{AllPlaced, entries_of}
+use Rattle.coniks_tree.specs.Parts.{AllPlaced, entries_in}
 use Rattle.coniks_tree.proofs.Lemmas.{AllPlaced-append}
 use Rattle.coniks_directory.proofs.GrowthLemmas.{aligned-side, listed-more, overlaid-both, overlaid-end, overlaid-new, overlaid-same}
 use Rattle.coniks_directory.proofs.growth.+overlay.Goals.{then-is_empty-2-via-then-is_empty-2, then-is_empty-2-via-else-is_empty-2+then-level-eq-MAX_LEVEL}
@@ -12,7 +12,7 @@ use Rattle.coniks_directory.proofs.growth.+overlay.Goals as goal
 pub returns-then-is_empty-clause-lists : goal.returns-then-is_empty-clause-lists
 returns-then-is_empty-clause-lists t c = λ aligned.
     let none = nil_from_length c.args.changes.now (grind (arith, nat_tests, c.is_empty.ensures, c.if-is_empty.true)) in
-    listed-more c.args.all.now.items _ c.args.entries.now _ c.in_ok-extend_from_slice.ensures.items (overlaid-same c.args.level _ _ aligned (ap entries_of none))
+    listed-more c.args.all.now.items _ c.args.entries.now _ c.in_ok-extend_from_slice.ensures.items (overlaid-same c.args.level _ _ aligned (ap entries_in none))
 
 pub returns-then-is_empty-clause-placed : goal.returns-then-is_empty-clause-placed
 returns-then-is_empty-clause-placed t c = λ records old new placed.
@@ -23,10 +23,10 @@ pub returns-then-is_empty-2-clause-lists : goal.returns-then-is_empty-2-clause-l
 returns-then-is_empty-2-clause-lists t c = λ aligned.
     let cs = c.args.changes.now in
     let some : 0 < length cs = grind (arith, nat_tests, c.is_empty.ensures, c.if-is_empty.false) in
-    let list : in_order c.args.level (overwritten (entries_of c.args.entries.now) (entries_of cs)) ≡ entries_of cs = elim c.then-is_empty-2.branch [
+    let list : in_order c.args.level (overwritten (entries_in c.args.entries.now) (entries_in cs)) ≡ entries_in cs = elim c.then-is_empty-2.branch [
       | then-is_empty-2-via-then-is_empty-2 w ↦
           let none = nil_from_length c.args.entries.now (grind (arith, nat_tests, c.is_empty-2.ensures, w.if-is_empty-2.true)) in
-          overlaid-new c.args.level _ _ aligned (ap entries_of none)
+          overlaid-new c.args.level _ _ aligned (ap entries_in none)
       | then-is_empty-2-via-else-is_empty-2+then-level-eq-MAX_LEVEL w ↦ overlaid-end c.args.level _ _ w.if-level-eq-MAX_LEVEL.true aligned (omega (arith, some, length-map cs entry_of_change))
     ] in
     listed-more c.args.all.now.items _ cs _ c.in_ok-extend_from_slice-2.ensures.items list
@@ -39,14 +39,14 @@ returns-then-is_empty-2-clause-placed t c = λ records old new placed.
 pub returns-clause-lists : goal.returns-clause-lists
 returns-clause-lists t c = λ aligned.
     let k = c.args.level in
-    let es = entries_of c.args.entries.now in
-    let cs = entries_of c.args.changes.now in
+    let es = entries_in c.args.entries.now in
+    let cs = entries_in c.args.changes.now in
     let short : k < 256 = omega (arith, c.requires, c.if-level-eq-MAX_LEVEL.false) in
     let l = c.sides.ensures.left aligned.old in
     let r = c.sides.ensures.right aligned.old in
     let lc = c.sides-2.ensures.left aligned.new in
     let rc = c.sides-2.ensures.right aligned.new in
-    overlaid-both k es cs aligned (entries_of c.args.all.now.items) (entries_of c.overlay.new.all.items) (entries_of c.overlay-2.new.all.items) _ _ _ _ short l r lc rc
+    overlaid-both k es cs aligned (entries_in c.args.all.now.items) (entries_in c.overlay.new.all.items) (entries_in c.overlay-2.new.all.items) _ _ _ _ short l r lc rc
     (c.in_ok-overlay.ensures.lists (aligned-side k es cs aligned false _ _ short l lc)) (c.in_ok-overlay-2.ensures.lists (aligned-side k es cs aligned true _ _ short r rc))
 
 pub returns-clause-placed : goal.returns-clause-placed

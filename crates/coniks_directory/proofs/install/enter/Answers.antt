@@ -4,7 +4,7 @@ use Rattle.coniks_directory.proofs.InstallLemmas.{installed_is, left_next}
 use Rattle.coniks_directory.proofs.install.enter.Goals as goal
 
 pub returns-clause-entered : goal.returns-clause-entered
-returns-clause-entered g c = λ s is of whole u after body.
+returns-clause-entered g c = λ s is index_of whole u after body.
     let hash = g.H.Hash32.digest_of c.args.h.now in
     let held = c.args.held.now in
     let p = c.args.update in
@@ -13,6 +13,7 @@ returns-clause-entered g c = λ s is of whole u after body.
     let later = state_of (record held { tree = c.attach-root.new.self; epochs = c.put_epoch.new.epochs; chain = c.put_entry.new.chain }) in
     let same = installed_is (state_of held) p root c.args.t _ c.args.entry later.nodes later.records later.epochs later.chain e.records c.records-count.ensures c.put_epoch.ensures
     c.put_entry.ensures in
-    let entered : IsEntered hash (state_of held) later p c.args.t c.args.entry = λ of whole u after body. subst (λ (z : State). Leaves hash of (state_of held) z p c.args.t c.args.entry) (sym same)
-    (left_next hash of (state_of held) whole p u c.args.t after c.args.entry body later.nodes root (omega (arith, e.nodes)) e.older e.known (λ es stands. rw e.records at (e.shows es stands))) in
-    subst (λ (z : State). IsEntered hash z later p c.args.t c.args.entry) is entered of whole u after body
+    let entered : IsEntered hash (state_of held) later p c.args.t c.args.entry = λ index_of whole u after
+    body. subst (λ (z : State). Leaves hash index_of (state_of held) z p c.args.t c.args.entry) (sym same)
+    (left_next hash index_of (state_of held) whole p u c.args.t after c.args.entry body later.nodes root (omega (arith, e.nodes)) e.older e.known (λ es stands. rw e.records at (e.shows es stands))) in
+    subst (λ (z : State). IsEntered hash z later p c.args.t c.args.entry) is entered index_of whole u after body

@@ -6,7 +6,7 @@ use Rattle.coniks_directory.proofs.judge.judged.Goals as goal
 
 pub loop-position-init : goal.loop-position-init
 loop-position-init g c = record {
-  drafts = c.in-Ok.ensures (g.H.Hash32.digest_of c.args.h.now) (g.X.IndexSource.index_of c.args.source.now);
+  pending = c.in-Ok.ensures (g.H.Hash32.digest_of c.args.h.now) (g.X.IndexSource.index_of c.args.source.now);
   rest = λ nonce registry shown. refl;
 }
 
@@ -19,10 +19,10 @@ loop-position-preserved g c =
     let at = op_at c.args.ops.now l.position op c.loop-position-test.true c.index-ops-position.is in
     let is : c.judge_one.result ≡ Ok None = c.in-Ok-None.is ∙ ap Ok c.in-Ok-None.field-0-is in
     record {
-      drafts = rw (← bound-next ops l.position (operation_of op) at) (c.judge_one.ensures.drafts is (g.H.Hash32.digest_of c.args.h.now) before l.invariant.drafts);
+      pending = rw (← bound-next ops l.position (operation_of op) at) (c.judge_one.ensures.pending is (g.H.Hash32.digest_of c.args.h.now) before l.invariant.pending);
       rest = λ nonce registry shown.
           judged-next (g.X.IndexSource.index_of c.args.source.now) registry ops l.position (operation_of op) None at (l.invariant.rest nonce registry shown)
-          (sym (c.in-Ok-None.ensures.fault (g.H.Hash32.digest_of c.args.h.now) nonce registry before shown l.invariant.drafts) ∙ ap (option_map fault_is) c.in-Ok-None.field-0-is);
+          (sym (c.in-Ok-None.ensures.fault (g.H.Hash32.digest_of c.args.h.now) nonce registry before shown l.invariant.pending) ∙ ap (option_map fault_is) c.in-Ok-None.field-0-is);
     }
 
 pub returns-in-Ok-Some-clause-fault : goal.returns-in-Ok-Some-clause-fault
@@ -32,17 +32,18 @@ returns-in-Ok-Some-clause-fault g c = λ nonce registry shown.
     let ops = operations c.args.ops.now in
     let at = op_at c.args.ops.now l.position op c.loop-position-test.true c.index-ops-position.is in
     judged-next (g.X.IndexSource.index_of c.args.source.now) registry ops l.position (operation_of op) (Some (fault_is c.in-Ok-Some.fault)) at (l.invariant.rest nonce registry shown)
-    (sym (c.in-Ok-Some.ensures.fault (g.H.Hash32.digest_of c.args.h.now) nonce registry (map bound_by (take l.position ops)) shown l.invariant.drafts) ∙ ap (option_map fault_is) c.in-Ok-Some.field-0-is)
+    (sym (c.in-Ok-Some.ensures.fault (g.H.Hash32.digest_of c.args.h.now) nonce registry (map bound_by (take l.position ops)) shown l.invariant.pending)
+    ∙ ap (option_map fault_is) c.in-Ok-Some.field-0-is)
 
 pub seal-requires : goal.seal-requires
-seal-requires g c = drafts_within (g.H.Hash32.digest_of c.args.h.now) (g.X.IndexSource.index_of c.args.source.now) _ _ _ c.loop-position.invariant.drafts
+seal-requires g c = drafts_within (g.H.Hash32.digest_of c.args.h.now) (g.X.IndexSource.index_of c.args.source.now) _ _ _ c.loop-position.invariant.pending
 
-pub returns-clause-drafts : goal.returns-clause-drafts
-returns-clause-drafts g c =
+pub returns-clause-pending : goal.returns-clause-pending
+returns-clause-pending g c =
     let l = c.loop-position in
     let ops = operations c.args.ops.now in
-    let all = rw (take_all l.position ops (omega (arith, length-map c.args.ops.now operation_of))) at l.invariant.drafts in
-    c.seal.ensures.drafts _ _ _ all
+    let all = rw (take_all l.position ops (omega (arith, length-map c.args.ops.now operation_of))) at l.invariant.pending in
+    c.seal.ensures.pending _ _ _ all
 
 pub returns-clause-faultless : goal.returns-clause-faultless
 returns-clause-faultless g c = λ nonce registry shown.

@@ -9,5 +9,5 @@ returns-clause-binds c = rw (← c.index-records-place.is) (binds_still c.args.r
 pub returns-clause-sealed : goal.returns-clause-sealed
 returns-clause-sealed c = λ hash all is so.
     let r = c.index-records-place.result in
-    let of : c.args.commitment.0 ≡ _ = is (registered_of r) (found_at c.args.records.now c.args.place r c.requires c.index-records-place.is) in
-    rw (← c.index-records-place.is) (sealed_next hash all c.args.records.now c.args.place r c.args.commitment c.requires c.index-records-place.is of so)
+    let index_of : c.args.commitment.0 ≡ _ = is (registered_of r) (found_at c.args.records.now c.args.place r c.requires c.index-records-place.is) in
+    rw (← c.index-records-place.is) (sealed_next hash all c.args.records.now c.args.place r c.args.commitment c.requires c.index-records-place.is index_of so)

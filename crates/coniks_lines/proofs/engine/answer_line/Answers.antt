@@ -14,7 +14,8 @@ returns-in_err-write_all-clause-err g c =
     let part = c.in_err-write_all.ensures.part in
     λ still.
     rw (p.1, p.2, c.in_err-write_all.ensures.err)
-    (stops_in_text answer state c.args.line.now c.deref.result.now (sink c.args.writer.now) (sink c.write_all.new.writer) part.0 still text part.1 c.in_err-write_all.ensures.flushes c.in_err-write_all.ensures.because)
+    (stops_in_text answer state c.args.line.now c.deref.result.now (sink c.args.writer.now) (sink c.write_all.new.writer)
+    part.0 still text part.1 c.in_err-write_all.ensures.flushes c.in_err-write_all.ensures.because)
 
 pub returns-in_default-clause-err : goal.returns-in_default-clause-err
 returns-in_default-clause-err g c = λ still. stops_before g.M.LineMachine.answer (g.M.LineMachine.state c.args.machine.now) c.args.line.now (g.W.ByteOut.sink c.args.writer.now) still

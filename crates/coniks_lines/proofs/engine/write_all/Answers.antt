@@ -9,8 +9,10 @@ use Rattle.coniks_lines.proofs.RunsLemmas.{WritesOn-then}
 use Rattle.coniks_lines.proofs.engine.write_all.Goals as goal
 
 -- a write of the front of what was left
-goes_on : (old mid new : Sink) (bytes : List ℕ) (done n : ℕ) → Appends old (take done bytes) mid → Appends mid (take n (take (length bytes - done) (drop done bytes))) new → Appends old (take (done + n) bytes) new
-goes_on old mid new bytes done n p q = rw take-add (Appends-then old mid new (take done bytes) (take n (drop done bytes)) p (subst (λ (r : List ℕ). Appends mid (take n r) new) (take_rest bytes done) q))
+goes_on : (old mid new : Sink) (bytes : List ℕ) (done n : ℕ) → Appends old (take done bytes) mid
+    → Appends mid (take n (take (length bytes - done) (drop done bytes))) new → Appends old (take (done + n) bytes) new
+goes_on old mid new bytes done n p q = rw take-add
+    (Appends-then old mid new (take done bytes) (take n (drop done bytes)) p (subst (λ (r : List ℕ). Appends mid (take n r) new) (take_rest bytes done) q))
 
 pub loop-done-preserved : goal.loop-done-preserved
 loop-done-preserved g c =

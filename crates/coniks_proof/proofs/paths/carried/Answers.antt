@@ -1,7 +1,7 @@
 use Rattle.std.proofs.Common.{◌≡◌, ◌+◌, ◌-◌, ℕ, suc, List, ◌∷◌, drop, slice_get, Some, sym, ap, ◌∙◌, arith, drop-cons}
 use Rattle.std.proofs.lemmas.Option.{get_or_from_slice_get, slice_get_within}
 use Rattle.coniks_proof.specs.Bits.{bit_at}
-use Rattle.coniks_proof.specs.Borrowed.{listed, owned}
+use Rattle.coniks_proof.specs.ProofRefs.{listed, owned}
 use Rattle.coniks_proof.specs.Proofs.{joined, preimage}
 use Rattle.coniks_proof.specs.declared.values.Digest.{Digest}
 use Rattle.coniks_proof.specs.declared.paths.End.{End}

@@ -1,5 +1,5 @@
 use Rattle.std.proofs.Common.{◌≡◌, ◌+◌, ◌≤◌, drop, length}
-use Rattle.coniks_proof.specs.Borrowed.{listed, owned}
+use Rattle.coniks_proof.specs.ProofRefs.{listed, owned}
 use Rattle.coniks_proof.specs.Proofs.{preimage}
 use Rattle.coniks_proof.proofs.paths.carried.Given as goal
 

@@ -17,7 +17,8 @@ loop-place-preserved c =
     let pushed : c.push.new.self.items ≡ l.ops.items ++ op ∷ [] = grind (arith, common_steps) in
     let pushed_index : c.push-in-Some.new.self.items ≡ l.indices.items ++ index ∷ [] = grind (arith, common_steps) in
     record {
-      found = one_more c.args.list.now l.place c.index-list-place.result l.ops.items c.push.new.self.items l.indices.items c.push-in-Some.new.self.items op index c.loop-place-test.true c.index-list-place.is some pushed pushed_index
+      found = one_more c.args.list.now l.place c.index-list-place.result l.ops.items c.push.new.self.items l.indices.items
+          c.push-in-Some.new.self.items op index c.loop-place-test.true c.index-list-place.is some pushed pushed_index
           l.invariant.paired l.invariant.found;
       paired =
           let more = ap length pushed ∙ length-append l.ops.items (op ∷ []) in

@@ -7,5 +7,6 @@ pub store-requires : goal.store-requires
 store-requires c = (
   search rules,
   omega arith,
-  publishes _ _ _ c.args.seat.now.me c.args.count (ap (λ (v : BoardView). v.writes) c.requires.publisher) (ap (λ (v : BoardView). v.live) c.requires.publisher) c.requires.whole c.requires.count.0 (omega arith),
+  publishes _ _ _ c.args.seat.now.me c.args.count (ap (λ (v : BoardView). v.writes) c.requires.publisher)
+      (ap (λ (v : BoardView). v.live) c.requires.publisher) c.requires.whole c.requires.count.0 (omega arith),
 )

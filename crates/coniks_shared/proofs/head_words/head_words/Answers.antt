@@ -12,5 +12,6 @@ returns-clause-back c =
     let x : c.word-2.result ≡ word_at link 8 = c.word-2.ensures in
     let y : c.word-3.result ≡ word_at link 16 = c.word-3.ensures in
     let z : c.word-4.result ≡ word_at link 24 = c.word-4.ensures in
-    let all : link_of (epoch ∷ c.word.result ∷ c.word-2.result ∷ c.word-3.result ∷ c.word-4.result ∷ []) ≡ link = (λ i. link_of (epoch ∷ w i ∷ x i ∷ y i ∷ z i ∷ [])) ∙ link_back link epoch c.known.ensures.0 c.known.ensures.1 in
+    let all : link_of (epoch ∷ c.word.result ∷ c.word-2.result ∷ c.word-3.result ∷ c.word-4.result ∷ []) ≡ link =
+    (λ i. link_of (epoch ∷ w i ∷ x i ∷ y i ∷ z i ∷ [])) ∙ link_back link epoch c.known.ensures.0 c.known.ensures.1 in
     ap (λ (l : List ℕ). let h : Head = record { epoch = epoch; link = record { 0 = l } } in h) all

@@ -5,7 +5,7 @@ use Rattle.coniks_proof.specs.Bits.{child}
 use Rattle.coniks_proof.specs.Entries.{half}
 use Rattle.coniks_proof.proofs.Lemmas.{length-child, overwritten-nothing}
 use Rattle.coniks_proof.specs.Changes.{overwritten, AreApart, AreInOrder}
-use Rattle.coniks_tree.specs.Parts.{Stands, entries_of, entry_of_change, node_count}
+use Rattle.coniks_tree.specs.Parts.{Stands, entries_in, entry_of_change, node_count}
 use Rattle.coniks_tree.proofs.CountLemmas.{new-one, new-unchanged, new_joined}
 use Rattle.coniks_tree.proofs.PartLemmas.{grown_side, count_grown, new_side}
 use Rattle.coniks_tree.proofs.growth.+grow_part.Goals as goal
@@ -13,7 +13,7 @@ use Rattle.coniks_tree.proofs.growth.+grow_part.Goals as goal
 pub returns-then-is_empty-clause-stands : goal.returns-then-is_empty-clause-stands
 returns-then-is_empty-clause-stands g t c = λ entries ordered apart s.
     let none : c.args.changes.now ≡ [] = nil_from_length c.args.changes.now (grind (arith, nat_tests, c.is_empty.ensures, c.if-is_empty.true)) in
-    let same : entries ≡ overwritten entries (entries_of c.args.changes.now) = sym (ap (λ cs. overwritten entries (entries_of cs)) none ∙ overwritten-nothing entries) in
+    let same : entries ≡ overwritten entries (entries_in c.args.changes.now) = sym (ap (λ cs. overwritten entries (entries_in cs)) none ∙ overwritten-nothing entries) in
     subst (Stands (g.H.Hash32.digest_of c.args.h.now) c.args.nonce.now.0 c.args.nodes.now c.args.records.now c.args.part c.args.prefix.now) same s
 
 pub returns-clause-count : goal.returns-clause-count
@@ -23,7 +23,8 @@ returns-clause-count g t c = λ old some.
     let left-height : 256 - length c.child.result ≡ 255 - length p = omega (arith, ap length c.child.ensures, length-child p false) in
     let right-height : 256 - length c.child-2.result ≡ 255 - length p = omega (arith, ap length c.child-2.ensures, length-child p true) in
     let both = c.opened-left.ensures.unmade old in
-    count_grown c.opened-left.result.0 c.in_ok-left.left c.opened-left.result.1 c.in_ok-right.right (length p) (length c.sides.result.0.now) (length c.sides.result.1.now) (length c.args.changes.now) _ short both.0 both.1 c.sides.ensures.all some
+    count_grown c.opened-left.result.0 c.in_ok-left.left c.opened-left.result.1 c.in_ok-right.right (length p)
+    (length c.sides.result.0.now) (length c.sides.result.1.now) (length c.args.changes.now) _ short both.0 both.1 c.sides.ensures.all some
     c.in_ok-left.ensures.same (λ o m. subst (λ h. node_count c.in_ok-left.left ≤ 1 + 2 * (h * length c.sides.result.0.now)) left-height (c.in_ok-left.ensures.count o m))
     c.in_ok-right.ensures.same (λ o m. subst (λ h. node_count c.in_ok-right.right ≤ 1 + 2 * (h * length c.sides.result.1.now)) right-height (c.in_ok-right.ensures.count o m))
     c.in_ok-join_parts.ensures.count
@@ -39,16 +40,16 @@ returns-clause-stands g t c = λ entries ordered apart s.
     let short : length p < 256 = omega (arith, c.only_change.ensures.none c.in_default.is, c.len-level.ensures.len) in
     let parts = c.opened-left.ensures.stands hash nonce p entries (sym c.len-level.ensures.len) s in
     let at = c.len-level.ensures.len in
-    let ordered' = subst (λ k. AreInOrder k (entries_of cs)) (sym at) ordered in
-    let left = grown_side hash nonce nodes records c.opened-left.result.0 c.in_ok-left.left false p c.child.result entries (entries_of cs) (entries_of c.sides.result.0.now)
-    c.child.ensures short (subst (λ k. entries_of c.sides.result.0.now ≡ half false k (entries_of cs)) at (c.sides.ensures.left ordered')) ordered apart
+    let ordered' = subst (λ k. AreInOrder k (entries_in cs)) (sym at) ordered in
+    let left = grown_side hash nonce nodes records c.opened-left.result.0 c.in_ok-left.left false p c.child.result entries (entries_in cs) (entries_in c.sides.result.0.now)
+    c.child.ensures short (subst (λ k. entries_in c.sides.result.0.now ≡ half false k (entries_in cs)) at (c.sides.ensures.left ordered')) ordered apart
     (c.in_ok-left.ensures.stands (half false (length p) entries))
     (subst (λ k. Stands hash nonce nodes records c.opened-left.result.0 (child p false) (half false k entries)) at parts.0) in
-    let right = grown_side hash nonce nodes records c.opened-left.result.1 c.in_ok-right.right true p c.child-2.result entries (entries_of cs) (entries_of c.sides.result.1.now)
-    c.child-2.ensures short (subst (λ k. entries_of c.sides.result.1.now ≡ half true k (entries_of cs)) at (c.sides.ensures.right ordered')) ordered apart
+    let right = grown_side hash nonce nodes records c.opened-left.result.1 c.in_ok-right.right true p c.child-2.result entries (entries_in cs) (entries_in c.sides.result.1.now)
+    c.child-2.ensures short (subst (λ k. entries_in c.sides.result.1.now ≡ half true k (entries_in cs)) at (c.sides.ensures.right ordered')) ordered apart
     (c.in_ok-right.ensures.stands (half true (length p) entries))
     (subst (λ k. Stands hash nonce nodes records c.opened-left.result.1 (child p true) (half true k entries)) at parts.1) in
-    c.in_ok-join_parts.ensures.stands records (overwritten entries (entries_of cs)) left right
+    c.in_ok-join_parts.ensures.stands records (overwritten entries (entries_in cs)) left right
 
 pub returns-clause-placed : goal.returns-clause-placed
 returns-clause-placed g t c = λ all more placed each.
@@ -59,12 +60,12 @@ returns-clause-placed g t c = λ all more placed each.
 pub returns-then-is_empty-clause-new : goal.returns-then-is_empty-clause-new
 returns-then-is_empty-clause-new g t c = λ old below entries ordered apart s.
     let none : c.args.changes.now ≡ [] = nil_from_length c.args.changes.now (grind (arith, nat_tests, c.is_empty.ensures, c.if-is_empty.true)) in
-    new-unchanged _ _ c.args.nodes.now c.args.records.now c.args.part c.args.prefix.now (length c.args.prefix.now) entries (entries_of c.args.changes.now) (ap entries_of none) old
+    new-unchanged _ _ c.args.nodes.now c.args.records.now c.args.part c.args.prefix.now (length c.args.prefix.now) entries (entries_in c.args.changes.now) (ap entries_in none) old
     (omega (arith, below, ap length none)) s
 
 pub returns-in-Some-clause-new : goal.returns-in-Some-clause-new
 returns-in-Some-clause-new g t c = λ old below entries ordered apart s.
-    let cs = entries_of c.args.changes.now in
+    let cs = entries_in c.args.changes.now in
     let left = c.in-Some.ensures.stands _ _ c.args.nodes.now c.args.records.now c.args.prefix.now entries
     (subst (λ k. AreApart k (overwritten entries cs)) (sym c.len-level.ensures.len) apart) s in
     sym (new-one (length c.args.prefix.now) entries cs (omega (arith, ap length left)))
@@ -76,12 +77,12 @@ returns-clause-new g t c = λ old below entries ordered apart s.
     let nodes = c.args.nodes.now in
     let records = c.args.records.now in
     let p = c.args.prefix.now in
-    let cs = entries_of c.args.changes.now in
+    let cs = entries_in c.args.changes.now in
     let at = c.len-level.ensures.len in
     let l = c.opened-left.result.0 in
     let r = c.opened-left.result.1 in
-    let csl = entries_of c.sides.result.0.now in
-    let csr = entries_of c.sides.result.1.now in
+    let csl = entries_in c.sides.result.0.now in
+    let csr = entries_in c.sides.result.1.now in
     let short : length p < 256 = omega (arith, c.only_change.ensures.none c.in_default.is, at) in
     let some : 0 < length cs = grind (arith, nat_tests, c.is_empty.ensures, c.if-is_empty.false, length-map c.args.changes.now entry_of_change) in
     let unmade = c.opened-left.ensures.unmade old in

@@ -1,5 +1,5 @@
 use Rattle.coniks_proof.proofs.Lemmas.{in_order-AreIncreasing}
-use Rattle.coniks_tree.specs.Parts.{entries_of}
+use Rattle.coniks_tree.specs.Parts.{entries_in}
 use Rattle.coniks_tree.proofs.EntriesLemmas.{Lists-apart, Lists-stands}
 use Rattle.coniks_tree.proofs.laws.what_is_listed_is_built_again.Goals as goal
 
@@ -11,4 +11,4 @@ returns-clause-stands c = λ hash nonce nodes records part changes entries map l
     Lists-stands hash nonce nodes records part changes entries map lists s
 
 pub returns-clause-increasing : goal.returns-clause-increasing
-returns-clause-increasing c = λ changes entries map lists. in_order-AreIncreasing (entries_of changes) (lists.once map) lists.order
+returns-clause-increasing c = λ changes entries map lists. in_order-AreIncreasing (entries_in changes) (lists.once map) lists.order

@@ -18,18 +18,18 @@ loop-one-preserved c =
       open_before = here.1;
       open_below = subst (AllOpen n (c.args.level + 1)) (sym any.1)
           (AllOpen-append n (c.args.level + 1) c.loop-one.next.items any.0 c.loop-one.invariant.open_below (subst (λ k. AllOpen n (k + 1) any.0) here.0.long any.2));
-      so_far = λ of nonce opened next others.
-          let more = c.in_ok-left.ensures of nonce in
-          let step = AllDivide-step of nonce c.args.nodes.now c.args.records.now c.loop-one.growing.items rest c.in-Some.one o opened more.0 next popped refl more.3 others in
-          let whole = c.loop-one.invariant.so_far of nonce (o ∷ opened) (more.0 ++ next) step in
-          subst (λ os. AllDivide of nonce c.args.nodes.now c.args.records.now c.args.growing.items os (c.divide.new.next.items ++ next))
+      so_far = λ digest_of nonce opened next others.
+          let more = c.in_ok-left.ensures digest_of nonce in
+          let step = AllDivide-step digest_of nonce c.args.nodes.now c.args.records.now c.loop-one.growing.items rest c.in-Some.one o opened more.0 next popped refl more.3 others in
+          let whole = c.loop-one.invariant.so_far digest_of nonce (o ∷ opened) (more.0 ++ next) step in
+          subst (λ os. AllDivide digest_of nonce c.args.nodes.now c.args.records.now c.args.growing.items os (c.divide.new.next.items ++ next))
           (sym (ap (λ os. os ++ opened) pushed ∙ append_assoc c.loop-one.opened.items (o ∷ []) opened))
-          (subst (λ gs. AllDivide of nonce c.args.nodes.now c.args.records.now c.args.growing.items (c.loop-one.opened.items ++ o ∷ opened) gs)
+          (subst (λ gs. AllDivide digest_of nonce c.args.nodes.now c.args.records.now c.args.growing.items (c.loop-one.opened.items ++ o ∷ opened) gs)
           (sym (ap (λ gs. gs ++ next) more.1 ∙ append_assoc c.loop-one.next.items more.0 next)) whole);
     }
 
 pub returns-clause-divide : goal.returns-clause-divide
-returns-clause-divide c = λ of nonce.
+returns-clause-divide c = λ digest_of nonce.
     let none : c.loop-one.growing.items ≡ [] = nil_from_length c.loop-one.growing.items (omega (arith, c.in_default.ensures.cases)) in
-    AllDivide-end of nonce c.args.nodes.now c.args.records.now c.args.growing.items c.loop-one.growing.items c.loop-one.opened.items c.loop-one.next.items none
-    (c.loop-one.invariant.so_far of nonce [] [])
+    AllDivide-end digest_of nonce c.args.nodes.now c.args.records.now c.args.growing.items c.loop-one.growing.items c.loop-one.opened.items c.loop-one.next.items none
+    (c.loop-one.invariant.so_far digest_of nonce [] [])

@@ -8,8 +8,8 @@ abbrev pub invariant-loop-one : goal.invariant-loop-one
 invariant-loop-one l = record {
   open_before : AllOpen (length l.nodes) l.level l.growing.items;
   open_below : AllOpen (length l.nodes) (l.level + 1) l.next.items;
-  so_far : (of : List ℕ → List ℕ) (nonce : List ℕ) (opened : List Opened) (next : List Growing) → AllDivide of nonce l.nodes l.records l.growing.items opened next
-      → AllDivide of nonce l.nodes l.records l.initial.growing.items (l.opened.items ++ opened) (l.next.items ++ next);
+  so_far : (digest_of : List ℕ → List ℕ) (nonce : List ℕ) (opened : List Opened) (next : List Growing) → AllDivide digest_of nonce l.nodes l.records l.growing.items opened next
+      → AllDivide digest_of nonce l.nodes l.records l.initial.growing.items (l.opened.items ++ opened) (l.next.items ++ next);
 }
 
 abbrev pub decreases-loop-one : goal.decreases-loop-one

@@ -1,5 +1,5 @@
 use Rattle.coniks_tree.proofs.PathLemmas.{OnWay, way_goes_on, way_told, way_ends}
-use Rattle.coniks_tree.specs.Paths.{StopsAt}
+use Rattle.coniks_tree.specs.Paths.{PathStopsAt}
 use Rattle.coniks_tree.specs.Table.{registered_at}
 use Rattle.coniks_proof.specs.Paths.{EndIs, digests, end_of}
 use Rattle.coniks_proof.proofs.Lemmas.{end_of-backed, siblings-backed}
@@ -26,7 +26,7 @@ returns c = λ hash nonce entries s.
     let w = c.loop-near.invariant.way hash nonce entries s in
     let so_far = map (λ d. d.0) c.loop-near.siblings.items in
     let few = c.step.ensures.last c.in_default.is hash nonce w.prefix w.below w.at w.shows in
-    let stops = subst (StopsAt records index c.stop_at.result)
+    let stops = subst (PathStopsAt records index c.stop_at.result)
     (way_ends hash nonce c.args.nodes.now records index entries so_far c.loop-near.number c.loop-near.level w few)
     (c.stop_at.ensures.stops hash nonce w.prefix w.below few w.shows) in
     record {

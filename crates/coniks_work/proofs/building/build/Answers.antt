@@ -1,6 +1,6 @@
 use Rattle.std.proofs.Common.{◌≡◌, ◌∙◌, sym, ℕ, [], Some, slice_get, length, refl, arith}
 use Rattle.std.proofs.lemmas.Bool.Decides.{nat_tests}
-use Rattle.coniks_tree.specs.Parts.{entries_of}
+use Rattle.coniks_tree.specs.Parts.{entries_in}
 use Rattle.coniks_tree.specs.declared.part.Part.{Part}
 use Rattle.coniks_work.specs.Grown.{IsGrown}
 use Rattle.coniks_work.specs.Jobs.{in_range}
@@ -14,20 +14,20 @@ returns-then-is_empty-clause-stands g c = λ entries old ordered apart.
     unchanged_stands (g.H.Hash32.digest_of c.args.h.now) c.args.nonce.now.0 c.args.tree.now.nodes.items c.args.tree.now.records.items c.args.root c.args.changes.now entries c.unchanged_part.result
     c.unchanged_part.ensures none old
 
-pub rise-requires-clause-parts : goal.rise-requires-clause-parts
-rise-requires-clause-parts g c =
+pub join_upwards-requires-clause-parts : goal.join_upwards-requires-clause-parts
+join_upwards-requires-clause-parts g c =
     let hash = g.H.Hash32.digest_of c.args.h.now in
     let nonce = c.args.nonce.now.0 in
     let nodes = c.args.tree.now.nodes.items in
     let records = c.args.tree.now.records.items in
     let jobs = c.deref.result.now in
     let parts = c.in_ok-parts.parts.items in
-    let part : ℕ → Part → Type 0 = λ n x. (job : Job) × (slice_get jobs n ≡ Some job) × IsGrown hash nonce nodes records c.args.root job.prefix (entries_of (in_range job c.args.changes.now)) x in
+    let part : ℕ → Part → Type 0 = λ n x. (job : Job) × (slice_get jobs n ≡ Some job) × IsGrown hash nonce nodes records c.args.root job.prefix (entries_in (in_range job c.args.changes.now)) x in
     let done = numbered_done hash nonce nodes records c.args.root c.args.changes.now jobs part (λ n x p. p) 0 [] jobs parts refl refl
     c.in_ok-parts.ensures.0 (c.in_ok-parts.ensures.1 ∙ c.len.ensures ∙ sym c.deref.ensures.len) in
-    let ready = parts_ready hash nonce nodes records c.args.root c.cut_for-depth.result c.root.result (entries_of c.args.changes.now) jobs c.in_ok-jobs.jobs.items parts
+    let ready = parts_ready hash nonce nodes records c.args.root c.cut_for-depth.result c.root.result (entries_in c.args.changes.now) jobs c.in_ok-jobs.jobs.items parts
     c.root.ensures c.deref.ensures.value c.in_ok-jobs.ensures.jobs done in
     ([], parts, refl, ready)
 
 pub returns-clause-placed : goal.returns-clause-placed
-returns-clause-placed g c = λ all more there. c.in_ok-rise.ensures.grown.placed all more (stored all c.args.changes.now there)
+returns-clause-placed g c = λ all more there. c.in_ok-join_upwards.ensures.grown.placed all more (stored all c.args.changes.now there)

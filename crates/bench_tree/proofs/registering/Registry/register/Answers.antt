@@ -9,4 +9,5 @@ add-requires-clause-placed c =
     let new = c.in_ok-records.records.items in
     let changes = c.in_ok-changes.changes.items in
     let each : AllPlaced (old ++ new) changes = subst (λ rs. AllPlaced (old ++ rs) changes) c.deref.ensures.value (c.in_ok-changes.ensures old (sym c.records.ensures)) in
-    c.in_ok-part.ensures.placed (old ++ new) (Extends-append old new) (c.part_before-part.ensures.placed (old ++ new) (Extends-append old new)) (subst (AllPlaced (old ++ new)) (sym c.deref-2.ensures.value) each)
+    c.in_ok-part.ensures.placed (old ++ new) (Extends-append old new) (c.part_before-part.ensures.placed (old ++ new) (Extends-append old new))
+    (subst (AllPlaced (old ++ new)) (sym c.deref-2.ensures.value) each)

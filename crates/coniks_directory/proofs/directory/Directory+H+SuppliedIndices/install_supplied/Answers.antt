@@ -11,7 +11,8 @@ use Rattle.coniks_directory.proofs.directory.Directory+H+SuppliedIndices.install
 use Rattle.coniks_directory.proofs.directory.Directory+H+SuppliedIndices.install_supplied.Goals as goal
 
 -- the registered names keep their indices, as far as the update's were supplied
-kept_in : (g : given.Over) (c : After-supply_all g) → (let d = c.self.inside in AgreeOn (supplied_index d.source) (supplied_index c.supply_all.new.source) (latest_registry (history_of (state_of d.held))))
+kept_in : (g : given.Over) (c : After-supply_all g)
+    → (let d = c.self.inside in AgreeOn (supplied_index d.source) (supplied_index c.supply_all.new.source) (latest_registry (history_of (state_of d.held))))
 kept_in g c =
     let d = c.self.inside in
     let registry = latest_registry (history_of (state_of d.held)) in
@@ -20,7 +21,8 @@ kept_in g c =
     let u = rw (← c.self.view_is) at c.requires.update.1 in
     let some = rw c.deref.ensures.value at c.supply_all.ensures.some.1 in
     let n = c.supply_all.ensures.some.0 in
-    subst (λ (xs : List Supplied). AgreeOn (supplied_index d.source) (supplied_index xs) registry) (sym some) (kept_agree index d.source (indices_in (take n records)) registry u.agree (held_take index records n u.held))
+    subst (λ (xs : List Supplied). AgreeOn (supplied_index d.source) (supplied_index xs) registry) (sym some)
+    (kept_agree index d.source (indices_in (take n records)) registry u.agree (held_take index records n u.held))
 
 -- so the directory stays one
 whole_in : (g : given.Over) (c : After-supply_all g) → Whole (g.H.Hash32.digest_of c.self.inside.h) (supplied_index c.supply_all.new.source) (state_of c.self.inside.held)
@@ -32,18 +34,20 @@ whole_in g c =
 put_in : (g : given.Over) (c : Else-is_err g) → c.supply_all.new.source ≡ put_indices c.self.inside.source (indices_in c.args.update.records.items)
 put_in g c =
     let source = c.self.inside.source in
-    let read : c.supply_all.new.source ≡ put_indices source (indices_in c.deref.result.now) = of_ok {T = Unit {0}} {E = AllocError} c.supply_all.result _ c.if-is_err.ensures.value c.supply_all.ensures.put in
+    let read : c.supply_all.new.source ≡ put_indices source (indices_in c.deref.result.now) =
+    of_ok {T = Unit {0}} {E = AllocError} c.supply_all.result _ c.if-is_err.ensures.value c.supply_all.ensures.put in
     read ∙ ap (λ (rs : List Record). put_indices source (indices_in rs)) c.deref.ensures.value
 
 -- and it gives each name that the update leaves its index
 agree_in : (g : given.Over) (c : Else-is_err g) (index : List ℕ → List ℕ) → (let d = c.self.inside in let s = state_of d.held in
-    IsSuppliedUpdate (g.H.Hash32.digest_of d.h) (supplied_index d.source) (latest_registry (history_of s)) s c.args.update index
+    IsSuppliedUpdate (g.H.Hash32.digest_of d.h) (supplied_index d.source) s c.args.update index
     → AgreeOn index (supplied_index c.supply_all.new.source) (registry_after s c.args.update))
 agree_in g c index u =
     let d = c.self.inside in
     let s = state_of d.held in
     let hash = g.H.Hash32.digest_of d.h in
-    subst (λ (xs : List Supplied). AgreeOn index (supplied_index xs) (registry_after s c.args.update)) (sym (put_in g c)) (supplied_all hash index d.source s c.args.update c.self.invariant u.agree u.held)
+    subst (λ (xs : List Supplied). AgreeOn index (supplied_index xs) (registry_after s c.args.update))
+    (sym (put_in g c)) (supplied_all hash index d.source s c.args.update c.self.invariant u.agree u.held)
 
 -- an install leaves the source as it is
 index_in : (g : given.Over) (c : After-install g) → c.supply_all.new.source ≡ c.install.new.self.index
@@ -70,7 +74,8 @@ returns-clause-body g c =
     rw (← c.self.view_is)
     (if_ok-map c.install.result _ _ (λ entry is index u.
     let agree = agree_in g (goal.at.returns-clause-body g c).Else-is_err index u in
-    is ∙ sym (body_agree hash index (supplied_index c.supply_all.new.source) s.policy (before_at hash None s.chain (length s.chain)) (shown_after s c.args.update c.args.t) agree)) c.install.ensures.body)
+    is ∙ sym (body_agree hash index (supplied_index c.supply_all.new.source) s.policy (before_at hash None s.chain (length s.chain)) (shown_after s c.args.update c.args.t) agree))
+    c.install.ensures.body)
 
 pub returns-then-is_err-clause-kept : goal.returns-then-is_err-clause-kept
 returns-then-is_err-clause-kept g c = rw (← c.self.view_is) (kept_in g (goal.at.returns-then-is_err-clause-kept g c).After-supply_all)
@@ -78,7 +83,8 @@ returns-then-is_err-clause-kept g c = rw (← c.self.view_is) (kept_in g (goal.a
 pub returns-clause-kept : goal.returns-clause-kept
 returns-clause-kept g c =
     rw (← c.self.view_is)
-    (subst (λ (xs : List Supplied). AgreeOn (supplied_index c.self.inside.source) (supplied_index xs) (latest_registry (history_of (state_of c.self.inside.held)))) (index_in g (goal.at.returns-clause-kept g c).After-install)
+    (subst (λ (xs : List Supplied). AgreeOn (supplied_index c.self.inside.source) (supplied_index xs) (latest_registry (history_of (state_of c.self.inside.held))))
+    (index_in g (goal.at.returns-clause-kept g c).After-install)
     (kept_in g (goal.at.returns-clause-kept g c).After-supply_all))
 
 pub returns-clause-given : goal.returns-clause-given
@@ -105,4 +111,5 @@ returns-clause-unasked g c =
     (if_err-map c.install.result _ _ (λ r leaves index u.
     let agree = agree_in g (goal.at.returns-clause-unasked g c).Else-is_err index u in
     subst (λ (b : Body). LeavesSigner g.S.Sign.signs b signer c.install.new.signer r.0)
-    (sym (body_agree hash index (supplied_index c.supply_all.new.source) s.policy (before_at hash None s.chain (length s.chain)) (shown_after s c.args.update c.args.t) agree)) leaves) c.install.ensures.unasked)
+    (sym (body_agree hash index (supplied_index c.supply_all.new.source) s.policy (before_at hash None s.chain (length s.chain)) (shown_after s c.args.update c.args.t) agree)) leaves)
+    c.install.ensures.unasked)

@@ -39,4 +39,5 @@ returns-in_default-fault g c =
     let same : registry ≡ registry' = ap (λ (v : View _ _). latest_registry (history_of v.state)) c.self.view_is in
     let ops = operations c.args.ops.now in
     let shown = (c.latest_root-root.ensures (g.H.Hash32.digest_of d.h) index (rw (← c.self.view_is) at c.requires)).shows _ refl in
-    other_judged index registry' ops c.args.place c.in-Err.fault c.in_default-fault.not-At (subst (λ (r : Registry). IsJudgedFault index r ops c.in-Err.fault) same (c.in-Err.ensures.fault _ registry shown))
+    other_judged index registry' ops c.args.place c.in-Err.fault c.in_default-fault.not-At
+    (subst (λ (r : Registry). IsJudgedFault index r ops c.in-Err.fault) same (c.in-Err.ensures.fault _ registry shown))

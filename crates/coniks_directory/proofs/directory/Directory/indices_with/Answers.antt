@@ -13,7 +13,7 @@ loop-place-init g c = record { fresh = rw c.new-fresh.ensures (none_fresh (lates
 
 pub loop-place-preserved : goal.loop-place-preserved
 loop-place-preserved g c =
-    let of = g.X.IndexSource.index_of c.args.self.now.index in
+    let index_of = g.X.IndexSource.index_of c.args.self.now.index in
     let registry = latest_registry (history_of c.args.self.now.state) in
     let ops = c.args.batch.now.ops.now in
     let indices = c.args.batch.now.indices.now in
@@ -27,31 +27,31 @@ loop-place-preserved g c =
     let before = named_in (take i (indexed ops indices)) in
     let fresh = c.in_ok-is_other.ensures.fresh before c.loop-place.invariant.fresh in
     let other = c.loop-place.other in
-    let is : c.in_ok-is_other.is_other ≡ has_other of registry x = rw named at c.in_ok-is_other.ensures.other in
-    let next : c.or-other.result ≡ option_or other (then_some (has_other of registry x) i) = c.or-other.ensures ∙ ap (option_or other) (c.then_some.ensures ∙ ap (λ b. then_some b i) is) in
+    let is : c.in_ok-is_other.is_other ≡ has_other index_of registry x = rw named at c.in_ok-is_other.ensures.other in
+    let next : c.or-other.result ≡ option_or other (then_some (has_other index_of registry x) i) = c.or-other.ensures ∙ ap (option_or other) (c.then_some.ensures ∙ ap (λ b. then_some b i) is) in
     record {
       fresh = subst (λ (xs : List Supplied). IsFresh registry c.add_fresh.new.fresh xs) (sym (named_next (indexed ops indices) i x at)) (rw named at fresh);
-      other = subst (λ o. IsFirstOther of registry (indexed ops indices) (i + 1) o) (sym next) (other-next of registry (indexed ops indices) i x other at c.loop-place.invariant.other);
+      other = subst (λ o. IsFirstOther index_of registry (indexed ops indices) (i + 1) o) (sym next) (other-next index_of registry (indexed ops indices) i x other at c.loop-place.invariant.other);
     }
 
 pub returns-clause-indices : goal.returns-clause-indices
 returns-clause-indices g c =
     let d = c.self.inside in
-    let of = g.X.IndexSource.index_of d.source in
+    let index_of = g.X.IndexSource.index_of d.source in
     let registry = latest_registry (history_of (state_of d.held)) in
     let ops = c.args.batch.now.ops.now in
     let indices = c.args.batch.now.indices.now in
     let long = indexed_length ops indices c.requires in
     let past : length (indexed ops indices) ≤ c.loop-place.place = (let end = c.loop-place-test.false in omega (arith, long, end)) in
     let all = rw (take_all c.loop-place.place (indexed ops indices) past) at c.loop-place.invariant.fresh in
-    rw (← c.self.view_is) (fresh_index registry of c.loop-place.fresh (indexed ops indices) (rw (← c.self.view_is) at all))
+    rw (← c.self.view_is) (fresh_index registry index_of c.loop-place.fresh (indexed ops indices) (rw (← c.self.view_is) at all))
 
 pub returns-clause-other : goal.returns-clause-other
 returns-clause-other g c =
-    let of = g.X.IndexSource.index_of c.args.self.now.index in
+    let index_of = g.X.IndexSource.index_of c.args.self.now.index in
     let registry = latest_registry (history_of c.args.self.now.state) in
     let ops = c.args.batch.now.ops.now in
     let indices = c.args.batch.now.indices.now in
     let long = indexed_length ops indices c.requires in
     let past : length (indexed ops indices) ≤ c.loop-place.place = (let end = c.loop-place-test.false in omega (arith, long, end)) in
-    other-all of registry (indexed ops indices) c.loop-place.place c.loop-place.other past c.loop-place.invariant.other
+    other-all index_of registry (indexed ops indices) c.loop-place.place c.loop-place.other past c.loop-place.invariant.other

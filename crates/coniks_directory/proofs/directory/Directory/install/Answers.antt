@@ -26,12 +26,12 @@ pub returns-in-Err-signed-clause-unasked : goal.returns-in-Err-signed-clause-una
 returns-in-Err-signed-clause-unasked g c =
     let d = c.self.inside in
     let hash = g.H.Hash32.digest_of d.h in
-    let of = g.X.IndexSource.index_of d.source in
+    let index_of = g.X.IndexSource.index_of d.source in
     let s = state_of d.held in
     let u = fresh_in g (goal.at.returns-in-Err-signed-clause-unasked g c).In_default in
     let linked = c.last_link-previous.ensures hash d.held.chain.items (rw (← c.self.view_is) at c.requires.published) in
-    rw (← c.self.view_is) (c.in-Err-signed.ensures.unasked (body_of hash of s.policy (before_at hash None s.chain (length s.chain)) (shown_after s c.args.update c.args.t))
-    (λ body signed. signed of c.self.invariant u linked))
+    rw (← c.self.view_is) (c.in-Err-signed.ensures.unasked (body_of hash index_of s.policy (before_at hash None s.chain (length s.chain)) (shown_after s c.args.update c.args.t))
+    (λ body signed. signed index_of c.self.invariant u linked))
 
 -- a chain that was good is good under the signer as it is now
 pub returns-in-Err-signed-clause-good : goal.returns-in-Err-signed-clause-good
@@ -52,10 +52,10 @@ left_in : (g : given.Over) (c : goal.After-put_head g) → (let d = c.self.insid
 left_in g c =
     let d = c.self.inside in
     let hash = g.H.Hash32.digest_of d.h in
-    let of = g.X.IndexSource.index_of d.source in
-    let u = fresh hash of (state_of d.held) c.args.update (rw (← c.self.view_is) at c.requires.update) c.in_default.ensures.ok.fresh in
+    let index_of = g.X.IndexSource.index_of d.source in
+    let u = fresh hash index_of (state_of d.held) c.args.update (rw (← c.self.view_is) at c.requires.update) c.in_default.ensures.ok.fresh in
     let linked = c.last_link-previous.ensures hash d.held.chain.items (rw (← c.self.view_is) at c.requires.published) in
-    c.enter.ensures.entered (state_of d.held) c.signed.ensures.same of c.self.invariant u c.in_default.ensures.ok.later (c.in-Ok.ensures.body of c.self.invariant u linked)
+    c.enter.ensures.entered (state_of d.held) c.signed.ensures.same index_of c.self.invariant u c.in_default.ensures.ok.later (c.in-Ok.ensures.body index_of c.self.invariant u linked)
 
 pub invariant_of-self : goal.invariant_of-self
 invariant_of-self g c = (left_in g c).whole
@@ -76,7 +76,7 @@ pub returns-in-Ok-clause-body : goal.returns-in-Ok-clause-body
 returns-in-Ok-clause-body g c =
     let d = c.self.inside in
     let hash = g.H.Hash32.digest_of d.h in
-    let of = g.X.IndexSource.index_of d.source in
-    let u = fresh hash of (state_of d.held) c.args.update (rw (← c.self.view_is) at c.requires.update) c.in_default.ensures.ok.fresh in
+    let index_of = g.X.IndexSource.index_of d.source in
+    let u = fresh hash index_of (state_of d.held) c.args.update (rw (← c.self.view_is) at c.requires.update) c.in_default.ensures.ok.fresh in
     let linked = c.last_link-previous.ensures hash d.held.chain.items (rw (← c.self.view_is) at c.requires.published) in
-    rw (← c.self.view_is) (c.in-Ok.ensures.body of c.self.invariant u linked)
+    rw (← c.self.view_is) (c.in-Ok.ensures.body index_of c.self.invariant u linked)

@@ -11,7 +11,8 @@ returns-then-is_registered g c =
     let there : has_name (latest_registry (history_of (state_of d.held))) name ≡ true = rw (← c.self.view_is) at (sym c.is_registered.ensures ∙ c.if-is_registered.true) in
     rw (← c.self.view_is)
     (c.if-is_registered.true
-    ∙ sym (leaves_name (g.H.Hash32.digest_of d.h) (g.X.IndexSource.index_of d.source) (state_of d.held) p name c.self.invariant ∙ ap (λ v. v || has_name (map registered_of p.records.items) name) there))
+    ∙ sym (leaves_name (g.H.Hash32.digest_of d.h) (g.X.IndexSource.index_of d.source) (state_of d.held)
+    p name c.self.invariant ∙ ap (λ v. v || has_name (map registered_of p.records.items) name) there))
 
 pub returns-else-is_registered : goal.returns-else-is_registered
 returns-else-is_registered g c =
@@ -21,4 +22,5 @@ returns-else-is_registered g c =
     let gone = rw (← c.self.view_is) at (sym c.is_registered.ensures ∙ c.if-is_registered.false) in
     rw (← c.self.view_is)
     (c.binds.ensures
-    ∙ sym (leaves_name (g.H.Hash32.digest_of d.h) (g.X.IndexSource.index_of d.source) (state_of d.held) p name c.self.invariant ∙ ap (λ v. v || has_name (map registered_of p.records.items) name) gone))
+    ∙ sym (leaves_name (g.H.Hash32.digest_of d.h) (g.X.IndexSource.index_of d.source) (state_of d.held)
+    p name c.self.invariant ∙ ap (λ v. v || has_name (map registered_of p.records.items) name) gone))

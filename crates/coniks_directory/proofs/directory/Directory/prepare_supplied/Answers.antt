@@ -14,15 +14,17 @@ other_is is found = sym is ∙ found
 
 pub returns-in-Err-clause-refused : goal.returns-in-Err-clause-refused
 returns-in-Err-clause-refused g c =
-    let of = g.X.IndexSource.index_of c.args.self.now.index in
+    let index_of = g.X.IndexSource.index_of c.args.self.now.index in
     let registry = latest_registry (history_of c.args.self.now.state) in
-    limit_fault of registry c.args.batch.now.ops.now c.args.batch.now.indices.now c.requires c.args.depth c.args.workers c.in-Err.fault c.in-Err.ensures.limit (c.in-Err.ensures.refused of registry)
+    limit_fault index_of registry c.args.batch.now.ops.now c.args.batch.now.indices.now c.requires c.args.depth
+    c.args.workers c.in-Err.fault c.in-Err.ensures.limit (c.in-Err.ensures.refused index_of registry)
 
 pub returns-in_default-indices_with-clause-refused : goal.returns-in_default-indices_with-clause-refused
 returns-in_default-indices_with-clause-refused g c =
-    let of = g.X.IndexSource.index_of c.args.self.now.index in
+    let index_of = g.X.IndexSource.index_of c.args.self.now.index in
     let registry = latest_registry (history_of c.args.self.now.state) in
-    within_is of registry c.args.batch.now.ops.now c.args.batch.now.indices.now c.requires c.args.depth c.args.workers c.in_default.ensures.workers c.in_default.ensures.depth c.in_default.ensures.few
+    within_is index_of registry c.args.batch.now.ops.now c.args.batch.now.indices.now c.requires c.args.depth
+    c.args.workers c.in_default.ensures.workers c.in_default.ensures.depth c.in_default.ensures.few
 
 -- the directory is one by the indices that the batch is checked by
 whole_in : (g : given.Over) (c : In-Ok g) → (let d = c.self.inside in let s = state_of d.held in let it = c.in-Ok.indices in
@@ -31,29 +33,32 @@ whole_in g c =
     let d = c.self.inside in
     let s = state_of d.held in
     let hash = g.H.Hash32.digest_of d.h in
-    let of = g.X.IndexSource.index_of d.source in
+    let index_of = g.X.IndexSource.index_of d.source in
     let registry = latest_registry (history_of s) in
     let batch = indexed c.args.batch.now.ops.now c.args.batch.now.indices.now in
-    subst (λ (f : List ℕ → List ℕ). Whole hash f s) (sym (rw (← c.self.view_is) at c.in-Ok.ensures.indices)) (whole_agree hash of (index_in of registry batch) s (given_agree registry of batch) c.self.invariant)
+    subst (λ (f : List ℕ → List ℕ). Whole hash f s) (sym (rw (← c.self.view_is) at c.in-Ok.ensures.indices))
+    (whole_agree hash index_of (index_in index_of registry batch) s (given_agree registry index_of batch) c.self.invariant)
 
 pub fault_or_other-requires : goal.fault_or_other-requires
 fault_or_other-requires g c = rw (← c.self.view_is) (whole_in g (goal.at.fault_or_other-requires g c).In-Ok)
 
 pub returns-in-Some-clause-refused : goal.returns-in-Some-clause-refused
 returns-in-Some-clause-refused g c =
-    let of = g.X.IndexSource.index_of c.args.self.now.index in
+    let index_of = g.X.IndexSource.index_of c.args.self.now.index in
     let registry = latest_registry (history_of c.args.self.now.state) in
     let ops = c.args.batch.now.ops.now in
     let indices = c.args.batch.now.indices.now in
-    let within = within_is of registry ops indices c.requires c.args.depth c.args.workers c.in_default.ensures.workers c.in_default.ensures.depth c.in_default.ensures.few in
-    other_fault of registry ops indices c.requires c.args.depth c.args.workers c.in-Some.position c.fault_or_other.result within (other_is c.in-Ok.ensures.other c.in-Some.is) (rw c.in-Ok.ensures.indices at c.fault_or_other.ensures)
+    let within = within_is index_of registry ops indices c.requires c.args.depth c.args.workers c.in_default.ensures.workers c.in_default.ensures.depth c.in_default.ensures.few in
+    other_fault index_of registry ops indices c.requires c.args.depth c.args.workers c.in-Some.position c.fault_or_other.result
+    within (other_is c.in-Ok.ensures.other c.in-Some.is) (rw c.in-Ok.ensures.indices at c.fault_or_other.ensures)
 
 pub update_on-requires-clause-whole : goal.update_on-requires-clause-whole
 update_on-requires-clause-whole g c κs within = whole_in g (goal.at.update_on-requires-clause-whole g c).In-Ok
 
 -- the update is one by these indices
-made_in : (g : given.Over) (c : In-Ok-update_on g) → (let d = c.self.inside in let s = state_of d.held in let of = g.X.IndexSource.index_of d.source in
-    IsUpdateBy (g.H.Hash32.digest_of d.h) (index_in of (latest_registry (history_of s)) (indexed c.args.batch.now.ops.now c.args.batch.now.indices.now)) s (option_map (λ (n : Nonce). n.0) c.args.batch.now.nonce)
+made_in : (g : given.Over) (c : In-Ok-update_on g) → (let d = c.self.inside in let s = state_of d.held in let index_of = g.X.IndexSource.index_of d.source in
+    IsUpdateBy (g.H.Hash32.digest_of d.h) (index_in index_of (latest_registry (history_of s)) (indexed c.args.batch.now.ops.now c.args.batch.now.indices.now))
+    s (option_map (λ (n : Nonce). n.0) c.args.batch.now.nonce)
     c.args.batch.now.ops.now c.in-Ok-update_on.update)
 made_in g c =
     let d = c.self.inside in
@@ -68,45 +73,52 @@ pub returns-in-Ok-update_on-clause-installable : goal.returns-in-Ok-update_on-cl
 returns-in-Ok-update_on-clause-installable g c =
     let d = c.self.inside in
     let s = state_of d.held in
-    let of = g.X.IndexSource.index_of d.source in
+    let index_of = g.X.IndexSource.index_of d.source in
     let registry = latest_registry (history_of s) in
     let batch = indexed c.args.batch.now.ops.now c.args.batch.now.indices.now in
     let made = made_in g (goal.at.returns-in-Ok-update_on-clause-installable g c).In-Ok-update_on in
     rw (← c.self.view_is)
-    (record { agree = given_agree registry of batch; update = prepared_of (g.H.Hash32.digest_of d.h) (index_in of registry batch) s c.in-Ok-update_on.update made.update; held = made.held })
+    (record {
+      agree = given_agree registry index_of batch;
+      update = prepared_of (g.H.Hash32.digest_of d.h)
+          (index_in index_of registry batch) s c.in-Ok-update_on.update made.update;
+      held = made.held;
+    })
 
 pub returns-in-Ok-update_on-clause-indices : goal.returns-in-Ok-update_on-clause-indices
 returns-in-Ok-update_on-clause-indices g c =
     let d = c.self.inside in
     let s = state_of d.held in
-    let of = g.X.IndexSource.index_of d.source in
+    let index_of = g.X.IndexSource.index_of d.source in
     let made = made_in g (goal.at.returns-in-Ok-update_on-clause-indices g c).In-Ok-update_on in
     rw (← c.self.view_is)
-    (held_is (index_in of (latest_registry (history_of s)) (indexed c.args.batch.now.ops.now c.args.batch.now.indices.now)) c.in-Ok-update_on.update.records.items (operations c.args.batch.now.ops.now) made.binds made.held)
+    (held_is (index_in index_of (latest_registry (history_of s)) (indexed c.args.batch.now.ops.now c.args.batch.now.indices.now))
+    c.in-Ok-update_on.update.records.items (operations c.args.batch.now.ops.now) made.binds made.held)
 
 pub returns-in-Ok-update_on-clause-nodes : goal.returns-in-Ok-update_on-clause-nodes
 returns-in-Ok-update_on-clause-nodes g c = rw (← c.self.view_is) (made_in g (goal.at.returns-in-Ok-update_on-clause-nodes g c).In-Ok-update_on).nodes
 
 pub returns-in-Ok-update_on-clause-within : goal.returns-in-Ok-update_on-clause-within
 returns-in-Ok-update_on-clause-within g c =
-    let of = g.X.IndexSource.index_of c.args.self.now.index in
+    let index_of = g.X.IndexSource.index_of c.args.self.now.index in
     let registry = latest_registry (history_of c.args.self.now.state) in
-    within_is of registry c.args.batch.now.ops.now c.args.batch.now.indices.now c.requires c.args.depth c.args.workers c.in_default.ensures.workers c.in_default.ensures.depth c.in_default.ensures.few
+    within_is index_of registry c.args.batch.now.ops.now c.args.batch.now.indices.now c.requires c.args.depth
+    c.args.workers c.in_default.ensures.workers c.in_default.ensures.depth c.in_default.ensures.few
 
 pub returns-in-Ok-update_on-clause-faultless : goal.returns-in-Ok-update_on-clause-faultless
 returns-in-Ok-update_on-clause-faultless g c =
     let d = c.self.inside in
     let s = state_of d.held in
-    let of = g.X.IndexSource.index_of d.source in
+    let index_of = g.X.IndexSource.index_of d.source in
     let other = other_is c.in-Ok.ensures.other c.in_default-other.is in
     rw (← c.self.view_is)
-    (no_fault of (latest_registry (history_of s)) c.args.batch.now.ops.now c.args.batch.now.indices.now c.requires c.args.depth c.args.workers (rw (← c.self.view_is) at other)
+    (no_fault index_of (latest_registry (history_of s)) c.args.batch.now.ops.now c.args.batch.now.indices.now c.requires c.args.depth c.args.workers (rw (← c.self.view_is) at other)
     (rw (rw (← c.self.view_is) at c.in-Ok.ensures.indices) at c.in-Ok-update_on.ensures.faultless))
 
 pub returns-clause-refused : goal.returns-clause-refused
 returns-clause-refused g c =
     let d = c.self.inside in
-    let of = g.X.IndexSource.index_of c.args.self.now.index in
+    let index_of = g.X.IndexSource.index_of c.args.self.now.index in
     let registry = latest_registry (history_of (state_of d.held)) in
     let registry' = latest_registry (history_of c.args.self.now.state) in
     let same : registry ≡ registry' = ap (λ (v : View _ _). latest_registry (history_of v.state)) c.self.view_is in
@@ -114,16 +126,16 @@ returns-clause-refused g c =
     let indices = c.args.batch.now.indices.now in
     let fault = c.in-Err-update_on.fault in
     let other = other_is c.in-Ok.ensures.other c.in_default-other.is in
-    let within = within_is of registry' ops indices c.requires c.args.depth c.args.workers c.in_default.ensures.workers c.in_default.ensures.depth c.in_default.ensures.few in
-    judged_fault of registry' ops indices c.requires c.args.depth c.args.workers fault within other
-    (subst (λ (r : Registry). IsJudgedFault (index_in of registry' (indexed ops indices)) r (operations ops) fault) same
+    let within = within_is index_of registry' ops indices c.requires c.args.depth c.args.workers c.in_default.ensures.workers c.in_default.ensures.depth c.in_default.ensures.few in
+    judged_fault index_of registry' ops indices c.requires c.args.depth c.args.workers fault within other
+    (subst (λ (r : Registry). IsJudgedFault (index_in index_of registry' (indexed ops indices)) r (operations ops) fault) same
     (subst (λ (f : List ℕ → List ℕ). IsJudgedFault f registry (operations ops) fault) c.in-Ok.ensures.indices c.in-Err-update_on.ensures.fault))
 
 pub returns-in-Ok-update_on-clause-accepted : goal.returns-in-Ok-update_on-clause-accepted
 returns-in-Ok-update_on-clause-accepted g c =
     rw (← c.self.view_is)
     (record {
-      crew = c.in_default.ensures.workers;
+      worker_count = c.in_default.ensures.workers;
       shallow = c.in_default.ensures.depth;
       few = rw (length-map c.args.batch.now.ops.now operation_of) c.in_default.ensures.few;
       faultless = rw (rw (← c.self.view_is) at c.in-Ok.ensures.indices) at c.in-Ok-update_on.ensures.faultless;

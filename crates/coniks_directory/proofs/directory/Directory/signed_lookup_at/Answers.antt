@@ -23,22 +23,24 @@ path-requires g c =
     (c.in-Some.ensures (g.H.Hash32.digest_of d.h) (g.X.IndexSource.index_of d.source) c.self.invariant).holds.known
 
 -- the directory is one by the function with the index that was supplied
-whole_in : (g : given.Over) (c : goal.In-Ok g) → (of : List ℕ → List ℕ)
-    → AgreeOn (g.X.IndexSource.index_of c.self.inside.source) of (latest_registry (history_of (state_of c.self.inside.held))) → Whole (g.H.Hash32.digest_of c.self.inside.h) of (state_of c.self.inside.held)
-whole_in g c of agree =
+whole_in : (g : given.Over) (c : goal.In-Ok g) → (index_of : List ℕ → List ℕ)
+    → AgreeOn (g.X.IndexSource.index_of c.self.inside.source) index_of (latest_registry (history_of (state_of c.self.inside.held)))
+    → Whole (g.H.Hash32.digest_of c.self.inside.h) index_of (state_of c.self.inside.held)
+whole_in g c index_of agree =
     let d = c.self.inside in
-    whole_agree (g.H.Hash32.digest_of d.h) (g.X.IndexSource.index_of d.source) of (state_of d.held) agree c.self.invariant
+    whole_agree (g.H.Hash32.digest_of d.h) (g.X.IndexSource.index_of d.source) index_of (state_of d.held) agree c.self.invariant
 
 -- the path is that of the index in the tree of the epoch's registry
-path_in : (g : given.Over) (c : goal.In-Ok g) → (let hash = g.H.Hash32.digest_of c.self.inside.h in (of : List ℕ → List ℕ)
-    → AgreeOn (g.X.IndexSource.index_of c.self.inside.source) of (latest_registry (history_of (state_of c.self.inside.held))) → of c.args.name.now ≡ c.args.supplied.0
-    → IsPath hash c.in-Some.epoch.nonce.0 (entries_of hash of (shown_of c.self.inside.held.tree.records.items c.in-Some.epoch).registry) (of c.args.name.now) c.in-Ok.proof)
-path_in g c of agree at =
+path_in : (g : given.Over) (c : goal.In-Ok g) → (let hash = g.H.Hash32.digest_of c.self.inside.h in (index_of : List ℕ → List ℕ)
+    → AgreeOn (g.X.IndexSource.index_of c.self.inside.source) index_of (latest_registry (history_of (state_of c.self.inside.held))) → index_of c.args.name.now ≡ c.args.supplied.0
+    → IsPath hash c.in-Some.epoch.nonce.0 (entries_of hash index_of (shown_of c.self.inside.held.tree.records.items c.in-Some.epoch).registry) (index_of c.args.name.now) c.in-Ok.proof)
+path_in g c index_of agree at =
     let d = c.self.inside in
     let hash = g.H.Hash32.digest_of d.h in
     let e = c.in-Some.epoch in
-    subst (λ i. IsPath hash e.nonce.0 (entries_of hash of (shown_of d.held.tree.records.items e).registry) i c.in-Ok.proof) (sym at)
-    (pathed hash of (state_of d.held) c.args.t e _ (c.in-Some.ensures hash of (whole_in g c of agree)) c.args.supplied.0 c.in-Ok.proof (λ entries shows. c.in-Ok.ensures hash e.nonce.0 entries shows))
+    subst (λ i. IsPath hash e.nonce.0 (entries_of hash index_of (shown_of d.held.tree.records.items e).registry) i c.in-Ok.proof) (sym at)
+    (pathed hash index_of (state_of d.held) c.args.t e _ (c.in-Some.ensures hash index_of (whole_in g c index_of agree))
+    c.args.supplied.0 c.in-Ok.proof (λ entries shows. c.in-Ok.ensures hash e.nonce.0 entries shows))
 
 pub returns-in-Ok-clause-entry : goal.returns-in-Ok-clause-entry
 returns-in-Ok-clause-entry g c =
@@ -46,21 +48,21 @@ returns-in-Ok-clause-entry g c =
     rw (← c.self.view_is) (c.in-Some.ensures (g.H.Hash32.digest_of d.h) (g.X.IndexSource.index_of d.source) c.self.invariant).signed
 
 pub returns-in-Ok-clause-ok : goal.returns-in-Ok-clause-ok
-returns-in-Ok-clause-ok g c = λ of suits.
+returns-in-Ok-clause-ok g c = λ index_of suits.
     let d = c.self.inside in
     let agree' = rw (← c.self.view_is) at suits.0 in
     let at = suits.1 in
-    let found = c.in-Some.ensures (g.H.Hash32.digest_of d.h) of (whole_in g c of agree') in
-    rw (← c.self.view_is) (record { shown = _; installed = found.shown; sized = sym c.if-not-is_name.ensures.value; path = path_in g c of agree' at })
+    let found = c.in-Some.ensures (g.H.Hash32.digest_of d.h) index_of (whole_in g c index_of agree') in
+    rw (← c.self.view_is) (record { shown = _; installed = found.shown; sized = sym c.if-not-is_name.ensures.value; path = path_in g c index_of agree' at })
 
 pub returns-in-Ok-clause-accepted : goal.returns-in-Ok-clause-accepted
-returns-in-Ok-clause-accepted g c = λ of suits.
+returns-in-Ok-clause-accepted g c = λ index_of suits.
     let d = c.self.inside in
     let agree' = rw (← c.self.view_is) at suits.0 in
     let at = suits.1 in
-    let found = c.in-Some.ensures (g.H.Hash32.digest_of d.h) of (whole_in g c of agree') in
-    rw (← c.self.view_is) (accepted_there (g.H.Hash32.digest_of d.h) of (state_of d.held) c.args.t c.in-Some.epoch _ found c.args.name.now c.in-Ok.proof (c.if-not-is_name.ensures.holds refl)
-    (path_in g c of agree' at))
+    let found = c.in-Some.ensures (g.H.Hash32.digest_of d.h) index_of (whole_in g c index_of agree') in
+    rw (← c.self.view_is) (accepted_there (g.H.Hash32.digest_of d.h) index_of (state_of d.held) c.args.t c.in-Some.epoch _ found c.args.name.now c.in-Ok.proof (c.if-not-is_name.ensures.holds refl)
+    (path_in g c index_of agree' at))
 
 pub returns-in-Err-clause-missed : goal.returns-in-Err-clause-missed
 returns-in-Err-clause-missed g c =

@@ -17,7 +17,8 @@ agree_in : (g : given.Over) (c : goal.In-Ok g) → (let d = c.self.inside in
     AgreeOn (g.X.IndexSource.index_of d.source) (g.X.IndexSource.index_of c.supply.new.self) (latest_registry (history_of (state_of d.held))))
 agree_in g c =
     let d = c.self.inside in
-    supplied_agree (g.X.IndexSource.index_of d.source) (g.X.IndexSource.index_of c.supply.new.self) c.args.name.now c.args.index.0 (latest_registry (history_of (state_of d.held))) c.in-Ok.ensures.supplied
+    supplied_agree (g.X.IndexSource.index_of d.source) (g.X.IndexSource.index_of c.supply.new.self)
+    c.args.name.now c.args.index.0 (latest_registry (history_of (state_of d.held))) c.in-Ok.ensures.supplied
     (may_in g c).kept
 
 pub invariant_of-self-2 : goal.invariant_of-self-2
@@ -31,7 +32,7 @@ returns-clause-agree g c = rw (← c.self.view_is) (agree_in g c)
 pub returns-clause-updates : goal.returns-clause-updates
 returns-clause-updates g c = λ update kept was.
     let d = c.self.inside in
-    let of = g.X.IndexSource.index_of d.source in
+    let index_of = g.X.IndexSource.index_of d.source in
     let also = g.X.IndexSource.index_of c.supply.new.self in
-    update_of_agree (g.H.Hash32.digest_of d.h) of also (state_of d.held) update
-    (supplied_agree of also c.args.name.now c.args.index.0 (registry_after (state_of d.held) update) c.in-Ok.ensures.supplied (rw (← c.self.view_is) at kept)) (rw (← c.self.view_is) at was)
+    update_of_agree (g.H.Hash32.digest_of d.h) index_of also (state_of d.held) update
+    (supplied_agree index_of also c.args.name.now c.args.index.0 (registry_after (state_of d.held) update) c.in-Ok.ensures.supplied (rw (← c.self.view_is) at kept)) (rw (← c.self.view_is) at was)

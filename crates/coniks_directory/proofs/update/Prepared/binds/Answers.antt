@@ -1,7 +1,7 @@
 use Rattle.std.proofs.Common.{◌≡◌, Some, ap, false, map, refl, rules, slice_get, sym, true, ◌∙◌}
 use Rattle.coniks_directory.proofs.Words.{bytes_eq, bytes_eq-Decides, registered_of, slice_get-get_or, take_all}
 use Rattle.coniks_proof.proofs.Lemmas.{has_of}
-use Rattle.coniks_directory.proofs.DraftLemmas.{record_in}
+use Rattle.coniks_directory.proofs.PendingLemmas.{record_in}
 use Rattle.coniks_directory.proofs.AgreementLemmas.{none_next}
 use Rattle.coniks_directory.proofs.update.Prepared.binds.Goals as goal
 

@@ -40,11 +40,13 @@ entry_in c =
 pub returns-clause-reply : goal.returns-clause-reply
 returns-clause-reply c =
     let at = (goal.at.returns-clause-reply c).In-Ok in
-    c.installed_by.ensures ∙ installed_reply c.args.self.now.directory c.install_supplied-installed.new.self (update at) c.in-Ok.entry c.args.signature (entry_in at) c.args.self.now.pending (pending_in at)
+    c.installed_by.ensures ∙ installed_reply c.args.self.now.directory c.install_supplied-installed.new.self
+    (update at) c.in-Ok.entry c.args.signature (entry_in at) c.args.self.now.pending (pending_in at)
 
 pub returns-clause-state : goal.returns-clause-state
 returns-clause-state c =
     let at = (goal.at.returns-clause-state c).In-Ok in
     let e = c.in-Ok.ensures in
-    installed_state c.args.self.now.directory c.install_supplied-installed.new.self (update at) c.in-Ok.entry c.args.signature (entry_in at) c.args.self.now.pending c.take.new.self (pending_in at) c.take.ensures.after
+    installed_state c.args.self.now.directory c.install_supplied-installed.new.self (update at) c.in-Ok.entry
+    c.args.signature (entry_in at) c.args.self.now.pending c.take.new.self (pending_in at) c.take.ensures.after
     e.grows.nonce e.grows.policy e.indices e.history e.chain e.nodes

@@ -3,7 +3,7 @@ use Rattle.std.specs.String.{string_bytes}
 use Rattle.coniks_proof.specs.declared.values.Index.{Index}
 use Rattle.coniks_tool.specs.Paths.{path_of}
 use Rattle.coniks_provider.specs.Answers.{looked_up}
-use Rattle.coniks_provider.specs.Stores.{opened_of}
+use Rattle.coniks_provider.specs.Stores.{provided_of}
 use Rattle.coniks_provider.specs.Turns.{index_with}
 use Rattle.coniks_provider.proofs.ServiceLemmas.{agree_with, found_is, index_here, not_other}
 use Rattle.coniks_provider.proofs.service.Service.look_up.Goals as goal
@@ -11,7 +11,7 @@ use Rattle.coniks_provider.proofs.service.Service.look_up.Goals as goal
 pub returns : goal.returns
 returns c =
     let s = c.args.self.now in
-    let o = opened_of s in
+    let o = provided_of s in
     let name = c.args.name.now in
     let index = c.args.index in
     let it = c.in-Ok.found in

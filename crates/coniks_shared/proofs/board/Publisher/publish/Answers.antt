@@ -1,14 +1,14 @@
 use Rattle.std.proofs.Common.{rules, ◌≡◌, ◌∙◌, ◌++◌, ◌∷◌, [], length, length-append, ap, arith}
 use Rattle.coniks_shared.specs.declared.board_rule.BoardView.{BoardView}
 use Rattle.coniks_shared.specs.Boards.{BoardEnd, board_end}
-use Rattle.coniks_shared.specs.HeadWords.{heads_of}
+use Rattle.coniks_shared.specs.HeadWords.{heads_in_words}
 use Rattle.coniks_shared.proofs.HeadLemmas.{heads_grown, last_grown}
 use Rattle.coniks_shared.proofs.board.Publisher.publish.Goals as goal
 
 pub returns-clause-ok : goal.returns-clause-ok
 returns-clause-ok c =
     let table = c.put_block.ensures.same.0 ∙ ap (λ (e : BoardEnd). e.table) c.self.view_is in
-    let heads : heads_of c.put_block.new.seat.me.0.blocks ≡ c.args.self.now.heads ++ c.args.head ∷ [] =
+    let heads : heads_in_words c.put_block.new.seat.me.0.blocks ≡ c.args.self.now.heads ++ c.args.head ∷ [] =
     heads_grown c.self.inside.seat.me.0.blocks _ c.head_words-block.result c.args.head (ap (λ (v : BoardView). v.blocks) c.put_block.ensures.view) c.head_words-block.ensures.back
     ∙ ap (λ (e : BoardEnd). e.heads ++ c.args.head ∷ []) c.self.view_is in
     λ i. board_end (table i) (heads i)

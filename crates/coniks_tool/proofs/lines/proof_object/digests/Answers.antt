@@ -6,4 +6,5 @@ use Rattle.coniks_tool.proofs.lines.proof_object.digests.Goals as goal
 pub loop-element-preserved : goal.loop-element-preserved
 loop-element-preserved c =
     let pushed : c.push.new.self.items ≡ c.loop-element.found.items ++ c.in-Some.digest ∷ [] = grind (arith, common_steps) in
-    one_more_digest c.args.elements.now c.loop-element.element-index c.element-item.result c.loop-element.found.items c.push.new.self.items c.in-Some.digest c.loop-element-test.true c.element-item.is c.in-Some.ensures pushed c.loop-element.invariant
+    one_more_digest c.args.elements.now c.loop-element.element-index c.element-item.result c.loop-element.found.items
+    c.push.new.self.items c.in-Some.digest c.loop-element-test.true c.element-item.is c.in-Some.ensures pushed c.loop-element.invariant

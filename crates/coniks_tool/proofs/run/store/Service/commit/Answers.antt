@@ -8,10 +8,11 @@ use Rattle.coniks_tool.proofs.run.store.Service.commit.Goals as goal
 
 pub returns-clause-served : goal.returns-clause-served
 returns-clause-served g c =
-    let e = c.commit-committed.ensures in
+    let e = c.commit_with-committed.ensures in
     let s = c.requires.served in
-    let counts = made_and_room c.commit-committed.result c.args.self.now.directory c.commit-committed.new.directory c.args.publisher.now c.commit-committed.new.publisher
-    c.args.self.now.signer.made c.commit-committed.new.signer.made 0 0 c.args.batch.now.epoch (length c.args.publisher.now.heads) c.args.board.now.capacity c.args.self.now.signer.last c.commit-committed.new.signer.last
+    let counts = made_and_room c.commit_with-committed.result c.args.self.now.directory c.commit_with-committed.new.self c.args.publisher.now c.commit_with-committed.new.publisher
+    c.args.self.now.signer.made c.commit_with-committed.new.signer.made 0 0 c.args.batch.now.epoch
+    (length c.args.publisher.now.heads) c.args.board.now.capacity c.args.self.now.signer.last c.commit_with-committed.new.signer.last
     e.made e.chain e.may e.unsigned e.unchanged s.made s.room (as_many c.args.publisher.now.heads c.args.self.now.directory.state.chain s.heads) c.requires.capacity in
     record {
       verdicts = λ b x. e.verdicts_kept b x ∙ s.verdicts b x ∙ ap (λ (k : List ℕ). is_seal k b x) (sym e.same.index);
@@ -23,21 +24,26 @@ returns-clause-served g c =
 
 pub returns-clause-ok : goal.returns-clause-ok
 returns-clause-ok g c =
-    let e = c.commit-committed.ensures in
+    let e = c.commit_with-committed.ensures in
     let s = c.requires.served in
-    installed_by c.args.self.now.directory.index c.commit-committed.new.directory.index c.args.self.now.directory.state c.commit-committed.new.directory.state (batch_of c.args.batch.now) c.args.crew.now.depth c.args.crew.now.workers
-    (length c.args.publisher.now.heads) c.args.board.now.capacity (is_seal c.commit-committed.new.signer.key) c.commit-committed.result (λ b x. e.verdicts_kept b x ∙ s.verdicts b x) e.same.index e.grows e.history e.chain c.chain-chain.ensures.of_history (e.good s.good) e.accepted e.may
+    installed_by c.args.self.now.directory.index c.commit_with-committed.new.self.index c.args.self.now.directory.state
+    c.commit_with-committed.new.self.state (batch_of c.args.batch.now) c.args.parallelism.now.depth c.args.parallelism.now.workers
+    (length c.args.publisher.now.heads) c.args.board.now.capacity (is_seal c.commit_with-committed.new.signer.key) c.commit_with-committed.result
+    (λ b x. e.verdicts_kept b x ∙ s.verdicts b x) e.same.index e.grows (rw c.nonce_of.ensures at e.history) e.chain c.chain-chain.ensures.of_history (e.good s.good) e.accepted e.may
     (as_many c.args.publisher.now.heads c.args.self.now.directory.state.chain s.heads) c.requires.capacity s.room
 
 pub returns-clause-refused : goal.returns-clause-refused
 returns-clause-refused g c =
-    let e = c.commit-committed.ensures in
+    let e = c.commit_with-committed.ensures in
     let s = c.requires.served in
-    refused_by (demo_index c.args.self.now.directory.index) (demo_index c.commit-committed.new.directory.index) c.args.self.now.directory c.commit-committed.new.directory c.args.publisher.now c.commit-committed.new.publisher (operations c.args.batch.now.ops.now)
-    c.args.crew.now.depth c.args.crew.now.workers c.args.batch.now.epoch (length c.args.publisher.now.heads) c.args.board.now.capacity c.args.self.now.signer.made c.commit-committed.new.signer.made c.args.self.now.signer.last c.commit-committed.new.signer.last
-    c.commit-committed.result c.args.crew.now.within.0 c.args.crew.now.within.1 (as_many c.args.publisher.now.heads c.args.self.now.directory.state.chain s.heads) c.requires.capacity e.unsigned e.refused e.unchanged c.chain-chain.ensures.of_history
+    refused_by (demo_index c.args.self.now.directory.index) (demo_index c.commit_with-committed.new.self.index) c.args.self.now.directory
+    c.commit_with-committed.new.self c.args.publisher.now c.commit_with-committed.new.publisher (operations c.args.batch.now.ops.now)
+    c.args.parallelism.now.depth c.args.parallelism.now.workers c.args.batch.now.epoch (length c.args.publisher.now.heads) c.args.board.now.capacity
+    c.args.self.now.signer.made c.commit_with-committed.new.signer.made c.args.self.now.signer.last c.commit_with-committed.new.signer.last
+    c.commit_with-committed.result c.args.parallelism.now.within.0 c.args.parallelism.now.within.1
+    (as_many c.args.publisher.now.heads c.args.self.now.directory.state.chain s.heads) c.requires.capacity e.unsigned e.refused e.unchanged c.chain-chain.ensures.of_history
 
 pub returns-clause-last : goal.returns-clause-last
 returns-clause-last g c =
-    let e = c.commit-committed.ensures in
-    last_published c.commit-committed.result c.args.self.now.directory.state.chain c.commit-committed.new.directory.state.chain c.commit-committed.new.publisher.heads e.chain e.heads
+    let e = c.commit_with-committed.ensures in
+    last_published c.commit_with-committed.result c.args.self.now.directory.state.chain c.commit_with-committed.new.self.state.chain c.commit_with-committed.new.publisher.heads e.chain e.heads

@@ -9,16 +9,20 @@ use Rattle.coniks_tool.proofs.run.store.Service.look_up.Goals as goal
 
 pub returns-in-Err-UnknownEpoch : goal.returns-in-Err-UnknownEpoch
 returns-in-Err-UnknownEpoch c =
-    missed_epoch (opened_of c.args.self.now) c.args.epoch c.args.name.now c.as_bytes.result.now c.as_bytes.ensures.value c.in-Err-UnknownEpoch.field-0 c.in-Err-UnknownEpoch.field-0-is c.in-Err-UnknownEpoch.ensures.missed
+    missed_epoch (opened_of c.args.self.now) c.args.epoch c.args.name.now c.as_bytes.result.now c.as_bytes.ensures.value
+    c.in-Err-UnknownEpoch.field-0 c.in-Err-UnknownEpoch.field-0-is c.in-Err-UnknownEpoch.ensures.missed
 
 pub returns-in-Err-NameLength : goal.returns-in-Err-NameLength
 returns-in-Err-NameLength c =
-    missed_length (opened_of c.args.self.now) c.args.epoch c.args.name.now c.as_bytes.result.now c.as_bytes.ensures.value c.in-Err-NameLength.field-0 c.in-Err-NameLength.field-0-is c.in-Err-NameLength.ensures.missed
+    missed_length (opened_of c.args.self.now) c.args.epoch c.args.name.now c.as_bytes.result.now
+    c.as_bytes.ensures.value c.in-Err-NameLength.field-0 c.in-Err-NameLength.field-0-is c.in-Err-NameLength.ensures.missed
 
 pub returns : goal.returns
 returns c =
     let o = opened_of c.args.self.now in
     let chain = c.args.self.now.directory.state.chain in
-    let is : chain ≡ chain_of o.key o.policy o.history = chain_is o.key o.policy (is_seal c.args.self.now.signer.key) c.requires.1.verdicts o.history chain c.chain-chain.ensures.of_history c.requires.1.good in
-    found_there o c.args.epoch c.args.name.now c.as_bytes.result.now c.as_bytes.ensures.value c.in-Ok.found.proof c.in-Ok.ensures.ok chain is c.in-Ok.found.entry c.in_ok-name.name.bytes.items c.in-Ok.found.index.0
+    let is : chain ≡ chain_of o.key o.policy o.history = chain_is o.key o.policy (is_seal c.args.self.now.signer.key)
+    c.requires.1.verdicts o.history chain c.chain-chain.ensures.of_history c.requires.1.good in
+    found_there o c.args.epoch c.args.name.now c.as_bytes.result.now c.as_bytes.ensures.value c.in-Ok.found.proof
+    c.in-Ok.ensures.ok chain is c.in-Ok.found.entry c.in_ok-name.name.bytes.items c.in-Ok.found.index.0
     (sym c.in-Ok.ensures.entry) c.in_ok-name.ensures.ok (c.in-Ok.ensures.index ∙ ap (demo_index o.key) c.as_bytes.ensures.value)

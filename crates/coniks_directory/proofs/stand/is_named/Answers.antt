@@ -1,4 +1,0 @@
-use Rattle.coniks_directory.proofs.stand.is_named.Goals as goal
-
-pub returns : goal.returns
-returns c = rw c.as_slice.ensures at c.is_of.ensures

@@ -1,0 +1,98 @@
+//! The checked operations of a batch: their records, found by index, and the commitments of these.
+
+ghost use Rattle.std.specs.Prelude.{◌≡◌, ◌++◌, ◌∷◌, [], List, ℕ, IfOk, MatchOption, None, OnOk, Some, map, slice_get};
+ghost use Rattle.coniks_proof.specs.Batches.{bound_by};
+ghost use Rattle.coniks_proof.specs.Registry.{AreWithin, IsFree, IsLength, Registered};
+ghost use Rattle.coniks_directory.specs.Batches.{operation_of};
+ghost use Rattle.coniks_directory.specs.Holders.{HolderIs};
+ghost use Rattle.coniks_directory.specs.Judged.{ArePendingRecords, AreSealed, IsPendingRecord};
+ghost use Rattle.coniks_directory.specs.State.{registered_of};
+
+use crate::batch::Op;
+use crate::sealing::seal_all;
+use coniks_proof::{Binding, Bytes, Digest, Hash32, Index, MAX_KEY, MAX_NAME};
+use coniks_tree::Record;
+use std::alloc::{AllocError, Global};
+use std::collections::BTreeMap;
+
+/// The commitment of a record until all operations of the batch are checked.
+const UNSEALED: Digest = Digest([0; 32]);
+
+/// The records of the checked operations, in their order, and the number of the record at each index.
+#[derive(Drop)]
+pub(crate) struct PendingRecords {
+    pub(crate) records: Vec<Record>,
+    pub(crate) numbers: BTreeMap<[u8; 32], usize>,
+}
+
+impl PendingRecords {
+    /// Returns no operations, with room for this number of records.
+    pub(crate) fn new(alloc: Global, operations: usize) -> Result<PendingRecords, AllocError>
+        ensures { IfOk result (λ pending. (hash index_of : List ℕ → List ℕ) → ArePendingRecords hash index_of [] pending.records.items pending.numbers) }
+    {
+        Ok(PendingRecords {
+            records: Vec::with_capacity(alloc, operations)?,
+            numbers: BTreeMap::new(alloc),
+        })
+    }
+
+    /// Returns the record at an index, if one of the operations has it.
+    pub(crate) fn holder(&self, index: &Index) -> Option<&Record>
+        ensures { (hash index_of : List ℕ → List ℕ) (bound : List Registered) → ArePendingRecords hash index_of bound self.now.records.items self.now.numbers
+            → HolderIs index_of bound index.now.0 result }
+    {
+        let number = self.numbers.get(&index.0)?;
+        record_at(&self.records, *number)
+    }
+
+    /// Adds the record of the next operation, whose index has none.
+    pub(crate) fn add(&mut self, made: Record) -> Result<(), AllocError>
+        ensures { OnOk result ((hash index_of : List ℕ → List ℕ) (bound : List Registered)
+            → ArePendingRecords hash index_of bound self.old.records.items self.old.numbers
+            → IsPendingRecord index_of made → IsFree index_of bound made.index.0
+            → ArePendingRecords hash index_of (bound ++ registered_of made ∷ []) self.new.records.items self.new.numbers) }
+    {
+        let index = made.index.0;
+        let number = self.records.len();
+        self.records.push(made)?;
+        self.numbers.insert(index, number)?;
+        Ok(())
+    }
+
+    /// Stores its commitment in each record.
+    pub(crate) fn seal<H: Hash32>(&mut self, h: &H)
+        requires { AreWithin (map registered_of self.old.records.items) }
+        ensures sealed { AreSealed (H.digest_of h.now) self.new.records.items }
+        ensures pending { (hash index_of : List ℕ → List ℕ) (bound : List Registered)
+            → ArePendingRecords hash index_of bound self.old.records.items self.old.numbers
+            → ArePendingRecords hash index_of bound self.new.records.items self.new.numbers }
+    {
+        seal_all(h, &mut self.records);
+    }
+}
+
+/// Returns the record of a number, if there is one.
+fn record_at(records: &[Record], number: usize) -> Option<&Record>
+    ensures { MatchOption result (slice_get records.now number ≡ None) (λ found. slice_get records.now number ≡ Some found.now) }
+{
+    records.get(number)
+}
+
+/// Returns the record of an operation, whose name has this index. Its commitment is added later.
+pub(crate) fn record_of(alloc: Global, index: Index, op: &Op) -> Result<Record, AllocError>
+    requires name { IsLength MAX_NAME op.now.name }
+    requires key { IsLength MAX_KEY op.now.key }
+    ensures binds { IfOk result (λ r. registered_of r ≡ bound_by (operation_of op.now)) }
+    ensures drafted { IfOk result (λ r. (index_of : List ℕ → List ℕ) → index.0 ≡ index_of op.now.name → IsPendingRecord index_of r) }
+    ensures indexed { IfOk result (λ r. r.index.0 ≡ index.0) }
+{
+    index.known();
+    let name = Bytes::copy_of(alloc, op.name.as_slice())?;
+    let key = Bytes::copy_of(alloc, op.key.as_slice())?;
+    Ok(Record {
+        index,
+        binding: Binding { name, key },
+        opening: op.opening,
+        commitment: UNSEALED,
+    })
+}

@@ -1,0 +1,9 @@
+//! `Directory::prepare`, each of whose allocations fails in turn.
+
+use crate::tests::refused::{second_epoch, tell};
+
+/// If a lone worker builds the epoch, each failed allocation is the call's.
+#[test]
+fn refused_in_turn(rt: HostRuntime) {
+    tell(&rt, |clerk| second_epoch(&rt, clerk, 1));
+}

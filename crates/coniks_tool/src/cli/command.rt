@@ -1,0 +1,141 @@
+//! The command that parses the command line.
+
+ghost use Rattle.std.specs.Prelude.{◌≡◌, ℤ, IfOk, false, true};
+ghost use Rattle.clap.specs.Words.{app_of, new_app, with_rule, with_subcommand, App, Rule};
+ghost use Rattle.clap.specs.declared.builder.command.Command.TheViews.{out-Command as fields_of};
+ghost use Rattle.coniks_tool.specs.Keydir.{audit_app, check_app, key_rule, keydir, keydir_top, monitor_app, number_rule, run_app, text_rule, IsCommand, IsOption};
+
+use crate::cli::help;
+use clap::builder::ValueParser;
+use clap::{Arg, Command};
+use std::alloc::{AllocError, Global};
+
+/// Returns a command of this name, with the first and the last text of its help.
+fn command<'a>(alloc: Global, name: &'a str, about: &'a str, last: &'a str) -> Command<'a>
+    ensures { IsCommand (new_app name.now) result }
+{
+    Command::new(alloc, name).about(about).after_help(last)
+}
+
+/// Returns an option that is a number, with its default.
+fn number_option<'a>(
+    alloc: Global,
+    name: &'a str,
+    missing: &'a str,
+    parser: ValueParser<'a>,
+    value_name: &'a str,
+    help: &'a str,
+) -> Arg<'a>
+    ensures { (least most : ℤ) → parser.entry ≡ ValueParser.Signed least most → IsOption (number_rule name.now missing.now least most) result }
+{
+    Arg::new(alloc, name)
+        .long(name)
+        .value_parser(parser)
+        .value_name(value_name)
+        .default_value(missing)
+        .help(help)
+}
+
+/// Returns an option that is a text.
+fn text_option<'a>(
+    alloc: Global,
+    name: &'a str,
+    required: bool,
+    value_name: &'a str,
+    help: &'a str,
+) -> Arg<'a>
+    ensures { IsOption (text_rule name.now required) result }
+{
+    Arg::new(alloc, name)
+        .long(name)
+        .value_name(value_name)
+        .required(required)
+        .help(help)
+}
+
+fn run_command<'a>(alloc: Global) -> Result<Command<'a>, AllocError>
+    ensures { IfOk result (IsCommand run_app) }
+{
+    let numbers = clap::value_parser!(u8);
+    let many = numbers.range(1..=64);
+    let deep = numbers.range(0..=12);
+    let workers = number_option(alloc, "workers", "1", many, "1-64", help::WORKERS);
+    let depth = number_option(alloc, "depth", "0", deep, "0-12", help::DEPTH);
+    let bare = command(alloc, "run", help::RUN, help::OF_RUN);
+    let with_workers = with_option(Ok(bare), workers);
+    with_option(with_workers, depth)
+}
+
+fn check_command<'a>(alloc: Global) -> Command<'a>
+    ensures { IsCommand check_app result }
+{
+    command(alloc, "check", help::CHECK, help::OF_CHECK)
+}
+
+fn key_option<'a>(alloc: Global) -> Arg<'a>
+    ensures { IsOption key_rule result }
+{
+    text_option(alloc, "key", true, "HEX64", help::KEY)
+}
+
+fn audit_command<'a>(alloc: Global) -> Result<Command<'a>, AllocError>
+    ensures { IfOk result (IsCommand audit_app) }
+{
+    let bare = command(alloc, "audit", help::AUDIT, help::OF_AUDIT);
+    with_option(Ok(bare), key_option(alloc))
+}
+
+fn monitor_command<'a>(alloc: Global) -> Result<Command<'a>, AllocError>
+    ensures { IfOk result (IsCommand monitor_app) }
+{
+    let name = text_option(alloc, "name", true, "TEXT", help::NAME);
+    let expect = text_option(alloc, "expect", false, "BASE64", help::EXPECT);
+    let bare = command(alloc, "monitor", help::MONITOR, help::OF_MONITOR);
+    let with_key = with_option(Ok(bare), key_option(alloc));
+    let with_name = with_option(with_key, name);
+    with_option(with_name, expect)
+}
+
+/// Returns the command without its subcommands.
+fn top_command<'a>(alloc: Global) -> Command<'a>
+    ensures { IsCommand keydir_top result }
+{
+    Command::new(alloc, "keydir")
+        .version("1.0.0")
+        .subcommand_required(true)
+        .after_help(help::OF_KEYDIR)
+}
+
+pub(crate) fn keydir_command<'a>(alloc: Global) -> Result<Command<'a>, AllocError>
+    ensures app { IfOk result (λ command. app_of command ≡ keydir) }
+    ensures local { IfOk result (λ command. (fields_of command).has_globals ≡ false) }
+    ensures needs { IfOk result (λ command. (fields_of command).subcommand_required ≡ true) }
+{
+    let with_run = with_below(Ok(top_command(alloc)), run_command(alloc));
+    let with_check = with_below(with_run, Ok(check_command(alloc)));
+    let with_audit = with_below(with_check, audit_command(alloc));
+    with_below(with_audit, monitor_command(alloc))
+}
+
+/// Returns a command with one more option, if the command could be allocated.
+fn with_option<'a>(
+    command: Result<Command<'a>, AllocError>,
+    option: Arg<'a>,
+) -> Result<Command<'a>, AllocError>
+    ensures { (before : App) (rule : Rule) → IfOk command.entry (IsCommand before)
+        → IsOption rule option.entry → IfOk result (IsCommand (with_rule before rule)) }
+{
+    command?.arg(option)
+}
+
+/// Returns a command with one more subcommand, if both could be allocated.
+fn with_below<'a>(
+    command: Result<Command<'a>, AllocError>,
+    below: Result<Command<'a>, AllocError>,
+) -> Result<Command<'a>, AllocError>
+    ensures { (before under : App) → IfOk command.entry (IsCommand before)
+        → IfOk below.entry (IsCommand under) → IfOk result (IsCommand (with_subcommand before under.top)) }
+{
+    let command = command?;
+    command.subcommand(below?)
+}

@@ -1,0 +1,131 @@
+//! Runs the settings of a command line.
+
+ghost use Rattle.std.specs.Prelude.{◌≡◌, ◌⊎◌, ◌<◌, ◌≤◌, ◌+◌, ◌^◌, IfOk, List, None, Some, option_map, ℕ, IfErr};
+ghost use Rattle.coniks_tool.specs.Choice.{audit, choice_of, key_in, monitor, IsWithinLimits, Lacks};
+ghost use Rattle.coniks_tool.specs.Expectations.{expectation_in};
+ghost use Rattle.coniks_tool.specs.Program.{BreaksOff, EndsBy, Fails, HasBoard, NeverBegins};
+ghost use Rattle.coniks_directory.specs.Batches.{AreWorkers};
+ghost use Rattle.coniks_lines.specs.declared.fault.RunFault.TheVariants.{OutOfMemory};
+ghost use Rattle.coniks_work.specs.declared.jobs.TheConstants.{MAX_DEPTH};
+
+use crate::audit::machine::run_audit;
+use crate::check::machine::run_check;
+use crate::cli::choice::Settings;
+use crate::cli::ending::Ending;
+use crate::lines::members::bytes_of_digits;
+use crate::monitor::expectation::expectation;
+use crate::monitor::machine::run_monitor;
+use crate::run::machine::run_script;
+use coniks_lines::{ByteIn, ByteOut, RunFault};
+use coniks_proof::Bytes;
+use std::alloc::Global;
+use std::thread::Threads;
+
+/// Runs the settings, after it has read the texts of a key and of an expectation.
+pub(crate) fn run_settings<T: Threads + Sync, R: ByteIn, W: ByteOut>(
+    rt: &T,
+    alloc: Global,
+    settings: Settings,
+    reader: &mut R,
+    writer: &mut W,
+) -> Result<Ending, RunFault>
+    requires within { IsWithinLimits settings }
+    requires reads { (R.source reader.old).failed + 1 < 2 ^ 64 }
+    requires writes { (W.sink writer.old).failed + 1 < 2 ^ 64 }
+    ensures ends { IfOk result (EndsBy (Some (choice_of settings.entry)) (R.source reader.old) (R.source reader.new) (W.sink writer.old) (W.sink writer.new)) }
+    ensures idle_reader { Lacks (Some (choice_of settings.entry)) → R.source reader.new ≡ R.source reader.old }
+    ensures idle_writer { Lacks (Some (choice_of settings.entry)) → W.sink writer.new ≡ W.sink writer.old }
+    ensures fails { IfErr result (Fails (HasBoard (Some (choice_of settings.entry)))
+        (R.source reader.old) (R.source reader.new) (W.sink writer.old) (W.sink writer.new)) }
+    ensures stops { IfErr result (λ fault. BreaksOff (Some (choice_of settings.entry))
+        (R.source reader.old) (R.source reader.new) (W.sink writer.old) (W.sink writer.new) fault
+        ⊎ NeverBegins (R.source reader.old) (R.source reader.new) (W.sink writer.old) (W.sink writer.new) fault) }
+{
+    match settings {
+        Settings::Run { workers, depth } => {
+            let all = run_script(rt, alloc, reader, writer, workers, depth)?;
+            Ok(Ending::Done(all))
+        }
+        Settings::Check => Ok(Ending::Done(run_check(alloc, reader, writer)?)),
+        Settings::Audit { key } => audit_under(alloc, key, reader, writer),
+        Settings::Monitor { key, name, expect } => {
+            watch_under(alloc, key, name, expect, reader, writer)
+        }
+    }
+}
+
+/// Audits under the key of a text.
+fn audit_under<R: ByteIn, W: ByteOut>(
+    alloc: Global,
+    key: &str,
+    reader: &mut R,
+    writer: &mut W,
+) -> Result<Ending, RunFault>
+    requires reads { (R.source reader.old).failed + 1 < 2 ^ 64 }
+    requires writes { (W.sink writer.old).failed + 1 < 2 ^ 64 }
+    ensures ends { IfOk result (EndsBy (Some (audit key.now)) (R.source reader.old) (R.source reader.new) (W.sink writer.old) (W.sink writer.new)) }
+    ensures idle_reader { Lacks (Some (audit key.now)) → R.source reader.new ≡ R.source reader.old }
+    ensures idle_writer { Lacks (Some (audit key.now)) → W.sink writer.new ≡ W.sink writer.old }
+    ensures fails { IfErr result (Fails ⊥ (R.source reader.old) (R.source reader.new) (W.sink writer.old) (W.sink writer.new)) }
+    ensures stops { IfErr result (λ fault. BreaksOff (Some (audit key.now))
+        (R.source reader.old) (R.source reader.new) (W.sink writer.old) (W.sink writer.new) fault
+        ⊎ NeverBegins (R.source reader.old) (R.source reader.new) (W.sink writer.old) (W.sink writer.new) fault) }
+{
+    match bytes_of_digits(key) {
+        Some(key) => Ok(Ending::Done(run_audit(alloc, key, reader, writer)?)),
+        None => Ok(Ending::BadKey),
+    }
+}
+
+/// Monitors a name under the key of a text, for a client whose expectation is a further text.
+fn watch_under<R: ByteIn, W: ByteOut>(
+    alloc: Global,
+    key: &str,
+    name: &str,
+    expect: Option<&str>,
+    reader: &mut R,
+    writer: &mut W,
+) -> Result<Ending, RunFault>
+    requires reads { (R.source reader.old).failed + 1 < 2 ^ 64 }
+    requires writes { (W.sink writer.old).failed + 1 < 2 ^ 64 }
+    ensures ends { IfOk result (EndsBy (Some (monitor key.now name.now (option_map (λ text. text.now) expect.entry)))
+        (R.source reader.old) (R.source reader.new) (W.sink writer.old) (W.sink writer.new)) }
+    ensures idle_reader { Lacks (Some (monitor key.now name.now (option_map (λ text. text.now) expect.entry))) → R.source reader.new ≡ R.source reader.old }
+    ensures idle_writer { Lacks (Some (monitor key.now name.now (option_map (λ text. text.now) expect.entry))) → W.sink writer.new ≡ W.sink writer.old }
+    ensures fails { IfErr result (Fails ⊥ (R.source reader.old) (R.source reader.new) (W.sink writer.old) (W.sink writer.new)) }
+    ensures stops { IfErr result (λ fault. BreaksOff (Some (monitor key.now name.now (option_map (λ text. text.now) expect.entry)))
+        (R.source reader.old) (R.source reader.new) (W.sink writer.old) (W.sink writer.new) fault
+        ⊎ NeverBegins (R.source reader.old) (R.source reader.new) (W.sink writer.old) (W.sink writer.new) fault) }
+{
+    let Some(key) = bytes_of_digits(key) else {
+        return Ok(Ending::BadKey);
+    };
+    let Some(expected) = expectation_of(alloc, expect)? else {
+        return Ok(Ending::BadExpectation);
+    };
+    let name = copy_of(alloc, name)?;
+    let all = run_monitor(alloc, key, name, expected, reader, writer)?;
+    Ok(Ending::Done(all))
+}
+
+/// Returns the expectation of a text, or `None` if it is not base64.
+fn expectation_of(alloc: Global, text: Option<&str>) -> Result<Option<Option<Bytes>>, RunFault>
+    ensures ok { IfOk result (λ expected. expected ≡ expectation_in (option_map (λ t. t.now) text.entry)) }
+    ensures fault { IfErr result (λ fault. fault ≡ OutOfMemory) }
+{
+    match expectation(alloc, text) {
+        Ok(expected) => Ok(expected),
+        Err(_) => Err(RunFault::OutOfMemory),
+    }
+}
+
+/// Copies the bytes of a text.
+fn copy_of(alloc: Global, text: &str) -> Result<Bytes, RunFault>
+    ensures ok { IfOk result (λ copy. copy ≡ text.now) }
+    ensures fault { IfErr result (λ fault. fault ≡ OutOfMemory) }
+{
+    match Bytes::copy_of(alloc, text.as_bytes()) {
+        Ok(copy) => Ok(copy),
+        Err(_) => Err(RunFault::OutOfMemory),
+    }
+}

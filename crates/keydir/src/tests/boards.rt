@@ -1,0 +1,51 @@
+//! A run whose board is full.
+
+use coniks_tool::{MemoryIn, MemoryOut, run_script};
+use std::process::Abort;
+
+/// The epochs of a run.
+const MOST: u64 = 1024;
+
+const OPEN: &str =
+    "{\"cmd\":\"open\",\"key\":\"0000000000000000000000000000000000000000000000000000000000000000\",\"nonce\":\"1111111111111111111111111111111111111111111111111111111111111111\",\"policy\":\"2222222222222222222222222222222222222222222222222222222222222222\"}\n";
+
+/// An empty batch under each epoch from 1 to one more than a run may have, a lookup at the last one, and a batch under it.
+fn script<R: Abort + AllocGlobal>(rt: &R) -> String {
+    let mut lines = String::from_str(rt.alloc(), OPEN).expect(rt, "memory");
+    for epoch in 1..=MOST + 1 {
+        let line = format!(in rt.alloc(); "{{\"cmd\":\"batch\",\"epoch\":{epoch},\"ops\":[]}}\n");
+        lines
+            .push_str(&line.expect(rt, "memory"))
+            .expect(rt, "memory");
+    }
+    let last = format!(in rt.alloc();
+        "{{\"cmd\":\"lookup\",\"epoch\":{MOST},\"name\":\"a\"}}\n{{\"cmd\":\"batch\",\"epoch\":{MOST},\"ops\":[]}}\n"
+    );
+    lines
+        .push_str(&last.expect(rt, "memory"))
+        .expect(rt, "memory");
+    lines
+}
+
+/// The board takes 1,024 heads. The next batch is refused, lookups go on, and an epoch that isn't later is told first.
+#[test]
+fn board_is_full(rt: HostRuntime) {
+    let alloc = rt.alloc();
+    let script = script(&rt);
+    let mut reader = MemoryIn::new(Vec::from_slice(alloc, script.as_bytes()).expect(&rt, "memory"));
+    let mut writer = MemoryOut::new(alloc);
+    let ran = run_script(&rt, alloc, &mut reader, &mut writer, 1, 0);
+    assert!(rt; ran == Ok(false));
+    let written = str::from_utf8(writer.bytes()).expect(&rt, "text");
+    let answers = written.lines().skip(MOST as usize);
+    for (place, answer) in answers.enumerate() {
+        let is_well = match place {
+            0 => answer.contains("\"epoch\":1024") && answer.contains("\"ok\":\"batch\""),
+            1 => answer == "{\"fault\":\"BoardFull\"}",
+            2 => answer.contains("\"ok\":\"lookup\""),
+            _ => answer == "{\"fault\":\"EpochNotLater\",\"latest\":1024}",
+        };
+        assert!(rt; is_well, "{place}: {answer}");
+    }
+    assert!(rt; written.lines().count() == MOST as usize + 4);
+}
