@@ -1,7 +1,10 @@
 """The files of the cases: which ones exist, and what a case expects of a run."""
 
+from __future__ import annotations
+
 import json
 from pathlib import Path
+from typing import Any, Iterable
 
 HERE = Path(__file__).resolve().parent
 
@@ -14,7 +17,7 @@ class Unknown(Exception):
     """What no case or folder is named."""
 
 
-def program_at(path):
+def program_at(path: str) -> str:
     """Which program a file is by its name: `keydir` if it has another name than these."""
     name = Path(path).name
     return name if name in FOLDERS else "keydir"
@@ -23,41 +26,42 @@ def program_at(path):
 class Case:
     """A case by the path of its files without what comes after the last dot."""
 
-    def __init__(self, stem):
+    def __init__(self, stem: Path) -> None:
         self.stem = stem
         self.name = f"{stem.parent.name}/{stem.name}"
 
-    def has(self, kind):
+    def has(self, kind: str) -> bool:
         return Path(f"{self.stem}{kind}").is_file()
 
-    def read(self, kind):
+    def read(self, kind: str) -> bytes:
         return Path(f"{self.stem}{kind}").read_bytes()
 
-    def given(self):
+    def given(self) -> bytes:
         """The bytes of standard input: those of `.in`, or those that `.make` describes."""
         return self.read(".in") if self.has(".in") else made(json.loads(self.read(".make")))
 
-    def words(self):
+    def words(self) -> list[bytes]:
         usual = self.stem.parent / "words"
         text = self.read(".words") if self.has(".words") else usual.read_bytes()
         return text.removesuffix(b"\n").split(b"\n") if text else []
 
-    def status(self):
+    def status(self) -> int:
         if self.has(".status"):
             return int(self.read(".status"))
         return usual_status(self.read(".out")) if self.has(".out") else 0
 
 
-def made(part):
+def made(part: Any) -> bytes:
     """The bytes of a part of a `.make`: a text's, those of parts in their order, or those of a repeated part."""
     if isinstance(part, str):
         return part.encode("utf-8")
     if isinstance(part, list):
         return b"".join(map(made, part))
-    return made(part["repeat"]) * part["times"]
+    times: int = part["times"]
+    return made(part["repeat"]) * times
 
 
-def usual_status(output):
+def usual_status(output: bytes) -> int:
     """1 if a line was refused, or the monitor saw another key than the expected one."""
     seen = (b'"seen":"changed"', b'"seen":"absent"')
     lines = output.split(b"\n")
@@ -65,9 +69,10 @@ def usual_status(output):
     return 1 if refused or any(text in output for text in seen) else 0
 
 
-def cases_of(folder):
+def cases_of(folder: Path) -> tuple[dict[str, Case], list[str]]:
     """The cases of a folder by their names, and what is wrong with its files."""
-    cases, wrong = {}, []
+    cases: dict[str, Case] = {}
+    wrong: list[str] = []
     for path in sorted(folder.iterdir()) if folder.is_dir() else []:
         case = Case(path.with_suffix(""))
         if path.suffix not in KINDS and path.name != "words":
@@ -81,9 +86,10 @@ def cases_of(folder):
     return cases, wrong if cases else wrong + [f"{folder.name}: no case"]
 
 
-def chosen(names):
+def chosen(names: Iterable[str]) -> tuple[list[Case], list[str]]:
     """The cases that the names say, and what is wrong with files."""
-    cases, wrong = {}, []
+    cases: dict[str, Case] = {}
+    wrong: list[str] = []
     for name in names:
         folder, _, one = name.rstrip("/").partition("/")
         if not any(folder in it for it in FOLDERS.values()):

@@ -1,9 +1,11 @@
 """The lines of `cases/size`, a directory of many names and how many there are of each, and those of `cases/full-board`."""
 
+from __future__ import annotations
+
 import base64
 import hashlib
 import json
-from typing import NamedTuple
+from typing import Any, Iterator, NamedTuple
 
 KEY = "5a" * 32
 NONCE, LATER_NONCE, POLICY = "11" * 32, "44" * 32, "33" * 32
@@ -17,23 +19,23 @@ class Size(NamedTuple):
     lookups: int
 
 
-def text_of(value):
+def text_of(value: dict[str, Any]) -> str:
     return json.dumps(value, separators=(",", ":"))
 
 
-def operation(kind, number, turn):
+def operation(kind: str, number: int, turn: int) -> dict[str, str]:
     """An operation on a name; the turn makes another key and opening of it."""
     found = hashlib.sha256(b"%d %d" % (number, turn)).digest()
     key = base64.b64encode(found[: 1 + number % 32]).decode()
     return {"key": key, "name": f"name-{number}", "op": kind, "opening": hashlib.sha256(found).hexdigest()}
 
 
-def changes(size, count, step, turn):
+def changes(size: Size, count: int, step: int, turn: int) -> list[dict[str, str]]:
     """Changes of names at a distance: the step has no divisor in common with the number of names."""
     return [operation("change", it * step % size.names, turn) for it in range(count)]
 
 
-def batches(size):
+def batches(size: Size) -> Iterator[dict[str, Any]]:
     """The members of each batch but its epoch: all names, then changes, one change, a rotated nonce and one change more."""
     for first in range(0, size.names, size.batch):
         yield {"ops": [operation("register", it, 0) for it in range(first, min(first + size.batch, size.names))]}
@@ -45,7 +47,7 @@ def batches(size):
     yield {"ops": changes(size, 1, 1, 4)}
 
 
-def lookups(size, epoch, present):
+def lookups(size: Size, epoch: int, present: int) -> Iterator[dict[str, Any]]:
     """Lookups at an epoch: of present names among the first ones, and of names that are absent."""
     step = max(1, present // size.lookups)
     names = [it * step for it in range(size.lookups)] + [10 * size.names + it for it in range(size.lookups)]
@@ -53,7 +55,7 @@ def lookups(size, epoch, present):
         yield {"cmd": "lookup", "epoch": epoch, "name": f"name-{it}"}
 
 
-def lines(size):
+def lines(size: Size) -> Iterator[str]:
     """All lines, each without its newline."""
     yield text_of({"cmd": "open", "key": KEY, "nonce": NONCE, "policy": POLICY})
     epoch = 0
@@ -68,11 +70,11 @@ BOARD = 65536
 INDEX, OTHER_INDEX = "22" * 32, "a2" * 32
 
 
-def signature(epoch):
+def signature(epoch: int) -> str:
     return hashlib.sha512(b"%d" % epoch).hexdigest()
 
 
-def board_lines():
+def board_lines() -> Iterator[str]:
     """The lines of `cases/full-board`: empty epochs up to one less than the board's capacity, one that registers a name, and more."""
     register = {**operation("register", 0, 0), "index": INDEX}
     change = {**operation("change", 0, 1), "index": INDEX}
@@ -83,7 +85,7 @@ def board_lines():
     yield from map(text_of, lines_on_full_board(change))
 
 
-def lines_on_full_board(change):
+def lines_on_full_board(change: dict[str, str]) -> Iterator[dict[str, Any]]:
     """Lines after the last epoch: updates that the board refuses, or an error that comes first; lookups, and the latest."""
     yield {"cmd": "prepare", "epoch": BOARD + 1, "ops": [change]}
     yield {"cmd": "prepare", "epoch": BOARD + 1, "nonce": LATER_NONCE, "ops": []}

@@ -5,21 +5,24 @@
     scripts/tools.py --install   runs this command, as root, if there is `apt-get`; the status is always 0
 """
 
+from __future__ import annotations
+
 import os
 import shutil
 import subprocess
 import sys
 from pathlib import Path
+from typing import Callable, Optional, Sequence
 
 CC = os.environ.get("CC", "cc")
 CHROMIUM = os.environ.get("CHROMIUM", "chromium")
 
 
-def has_program(name):
+def has_program(name: str) -> bool:
     return shutil.which(name) is not None
 
 
-def compiles(text, *words):
+def compiles(text: str, *words: str) -> bool:
     """Whether the C compiler takes a text."""
     if not has_program(CC):
         return False
@@ -27,7 +30,7 @@ def compiles(text, *words):
     return ran.returncode == 0
 
 
-def python_with(*modules):
+def python_with(*modules: str) -> Optional[str]:
     """A Python that imports some modules, or None. Debian's packages are those of Debian's Python alone."""
     for python in [sys.executable, "/usr/bin/python3"]:
         if not has_program(python):
@@ -45,7 +48,7 @@ SIGNING_PYTHON = python_with("nacl.bindings", "nacl.signing")
 DATABASE_PYTHON = python_with("psycopg", "nacl.signing") or python_with("psycopg")
 
 # A tool, whether it is there, its packages in Debian, and what is skipped without it.
-TOOLS = {
+TOOLS: dict[str, tuple[Callable[[], bool], str, str]] = {
     "a C compiler": (lambda: has_program(CC), "gcc libc6-dev", "faults/run and embed/test"),
     "a C++ compiler": (lambda: compiles("", "-fsyntax-only", "-x", "c++"), "g++", "the header as C++"),
     "the headers of OpenSSL": (lambda: compiles("#include <openssl/evp.h>\n", "-E", "-x", "c"), "libssl-dev", "c/audit_signed.c"),
@@ -73,15 +76,15 @@ def has(tool: str) -> bool:
     return TOOLS[tool][0]()
 
 
-def lacking():
+def lacking() -> list[str]:
     return [it for it in TOOLS if not has(it)]
 
 
-def packages(tools):
+def packages(tools: Sequence[str]) -> list[str]:
     return [package for it in tools for package in TOOLS[it][1].split()]
 
 
-def told(tools):
+def told(tools: Sequence[str]) -> list[str]:
     """The lines with the missing tools, what is skipped for each, and how to install them; none if nothing is missing."""
     if not tools:
         return []
@@ -89,7 +92,7 @@ def told(tools):
     return [*lines, f"on Debian: apt-get install --no-install-recommends {' '.join(packages(tools))}"]
 
 
-def install(tools):
+def install(tools: Sequence[str]) -> None:
     """Installs what is missing, and prints the last line of what failed."""
     for words in [["update"], ["install", "-y", "--no-install-recommends", *packages(tools)]]:
         ran = subprocess.run(
@@ -100,7 +103,7 @@ def install(tools):
             print(f"apt-get {words[0]} failed: {' '.join(last)}", flush=True)
 
 
-def main(words):
+def main(words: list[str]) -> int:
     tools = lacking()
     if words == ["--install"]:
         if tools and os.geteuid() == 0 and has_program("apt-get"):

@@ -1,17 +1,26 @@
 """`keydir run`: the directory, with the registry of each epoch kept whole; and the parts that `provider` shares."""
 
+from __future__ import annotations
+
 import base64
+from typing import Any, Callable, ClassVar, Container, Generic, Optional, TypeVar
 
 from bytelists import LONGEST_KEY, LONGEST_NAME, commitment, demonstration_index, demonstration_seal
 from chain import Entry, body_after
 from members import Fault, Wrong, array, b64, h32, member, object_in, read_object, text, texts_bytes, whole_number
-from tree import node, path
+from strict_json import Json
+from tree import Entries, node, path
 
 MOST_OPERATIONS = 4096
 
+Answer = dict[str, object]
+
+# The key and the opening of each name.
+Registry = dict[bytes, tuple[bytes, bytes]]
+
 
 class Operation:
-    def __init__(self, value):
+    def __init__(self, value: Json) -> None:
         members = object_in(value)
         self.key = b64(members.get("key"))
         self.name = texts_bytes(members.get("name"))
@@ -21,7 +30,11 @@ class Operation:
             raise Wrong
 
 
-def operations(elements, kind):
+KindOfOperation = TypeVar("KindOfOperation", bound=Operation)
+KindOfEpoch = TypeVar("KindOfEpoch")
+
+
+def operations(elements: list[Json], kind: Callable[[Json], KindOfOperation]) -> list[KindOfOperation]:
     found = []
     for position, element in enumerate(elements):
         try:
@@ -31,7 +44,7 @@ def operations(elements, kind):
     return found
 
 
-def fault_of(operation, earlier, registered):
+def fault_of(operation: Operation, earlier: Container[bytes], registered: Container[bytes]) -> Optional[str]:
     """The first fault of an operation after the names of the earlier ones, or None."""
     if not 1 <= len(operation.name) <= LONGEST_NAME:
         return "NameLength"
@@ -46,48 +59,52 @@ def fault_of(operation, earlier, registered):
     return None
 
 
-class Lines:
+class Lines(Generic[KindOfOperation, KindOfEpoch]):
     """A directory that replies to lines.
 
-    Each kind of directory has COMMANDS, the name of its method for each command, and MOST_EPOCHS.
+    Each kind of directory has COMMANDS, the name of its method for each command, MOST_EPOCHS, and OPERATION, the class of its
+    operations.
     """
 
-    Operation = Operation
+    COMMANDS: ClassVar[dict[str, str]]
+    MOST_EPOCHS: ClassVar[int]
+    OPERATION: Callable[[Json], KindOfOperation]
 
-    def __init__(self):
+    def __init__(self) -> None:
         self.is_open = False
-        self.epochs = {}
+        self.epochs: dict[int, KindOfEpoch] = {}
         self.latest = 0
 
-    def answer(self, line):
+    def answer(self, line: bytes) -> Answer:
         members = read_object(line)
         command = members.get("cmd")
         if not isinstance(command, str) or command not in self.COMMANDS:
             raise Fault("Command")
-        return getattr(self, self.COMMANDS[command])(members)
+        method: Callable[[dict[str, Json]], Answer] = getattr(self, self.COMMANDS[command])
+        return method(members)
 
-    def be_open(self, nonce, policy):
+    def be_open(self, nonce: bytes, policy: bytes) -> Answer:
         if self.is_open:
             raise Fault("AlreadyOpen")
         self.is_open = True
         self.version, self.nonce, self.policy = 1, nonce, policy
         return {"ok": "open"}
 
-    def must_be_open(self):
+    def must_be_open(self) -> None:
         if not self.is_open:
             raise Fault("NotOpen")
 
-    def read_batch(self, members):
+    def read_batch(self, members: dict[str, Json]) -> tuple[int, Optional[bytes], list[KindOfOperation]]:
         """A batch's epoch, its nonce or None, and its operations."""
         number = member(members, "epoch", whole_number)
         nonce = member(members, "nonce", h32) if "nonce" in members else None
-        return number, nonce, operations(member(members, "ops", array), self.Operation)
+        return number, nonce, operations(member(members, "ops", array), self.OPERATION)
 
-    def judge_batch(self, ops, registered):
+    def judge_batch(self, ops: list[KindOfOperation], registered: Container[bytes]) -> dict[bytes, KindOfOperation]:
         """Refuses a batch that has a fault over the registered names. Returns its operations by their names."""
         if len(ops) > MOST_OPERATIONS:
             raise Fault("BatchTooLong")
-        earlier = {}
+        earlier: dict[bytes, KindOfOperation] = {}
         for position, operation in enumerate(ops):
             fault = self.fault_of(operation, earlier, registered)
             if fault:
@@ -95,20 +112,20 @@ class Lines:
             earlier[operation.name] = operation
         return earlier
 
-    def fault_of(self, operation, earlier, registered):
+    def fault_of(self, operation: KindOfOperation, earlier: Container[bytes], registered: Container[bytes]) -> Optional[str]:
         return fault_of(operation, earlier, registered)
 
-    def must_be_next(self, number):
+    def must_be_next(self, number: int) -> None:
         if number <= self.latest:
             raise Fault("EpochNotLater", latest=self.latest)
         if len(self.epochs) == self.MOST_EPOCHS:
             raise Fault("BoardFull")
 
-    def epoch_and_name(self, members):
+    def epoch_and_name(self, members: dict[str, Json]) -> tuple[int, str]:
         """The number of the epoch and the name that a lookup asks for."""
         return member(members, "epoch", whole_number), member(members, "name", text)
 
-    def epoch_asked(self, number, name):
+    def epoch_asked(self, number: int, name: str) -> KindOfEpoch:
         self.must_be_open()
         epoch = self.epochs.get(number)
         if epoch is None:
@@ -118,18 +135,18 @@ class Lines:
         return epoch
 
 
-def answer_of_entry(entry, ok):
+def answer_of_entry(entry: Entry, ok: str) -> Answer:
     """The reply to a line that adds an entry to the chain."""
     return {"entry": entry.whole.hex(), "epoch": entry.epoch, "link": entry.link.hex(), "ok": ok, "root": entry.root.hex()}
 
 
-def answer_of_lookup(entry, name, index, siblings, end):
-    answer = {"entry": entry.whole.hex(), "epoch": entry.epoch, "index": index.hex(), "name": name, "ok": "lookup"}
+def answer_of_lookup(entry: Entry, name: str, index: bytes, siblings: list[bytes], end: dict[str, str]) -> Answer:
+    answer: Answer = {"entry": entry.whole.hex(), "epoch": entry.epoch, "index": index.hex(), "name": name, "ok": "lookup"}
     answer |= {"nonce": entry.nonce.hex(), "root": entry.root.hex()}
     return answer | {"proof": {"end": end, "siblings": [sibling.hex() for sibling in siblings]}}
 
 
-def end_elsewhere(found):
+def end_elsewhere(found: Entries) -> dict[str, str]:
     """The end of a path that has no leaf of the index, over the entries there: that of another index, or none."""
     if not found:
         return {"kind": "empty"}
@@ -137,24 +154,25 @@ def end_elsewhere(found):
     return {"commitment": committed.hex(), "index": index.hex(), "kind": "other"}
 
 
-def end_here(name, key, opening):
+def end_here(name: str, key: bytes, opening: bytes) -> dict[str, str]:
     return {"key": base64.b64encode(key).decode(), "kind": "here", "name": name, "opening": opening.hex()}
 
 
 class Epoch:
-    """An entry, the registry at it, which has the key and the opening of each name, and its tree."""
+    """An entry, the registry at it, and its tree, whose type depends on the kind of directory."""
 
-    def __init__(self, entry, registry, tree):
+    def __init__(self, entry: Entry, registry: Registry, tree: Any) -> None:
         self.entry = entry
         self.registry = registry
         self.tree = tree
 
 
-class Directory(Lines):
+class Directory(Lines[Operation, Epoch]):
     COMMANDS = {"open": "open", "batch": "batch", "lookup": "look_up"}
     MOST_EPOCHS = 1024
+    OPERATION = Operation
 
-    def open(self, members):
+    def open(self, members: dict[str, Json]) -> Answer:
         key = member(members, "key", h32)
         nonce = member(members, "nonce", h32)
         policy = member(members, "policy", h32)
@@ -162,7 +180,7 @@ class Directory(Lines):
         self.key = key
         return answer
 
-    def batch(self, members):
+    def batch(self, members: dict[str, Json]) -> Answer:
         number, nonce, ops = self.read_batch(members)
         self.must_be_open()
         before = self.epochs.get(self.latest)
@@ -178,27 +196,27 @@ class Directory(Lines):
         self.latest = number
         return answer_of_entry(entry, "batch")
 
-    def entry_of(self, before, number, root):
+    def entry_of(self, before: Optional[Epoch], number: int, root: bytes) -> Entry:
         body = body_after(before.entry if before else None, self.version, number, root, self.nonce, self.policy)
         return Entry(body + demonstration_seal(self.key, body))
 
-    def tree_after(self, before, registry, changed, is_renewed):
+    def tree_after(self, before: Optional[Epoch], registry: Registry, changed: Registry, is_renewed: bool) -> Any:
         """An epoch's tree: here all entries of its registry."""
         return self.entries(registry)
 
-    def root(self, tree):
+    def root(self, tree: Any) -> bytes:
         return node(self.nonce, (), tree)
 
-    def path(self, epoch, index):
+    def path(self, epoch: Epoch, index: bytes) -> tuple[list[bytes], Entries]:
         return path(epoch.entry.nonce, (), epoch.tree, index)
 
-    def entries(self, registry):
+    def entries(self, registry: Registry) -> Entries:
         """The entries of a registry's tree, sorted by their indices."""
         return sorted(
             (demonstration_index(self.key, name), commitment(opening, name, key)) for name, (key, opening) in registry.items()
         )
 
-    def look_up(self, members):
+    def look_up(self, members: dict[str, Json]) -> Answer:
         number, name = self.epoch_and_name(members)
         epoch = self.epoch_asked(number, name)
         index = demonstration_index(self.key, name.encode("utf-8"))

@@ -1,7 +1,12 @@
 """Trees whose epochs share unchanged nodes, and a `keydir run` over them for many names."""
 
+from __future__ import annotations
+
+from typing import Optional
+
 from bytelists import bit, empty_node, interior_node, leaf
-from directory import Directory
+from directory import Directory, Epoch, Registry
+from tree import Entries, Prefix
 
 
 class Node:
@@ -9,11 +14,11 @@ class Node:
 
     __slots__ = ("hash", "children", "entries")
 
-    def __init__(self, digest, children, entries):
+    def __init__(self, digest: bytes, children: Optional[tuple[Node, Node]], entries: Entries) -> None:
         self.hash, self.children, self.entries = digest, children, entries
 
 
-def halves(entries, level):
+def halves(entries: Entries, level: int) -> tuple[Entries, Entries]:
     """Entries in the order of their indices, cut in two by a bit; all agree in the bits before it."""
     low, high = 0, len(entries)
     while low < high:
@@ -25,7 +30,7 @@ def halves(entries, level):
     return entries[:low], entries[low:]
 
 
-def built(nonce, prefix, entries):
+def built(nonce: bytes, prefix: Prefix, entries: Entries) -> Node:
     """The node at a prefix over the entries under it."""
     if not entries:
         return Node(empty_node(nonce, prefix), None, entries)
@@ -36,11 +41,11 @@ def built(nonce, prefix, entries):
     return joined(built(nonce, prefix + (0,), left), built(nonce, prefix + (1,), right))
 
 
-def joined(left, right):
-    return Node(interior_node(left.hash, right.hash), (left, right), None)
+def joined(left: Node, right: Node) -> Node:
+    return Node(interior_node(left.hash, right.hash), (left, right), ())
 
 
-def grown(node, nonce, prefix, changes):
+def grown(node: Node, nonce: bytes, prefix: Prefix, changes: Entries) -> Node:
     """The node at a prefix after changes, which are in the order of their indices: one that has none is taken as it is."""
     if not changes:
         return node
@@ -50,9 +55,9 @@ def grown(node, nonce, prefix, changes):
     return joined(*(grown(child, nonce, prefix + (side,), parts[side]) for side, child in enumerate(node.children)))
 
 
-def path_to(node, index):
+def path_to(node: Node, index: bytes) -> tuple[list[bytes], Entries]:
     """The siblings of the path to an index, from the root down, and the entries at its end: one or none."""
-    siblings = []
+    siblings: list[bytes] = []
     while node.children is not None:
         side = bit(index, len(siblings))
         siblings.append(node.children[1 - side].hash)
@@ -60,7 +65,7 @@ def path_to(node, index):
     return siblings, node.entries
 
 
-def nodes_under(changes, node, level):
+def nodes_under(changes: Entries, node: Node, level: int) -> int:
     """How many nodes of a grown tree are new, at a node and below it.
 
     A node is new if something changes under it. Beside a new node, an unchanged leaf or empty node is made again. An unchanged
@@ -76,13 +81,13 @@ def nodes_under(changes, node, level):
 class GrownDirectory(Directory):
     """As `Directory`, but an epoch's tree grows from the one before, if the nonce stays."""
 
-    def tree_after(self, before, registry, changed, is_renewed):
+    def tree_after(self, before: Optional[Epoch], registry: Registry, changed: Registry, is_renewed: bool) -> Node:
         if before is None or is_renewed:
             return built(self.nonce, (), self.entries(registry))
         return grown(before.tree, self.nonce, (), self.entries(changed))
 
-    def root(self, tree):
+    def root(self, tree: Node) -> bytes:
         return tree.hash
 
-    def path(self, epoch, index):
+    def path(self, epoch: Epoch, index: bytes) -> tuple[list[bytes], Entries]:
         return path_to(epoch.tree, index)

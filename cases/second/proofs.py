@@ -1,16 +1,20 @@
 """`keydir check`: the proof of a line, and its faults."""
 
+from __future__ import annotations
+
 import base64
+from typing import Optional
 
 from bytelists import LONGEST_KEY, LONGEST_NAME, bit
 from members import Fault, Wrong, array, b64, h32, member, object_in, read_object, text, texts_bytes
+from strict_json import Json
 from tree import climb
 
 
 class Proof:
     """A proof: its siblings, the kind of its end, and the members of such an end."""
 
-    def __init__(self, value):
+    def __init__(self, value: Json) -> None:
         members = object_in(value)
         end = object_in(members.get("end"))
         self.kind = text(end.get("kind"))
@@ -26,11 +30,11 @@ class Proof:
         self.siblings = [h32(sibling) for sibling in array(members.get("siblings"))]
 
 
-def agree(one, other, bits):
+def agree(one: bytes, other: bytes, bits: int) -> bool:
     return all(bit(one, k) == bit(other, k) for k in range(bits))
 
 
-def judge(proof, index, name, nonce, root):
+def judge(proof: Proof, index: bytes, name: bytes, nonce: bytes, root: bytes) -> Optional[bytes]:
     """The key that an accepted proof shows, or None if it shows absence."""
     if len(proof.siblings) > 256:
         raise Fault("TooDeep")
@@ -50,7 +54,7 @@ def judge(proof, index, name, nonce, root):
 
 
 class Checker:
-    def answer(self, line):
+    def answer(self, line: bytes) -> dict[str, object]:
         members = read_object(line)
         index = member(members, "index", h32)
         name = member(members, "name", texts_bytes)

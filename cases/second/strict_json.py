@@ -3,7 +3,10 @@
 An object is read as a dict, an array as a list, a text as a str and a number as a Number, which keeps how it is written.
 """
 
+from __future__ import annotations
+
 import re
+from typing import Union
 
 DEEPEST = 127
 SPACE = re.compile(r"[ \t\n\r]*")
@@ -19,23 +22,26 @@ class NotJson(Exception):
 
 
 class Number:
-    def __init__(self, written):
+    def __init__(self, written: str) -> None:
         self.written = written
 
 
+Json = Union[None, bool, str, Number, "list[Json]", "dict[str, Json]"]
+
+
 class Reader:
-    def __init__(self, text):
+    def __init__(self, text: str) -> None:
         self.text = text
         self.at = 0
 
-    def take(self, pattern):
+    def take(self, pattern: re.Pattern[str]) -> re.Match[str]:
         found = pattern.match(self.text, self.at)
         if found is None:
             raise NotJson
         self.at = found.end()
         return found
 
-    def has(self, mark):
+    def has(self, mark: str) -> bool:
         """Whether the mark comes next, after white space; if so it is passed."""
         self.take(SPACE)
         if not self.text.startswith(mark, self.at):
@@ -43,18 +49,18 @@ class Reader:
         self.at += len(mark)
         return True
 
-    def must_have(self, mark):
+    def must_have(self, mark: str) -> None:
         if not self.has(mark):
             raise NotJson
 
-    def whole(self):
+    def whole(self) -> Json:
         value = self.value(0)
         self.take(SPACE)
         if self.at != len(self.text):
             raise NotJson
         return value
 
-    def value(self, depth):
+    def value(self, depth: int) -> Json:
         if self.has("{"):
             return self.object(depth + 1)
         if self.has("["):
@@ -66,10 +72,10 @@ class Reader:
                 return value
         return self.number()
 
-    def object(self, depth):
+    def object(self, depth: int) -> dict[str, Json]:
         if depth > DEEPEST:
             raise NotJson
-        members = {}
+        members: dict[str, Json] = {}
         if self.has("}"):
             return members
         while True:
@@ -81,10 +87,10 @@ class Reader:
                 return members
             self.must_have(",")
 
-    def array(self, depth):
+    def array(self, depth: int) -> list[Json]:
         if depth > DEEPEST:
             raise NotJson
-        elements = []
+        elements: list[Json] = []
         if self.has("]"):
             return elements
         while True:
@@ -93,13 +99,13 @@ class Reader:
                 return elements
             self.must_have(",")
 
-    def number(self):
+    def number(self) -> Number:
         written = self.take(NUMBER).group()
         if float(written) in (float("inf"), float("-inf")):
             raise NotJson
         return Number(written)
 
-    def rest_of_text(self):
+    def rest_of_text(self) -> str:
         """A text after its first quotation mark. Halves of a pair of surrogates are joined, and a half alone is none."""
         pieces = []
         while True:
@@ -109,7 +115,7 @@ class Reader:
                 return "".join(pieces)
             pieces.append(self.escape())
 
-    def escape(self):
+    def escape(self) -> str:
         unit = self.code_unit()
         if 0xDC00 <= unit <= 0xDFFF:
             raise NotJson
@@ -120,12 +126,12 @@ class Reader:
             unit = 0x10000 + (unit - 0xD800) * 0x400 + (second - 0xDC00)
         return chr(unit)
 
-    def code_unit(self):
+    def code_unit(self) -> int:
         short, digits = self.take(ESCAPE).groups()
         return ord(SHORT[short]) if short else int(digits, 16)
 
 
-def object_of(line):
+def object_of(line: bytes) -> dict[str, Json]:
     """The object that the bytes of a line hold."""
     try:
         value = Reader(line.decode("utf-8")).whole()

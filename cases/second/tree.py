@@ -1,15 +1,25 @@
 """The prefix tree of an epoch, as recursions over its entries: pairs of an index and a commitment."""
 
+from __future__ import annotations
+
+from typing import TYPE_CHECKING, Sequence
+
 from bytelists import bit, commitment, empty_node, interior_node, leaf
 
+if TYPE_CHECKING:
+    from proofs import Proof
 
-def halves(entries, level):
+Entries = Sequence[tuple[bytes, bytes]]
+Prefix = tuple[int, ...]
+
+
+def halves(entries: Entries, level: int) -> tuple[Entries, Entries]:
     left = [entry for entry in entries if bit(entry[0], level) == 0]
     right = [entry for entry in entries if bit(entry[0], level) == 1]
     return left, right
 
 
-def node(nonce, prefix, entries):
+def node(nonce: bytes, prefix: Prefix, entries: Entries) -> bytes:
     """The hash of the node at a prefix, a tuple of bits, over the entries under it."""
     if not entries:
         return empty_node(nonce, prefix)
@@ -20,7 +30,7 @@ def node(nonce, prefix, entries):
     return interior_node(node(nonce, prefix + (0,), left), node(nonce, prefix + (1,), right))
 
 
-def path(nonce, prefix, entries, index):
+def path(nonce: bytes, prefix: Prefix, entries: Entries, index: bytes) -> tuple[list[bytes], Entries]:
     """The siblings of the path to an index, from the root down, and the entries at its end: one or none."""
     if len(entries) <= 1:
         return [], entries
@@ -31,7 +41,7 @@ def path(nonce, prefix, entries, index):
     return [beside] + siblings, end
 
 
-def climb(nonce, index, name, proof):
+def climb(nonce: bytes, index: bytes, name: bytes, proof: Proof) -> bytes:
     """The root that a proof leads to."""
     level = len(proof.siblings)
     if proof.kind == "empty":
