@@ -1,9 +1,13 @@
 """Calls of every export of the C library with their results, by cases/second, which shares nothing with the library."""
 
+from __future__ import annotations
+
 import json
 import struct
 import sys
 from pathlib import Path
+from random import Random
+from typing import Any, Callable, Optional, Sequence, cast
 
 HERE = Path(__file__).resolve().parent
 
@@ -16,7 +20,7 @@ import bytelists
 import chain
 from members import Fault
 
-judge = chain.judge
+judge: Callable[..., Optional[bytes]] = sys.modules["proofs"].judge
 sys.path.pop(0)
 sys.modules["proofs"] = samples
 
@@ -27,8 +31,12 @@ STATE, BODY, FILL = "=Q32s32sB7s", "=QQ32s32s32s32sB7s", b"\xa5"
 KEY = bytes(32)
 VERSION = 10000
 
+# A call: the number of the export, then its arguments. An answer: the status, then what is written.
+Call = tuple[Any, ...]
+Answer = tuple[Any, ...]
 
-def texts():
+
+def texts() -> dict[int, bytes]:
     numbers = samples.statuses()
     return {numbers[name]: it.encode() for name, it in json.loads((HERE / "texts.json").read_text("utf-8")).items()}
 
@@ -39,7 +47,7 @@ TEXTS = texts()
 class Shown:
     """A proof of bytes that are one."""
 
-    def __init__(self, proof):
+    def __init__(self, proof: bytes) -> None:
         self.kind = ["empty", "other", "here"][proof[0]]
         end = 3 + 32 * int.from_bytes(proof[1:3], "big")
         self.siblings = [proof[it : it + 32] for it in range(3, end, 32)]
@@ -52,19 +60,19 @@ class Shown:
 class Before:
     """What an auditor keeps of an entry."""
 
-    def __init__(self, state):
+    def __init__(self, state: bytes) -> None:
         self.epoch, self.link, self.nonce, self.version, _ = struct.unpack(STATE, state)
 
 
-def audited(state, whole, verdict):
+def audited(state: bytes, whole: bytes, verdict: int) -> bytes:
     """The state after an entry of 209 bytes; raises its first fault."""
     entry, before = chain.Entry(whole), Before(state)
-    entry.signature = chain.demonstration_seal(KEY, entry.body) if verdict == 1 else b""
-    chain.audit(entry, before if before.epoch else None, KEY)
+    entry.signature = bytelists.demonstration_seal(KEY, entry.body) if verdict == 1 else b""
+    chain.audit(entry, cast(Any, before) if before.epoch else None, KEY)
     return struct.pack(STATE, entry.epoch, bytelists.link(whole), entry.nonce, entry.version, bytes(7))
 
 
-def check(_, nonce, root, index, name, proof, start, length):
+def check(_: int, nonce: bytes, root: bytes, index: bytes, name: bytes, proof: bytes, start: bytes, length: bytes) -> Answer:
     status = samples.wire_status(proof)
     if status:
         return status, start, length
@@ -77,11 +85,11 @@ def check(_, nonce, root, index, name, proof, start, length):
     return 0, struct.pack("=Q", len(proof) - len(key)), struct.pack("=Q", len(key))
 
 
-def begin(_, state):
+def begin(_: int, state: bytes) -> Answer:
     return 0, bytes(80)
 
 
-def feed(verdict, state, entry):
+def feed(verdict: int, state: bytes, entry: bytes) -> Answer:
     if len(entry) != 209:
         return 48, state
     try:
@@ -90,12 +98,12 @@ def feed(verdict, state, entry):
         return STATUSES[fault.answer["fault"]], state
 
 
-def head(_, state, epoch, link):
+def head(_: int, state: bytes, epoch: bytes, link: bytes) -> Answer:
     before = Before(state)
     return (0, state[:8], before.link) if before.epoch else (49, epoch, link)
 
 
-def step(verdict, state, index, name, expected, entry, proof):
+def step(verdict: int, state: bytes, index: bytes, name: bytes, expected: bytes, entry: bytes, proof: bytes) -> Answer:
     if len(entry) != 209:
         return 48, state
     status = samples.wire_status(proof)
@@ -109,7 +117,7 @@ def step(verdict, state, index, name, expected, entry, proof):
     return (0 if key == (expected or None) else 1 if key is None else 9), after
 
 
-def entry_body(_, entry, body):
+def entry_body(_: int, entry: bytes, body: bytes) -> Answer:
     if len(entry) != 209:
         return 48, body
     it = chain.Entry(entry)
@@ -118,35 +126,35 @@ def entry_body(_, entry, body):
     )
 
 
-def body_bytes(_, body, __):
+def body_bytes(_: int, body: bytes, __: bytes) -> Answer:
     epoch, before, root, link, nonce, policy, version, _ = struct.unpack(BODY, body)
     return 0, bytes([version]) + epoch.to_bytes(8, "big") + before.to_bytes(8, "big") + root + link + nonce + policy
 
 
-def link(_, entry, place):
+def link(_: int, entry: bytes, place: bytes) -> Answer:
     return (0, bytelists.link(entry)) if len(entry) == 209 else (48, place)
 
 
-def text(status, place):
+def text(status: int, place: bytes) -> Answer:
     whole = TEXTS.get(status, b"")
     return len(whole), (whole[: len(place) - 1] + b"\0" + place[len(whole) + 1 :] if place else b"")
 
 
-def version(_):
+def version(_: int) -> Answer:
     return (VERSION,)
 
 
-CALLS = [check, begin, feed, head, step, entry_body, body_bytes, link, text, version]
+CALLS: list[Callable[..., Answer]] = [check, begin, feed, head, step, entry_body, body_bytes, link, text, version]
 
 
-def some_state(chance):
+def some_state(chance: Random) -> bytes:
     epoch = chance.choice([0, 0, 1, 7, 2**32, 2**64 - 2, 2**64 - 1])
     return struct.pack(
         STATE, epoch, chance.randbytes(32), chance.randbytes(32), chance.choice([0, 1, 1, 2, 2, 3]), chance.randbytes(7)
     )
 
 
-def some_entry(chance, state, root, nonce):
+def some_entry(chance: Random, state: bytes, root: bytes, nonce: bytes) -> bytes:
     """An entry that follows the state, or nearly so."""
     before = Before(state)
     epoch = chance.choice([min(before.epoch + chance.choice([1, 1, 1, 5]), 2**64 - 1), before.epoch, chance.getrandbits(64)])
@@ -162,7 +170,7 @@ def some_entry(chance, state, root, nonce):
     return bytes(made)
 
 
-def some_call(chance, lines):
+def some_call(chance: Random, lines: Sequence[samples.Line]) -> Call:
     """A call's number, its number and its arguments."""
     call = chance.choice([0, 0, 0, 2, 2, 4, 4, 4, 4, *range(10)])
     given, name, proof = samples.mutated(chance, chance.choice(lines))
@@ -194,11 +202,11 @@ def some_call(chance, lines):
     )
 
 
-def record(call, number, *arguments):
+def record(call: int, number: int, *arguments: bytes) -> bytes:
     return bytes([call]) + number.to_bytes(4, "big") + b"".join(len(it).to_bytes(4, "big") + it for it in arguments)
 
 
-def answer(call, number, *arguments):
+def answer(call: int, number: int, *arguments: bytes) -> str:
     """What the driver prints of a call, twice: once for each place of the arguments."""
     status, *written = CALLS[call](number, *arguments)
     return " ".join([str(status)] + [it.hex() for it in written])

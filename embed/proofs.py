@@ -1,5 +1,7 @@
 """Lookups, and proofs that are changed in one place or another, for the tests of the library for C and of the page."""
 
+from __future__ import annotations
+
 import base64
 import hashlib
 import json
@@ -7,32 +9,40 @@ import re
 import subprocess
 import tempfile
 from pathlib import Path
+from random import Random
+from typing import Any, Callable, Optional, Sequence, Union
 
 TOP = Path(__file__).resolve().parent.parent
 HEADER = (TOP / "include/coniks.h").read_text("utf-8")
 
 
-def run(*words, **more):
+# A line of `keydir run`, and a question: the nonce, the root and the index by their names, the name, and the bytes of the proof.
+Line = dict[str, Any]
+Question = tuple[dict[str, bytes], bytes, bytes]
+
+
+def run(*words: Union[str, Path], **more: Any) -> subprocess.CompletedProcess[bytes]:
     return subprocess.run([str(it) for it in words], capture_output=True, timeout=3000, **more)
 
 
-def statuses():
+def statuses() -> dict[str, int]:
     """The numbers of `enum coniks_status`, by their names, those of errors without their `E_`."""
-    body = re.search(r"enum coniks_status \{(.*?)\};", HEADER, re.S)[1]
-    return {name: int(number) for name, number in re.findall(r"CONIKS_(?:E_)?([A-Z_]+) = (\d+)", body)}
+    body = re.search(r"enum coniks_status \{(.*?)\};", HEADER, re.S)
+    assert body
+    return {name: int(number) for name, number in re.findall(r"CONIKS_(?:E_)?([A-Z_]+) = (\d+)", body[1])}
 
 
-def lines_of(program, script):
+def lines_of(program: Path, script: Union[str, Path]) -> list[Line]:
     ran = run(program, "run", stdin=open(script, "rb"))
     return [json.loads(it) for it in ran.stdout.splitlines()]
 
 
-def lookups(program):
+def lookups(program: Path) -> list[Line]:
     """Lookups with their lines: of the examples, and of a directory of 300 names, some for absent names."""
     found = [it for script in ["lookups", "tour", "renewed"] for it in lines_of(program, TOP / f"examples/{script}.jsonl")]
     with tempfile.NamedTemporaryFile("w", suffix=".jsonl") as script:
         print(json.dumps({"cmd": "open", "key": "5a" * 32, "nonce": "11" * 32, "policy": "33" * 32}), file=script)
-        key = lambda it: base64.b64encode(hashlib.sha256(b"%d" % it).digest() * (1 + it % 40)).decode()
+        key: Callable[[int], str] = lambda it: base64.b64encode(hashlib.sha256(b"%d" % it).digest() * (1 + it % 40)).decode()
         ops = [{"key": key(it), "name": f"user-{it}", "op": "register", "opening": f"{it:064x}"} for it in range(300)]
         print(json.dumps({"cmd": "batch", "epoch": 1, "ops": ops}), file=script)
         for it in range(0, 400, 3):
@@ -42,7 +52,7 @@ def lookups(program):
     return [it for it in found if it.get("ok") == "lookup"]
 
 
-def wire_status(proof):
+def wire_status(proof: bytes) -> Optional[int]:
     """The status of bytes that are no proof's, None of a proof's: read here once more, by docs/FORMATS.md."""
     if not proof:
         return 17
@@ -68,20 +78,20 @@ def wire_status(proof):
     return 25 if len(proof) > at else None
 
 
-def bytes_of(proof):
+def bytes_of(proof: dict[str, Any]) -> bytes:
     """The bytes of a proof's object, by docs/FORMATS.md."""
     end, siblings = proof["end"], b"".join(bytes.fromhex(it) for it in proof["siblings"])
     kind = {"empty": 0, "other": 1, "here": 2}[end["kind"]]
     made = bytes([kind]) + len(proof["siblings"]).to_bytes(2, "big") + siblings
-    for part in [["index", "commitment"], ["opening"]][kind - 1] if kind else []:
-        made += bytes.fromhex(end[part])
+    for member in [["index", "commitment"], ["opening"]][kind - 1] if kind else []:
+        made += bytes.fromhex(end[member])
     if kind == 2:
         for part, size in [(end["name"].encode(), 2), (base64.b64decode(end["key"]), 4)]:
             made += len(part).to_bytes(size, "big") + part
     return made
 
 
-def object_of(proof):
+def object_of(proof: bytes) -> Optional[dict[str, Any]]:
     """The object of a proof's bytes; None if the name is not text, which no line can contain."""
     count = int.from_bytes(proof[1:3], "big")
     siblings = [proof[3 + 32 * it : 35 + 32 * it].hex() for it in range(count)]
@@ -100,7 +110,7 @@ def object_of(proof):
     return {"end": end, "siblings": siblings}
 
 
-def mutated(chance, line):
+def mutated(chance: Random, line: Line) -> Question:
     """A question, mostly changed in one place or another, with its proof's bytes."""
     given = {it: bytes.fromhex(line[it]) for it in ("nonce", "root", "index")}
     name, proof = line["name"].encode(), bytearray(bytes_of(line["proof"]))
@@ -138,7 +148,7 @@ def mutated(chance, line):
     return given, name, bytes(proof)
 
 
-def said_by_program(program, questions):
+def said_by_program(program: Path, questions: Sequence[Question]) -> list[Optional[str]]:
     """The result of `keydir check` for those whose bytes are proofs, as (status, key); None for the others."""
     lines, places = [], []
     for place, (given, name, proof) in enumerate(questions):
@@ -153,7 +163,7 @@ def said_by_program(program, questions):
                 places.append(place)
     answers = run(program, "check", input="".join(f"{it}\n" for it in lines).encode()).stdout.splitlines()
     numbers = {name.replace("_", "").lower(): it for name, it in statuses().items()}
-    said = [None] * len(questions)
+    said: list[Optional[str]] = [None] * len(questions)
     for place, answer in zip(places, map(json.loads, answers), strict=True):
         if "fault" in answer:
             said[place] = str(numbers[answer["fault"].lower()])

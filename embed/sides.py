@@ -4,6 +4,8 @@ Each side has a program that replies to requests, one on each line. The expected
 `keydir monitor` print, what hashlib computes, and what the header and texts.json say.
 """
 
+from __future__ import annotations
+
 import base64
 import copy
 import hashlib
@@ -17,6 +19,8 @@ import sys
 import tempfile
 from dataclasses import replace
 from pathlib import Path
+from types import ModuleType
+from typing import Any, Callable, Iterator, Optional, Protocol, Sequence, Union
 
 import case_files
 import proofs
@@ -32,37 +36,50 @@ COUNT = 1000
 FAULTS = ["Version", "VersionBack", "FirstEpoch", "NotLater", "PreviousEpoch", "PreviousLink", "NonceChanged", "Verdict"]
 
 
-def run(*words, **more):
+# The type of `Tally.skip`, a request with its expected reply, and the arguments of an example with the lines that it must print.
+Skip = Callable[[str, str], None]
+Request = tuple[str, str]
+Example = tuple[list[str], list[str]]
+
+
+class Tell(Protocol):
+    """Counts one result: the type of `Tally.tell`."""
+
+    def __call__(self, what: str, is_well: object, why: object = "") -> None:
+        ...
+
+
+def run(*words: Union[str, Path], **more: Any) -> subprocess.CompletedProcess[bytes]:
     return subprocess.run([str(it) for it in words], capture_output=True, timeout=3000, **more)
 
 
-def digest(*parts):
+def digest(*parts: bytes) -> bytes:
     return hashlib.sha256(b"".join(parts)).digest()
 
 
-def seal(body):
+def seal(body: bytes) -> bytes:
     """The demonstration seal, by docs/FORMATS.md."""
     return digest(b"\x41", KEY, body) + digest(b"\x42", KEY, body)
 
 
-def link(entry):
+def link(entry: bytes) -> bytes:
     return digest(b"\x53", entry)
 
 
-def entry_of(version, epoch, before, root, previous, nonce, policy=bytes(32)):
+def entry_of(version: int, epoch: int, before: int, root: bytes, previous: bytes, nonce: bytes, policy: bytes = bytes(32)) -> bytes:
     body = bytes([version]) + epoch.to_bytes(8, "big") + before.to_bytes(8, "big") + root + previous + nonce + policy
     return body + seal(body)
 
 
-def verdict(entry):
+def verdict(entry: bytes) -> int:
     return int(entry[145:] == seal(entry[:145]))
 
 
-def word(value):
+def word(value: bytes) -> str:
     return value.hex() or "-"
 
 
-def changed(chance, entry):
+def changed(chance: random.Random, entry: bytes) -> bytes:
     """An entry that is changed in one field or bit; mostly with its seal, so that the fields are checked."""
     at, size = chance.choice([(0, 1), (1, 8), (9, 8), (17, 32), (49, 32), (81, 32), (113, 32)])
     value = chance.choice([bytes(size), bytes([0] * (size - 1) + [2]), bytes([255] * size), chance.randbytes(size)])
@@ -70,7 +87,7 @@ def changed(chance, entry):
     return chance.choice([body + seal(body), body + seal(body), body + entry[145:], entry[: chance.randrange(209)], entry + b"\0"])
 
 
-def chain(chance, length):
+def chain(chance: random.Random, length: int) -> Iterator[bytes]:
     """The entries of a chain, by docs/FORMATS.md."""
     version, epoch, before, previous, nonce = 1, chance.randrange(1, 9), 0, bytes(32), chance.randbytes(32)
     for _ in range(length):
@@ -82,9 +99,9 @@ def chain(chance, length):
         nonce = chance.randbytes(32) if version == 2 else nonce
 
 
-def number_of(answer):
+def number_of(answer: dict[str, Any]) -> int:
     """The status of a fault that the program prints."""
-    fault = answer["fault"]
+    fault: str = answer["fault"]
     if fault == "Member":
         return 48
     if fault in FAULTS:
@@ -92,7 +109,7 @@ def number_of(answer):
     return {name.replace("_", "").lower(): it for name, it in proofs.statuses().items()}[fault.lower()]
 
 
-def of_check(chance, program, lines):
+def of_check(chance: random.Random, program: Path, lines: Sequence[proofs.Line]) -> Iterator[Request]:
     """Requests to check proofs, with the program's result, or that of docs/FORMATS.md for other bytes."""
     questions = [proofs.mutated(chance, chance.choice(lines)) for _ in range(COUNT)]
     for question, theirs in zip(questions, proofs.said_by_program(program, questions), strict=True):
@@ -103,7 +120,7 @@ def of_check(chance, program, lines):
             yield " ".join(["check", *(given[it].hex() for it in ("nonce", "root", "index")), word(name), word(proof)]), wanted
 
 
-def state_of(entry):
+def state_of(entry: Optional[bytes]) -> str:
     """The state of an auditor after an entry, by docs/FORMATS.md."""
     if entry is None:
         return bytes(80).hex()
@@ -111,10 +128,10 @@ def state_of(entry):
     return (epoch + link(entry) + entry[81:113] + entry[:1] + bytes(7)).hex()
 
 
-def of_audit(chance, program):
+def of_audit(chance: random.Random, program: Path) -> Iterator[Request]:
     """Chains with entries that don't follow between those that do."""
     for _ in range(COUNT // 25):
-        entries = []
+        entries: list[bytes] = []
         for entry in chain(chance, 12):
             entries += [changed(chance, entry) for _ in range(chance.randrange(4))] + [entry]
         given = "".join(json.dumps({"entry": it.hex()}) + "\n" for it in entries).encode()
@@ -131,10 +148,15 @@ def of_audit(chance, program):
             yield "resume", state_of(last)
 
 
-def watched_lines(program):
+def watched_lines(program: Path) -> list[proofs.Line]:
     """Lookups of two names at 12 epochs. One is bound later, and the other changes its key."""
-    op = lambda kind, name, key: {"op": kind, "name": name, "key": base64.b64encode(key).decode(), "opening": "ab" * 32}
-    script = [{"cmd": "open", "key": KEY.hex(), "nonce": "11" * 32, "policy": "33" * 32}]
+    op: Callable[[str, str, bytes], dict[str, str]] = lambda kind, name, key: {
+        "op": kind,
+        "name": name,
+        "key": base64.b64encode(key).decode(),
+        "opening": "ab" * 32,
+    }
+    script: list[dict[str, Any]] = [{"cmd": "open", "key": KEY.hex(), "nonce": "11" * 32, "policy": "33" * 32}]
     for epoch in range(1, 13):
         ops = [op("register" if epoch == 1 else "change", "early", b"key-%d" % (epoch // 4))] if epoch % 4 in (0, 1) else []
         ops += [op("register", "late", b"late")] if epoch == 6 else []
@@ -144,14 +166,15 @@ def watched_lines(program):
     return [it for it in map(json.loads, said) if it.get("ok") == "lookup"]
 
 
-def of_monitor(chance, program):
+def of_monitor(chance: random.Random, program: Path) -> Iterator[Request]:
     """Lookups of a name, some with another entry or proof, and expectations between them."""
     looked = watched_lines(program)
     for turn in range(COUNT // 25):
         mine = [it for it in looked if it["name"] == ["early", "late"][turn % 2]]
         yield f"watch {word(mine[0]['name'].encode())} {mine[0]['index']}", "watched"
         yield "expect -", "expected"
-        given, requests = [], []
+        given: list[dict[str, Any]] = []
+        requests: list[tuple[str, Optional[int]]] = []
         for line in mine:
             for is_changed in [True] * chance.randrange(4) + [False]:
                 entry, proof = bytes.fromhex(line["entry"]), proofs.bytes_of(line["proof"])
@@ -186,12 +209,12 @@ def of_monitor(chance, program):
                 yield request, f"refused {status if answer.get('member') == 'proof' else number_of(answer)}"
 
 
-def of_entries(chance):
+def of_entries(chance: random.Random) -> Iterator[Request]:
     """Bodies, links, texts and the version."""
     for entry in chain(chance, 100):
-        number = lambda at: int.from_bytes(entry[at : at + 8], "big")
+        number_at: Callable[[int], int] = lambda at: int.from_bytes(entry[at : at + 8], "big")
         parts = " ".join(entry[at : at + 32].hex() for at in (17, 49, 81, 113))
-        yield f"body {entry.hex()}", f"{entry[0]} {number(1)} {number(9)} {parts} {entry[:145].hex()}"
+        yield f"body {entry.hex()}", f"{entry[0]} {number_at(1)} {number_at(9)} {parts} {entry[:145].hex()}"
         yield f"link {entry.hex()}", link(entry).hex()
         cut = entry[: chance.randrange(209)]
         yield f"body {word(cut)}", "refused 48"
@@ -203,16 +226,16 @@ def of_entries(chance):
     yield "version", header_version()
 
 
-def header_version():
+def header_version() -> str:
     return proofs.HEADER.split('#define CONIKS_VERSION "')[1].split('"')[0]
 
 
-def requests_of(program, lines):
+def requests_of(program: Path, lines: Sequence[proofs.Line]) -> list[Request]:
     chance = random.Random(SEED)
     return [*of_check(chance, program, lines), *of_audit(chance, program), *of_monitor(chance, program), *of_entries(chance)]
 
 
-def try_requests(tell, side, words, requests, **more):
+def try_requests(tell: Tell, side: str, words: Sequence[Union[str, Path]], requests: Sequence[Request], **more: Any) -> None:
     """One side's replies to all requests."""
     if not shutil.which(words[0]):
         return tell(f"{side}: {words[0]} is missing", False)
@@ -222,18 +245,18 @@ def try_requests(tell, side, words, requests, **more):
     tell(f"{side}: {len(requests)} requests", len(said) == len(requests) and not wrong, (wrong[:2], ran.stderr.decode()[-500:]))
 
 
-def clone(room):
+def clone(room: Path) -> Path:
     """The files of the checkout, and what embed/build made, in another folder."""
     for folder in ["embed", "include"]:
         shutil.copytree(TOP / folder, room / folder, ignore=shutil.ignore_patterns("target", "__pycache__"))
     return room / "embed"
 
 
-def log_of_python(program, file):
+def log_of_python(program: Path, file: Path) -> Optional[Path]:
     """A log with one epoch and an update that is pending, for the provider in Go."""
     from coniks import provider
 
-    index = lambda name: digest(b"index of ", name.encode())
+    index: Callable[[str], bytes] = lambda name: digest(b"index of ", name.encode())
     signatures = iter([bytes(64)])
     policy = bytes([7]) + bytes(31)
     with provider.FileLog(file) as log, provider.Provider(program, index, lambda body: next(signatures), log, policy=policy) as own:
@@ -242,32 +265,34 @@ def log_of_python(program, file):
             own.commit(2, [provider.Register("bob \u00e9", b"key")])
         except provider.SignerFailed:
             return file
+    return None
 
 
-def try_go(tell, skip, here, example, requests):
+def try_go(tell: Tell, skip: Skip, here: Path, example: Example, requests: Sequence[Request]) -> None:
     if not (tools.has("go") and tools.has("a C compiler")):
         return skip("the side in Go", "go")
     kept = {it: value for it, value in os.environ.items() if not it.startswith("CGO_")}
-    more = {"cwd": here / "go", "env": kept | {"GOCACHE": str(here / "cache"), "GOFLAGS": "", "GOPROXY": "off"}}
+    more: dict[str, Any] = {"cwd": here / "go", "env": kept | {"GOCACHE": str(here / "cache"), "GOFLAGS": "", "GOPROXY": "off"}}
     if PROVIDER.is_file():
         more["env"] |= {"CONIKS_PROVIDER": str(PROVIDER), "CONIKS_LOG": str(log_of_python(PROVIDER, here / "log"))}
     else:
         skip("the provider in Go", "the program `provider`")
     ran = run("go", "vet", ".", cwd=here / "go", env=more["env"] | {"CGO_ENABLED": "0"})
     tell("go vet, without cgo", ran.returncode == 0, ran.stderr.decode()[-2000:])
-    for words in [
+    commands: list[list[Union[str, Path]]] = [
         ["go", "vet", "./..."],
         ["go", "test", "./..."],
         ["go", "build", "-o", here / "in_go", "./internal/answers"],
         ["go", "build", "-o", here / "go_example", "./example"],
-    ]:
+    ]
+    for words in commands:
         ran = run(*words, **more)
         tell(" ".join(str(it) for it in words[:2]), ran.returncode == 0, (ran.stdout + ran.stderr).decode()[-2000:])
     try_requests(tell, "Go", [here / "in_go"], requests)
     try_example(tell, "Go", here / "go_example", *example)
 
 
-def try_rust(tell, skip, here, example, requests):
+def try_rust(tell: Tell, skip: Skip, here: Path, example: Example, requests: Sequence[Request]) -> None:
     if not (tools.has("cargo") and tools.has("a C compiler")):
         return skip("the side in Rust", "cargo")
     manifest = here / "rust/Cargo.toml"
@@ -291,12 +316,12 @@ def try_rust(tell, skip, here, example, requests):
     try_example(tell, "Rust", here / "rust/target/debug/examples/example", *example)
 
 
-def try_example(tell, side, program, words, wanted):
+def try_example(tell: Tell, side: str, program: Path, words: Sequence[str], wanted: Sequence[str]) -> None:
     said = run(program, *words).stdout.decode().splitlines() if program.exists() else None
     tell(f"the example in {side}", said == wanted, said)
 
 
-def example_of(coniks, lines):
+def example_of(coniks: ModuleType, lines: Sequence[proofs.Line]) -> Example:
     """The arguments of the examples in Go and Rust, over one lookup with its entry, and what they must print."""
     line = next(
         it
@@ -313,7 +338,7 @@ def example_of(coniks, lines):
     ]
 
 
-def try_python(tell, skip, here, coniks, requests):
+def try_python(tell: Tell, skip: Skip, here: Path, coniks: ModuleType, requests: Sequence[Request]) -> None:
     """The package as pip installs it, with the environment's variables left out."""
     answers = here / "python/answers.py"
     try_requests(tell, "Python", [sys.executable, answers], requests)
@@ -324,8 +349,8 @@ def try_python(tell, skip, here, coniks, requests):
     venv, room = here / "venv", here / "elsewhere"
     room.mkdir()
     before = sorted(here.glob("python/**/*"))
-    words = [["-m", "venv", "--system-site-packages", venv]]
-    ran = run(tools.PYTHON, *words[0])
+    assert tools.PYTHON
+    ran = run(tools.PYTHON, "-m", "venv", "--system-site-packages", venv)
     ran = ran if ran.returncode else run(venv / "bin/pip", "install", "--no-build-isolation", "--no-index", here / "python")
     tell("pip install", ran.returncode == 0, (ran.stdout + ran.stderr).decode()[-2000:])
     tell("pip install leaves nothing in the checkout", sorted(here.glob("python/**/*")) == before)
@@ -336,13 +361,14 @@ def try_python(tell, skip, here, coniks, requests):
     ran = run(venv / "bin/python3", "-c", "import coniks.provider", env=kept, cwd=room)
     tell("coniks.provider, installed", ran.returncode == 0, ran.stderr.decode())
     if tools.has("mypy") and tools.has("psycopg"):
+        assert tools.DATABASE_PYTHON
         ran = run("mypy", "--strict", "--python-executable", tools.DATABASE_PYTHON, here / "python/coniks", cwd=room)
         tell("mypy --strict", ran.returncode == 0, ran.stdout.decode())
     else:
         skip("the types of the side in Python", "psycopg" if tools.has("mypy") else "mypy")
 
 
-def try_watch(tell, program):
+def try_watch(tell: Tell, program: Path) -> None:
     """The example in Python over the tour: its results are those of the program for the same lines."""
     tour = run(program, "run", stdin=open(TOP / "examples/tour.jsonl", "rb")).stdout
     ran = run(sys.executable, HERE / "python/watch.py", "--expect", "YWxpY2UtMQ==", "alice", input=tour)
@@ -364,7 +390,7 @@ def try_watch(tell, program):
     tell("watch.py audits as the program does", audited and [it for it in said if it.endswith("follows")] == audited, said)
 
 
-def try_python_faults(tell, coniks, lines):
+def try_python_faults(tell: Tell, coniks: ModuleType, lines: Sequence[proofs.Line]) -> None:
     """Exceptions, and that a refusal leaves an auditor as it was."""
     line = lines[0]
     entry, proof = bytes.fromhex(line["entry"]), coniks.proof_bytes(line["proof"])
@@ -372,14 +398,19 @@ def try_python_faults(tell, coniks, lines):
     tell("a body's bytes are the entry's first", bytes(body) == entry[:145])
     tell("a link is SHA-256 of 53 and the entry", coniks.link(entry) == hashlib.sha256(b"\x53" + entry).digest())
     auditor = coniks.Auditor()
-    for wrong in [lambda: auditor.feed(entry[:-1], True), lambda: auditor.feed(entry, False), lambda: coniks.link(entry + b"\0")]:
+    refused: list[Callable[[], object]] = [
+        lambda: auditor.feed(entry[:-1], True),
+        lambda: auditor.feed(entry, False),
+        lambda: coniks.link(entry + b"\0"),
+    ]
+    for wrong in refused:
         try:
             wrong()
             tell("refused", False)
         except coniks.Refused as fault:
             tell("refused", fault.status.name in ("ENTRY_LENGTH", "SIGNATURE"), fault)
     tell("an auditor that refused is as it was", auditor.state == bytes(80) and auditor.head is None)
-    for wrong, kind in [
+    raised: list[tuple[Callable[[], object], type[Exception]]] = [
         (lambda: coniks.check(b"", bytes(32), bytes(32), "a", proof), ValueError),
         (lambda: coniks.check("", bytes(32), bytes(32), "a", proof), TypeError),
         (lambda: coniks.Auditor(b"short"), ValueError),
@@ -393,7 +424,8 @@ def try_python_faults(tell, coniks, lines):
         (lambda: bytes(replace(body, previous_epoch=-1)), ValueError),
         (lambda: bytes(replace(body, epoch=1.0)), TypeError),
         (lambda: coniks.proof_bytes([]), TypeError),
-    ]:
+    ]
+    for wrong, kind in raised:
         try:
             wrong()
             tell("a wrong argument", False)
@@ -401,11 +433,16 @@ def try_python_faults(tell, coniks, lines):
             tell("a wrong argument", True)
 
 
-def try_python_copies(tell, coniks, lines):
+def try_python_copies(tell: Tell, coniks: ModuleType, lines: Sequence[proofs.Line]) -> None:
     """Copies, and unpickled ones, continue from the state of the first one, and do not change it."""
     line = next(it for it in lines if coniks.Body.of_entry(bytes.fromhex(it["entry"])).previous_epoch == 0)
     entry, proof, index = bytes.fromhex(line["entry"]), coniks.proof_bytes(line["proof"]), bytes.fromhex(line["index"])
-    for what, copied in [("copy", copy.copy), ("deepcopy", copy.deepcopy), ("pickle", lambda it: pickle.loads(pickle.dumps(it)))]:
+    ways: dict[str, Callable[[Any], Any]] = {
+        "copy": copy.copy,
+        "deepcopy": copy.deepcopy,
+        "pickle": lambda it: pickle.loads(pickle.dumps(it)),
+    }
+    for what, copied in ways.items():
         auditor, monitor = coniks.Auditor(), coniks.Monitor(line["name"], index, b"another key")
         other, watching = copied(auditor), copied(monitor)
         other.feed(entry, True)
@@ -423,7 +460,7 @@ def try_python_copies(tell, coniks, lines):
         tell(f"{what} of a refusal", fault.status == 40 and str(fault) == coniks.text(40), fault)
 
 
-def answer_by_python(coniks, members):
+def answer_by_python(coniks: ModuleType, members: dict[str, Any]) -> dict[str, Any]:
     """What `keydir check` prints of a line, by the library in Python."""
     try:
         proof = coniks.proof_bytes(members.get("proof"))
@@ -438,7 +475,7 @@ def answer_by_python(coniks, members):
     return shown | {"ok": "check"}
 
 
-def try_python_lines(tell, coniks):
+def try_python_lines(tell: Tell, coniks: ModuleType) -> None:
     """Each line of the cases of `check` that is read up to its proof has its result."""
     tried, wrong = 0, []
     for case in case_files.chosen(["check"])[0]:
@@ -453,7 +490,7 @@ def try_python_lines(tell, coniks):
     tell("the cases of check, by Python", tried > 100 and not wrong, (tried, wrong[:3]))
 
 
-def try_javascript(tell, skip, requests):
+def try_javascript(tell: Tell, skip: Skip, requests: Sequence[Request]) -> None:
     if not tools.has("node"):
         return skip("the module for web projects", "node")
     ran = run(TOP / "web/build")
@@ -480,7 +517,7 @@ def try_javascript(tell, skip, requests):
     try_requests(tell, "JavaScript", ["node", "--experimental-wasm-memory64", TOP / "web/answers.mjs"], requests)
 
 
-def try_all(tell, skip, program, coniks, lines):
+def try_all(tell: Tell, skip: Skip, program: Path, coniks: ModuleType, lines: Sequence[proofs.Line]) -> None:
     """All sides, compared with the program."""
     try_watch(tell, program)
     try_python_faults(tell, coniks, lines)

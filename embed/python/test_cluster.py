@@ -9,10 +9,13 @@ processes that fails at random moments, and the transcript of examples/cluster.
 The last line is `N passed, M failed`, with `, K skipped` if a tool isn't there.
 """
 
+from __future__ import annotations
+
 import os
 import subprocess
 import sys
 from pathlib import Path
+from typing import Sequence, Union
 
 HERE = Path(__file__).resolve().parent
 TOP = HERE.parent.parent
@@ -24,12 +27,12 @@ import tools
 from tally import Tally
 
 
-def try_example(tally, program):
+def try_example(tally: Tally, program: Path) -> None:
     """What the example prints, and its types."""
     import stand_ins
 
-    if not stand_ins.nacl or not stand_ins.has_library():
-        tally.skip("the transcript of examples/cluster", "embed/build" if stand_ins.nacl else "PyNaCl")
+    if not stand_ins.HAS_NACL or not stand_ins.has_library():
+        tally.skip("the transcript of examples/cluster", "embed/build" if stand_ins.HAS_NACL else "PyNaCl")
     else:
         ran = subprocess.run([sys.executable, EXAMPLE / "run", program], capture_output=True, text=True)
         tally.tell(
@@ -39,13 +42,21 @@ def try_example(tally, program):
         )
     if not tools.has("mypy"):
         return tally.skip("the types of examples/cluster", "mypy")
-    words = ["mypy", "--strict", "--cache-dir", os.devnull, "--python-executable", sys.executable, EXAMPLE / "run"]
+    words: list[Union[str, Path]] = [
+        "mypy",
+        "--strict",
+        "--cache-dir",
+        os.devnull,
+        "--python-executable",
+        sys.executable,
+        EXAMPLE / "run",
+    ]
     path = os.environ | {"MYPYPATH": f"{HERE}:{EXAMPLE}:{TOP}/examples/provider"}
     ran = subprocess.run(words, capture_output=True, text=True, env=path)
     tally.tell("mypy --strict examples/cluster", ran.returncode == 0, ran.stdout + ran.stderr)
 
 
-def main(words):
+def main(words: Sequence[str]) -> int:
     if words[:1] == ["--speed"]:
         import speed
 
@@ -67,6 +78,6 @@ def main(words):
 
 
 if __name__ == "__main__":
-    if tools.DATABASE_PYTHON not in (None, sys.executable):
+    if tools.DATABASE_PYTHON and tools.DATABASE_PYTHON != sys.executable:
         os.execv(tools.DATABASE_PYTHON, [tools.DATABASE_PYTHON, *sys.argv])
     sys.exit(main(sys.argv[1:]))

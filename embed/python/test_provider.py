@@ -8,8 +8,11 @@
 The last line is `N passed, M failed`, with `, K skipped` if a tool isn't there.
 """
 
+from __future__ import annotations
+
 import sys
 from pathlib import Path
+from typing import Sequence
 
 HERE = Path(__file__).resolve().parent
 sys.dont_write_bytecode = True
@@ -25,7 +28,7 @@ from tally import Tally
 PROGRAM = HERE.parent.parent / "crates/provider/out/provider"
 
 
-def main(words):
+def main(words: Sequence[str]) -> int:
     if words[:1] == ["--speed"]:
         return speed.main(str(Path(words[1] if len(words) > 1 else PROGRAM).resolve()), *map(int, words[2:]))
     tally = Tally()
@@ -33,7 +36,7 @@ def main(words):
     if not program.is_file():
         tally.skip("coniks.provider", "the program `provider`")
     else:
-        if not stand_ins.nacl:
+        if not stand_ins.HAS_NACL:
             tally.skip("signatures by Ed25519", "PyNaCl")
         if not stand_ins.has_library():
             tally.skip("audits by the library for C", "embed/build")

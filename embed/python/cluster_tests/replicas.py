@@ -1,22 +1,25 @@
 """What a log in PostgreSQL and a replica must do, one by one."""
 
+from __future__ import annotations
+
 import tempfile
 import threading
 import time
 from contextlib import contextmanager
 from pathlib import Path
+from typing import Any, Callable, Iterator
 
 import psycopg
 from database import Database
-from stand_ins import POLICY, Salted, Signer, audited, index, opened
+from stand_ins import POLICY, Salted, Signer, Tell, audited, index, opened
 from units import OneLine, raises
 from coniks import provider
 from coniks.postgres import PostgresLog
-from coniks.provider import LogFailed, Overtaken, Register
+from coniks.provider import LogFailed, Overtaken, Provider, Register
 from coniks.replica import Replica
 
 
-def soon(call, seconds=20):
+def soon(call: Callable[[], object], seconds: float = 20) -> bool:
     """Whether a call comes to return something true."""
     until = time.monotonic() + seconds
     while not call() and time.monotonic() < until:
@@ -27,18 +30,21 @@ def soon(call, seconds=20):
 class Shared(OneLine):
     """A log in memory. It can notify nobody, and can't be read for a while; it lists the positions it was read from."""
 
-    def __init__(self):
+    def __init__(self) -> None:
         super().__init__()
-        self.is_silent, self.is_gone, self.reads, self.between = False, False, [], []
-        self.after, self._added = lambda line: None, threading.Condition()
+        self.is_silent, self.is_gone = False, False
+        self.reads: list[int] = []
+        self.between: list[Callable[[], object]] = []
+        self.after: Callable[[bytes], object] = lambda line: None
+        self._added = threading.Condition()
 
-    def append(self, position, line):
+    def append(self, position: int, line: bytes) -> None:
         with self._added:
             super().append(position, line)
             self._added.notify_all()
         self.after(line)
 
-    def read(self, position):
+    def read(self, position: int) -> Iterator[bytes]:
         if self.is_gone:
             raise LogFailed("gone")
         self.reads.append(position)
@@ -47,28 +53,29 @@ class Shared(OneLine):
             call()
         return lines
 
-    def wait(self, position, seconds):
+    def wait(self, position: int, seconds: float) -> int:
         with self._added:
             self._added.wait_for(lambda: len(self.lines) > position and not self.is_silent, seconds)
         return len(self.lines)
 
 
-def lose(log, call):
+def lose(log: PostgresLog, call: Callable[[dict[str, Any]], object]) -> None:
     """At the next insert calls a function, and then loses the connection."""
 
-    def once(row):
-        log._insert = real
+    def once(row: dict[str, Any]) -> None:
+        setattr(log, "_insert", real)
         call(row)
         raise psycopg.OperationalError("lost")
 
-    real, log._insert = log._insert, once
+    real = log._insert
+    setattr(log, "_insert", once)
 
 
-def try_log(tell):
+def try_log(tell: Tell) -> None:
     with tempfile.TemporaryDirectory() as folder, Database(Path(folder)) as database, PostgresLog(
         database.conninfo, patience=1
     ) as mine, PostgresLog(database.conninfo) as other, PostgresLog(database.conninfo, "odd name") as third:
-        asked = lambda query: psycopg.connect(database.conninfo, autocommit=True).execute(query)
+        asked: Callable[[str], object] = lambda query: psycopg.connect(database.conninfo, autocommit=True).execute(query)
         mine.append(0, b"first")
         raises(tell, "log: a position that is taken", Overtaken, lambda: other.append(0, b"second"))
         raises(tell, "log: a position that is taken by the same line", Overtaken, lambda: other.append(0, b"first"))
@@ -123,7 +130,7 @@ def try_log(tell):
 
 
 @contextmanager
-def pair(program, **more):
+def pair(program: str, **more: Any) -> Iterator[tuple[Shared, Signer, Provider, Replica]]:
     """A provider and a replica over a log in memory."""
     log = Shared()
     with tempfile.TemporaryDirectory() as room:
@@ -132,11 +139,11 @@ def pair(program, **more):
             yield log, signer, own, replica
 
 
-def lead(replica, signer):
+def lead(replica: Replica, signer: Signer) -> Provider:
     return replica.promote(signer, verify=signer.verify)
 
 
-def try_replica(tell, program):
+def try_replica(tell: Tell, program: str) -> None:
     with pair(program) as (log, signer, own, replica):
         for epoch in (1, 2):
             own.commit(epoch, [Register(f"user-{epoch}", b"key")])
@@ -186,12 +193,12 @@ def try_replica(tell, program):
             tell("promotion: a restart", new.latest().names == 3 and new.chain() == list(provider.entries(log)))
 
 
-def try_pending(tell, program):
+def try_pending(tell: Tell, program: str) -> None:
     """A provider stops between `prepare` and the signer, and goes on once a replica was promoted."""
     with pair(program) as (log, signer, own, replica):
-        taken = []
+        taken: list[Provider] = []
 
-        def take(line):
+        def take(line: bytes) -> None:
             if line.startswith(b'{"cmd":"prepare"') and not taken:
                 signer.fails = 1
                 raises(tell, "pending: a signer that fails", provider.SignerFailed, lambda: lead(replica, signer))
@@ -209,7 +216,7 @@ def try_pending(tell, program):
             raises(tell, "pending: its number is spent", provider.EpochNotLater, lambda: new.commit(1, []), latest=1)
 
 
-def try_wrong(tell, program):
+def try_wrong(tell: Tell, program: str) -> None:
     """Lines that a replica's child doesn't answer so, logs of another directory, and ones that lose lines."""
     for what, old, at in [("body", b'"body":"01', 1), ("link", b'"link":"', 2)]:
         with pair(program) as (log, signer, own, _):
@@ -222,7 +229,7 @@ def try_wrong(tell, program):
                 raised = raises(
                     tell, f"replica: each call then, another {what}", provider.RestartNeeded, lambda: other.lookup("alice")
                 )
-                tell(f"replica: the cause, another {what}", isinstance(raised.__cause__, provider.ReplayDiffers))
+                tell(f"replica: the cause, another {what}", raised and isinstance(raised.__cause__, provider.ReplayDiffers))
                 lines.lines[:] = log.lines
                 other.restart()
                 tell(f"replica: a restart after another {what}", other.lookup("alice").line == own.lookup("alice").line)
@@ -239,7 +246,7 @@ def try_wrong(tell, program):
             tell("promotion: over an empty log", new.commit(1, []).epoch == 1)
 
 
-def try_replicas(tell, program):
+def try_replicas(tell: Tell, program: str) -> None:
     try_log(tell)
     try_replica(tell, program)
     try_pending(tell, program)

@@ -3,6 +3,8 @@
 Run as a program, this is a replica that looks names up for so many seconds as a line of its standard input says.
 """
 
+from __future__ import annotations
+
 import itertools
 import os
 import random
@@ -12,6 +14,7 @@ import sys
 import tempfile
 import time
 from pathlib import Path
+from typing import Iterator, Optional, Sequence
 
 TOP = Path(__file__).resolve().parent.parent.parent.parent
 sys.path[:0] = [str(TOP / "embed/python/provider_tests"), str(TOP / "examples/cluster")]
@@ -29,13 +32,13 @@ KEYS = stand_ins.Salted()
 class Held(PostgresLog):
     """Shows no line from a position on."""
 
-    end = None
+    end: Optional[int] = None
 
-    def read(self, position):
+    def read(self, position: int) -> Iterator[bytes]:
         return itertools.islice(super().read(position), None if self.end is None else max(0, self.end - position))
 
 
-def looking(conninfo, program, names):
+def looking(conninfo: str, program: str, names: int) -> None:
     chance = random.Random(os.getpid())
     with PostgresLog(conninfo) as log, Replica(log, program, stand_ins.index, policy=stand_ins.POLICY) as replica:
         print("ready", flush=True)
@@ -46,22 +49,28 @@ def looking(conninfo, program, names):
             print(count / (time.monotonic() - start), flush=True)
 
 
-def rate(replicas, seconds):
+def line_of(replica: subprocess.Popen[str]) -> str:
+    assert replica.stdout
+    return replica.stdout.readline()
+
+
+def rate(replicas: Sequence[subprocess.Popen[str]], seconds: float) -> float:
     """Lookups a second of some replicas at once."""
     for it in replicas:
         print(seconds, file=it.stdin, flush=True)
-    return sum(float(it.stdout.readline()) for it in replicas)
+    return sum(float(line_of(it)) for it in replicas)
 
 
-def main(program, names=100_000, seconds=3, rounds=5):
+def main(program: str, names: int = 100_000, seconds: float = 3, rounds: int = 5) -> int:
     with tempfile.TemporaryDirectory() as folder, Database(Path(folder)) as database, Held(database.conninfo) as log:
+        assert isinstance(log, Held)
         own = Provider(program, stand_ins.index, KEYS.sign, log, policy=stand_ins.POLICY)
         epochs = itertools.count(1)
         for first in range(0, names, BATCH):
             own.commit(next(epochs), [Register(f"user-{it}", stand_ins.KEY) for it in range(first, min(names, first + BATCH))])
         words = [sys.executable, __file__, database.conninfo, program, str(names)]
         replicas = [subprocess.Popen(words, stdin=subprocess.PIPE, stdout=subprocess.PIPE, text=True) for _ in range(3)]
-        assert [it.stdout.readline() for it in replicas] == ["ready\n"] * 3
+        assert [line_of(it) for it in replicas] == ["ready\n"] * 3
         found = [(rate(replicas[:1], seconds), rate(replicas, seconds)) for _ in range(rounds)]
         one, three = map(statistics.median, zip(*found))
         ratio = statistics.median(b / a for a, b in found)

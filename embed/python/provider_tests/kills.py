@@ -4,6 +4,8 @@
 `commit` returned, each entry that a lookup showed, and, by its signer, each body to sign.
 """
 
+from __future__ import annotations
+
 import base64
 import json
 import os
@@ -15,24 +17,26 @@ import tempfile
 import threading
 import time
 from pathlib import Path
+from typing import Callable, Sequence
 
-from stand_ins import HERE, Ed25519, Salted, Signer, append, audited, has_library, lines, nacl, opened, shown
-from coniks.provider import Change, Fault, FileLog, ProgramFailed, ProviderError, Register, RestartNeeded, SignerFailed, entries
+from stand_ins import HAS_NACL, HERE, Ed25519, Salted, Scheme, Signer, Tell, append, audited, has_library, lines, opened, shown
+from coniks.provider import Change, Epoch, Fault, FileLog, Operation, ProgramFailed, Provider, ProviderError
+from coniks.provider import Register, RestartNeeded, SignerFailed, entries
 
-KINDS = {"salted": Salted, "ed25519": Ed25519}
+KINDS: dict[str, Callable[[], Scheme]] = {"salted": Salted, "ed25519": Ed25519}
 # After this number of kills a log ends and a new one begins, so that replays stay short.
 KILLS_OF_ROOM = 20
 
 
-def some_batch(chance, provider):
+def some_batch(chance: random.Random, provider: Provider) -> list[Operation]:
     """Registers names that follow those there are, and changes some of them."""
     there, size = provider.latest().names, chance.randrange(4)
-    made = [Register(f"user-{there + it}", b"key-%d" % chance.randrange(1 << 30)) for it in range(size)]
+    made: list[Operation] = [Register(f"user-{there + it}", b"key-%d" % chance.randrange(1 << 30)) for it in range(size)]
     names = chance.sample(range(there), min(there, chance.randrange(3)))
     return made + [Change(f"user-{it}", b"key-%d" % chance.randrange(1 << 30)) for it in names]
 
 
-def commit(chance, provider, epoch, operations):
+def commit(chance: random.Random, provider: Provider, epoch: int, operations: Sequence[Operation]) -> Epoch:
     """Commits: after the signer fails again with the same operations, or by `retry`, or under a later epoch."""
     while True:
         try:
@@ -48,9 +52,10 @@ def commit(chance, provider, epoch, operations):
                     pass
 
 
-def look(room, provider, seed):
+def look(room: Path, provider: Provider, seed: int) -> None:
     """Looks names up, and lists each entry that is shown."""
-    chance, seen = random.Random(seed), set()
+    chance = random.Random(seed)
+    seen: set[bytes] = set()
     while True:
         try:
             found = provider.lookup(f"user-{chance.randrange(40)}")
@@ -62,11 +67,11 @@ def look(room, provider, seed):
             append(room / "shown", found.entry.hex())
 
 
-def drive(room, program, kind, seed):
-    chance, room = random.Random(seed), Path(room)
+def drive(folder: str, program: str, kind: str, seed: int) -> None:
+    chance, room = random.Random(seed), Path(folder)
     signer = Signer(room, KINDS[kind]())
 
-    def before():
+    def before() -> None:
         time.sleep(chance.choice([0, 0, 0.001, 0.004]))
         signer.fails = chance.randrange(5) == 0
 
@@ -95,21 +100,21 @@ def drive(room, program, kind, seed):
                         pass
 
 
-def children_of(process):
+def children_of(process: int) -> list[int]:
     try:
         return [int(it) for it in Path(f"/proc/{process}/task/{process}/children").read_text().split()]
     except OSError:
         return []
 
 
-def kill(process):
+def kill(process: int) -> None:
     try:
         os.kill(process, signal.SIGKILL)
     except ProcessLookupError:
         pass
 
 
-def check(tell, what, room, program, kind, library):
+def check(tell: Tell, what: str, room: Path, program: str, kind: str, library: bool) -> tuple[int, int]:
     """Starts once more, and compares the directory with the lists."""
     signer = Signer(room, KINDS[kind]())
     with FileLog(room / "log") as log, opened(program, log, signer) as provider:
@@ -137,10 +142,11 @@ def check(tell, what, room, program, kind, library):
     return len(acknowledged), len(lines(room / "shown"))
 
 
-def one_kill(chance, room, program, kind):
+def one_kill(chance: random.Random, room: Path, program: str, kind: str) -> tuple[str, bool]:
     """Starts the process, and kills it or its child, and then it: some time after its start, or after it has replayed the log."""
     words = [sys.executable, str(HERE / "kills.py"), str(room), program, kind, str(chance.randrange(1 << 30))]
     with open(room / "said", "ab") as said, subprocess.Popen(words, stdout=subprocess.PIPE, stderr=said) as process:
+        assert process.stdout
         if chance.randrange(3):
             process.stdout.readline()
         time.sleep(chance.uniform(0, 0.5))
@@ -156,11 +162,12 @@ def one_kill(chance, room, program, kind):
     return turn, ended == -signal.SIGKILL
 
 
-def try_kills(tell, program, count, seed=20261126):
-    chance, library, counts = random.Random(seed), has_library(), {}
+def try_kills(tell: Tell, program: str, count: int, seed: int = 20261126) -> None:
+    chance, library = random.Random(seed), has_library()
+    counts: dict[str, int] = {}
     acknowledged = seen = 0
     for done in range(0, count, KILLS_OF_ROOM):
-        kind = "ed25519" if nacl and done // KILLS_OF_ROOM % 2 else "salted"
+        kind = "ed25519" if HAS_NACL and done // KILLS_OF_ROOM % 2 else "salted"
         with tempfile.TemporaryDirectory() as room:
             for number in range(done, min(count, done + KILLS_OF_ROOM)):
                 turn, was_killed = one_kill(chance, Path(room), program, kind)
@@ -175,4 +182,4 @@ def try_kills(tell, program, count, seed=20261126):
 
 
 if __name__ == "__main__":
-    drive(*sys.argv[1:4], int(sys.argv[4]))
+    drive(sys.argv[1], sys.argv[2], sys.argv[3], int(sys.argv[4]))

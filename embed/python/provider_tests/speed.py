@@ -1,18 +1,21 @@
 """Prints how many lookups a second `coniks.provider` makes, and how long a log of many names takes to be replayed."""
 
+from __future__ import annotations
+
 import random
 import resource
 import tempfile
 import time
 from pathlib import Path
+from typing import Callable
 
 from stand_ins import KEY, Salted, Signer, index, opened
-from coniks.provider import FileLog, Register
+from coniks.provider import FileLog, Lookup, Register
 
 BATCH = 4096
 
 
-def main(program, names=100_000, lookups=20_000):
+def main(program: str, names: int = 100_000, lookups: int = 20_000) -> int:
     with tempfile.TemporaryDirectory() as room:
         signer, chance = Signer(room, Salted()), random.Random(20261126)
         with FileLog(Path(room) / "log") as log:
@@ -23,10 +26,11 @@ def main(program, names=100_000, lookups=20_000):
                     provider.commit(epoch, made)
                 tell("commits", names, "names", time.monotonic() - start)
                 asked = [f"user-{chance.randrange(names)}" for _ in range(lookups)]
-                for what, look in [
+                calls: list[tuple[str, Callable[[], list[Lookup]]]] = [
                     ("lookup", lambda: [provider.lookup(it) for it in asked]),
                     ("lookups", lambda: provider.lookups(asked)),
-                ]:
+                ]
+                for what, look in calls:
                     start, user = time.monotonic(), resource.getrusage(resource.RUSAGE_SELF).ru_utime
                     found = look()
                     took, used = time.monotonic() - start, resource.getrusage(resource.RUSAGE_SELF).ru_utime - user
@@ -41,5 +45,5 @@ def main(program, names=100_000, lookups=20_000):
     return 0
 
 
-def tell(what, count, of, seconds, more=""):
+def tell(what: str, count: int, of: str, seconds: float, more: str = "") -> None:
     print(f"{what}: {count} {of} in {seconds:.2f} s, {count / seconds:.0f} a second{more}", flush=True)

@@ -1,12 +1,15 @@
 """What the tests of `coniks.provider` use in place of a service: indices, signers that list each body, an auditor, and a program
 that prints what it is told."""
 
+from __future__ import annotations
+
 import hashlib
 import json
 import os
 import sys
 import time
 from pathlib import Path
+from typing import Any, Callable, Iterable, Optional, Protocol, Union
 
 HERE = Path(__file__).resolve().parent
 TOP = HERE.parent.parent.parent
@@ -23,18 +26,37 @@ from proofs import Proof, judge
 try:
     import nacl.exceptions
     import nacl.signing
+
+    HAS_NACL = True
 except ImportError:
-    nacl = None
+    HAS_NACL = False
 
 POLICY = bytes([7]) * 32
 KEY = bytes([9]) * 32
 
 
-def index(name):
+class Tell(Protocol):
+    """Counts one result: the type of `Tally.tell`."""
+
+    def __call__(self, what: str, is_well: object, why: object = "") -> None:
+        ...
+
+
+class Scheme(Protocol):
+    """A signature scheme with a key."""
+
+    def sign(self, body: bytes) -> bytes:
+        ...
+
+    def verify(self, body: bytes, signature: bytes) -> bool:
+        ...
+
+
+def index(name: str) -> bytes:
     return hashlib.sha256(b"index of " + name.encode()).digest()
 
 
-def append(file, text):
+def append(file: Path, text: str) -> None:
     """Appends a line, so that it is there if the process is killed afterwards."""
     place = os.open(file, os.O_WRONLY | os.O_CREAT | os.O_APPEND, 0o600)
     os.write(place, f"{text}\n".encode())
@@ -42,31 +64,31 @@ def append(file, text):
     os.close(place)
 
 
-def lines(file):
+def lines(file: Union[str, Path]) -> list[str]:
     return Path(file).read_text().splitlines() if Path(file).exists() else []
 
 
 class Salted:
     """Signs by a hash with a random half, so that two signatures of one body differ. It has no security."""
 
-    def sign(self, body):
+    def sign(self, body: bytes) -> bytes:
         salt = os.urandom(32)
         return salt + hashlib.sha256(KEY + salt + body).digest()
 
-    def verify(self, body, signature):
+    def verify(self, body: bytes, signature: bytes) -> bool:
         return signature[32:] == hashlib.sha256(KEY + signature[:32] + body).digest()
 
 
 class Ed25519:
     """Signs by Ed25519, over PyNaCl."""
 
-    def __init__(self):
+    def __init__(self) -> None:
         self._key = nacl.signing.SigningKey(KEY)
 
-    def sign(self, body):
+    def sign(self, body: bytes) -> bytes:
         return self._key.sign(body).signature
 
-    def verify(self, body, signature):
+    def verify(self, body: bytes, signature: bytes) -> bool:
         try:
             return bool(self._key.verify_key.verify(body, signature))
         except nacl.exceptions.BadSignatureError:
@@ -76,10 +98,11 @@ class Ed25519:
 class Signer:
     """Lists each body that it is asked for, and then signs it, unless it is told to fail."""
 
-    def __init__(self, room, keys):
-        self.file, self.keys, self.fails, self.before = Path(room) / "asked", keys, 0, lambda: None
+    def __init__(self, room: Union[str, Path], keys: Scheme) -> None:
+        self.file, self.keys, self.fails = Path(room) / "asked", keys, 0
+        self.before: Callable[[], object] = lambda: None
 
-    def __call__(self, body):
+    def __call__(self, body: bytes) -> bytes:
         append(self.file, body.hex())
         self.before()
         if self.fails:
@@ -87,34 +110,35 @@ class Signer:
             raise TimeoutError("the signer is told to fail")
         return self.keys.sign(body)
 
-    def verify(self, body, signature):
+    def verify(self, body: bytes, signature: bytes) -> bool:
         return self.keys.verify(body, signature)
 
-    def asked(self):
+    def asked(self) -> dict[int, set[bytes]]:
         """The bodies asked for, by their epochs."""
-        bodies = {}
+        bodies: dict[int, set[bytes]] = {}
         for it in map(bytes.fromhex, lines(self.file)):
             bodies.setdefault(int.from_bytes(it[1:9], "big"), set()).add(it)
         return bodies
 
-    def is_asked_once(self):
+    def is_asked_once(self) -> bool:
         return all(len(it) == 1 for it in self.asked().values())
 
 
-def opened(program, log, signer, **more):
+def opened(program: str, log: provider.Log, signer: Signer, **more: Any) -> provider.Provider:
     return provider.Provider(program, index, signer, log, policy=POLICY, verify=signer.verify, **more)
 
 
-def has_library():
+def has_library() -> bool:
     try:
         return bool(coniks.library_version())
     except ImportError:
         return False
 
 
-def audited(entries, keys, library):
+def audited(entries: Iterable[bytes], keys: Scheme, library: bool) -> bool:
     """Whether a chain is accepted: by the second implementation's auditor, and by the proved one if the library is built."""
-    before, auditor = None, coniks.Auditor() if library else None
+    before: Optional[chain.Entry] = None
+    auditor = coniks.Auditor() if library else None
     for whole in entries:
         entry = chain.Entry(whole)
         try:
@@ -128,17 +152,17 @@ def audited(entries, keys, library):
         if auditor:
             auditor.feed(whole, True)
         before = entry
-    return not auditor or before is None or auditor.head.link == link(before.whole)
+    return not auditor or before is None or (auditor.head is not None and auditor.head.link == link(before.whole))
 
 
-def shown(found):
+def shown(found: provider.Lookup) -> Optional[bytes]:
     """The key that a lookup's proof shows by the second implementation's checker; None if it shows that there is none."""
     entry = chain.Entry(found.entry)
     assert (entry.root, entry.nonce, entry.epoch) == (found.root, found.nonce, found.epoch)
     return judge(Proof(json.loads(found.line)["proof"]), found.index, found.name.encode(), found.nonce, found.root)
 
 
-def fake(told):
+def fake(told: str) -> int:
     """Prints one of these lines for each that it reads; in place of a line, `end N` ends with a status and `wait N` waits."""
     for line in lines(told):
         if not sys.stdin.readline():

@@ -4,6 +4,8 @@ After each, the directory is started again, once by `restart` and once by a new 
 acknowledged must be there, and an update whose body was logged must be installed with that body.
 """
 
+from __future__ import annotations
+
 import errno
 import os
 import signal
@@ -11,10 +13,14 @@ import subprocess
 import tempfile
 from contextlib import contextmanager
 from pathlib import Path
+from typing import Any, Callable, Iterator, NoReturn, Optional, Union
 from unittest import mock
 
-from stand_ins import Salted, Signer, audited, has_library, opened
-from coniks.provider import FileLog, LogFailed, ProgramFailed, ProviderError, Register, RestartNeeded, SignerFailed, entries
+from stand_ins import Salted, Signer, Tell, audited, has_library, opened
+from coniks.provider import FileLog, Log, LogFailed, ProgramFailed, Provider, ProviderError, Register, RestartNeeded, SignerFailed
+from coniks.provider import entries
+
+Hook = Callable[[], object]
 
 
 class Stop(BaseException):
@@ -24,33 +30,36 @@ class Stop(BaseException):
 class HookedLog:
     """A log over another one that calls a function before and after an append."""
 
-    def __init__(self, log):
-        self.log, self.before, self.after = log, lambda line: None, lambda line: None
+    def __init__(self, log: Log) -> None:
+        self.log = log
+        self.before: Callable[[bytes], object] = lambda line: None
+        self.after: Callable[[bytes], object] = lambda line: None
 
-    def append(self, position, line):
+    def append(self, position: int, line: bytes) -> None:
         self.before(line)
         self.log.append(position, line)
         self.after(line)
 
-    def read(self, position):
+    def read(self, position: int) -> Iterator[bytes]:
         return self.log.read(position)
 
 
 class Stage:
     """A directory with one epoch, whose next commit is stopped."""
 
-    def __init__(self, room, program):
+    def __init__(self, room: str, program: str) -> None:
         self.room, self.program = Path(room), program
         self.file = FileLog(self.room / "log")
         self.log, self.signer = HookedLog(self.file), Signer(room, Salted())
         self.provider = opened(program, self.log, self.signer)
         self.first = self.provider.commit(1, [Register("first", b"key")])
 
-    def kill_child(self, *_):
+    def kill_child(self, *_: object) -> None:
+        assert self.provider.pid and self.provider._engine
         os.kill(self.provider.pid, signal.SIGKILL)
         self.provider._engine.child._process.wait()
 
-    def start_again(self, is_new):
+    def start_again(self, is_new: bool) -> None:
         """Goes on after a stop: by `restart`, or from the file alone."""
         self.log.before = self.log.after = lambda line: None
         self.signer.before = lambda: None
@@ -61,29 +70,29 @@ class Stage:
         self.log = HookedLog(self.file)
         self.provider = opened(self.program, self.log, self.signer)
 
-    def close(self):
+    def close(self) -> None:
         self.provider.close()
         self.file.close()
 
 
-def of_kind(kind, call):
+def of_kind(kind: bytes, call: Hook) -> Callable[[bytes], object]:
     """A hook that makes its call at lines of one kind."""
     return lambda line: call() if line.startswith(b'{"cmd":"%s"' % kind) else None
 
 
-def stopped(error=Stop):
-    def call(*_):
+def stopped(error: Union[BaseException, type[BaseException]] = Stop) -> Callable[..., NoReturn]:
+    def call(*_: object) -> NoReturn:
         raise error
 
     return call
 
 
 @contextmanager
-def failing(stage, name, number):
+def failing(stage: Stage, name: str, number: int) -> Iterator[None]:
     """A call of `os` that fails once, at its n-th time for the log's file from now on."""
     calls, real = [0], getattr(os, name)
 
-    def call(*arguments):
+    def call(*arguments: Any) -> Any:
         calls[0] += arguments[0] == stage.file._file
         if arguments[0] == stage.file._file and calls[0] == number:
             if name == "pwrite":
@@ -95,20 +104,22 @@ def failing(stage, name, number):
         yield
 
 
-def hooks():
+def hooks() -> Iterator[tuple[str, Callable[[Stage], object], Optional[type[BaseException]], bool]]:
     """What stops a commit: its name, what sets it up, the error of `commit`, and whether the signer's body is in the log."""
     no_disk = OSError(errno.ENOSPC, "full")
 
-    def before_log(kind, call):
+    def before_log(kind: bytes, call: Callable[[Stage], Hook]) -> Callable[[Stage], None]:
         return lambda stage: setattr(stage.log, "before", of_kind(kind, call(stage)))
 
-    def after_log(kind, call):
+    def after_log(kind: bytes, call: Callable[[Stage], Hook]) -> Callable[[Stage], None]:
         return lambda stage: setattr(stage.log, "after", of_kind(kind, call(stage)))
 
-    def in_signer(call):
+    def in_signer(call: Callable[[Stage], Hook]) -> Callable[[Stage], None]:
         return lambda stage: setattr(stage.signer, "before", call(stage))
 
-    stop, full, dead = lambda _: stopped(), lambda _: stopped(no_disk), lambda stage: stage.kill_child
+    stop: Callable[[Stage], Hook] = lambda _: stopped()
+    full: Callable[[Stage], Hook] = lambda _: stopped(no_disk)
+    dead: Callable[[Stage], Hook] = lambda stage: stage.kill_child
     yield "the child ends before", lambda stage: stage.kill_child(), ProgramFailed, False
     yield "an interrupt before `prepare` is logged", before_log(b"prepare", stop), Stop, False
     yield "the log fails before `prepare`", before_log(b"prepare", full), LogFailed, False
@@ -125,14 +136,14 @@ def hooks():
     yield "the child ends as `install` is logged", after_log(b"install", dead), None, True
 
 
-def disks():
+def disks() -> Iterator[tuple[str, str, int]]:
     """Calls of a file log that fail: each write and each sync of a commit, and those that would undo them."""
     for name in ["pwrite", "fsync"]:
         for number in (1, 2):
             yield f"{name} {number} fails", name, number
 
 
-def check(tell, what, stage, is_logged, library):
+def check(tell: Tell, what: str, stage: Stage, is_logged: bool, library: bool) -> None:
     """What must be there after a stop of epoch 2."""
     by_epoch = {int.from_bytes(it[1:9], "big"): it for it in entries(stage.log)}
     tell(f"{what}: the first epoch is as it was", by_epoch.get(1) == stage.first.entry)
@@ -145,7 +156,7 @@ def check(tell, what, stage, is_logged, library):
     tell(f"{what}: the chain is audited", audited(entries(stage.log), stage.signer.keys, library))
 
 
-def commit_stopped(stage, error, needs_restart=True):
+def commit_stopped(stage: Stage, error: Optional[type[BaseException]], needs_restart: bool = True) -> Optional[str]:
     """Commits epoch 2, which must raise the error, or return if it is None. Then a lookup must go on, or need a restart. Returns
     what is wrong, or None."""
     try:
@@ -163,7 +174,7 @@ def commit_stopped(stage, error, needs_restart=True):
     return "a lookup went on" if needs_restart else None
 
 
-def try_steps(tell, program):
+def try_steps(tell: Tell, program: str) -> None:
     library = has_library()
     for what, set_up, error, is_logged in hooks():
         for is_new in (False, True):
@@ -188,7 +199,7 @@ def try_steps(tell, program):
     try_undone(tell, program, library)
 
 
-def try_undone(tell, program, library):
+def try_undone(tell: Tell, program: str, library: bool) -> None:
     """A sync fails, and the line that it leaves can't be dropped: the log fails until it is opened again."""
     with tempfile.TemporaryDirectory() as room:
         stage = Stage(room, program)
@@ -205,7 +216,7 @@ def try_undone(tell, program, library):
         stage.close()
 
 
-def try_full_disk(tell, skip, program, rounds=8):
+def try_full_disk(tell: Tell, skip: Callable[[str, str], None], program: str, rounds: int = 8) -> None:
     """A small tmpfs fills up while a directory commits. After each time it is emptied a little, and the directory goes on."""
     library = has_library()
     with tempfile.TemporaryDirectory() as room:
@@ -218,8 +229,9 @@ def try_full_disk(tell, skip, program, rounds=8):
             subprocess.run(["umount", room], check=True)
 
 
-def fill(tell, room, program, rounds, library):
-    signer, there, ballast = Signer(room, Salted()), {}, room / "ballast"
+def fill(tell: Tell, room: Path, program: str, rounds: int, library: bool) -> None:
+    signer, ballast = Signer(room, Salted()), room / "ballast"
+    there: dict[int, bytes] = {}
     with tempfile.TemporaryDirectory() as elsewhere:
         signer.file = Path(elsewhere) / "asked"
         ballast.write_bytes(bytes(160 << 10))
@@ -244,7 +256,7 @@ def fill(tell, room, program, rounds, library):
         tell("full disk: epochs were acknowledged", len(there) > rounds, len(there))
 
 
-def fill_once(turn, provider, there):
+def fill_once(turn: int, provider: Provider, there: dict[int, bytes]) -> None:
     """Commits batches, whose size differs from turn to turn, until the disk is full."""
     epoch = provider.latest().epoch
     try:

@@ -1,5 +1,7 @@
 """Each error of `coniks.provider`, what a log must do, and calls from several threads."""
 
+from __future__ import annotations
+
 import copy
 import json
 import os
@@ -12,14 +14,15 @@ import tempfile
 import threading
 import time
 from pathlib import Path
+from typing import Any, Callable, Iterable, Iterator, Optional, cast
 from unittest import mock
 
 import stand_ins
-from stand_ins import HERE, POLICY, Salted, Signer, audited, index, opened, shown
+from stand_ins import HERE, POLICY, Salted, Signer, Tell, audited, index, opened, shown
 from coniks import provider
-from coniks.provider import Change, FileLog, Provider, Register, entries
+from coniks.provider import Change, Epoch, FileLog, Lookup, Provider, Register, entries
 
-FAULTS = {
+FAULTS: dict[str, dict[str, Any]] = {
     "Json": {}, "Command": {}, "Member": {"member": "ops", "position": 3}, "NotOpen": {}, "AlreadyOpen": {}, "BatchTooLong": {},
     "NameLength": {"position": 1}, "KeyLength": {"position": 0}, "NameTwice": {"position": 2}, "NameTaken": {"position": 0},
     "NameUnknown": {"position": 0}, "OtherIndex": {"position": 0}, "IndexClash": {"position": 1}, "EpochNotLater": {"latest": 7},
@@ -35,22 +38,22 @@ PREPARED = '{"body":"%s","epoch":1,"nodes":1,"ok":"prepare","root":"%s"}' % (
 class Room:
     """A folder with a log, a signer and a provider over them."""
 
-    def __init__(self, program, **more):
+    def __init__(self, program: str, **more: Any) -> None:
         self._folder = tempfile.TemporaryDirectory()
         self.room = Path(self._folder.name)
         self.program, self.signer = program, Signer(self.room, Salted())
         self.log = FileLog(self.room / "log")
         self.provider = opened(program, self.log, self.signer, **more)
 
-    def __enter__(self):
+    def __enter__(self) -> Room:
         return self
 
-    def __exit__(self, *_):
+    def __exit__(self, *_: object) -> None:
         self.provider.close()
         self.log.close()
         self._folder.cleanup()
 
-    def start_again(self, **more):
+    def start_again(self, **more: Any) -> None:
         """A new provider over the same file."""
         self.provider.close()
         self.log.close()
@@ -58,7 +61,9 @@ class Room:
         self.provider = opened(self.program, self.log, self.signer, **more)
 
 
-def raises(tell, what, error, call, **attributes):
+def raises(
+    tell: Tell, what: str, error: type[BaseException], call: Callable[[], object], **attributes: object
+) -> Optional[Exception]:
     """Counts whether a call raises an error with these attributes, and returns it."""
     try:
         returned = call()
@@ -70,7 +75,7 @@ def raises(tell, what, error, call, **attributes):
     return None
 
 
-def faked(room, answers):
+def faked(room: str, answers: Iterable[str]) -> list[str]:
     """The words of a program that prints these lines."""
     told = Path(room) / "told"
     told.write_text("".join(f"{it}\n" for it in answers))
@@ -80,19 +85,19 @@ def faked(room, answers):
 class OneLine:
     """A log in memory."""
 
-    def __init__(self):
-        self.lines = []
+    def __init__(self) -> None:
+        self.lines: list[bytes] = []
 
-    def append(self, position, line):
+    def append(self, position: int, line: bytes) -> None:
         if position < len(self.lines):
             raise provider.Overtaken("taken")
         self.lines.append(line)
 
-    def read(self, position):
+    def read(self, position: int) -> Iterator[bytes]:
         return iter(self.lines[position:])
 
 
-def try_named_faults(tell):
+def try_named_faults(tell: Tell) -> None:
     """Each fault of docs/FORMATS.md, as a program prints it."""
     tell("faults: each has a class", {it.__name__ for it in provider.Fault.__subclasses__()} == FAULTS.keys())
     for name, members in FAULTS.items():
@@ -116,11 +121,11 @@ def try_named_faults(tell):
                 tell(f"fault {name}: the provider goes on", it.latest().epoch == 0)
 
 
-def try_real_faults(tell, program):
+def try_real_faults(tell: Tell, program: str) -> None:
     """The faults that a right program can be brought to print, each of which changes nothing."""
-    known = {}
+    known: dict[str, bytes] = {}
     with Room(program) as it, tempfile.TemporaryDirectory() as other:
-        by_name = lambda name: known.get(name) or index(name)
+        by_name: Callable[[str], bytes] = lambda name: known.get(name) or index(name)
         with FileLog(Path(other) / "log") as log, Provider(
             program, by_name, it.signer.keys.sign, log, policy=POLICY, workers=2, depth=3
         ) as own:
@@ -128,7 +133,7 @@ def try_real_faults(tell, program):
             before, size = own.latest(), os.path.getsize(Path(other) / "log")
             known["alice"] = known["dora"] = index("bob")
             long = "x" * 256
-            for what, error, call, attributes in [
+            calls: list[tuple[str, str, Callable[[], object], dict[str, Any]]] = [
                 (
                     "a name too long",
                     "NameLength",
@@ -165,7 +170,8 @@ def try_real_faults(tell, program):
                     lambda: own.lookups(["bob"] * 500 + ["alice"] + ["bob"] * 500),
                     {"position": None},
                 ),
-            ]:
+            ]
+            for what, error, call, attributes in calls:
                 raises(tell, f"fault: {what}", getattr(provider, error), call, **attributes)
                 tell(f"fault: {what}, changes nothing", own.latest() == before and os.path.getsize(Path(other) / "log") == size)
             tell("fault: lookups go on after one", shown(own.lookup("bob")) == b"key")
@@ -192,83 +198,91 @@ def try_real_faults(tell, program):
         )
 
 
-def try_arguments(tell, program):
+def try_arguments(tell: Tell, program: str) -> None:
     with Room(program) as it:
         own = it.provider
-        for what, error, call in [
-            ("an operation of another type", TypeError, lambda: own.commit(1, [("alice", b"key")])),
-            ("a key of text", TypeError, lambda: own.commit(1, [Register("alice", "key")])),
-            ("a name of bytes", TypeError, lambda: own.commit(1, [Register(b"alice", b"key")])),
+        calls: list[tuple[str, type[Exception], Callable[[], object]]] = [
+            ("an operation of another type", TypeError, lambda: own.commit(1, [cast(Any, ("alice", b"key"))])),
+            ("a key of text", TypeError, lambda: own.commit(1, [Register("alice", cast(Any, "key"))])),
+            ("a name of bytes", TypeError, lambda: own.commit(1, [Register(cast(Any, b"alice"), b"key")])),
             ("a short opening", ValueError, lambda: own.commit(1, [Register("alice", b"key", b"short")])),
             ("a short nonce", ValueError, lambda: own.commit(1, [], nonce=b"short")),
-            ("an epoch of text", TypeError, lambda: own.commit("1", [])),
+            ("an epoch of text", TypeError, lambda: own.commit(cast(Any, "1"), [])),
             ("an epoch too large", ValueError, lambda: own.commit(1 << 64, [])),
             ("a negative epoch", ValueError, lambda: own.lookup("alice", -1)),
-            ("a lookup of bytes", TypeError, lambda: own.lookup(b"alice")),
+            ("a lookup of bytes", TypeError, lambda: own.lookup(cast(Any, b"alice"))),
             ("a lookup of half a pair", UnicodeEncodeError, lambda: own.lookup("\ud800")),
-        ]:
+        ]
+        for what, error, call in calls:
             raises(tell, f"arguments: {what}", error, call)
-        for what, error, more in [
+        options: list[tuple[str, type[Exception], dict[str, Any]]] = [
             ("a short policy", ValueError, {"policy": b"short"}),
-            ("a short nonce", ValueError, {"nonce": b"short"}),
-            ("workers of text", TypeError, {"workers": "2"}),
-        ]:
+            ("a short nonce", ValueError, {"policy": POLICY, "nonce": b"short"}),
+            ("workers of text", TypeError, {"policy": POLICY, "workers": "2"}),
+        ]
+        for what, error, more in options:
             raises(
                 tell,
                 f"arguments: {what}",
                 error,
-                lambda: Provider(program, index, Salted().sign, OneLine(), **{"policy": POLICY, **more}),
+                lambda: Provider(program, index, Salted().sign, OneLine(), **more),
             )
-        for what, error, wrong in [
+        indices: list[tuple[str, type[Exception], Callable[[str], Any]]] = [
             ("an index of 31 bytes", ValueError, lambda _: bytes(31)),
             ("an index of text", TypeError, lambda _: "0" * 32),
-        ]:
+        ]
+        for what, error, wrong in indices:
             with Provider(program, wrong, Salted().sign, OneLine(), policy=POLICY) as other:
                 raises(tell, f"arguments: {what}", error, lambda: other.lookup("alice"))
         tell("arguments: the provider goes on", own.commit(1, [Register("alice", b"key")]).epoch == 1)
         tell("openings differ", Register("a", b"k").opening != Register("a", b"k").opening and len(Change("a", b"k").opening) == 32)
         own.close()
         own.close()
-        for call in [own.latest, own.restart, own.retry, lambda: own.lookup("alice"), lambda: own.commit(2, [])]:
+        closed: list[Callable[[], object]] = [
+            own.latest,
+            own.restart,
+            own.retry,
+            lambda: own.lookup("alice"),
+            lambda: own.commit(2, []),
+        ]
+        for call in closed:
             raises(tell, "a closed provider", provider.Closed, call)
 
 
-def try_program(tell, program):
+def try_program(tell: Tell, program: str) -> None:
     """A child that ends, is too slow, or prints what isn't defined."""
     body = json.loads(PREPARED)["body"]
     entry = body + "00" * 64
     installed = '{"entry":"%s","epoch":1,"link":"%s","ok":"install","root":"%s"}'
-    for what, answers, more in [
-        ("ends at once", ["end 3"], {}),
-        ("ends at `prepare`", [OPEN, "end 0"], {}),
-        ("prints no JSON", [OPEN, "what"], {}),
-        ("prints a list", [OPEN, "[]"], {}),
-        ("prints another fault", [OPEN, '{"fault":"Unheard"}'], {}),
-        ("prints a short body", [OPEN, PREPARED.replace(body, body[2:])], {}),
-        ("prints a body of another epoch", [OPEN, PREPARED.replace(body, body[:16] + "02" + body[18:])], {}),
-        ("prints a body of another root", [OPEN, PREPARED.replace('"root":"aa', '"root":"ab')], {}),
-        ("prints a body with another link before", [OPEN, PREPARED.replace(body, body[:98] + "01" + body[100:])], {}),
-        ("prints a body of another policy", [OPEN, PREPARED.replace(body, body[:-2] + "00")], {}),
-        ("ends at `install`", [OPEN, PREPARED, "end 3"], {}),
-        ("refuses to install", [OPEN, PREPARED, '{"fault":"NotPrepared"}'], {}),
-        ("prints another entry", [OPEN, PREPARED, installed % ("01" * 209, "00" * 32, "aa" * 32)], {}),
-        ("prints another epoch", [OPEN, PREPARED, installed.replace('epoch":1', 'epoch":2') % (entry, "00" * 32, "aa" * 32)], {}),
-        ("prints another root", [OPEN, PREPARED, installed % (entry, "00" * 32, "ab" * 32)], {}),
+    for what, answers, timeout in [
+        ("ends at once", ["end 3"], 20),
+        ("ends at `prepare`", [OPEN, "end 0"], 20),
+        ("prints no JSON", [OPEN, "what"], 20),
+        ("prints a list", [OPEN, "[]"], 20),
+        ("prints another fault", [OPEN, '{"fault":"Unheard"}'], 20),
+        ("prints a short body", [OPEN, PREPARED.replace(body, body[2:])], 20),
+        ("prints a body of another epoch", [OPEN, PREPARED.replace(body, body[:16] + "02" + body[18:])], 20),
+        ("prints a body of another root", [OPEN, PREPARED.replace('"root":"aa', '"root":"ab')], 20),
+        ("prints a body with another link before", [OPEN, PREPARED.replace(body, body[:98] + "01" + body[100:])], 20),
+        ("prints a body of another policy", [OPEN, PREPARED.replace(body, body[:-2] + "00")], 20),
+        ("ends at `install`", [OPEN, PREPARED, "end 3"], 20),
+        ("refuses to install", [OPEN, PREPARED, '{"fault":"NotPrepared"}'], 20),
+        ("prints another entry", [OPEN, PREPARED, installed % ("01" * 209, "00" * 32, "aa" * 32)], 20),
+        ("prints another epoch", [OPEN, PREPARED, installed.replace('epoch":1', 'epoch":2') % (entry, "00" * 32, "aa" * 32)], 20),
+        ("prints another root", [OPEN, PREPARED, installed % (entry, "00" * 32, "ab" * 32)], 20),
         (
             "prints a text for the epoch",
             [OPEN, PREPARED, installed.replace('epoch":1', 'epoch":"1"') % (entry, "00" * 32, "aa" * 32)],
-            {},
+            20,
         ),
-        ("is too slow", [OPEN, "wait 60"], {"timeout": 2}),
+        ("is too slow", [OPEN, "wait 60"], 2),
     ]:
         with tempfile.TemporaryDirectory() as room:
-            own = None
+            own: Optional[Provider] = None
 
-            def start():
+            def start() -> Epoch:
                 nonlocal own
-                own = Provider(
-                    faked(room, answers), index, lambda body: bytes(64), OneLine(), policy=POLICY, **{"timeout": 20, **more}
-                )
+                own = Provider(faked(room, answers), index, lambda body: bytes(64), OneLine(), policy=POLICY, timeout=timeout)
                 return own.commit(1, [])
 
             begun = time.monotonic()
@@ -285,6 +299,7 @@ def try_program(tell, program):
     )
     with Room(program, timeout=60) as it:
         made = it.provider.commit(1, [Register(f"user-{n}", bytes(16000)) for n in range(200)])
+        assert it.provider.pid
         os.kill(it.provider.pid, signal.SIGKILL)
         raises(tell, "a child that was killed", provider.ProgramFailed, lambda: it.provider.lookup("user-1"))
         for call in [
@@ -304,12 +319,17 @@ def try_program(tell, program):
         tell("a restart without need", it.provider.pid != before and it.provider.latest().epoch == 1)
 
 
-def try_signer(tell, program):
+def try_signer(tell: Tell, program: str) -> None:
     """A signer that fails: its epoch's number is used for no other body."""
     with Room(program) as it:
         own, mine = it.provider, [Register("alice", b"key")]
-        for what, set_up in [("raises", lambda: setattr(it.signer, "fails", 1)), ("signs wrongly", lambda: setattr(it.signer.keys, "sign", lambda body: bytes(64))),
-                             ("signs in text", lambda: setattr(it.signer.keys, "sign", lambda body: "0" * 64)), ("signs shortly", lambda: setattr(it.signer.keys, "sign", lambda body: bytes(63)))]:  # fmt: skip
+        failures: dict[str, Callable[[], None]] = {
+            "raises": lambda: setattr(it.signer, "fails", 1),
+            "signs wrongly": lambda: setattr(it.signer.keys, "sign", lambda body: bytes(64)),
+            "signs in text": lambda: setattr(it.signer.keys, "sign", lambda body: "0" * 64),
+            "signs shortly": lambda: setattr(it.signer.keys, "sign", lambda body: bytes(63)),
+        }
+        for what, set_up in failures.items():
             set_up()
             raises(tell, f"a signer that {what}", provider.SignerFailed, lambda: own.commit(3, mine))
             it.signer.keys = Salted()
@@ -334,7 +354,7 @@ def try_signer(tell, program):
             tell, "the same operations under a number before", provider.EpochSpent, lambda: own.commit(2, mine), epoch=2, asked=3
         )
         raises(tell, "a refused batch under a later number", provider.NameUnknown, lambda: own.commit(4, [Change("bob", b"k")]))
-        tell("a refused batch: the update is still pending", own.pending.epoch == 3)
+        tell("a refused batch: the update is still pending", own.pending and own.pending.epoch == 3)
         it.signer.fails = 1
         raises(tell, "a retry that fails", provider.SignerFailed, own.retry)
         tell("the same operations", own.commit(3, mine).epoch == 3 and own.pending is None)
@@ -364,12 +384,16 @@ def try_signer(tell, program):
         it.start_again(sign_pending=False)
         own = it.provider
         tell(
-            "a start that doesn't sign", own.pending.epoch == 10 and own.latest().epoch == 9 and shown(own.lookup("alice")) == b"9"
+            "a start that doesn't sign",
+            own.pending and own.pending.epoch == 10 and own.latest().epoch == 9 and shown(own.lookup("alice")) == b"9",
         )
         raises(tell, "after a restart: other operations", provider.EpochSpent, lambda: own.commit(10, [Change("alice", b"other")]))
         it.signer.fails = 1
         raises(tell, "a restart whose signer fails", provider.SignerFailed, own.restart)
-        tell("a restart whose signer fails: lookups go on", shown(own.lookup("alice")) == b"9" and own.pending.epoch == 10)
+        tell(
+            "a restart whose signer fails: lookups go on",
+            shown(own.lookup("alice")) == b"9" and own.pending and own.pending.epoch == 10,
+        )
         own.restart()
         tell("a restart that signs", own.pending is None and own.latest().epoch == 10 and shown(own.lookup("alice")) == b"10")
         tell("one body for each epoch", it.signer.is_asked_once() and set(it.signer.asked()) == {3, 5, 6, 8, 9, 10})
@@ -378,7 +402,7 @@ def try_signer(tell, program):
         tell("EpochSpent, pickled", str(pickle.loads(pickle.dumps(error))) == str(error))
 
 
-def try_logs(tell, program):
+def try_logs(tell: Tell, program: str) -> None:
     """A log of another directory, a damaged one, one that another provider has, and one whose lines were changed."""
     with Room(program) as it:
         it.provider.commit(1, [Register("alice", b"key")])
@@ -388,13 +412,20 @@ def try_logs(tell, program):
         script = f"import sys; sys.path.insert(0, {str(HERE.parent)!r})\nfrom coniks.provider import FileLog\nFileLog({str(it.room / 'log')!r})"
         ran = subprocess.run([sys.executable, "-c", script], capture_output=True, text=True)
         tell("a log that another process has open", "another process has the log open" in ran.stderr, ran.stderr)
-        start = lambda log=it.log, **more: Provider(program, index, it.signer, log, **{"policy": POLICY, **more}).close()
+
+        def start(log: provider.Log = it.log, policy: bytes = POLICY, nonce: Optional[bytes] = None) -> None:
+            Provider(program, index, it.signer, log, policy=policy, nonce=nonce).close()
+
         raises(tell, "another policy", provider.LogFailed, lambda: start(policy=bytes(32)))
         raises(tell, "another nonce", provider.LogFailed, lambda: start(nonce=bytes(32)))
         whole, nonce = list(it.log.read(0)), bytes.fromhex(json.loads(next(it.log.read(0)))["nonce"])
         start(nonce=nonce)
         tell("read from a position", [list(it.log.read(number)) for number in range(6)] == [whole[number:] for number in range(6)])
-        wrong = lambda place, old, new: [*whole[:place], whole[place].replace(old, new), *whole[place + 1 :]]
+        wrong: Callable[[int, bytes, bytes], list[bytes]] = lambda place, old, new: [
+            *whole[:place],
+            whole[place].replace(old, new),
+            *whole[place + 1 :],
+        ]
         body, link = b'"body":"01', b'"link":"%s' % json.loads(whole[2])["link"][:2].encode()
         for what, error, lines in [
             ("an edited body", provider.ReplayDiffers, wrong(1, body, b'"body":"02')),
@@ -425,12 +456,12 @@ def try_logs(tell, program):
             own.restart()
             tell("a log that was overtaken: restart", own.commit(3, []).epoch == 3)
             tell("a log that was overtaken: no body", it.signer.is_asked_once() and len(it.signer.asked()[3]) == 1)
-        log.read = lambda position: 1 // 0
+        setattr(log, "read", lambda position: 1 // 0)
         raises(tell, "a log that can't be read", provider.LogFailed, lambda: start(log))
         raises(tell, "a file that can't be made", provider.LogFailed, lambda: FileLog(it.room / "nowhere/log"))
 
 
-def try_file(tell):
+def try_file(tell: Tell) -> None:
     """The file of a log: cut lines, positions, and what else it must refuse."""
     with tempfile.TemporaryDirectory() as room:
         file = Path(room) / "log"
@@ -467,29 +498,45 @@ def try_file(tell):
                 there == wanted and file.read_bytes() == b"".join(it + b"\n" for it in [*wanted, b"next"]),
                 there,
             )
-        synced, written, sync, write = [], [], os.fsync, os.pwrite
+        synced: list[bool] = []
+        written: list[tuple[bytes, int]] = []
+        sync, write = os.fsync, os.pwrite
         file.write_bytes(b"first\nlast line\ncut")
-        with mock.patch.object(os, "fsync", lambda place: (synced.append(stat.S_ISDIR(os.fstat(place).st_mode)), sync(place))):
-            with mock.patch.object(os, "pwrite", lambda *it: (written.append(it[1:]), write(*it))[1]):
-                FileLog(file).close()
+
+        def noted_sync(place: int) -> None:
+            synced.append(stat.S_ISDIR(os.fstat(place).st_mode))
+            sync(place)
+
+        def noted_write(place: int, data: bytes, at: int) -> int:
+            written.append((data, at))
+            return write(place, data, at)
+
+        with mock.patch.object(os, "fsync", noted_sync), mock.patch.object(os, "pwrite", noted_write):
+            FileLog(file).close()
         tell(
             "a log that opens: the last line and the folder are synced",
             synced == [False, True] and written == [(b"last line\n", 6)],
         )
-        for what, text, wanted in [("zeros at the end", b"first\nsecond" + bytes(5000), [b"first"]), ("a line with zeros", b"first\nse" + bytes(5000) + b"d\n", [b"first"]),
-                                   ("zeros alone", bytes(9), []), ("a long cut line", b"first\n" + b"x" * (3 << 20), [b"first"])]:  # fmt: skip
+        ends: list[tuple[str, bytes, list[bytes]]] = [
+            ("zeros at the end", b"first\nsecond" + bytes(5000), [b"first"]),
+            ("a line with zeros", b"first\nse" + bytes(5000) + b"d\n", [b"first"]),
+            ("zeros alone", bytes(9), []),
+            ("a long cut line", b"first\n" + b"x" * (3 << 20), [b"first"]),
+        ]
+        for what, text, wanted in ends:
             file.write_bytes(text)
             with FileLog(file) as log:
                 tell(f"a log with {what}", list(log.read(0)) == wanted)
 
 
-def try_threads(tell, program):
+def try_threads(tell: Tell, program: str) -> None:
     """Lookups from several threads go on while the signer is asked, and show no entry before the log has it."""
     with Room(program) as it:
-        own, is_over, wrong, counted = it.provider, threading.Event(), [], [0, 0]
+        own, is_over, counted = it.provider, threading.Event(), [0, 0]
+        wrong: list[Lookup] = []
         own.commit(1, [Register("alice", b"1")])
 
-        def look():
+        def look() -> None:
             while not is_over.is_set():
                 found = own.lookup("alice")
                 logged = list(entries(it.log))
@@ -497,7 +544,7 @@ def try_threads(tell, program):
                 if found.entry not in logged or shown(found) != b"%d" % found.epoch:
                     wrong.append(found)
 
-        def slow():
+        def slow() -> None:
             before = counted[0]
             time.sleep(0.1)
             counted[1] += counted[0] > before
@@ -506,7 +553,7 @@ def try_threads(tell, program):
         threads = [threading.Thread(target=look) for _ in range(3)]
         for thread in threads:
             thread.start()
-        made = []
+        made: list[Epoch] = []
         changing = [threading.Thread(target=lambda: made.append(own.commit(2, [Change("alice", b"2")])))]
         changing[0].start()
         changing[0].join()
@@ -528,7 +575,7 @@ def try_threads(tell, program):
         tell("threads: the provider goes on", own.latest().epoch == 7)
 
 
-def try_units(tell, program):
+def try_units(tell: Tell, program: str) -> None:
     try_named_faults(tell)
     try_real_faults(tell, program)
     try_arguments(tell, program)
