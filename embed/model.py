@@ -79,7 +79,7 @@ def check(_: int, nonce: bytes, root: bytes, index: bytes, name: bytes, proof: b
     try:
         key = judge(Shown(proof), index, name, nonce, root)
     except Fault as fault:
-        return STATUSES[fault.answer["fault"]], start, length
+        return STATUSES[str(fault.answer["fault"])], start, length
     if key is None:
         return 1, start, length
     return 0, struct.pack("=Q", len(proof) - len(key)), struct.pack("=Q", len(key))
@@ -95,7 +95,7 @@ def feed(verdict: int, state: bytes, entry: bytes) -> Answer:
     try:
         return 0, audited(state, entry, verdict)
     except Fault as fault:
-        return STATUSES[fault.answer["fault"]], state
+        return STATUSES[str(fault.answer["fault"])], state
 
 
 def head(_: int, state: bytes, epoch: bytes, link: bytes) -> Answer:
@@ -113,7 +113,7 @@ def step(verdict: int, state: bytes, index: bytes, name: bytes, expected: bytes,
         after, it = audited(state, entry, verdict), chain.Entry(entry)
         key = judge(Shown(proof), index, name, it.nonce, it.root)
     except Fault as fault:
-        return STATUSES[fault.answer["fault"]], state
+        return STATUSES[str(fault.answer["fault"])], state
     return (0 if key == (expected or None) else 1 if key is None else 9), after
 
 

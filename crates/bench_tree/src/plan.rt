@@ -73,7 +73,7 @@ fn batches_of(indices: &str, batch: &str) -> Result<Plan> {
     })
 }
 
-/// The crew that two words name.
+/// The workers and the depth that two words name.
 fn parallelism_of(workers: &str, depth: &str) -> Result<Parallelism> {
     let workers = bounded(workers, MAX_WORKERS)?;
     let depth = bounded(depth, MAX_DEPTH)?;

@@ -143,7 +143,7 @@ impl Registry {
         Ok(changes_to(self.alloc, self.tree.records(), &records)?)
     }
 
-    /// The part of one more batch, built by a crew. The registry stays as it is.
+    /// The part of one more batch, built by several workers. The registry stays as it is.
     pub fn part<R: Threads + Sync>(
         &self,
         rt: &R,
@@ -181,7 +181,7 @@ impl Registry {
         }
     }
 
-    /// The part of all entries under another nonce, built by a crew from nothing. The registry stays as it is.
+    /// The part of all entries under another nonce, built by several workers from nothing. The registry stays as it is.
     pub fn renewed<R: Threads + Sync>(
         &self,
         rt: &R,

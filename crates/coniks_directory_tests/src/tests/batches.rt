@@ -1,4 +1,4 @@
-//! Batches that are refused, and one that each crew prepares.
+//! Batches that are refused, and one that each number of workers prepares.
 
 use crate::tests::answers::{Told, asked, digest};
 use crate::tests::clerk::{Clerk, Letters, NONCE, POLICY, Written, ops_of, with_clerk};
@@ -221,7 +221,7 @@ fn is_same<R: Threads + Sync + Abort>(
         && asked(&clerk.directory, 2, "b") == Told::Key(1, b'l')
 }
 
-/// Whether a crew makes of these batches what each crew does.
+/// Whether these workers make of these batches what any number of them does.
 fn makes_same<R: Threads + Sync + Abort>(
     rt: &R,
     alloc: Global,

@@ -97,7 +97,7 @@ fn nonce_from_the_second_epoch_on(rt: HostRuntime) {
     });
 }
 
-/// Installs the three epochs with a crew.
+/// Installs the three epochs with several workers.
 fn install_three_by<R: Threads + Sync + Abort>(
     rt: &R,
     alloc: Global,
