@@ -44,7 +44,7 @@ pub record IsAccepted (index_of : List ℕ → List ℕ) (registry : Registry) (
   pub few : length ops ≤ MAX_OPERATIONS
   pub faultless : first_fault index_of registry ops ≡ None
 
--- why a batch isn't accepted: of what applies, the first in the order of the faults; or a growth was refused
+-- why a batch isn't accepted: of what applies, the first in the order of the faults; or an allocation failed
 abbrev pub IsBatchFault : (List ℕ → List ℕ) → Registry → List Operation → ℕ → ℕ → BatchFault → Type 0
 IsBatchFault index_of registry ops depth workers Workers = (workers ≡ 0) ⊎ (MAX_WORKERS < workers)
 IsBatchFault index_of registry ops depth workers Depth = AreWorkers workers × (MAX_DEPTH < depth)

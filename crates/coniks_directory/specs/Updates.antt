@@ -84,7 +84,7 @@ pub record IsUpdateOf (hash index_of : List ℕ → List ℕ) (s : State) (p : P
   pub update : IsUpdate hash index_of earlier p
 
 -- an update that was prepared when there were `base` epochs may be installed
--- under the number t, with so many heads on a board of this capacity
+-- under the number t, with this number of heads on a board of this capacity
 pub record MayInstall (s : State) (base t published capacity : ℕ) : Type 0 where
   pub fresh : base ≡ length s.epochs
   pub later : latest_epoch (history_of s) < t

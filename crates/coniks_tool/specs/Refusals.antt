@@ -40,7 +40,7 @@ refusal index_of history epoch ops =
     then refusal_from history epoch (first_fault index_of (latest_registry history) ops)
     else Some too_long
 
--- a commit's fault is this refusal; or a growth was refused
+-- a commit's fault is this refusal; or an allocation failed
 abbrev pub IsRefusedBy : Option Refusal → CommitFault → Type 0
 IsRefusedBy why (Batch batch.Workers) = ⊥
 IsRefusedBy why (Batch batch.Depth) = ⊥
