@@ -49,8 +49,8 @@ pub record AnswersLine {S : Type 0} (answer : S → List ℕ → Answer S) (star
   pub flushed : new.flushes ≡ next_count old.flushes
   pub writes_on : WritesOn old new
 
--- the machine answered each whole line of the bytes, whose first one begins with
--- `held`, with a flush for each, and `rest` is what stands after them
+-- `held` is the incomplete line before `bytes`: the machine replied to each whole line of
+-- both and flushed after each; `rest` is the incomplete line that is left
 pub record AnswersWhole {S : Type 0} (answer : S → List ℕ → Answer S) (start : S)
     (held bytes : List ℕ) (old new : Sink) (state : S) (rest : List ℕ) (all : Bool) : Type 0 where
   pub written : Appends old (replies answer start (whole_after held bytes)) new
@@ -60,7 +60,7 @@ pub record AnswersWhole {S : Type 0} (answer : S → List ℕ → Answer S) (sta
   pub flushes_is : new.flushes ≡ count_after old.flushes (whole_after held bytes)
   pub writes_on : WritesOn old new
 
--- the machine replied to each line of the bytes, with a flush for each
+-- the machine replied to each line of the bytes and flushed after each
 pub record AnswersAll {S : Type 0} (answer : S → List ℕ → Answer S) (start : S)
     (bytes : List ℕ) (old new : Sink) (state : S) (all : Bool) : Type 0 where
   pub written : Appends old (output answer start bytes) new

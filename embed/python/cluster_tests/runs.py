@@ -26,7 +26,7 @@ from database import Database
 from node import Node
 from stand_ins import Scheme, Tell, audited, has_library, shown
 
-# After so many faults a cluster ends and a new one begins, so that replays stay short.
+# The number of faults on one cluster. A new cluster then replaces it, so that replays stay short.
 FAULTS_OF_ROOM = 20
 SECONDS = 120
 # By `Salted`, two signatures of one body differ.

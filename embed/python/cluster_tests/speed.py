@@ -1,6 +1,6 @@
-"""Prints how many lookups a second replicas answer, one alone and three at once, and how long a takeover takes.
+"""Measures lookups per second, with one replica and with three at once, and the time of a takeover.
 
-Run as a program, this is a replica that looks names up for so many seconds as a line of its standard input says.
+Run as a program, this is a replica. It reads a number of seconds from standard input and looks names up for that long.
 """
 
 from __future__ import annotations

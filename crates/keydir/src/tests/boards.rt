@@ -27,7 +27,8 @@ fn script<R: Abort + AllocGlobal>(rt: &R) -> String {
     lines
 }
 
-/// The board takes 1,024 heads. The next batch is refused, lookups go on, and an epoch that isn't later is told first.
+/// The board takes at most 1,024 heads. The next batch is refused, and lookups still succeed. If the epoch isn't later either,
+/// that error is returned first.
 #[test]
 fn board_is_full(rt: HostRuntime) {
     let alloc = rt.alloc();
