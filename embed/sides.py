@@ -331,8 +331,8 @@ def example_of(coniks: ModuleType, lines: Sequence[proofs.Line]) -> Example:
     words = [line[it] for it in ("nonce", "root", "index", "name")] + [proofs.bytes_of(line["proof"]).hex(), line["entry"]]
     return words, [
         base64.b64decode(line["proof"]["end"]["key"]).decode(),
-        "the proof's path doesn't lead to the root",
-        "the signature isn't one for this body",
+        "the root computed from the proof isn't the expected root",
+        "the signature isn't valid for this body",
         "as it was: true",
         f"epoch {line['epoch']}",
     ]

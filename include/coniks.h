@@ -102,7 +102,7 @@ enum coniks_status {
 
     /* of coniks_auditor_feed and coniks_monitor_step: the entry does not follow the last accepted one */
     CONIKS_E_VERSION_UNKNOWN = 33, /* the version is neither 1 nor 2 */
-    CONIKS_E_VERSION_BACK = 34,    /* it goes back to 1 */
+    CONIKS_E_VERSION_BACK = 34,    /* it is lower than that of the entry before */
     CONIKS_E_FIRST_EPOCH = 35,     /* the first epoch is 0 */
     CONIKS_E_NOT_LATER = 36,       /* the epoch is not later than the one before */
     CONIKS_E_PREVIOUS_EPOCH = 37,  /* the previous epoch is not that of the entry before */

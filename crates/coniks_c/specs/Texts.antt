@@ -9,15 +9,15 @@ use Rattle.coniks_chain.specs.declared.auditor.AuditFault.TheVariants.{Version, 
 use Rattle.coniks_c.specs.declared.text.Refusal.{Refusal}
 use Rattle.coniks_c.specs.declared.text.Refusal.TheVariants.{Check, Wire, Audit, EntryLength, NoEntry}
 
--- of a fault of a proof
+-- of an error of a proof
 abbrev pub check_text : CheckFault → List ℕ
 check_text TooDeep = codes "the proof has more than 256 siblings"
-check_text NameLength = codes "the asked name is empty or longer than 255 bytes"
+check_text NameLength = codes "the name is empty or longer than 255 bytes"
 check_text KeyLength = codes "the proof's key is empty or longer than 16384 bytes"
-check_text WrongName = codes "the proof's leaf holds another name"
-check_text OtherIsSame = codes "the proof shows the asked index as another one"
-check_text OtherOffPath = codes "the proof's other index isn't on the path to the asked one"
-check_text RootMismatch = codes "the proof's path doesn't lead to the root"
+check_text WrongName = codes "the proof's leaf contains another name"
+check_text OtherIsSame = codes "the proof's other index is the requested index"
+check_text OtherOffPath = codes "the proof's other index isn't on the path to the requested index"
+check_text RootMismatch = codes "the root computed from the proof isn't the expected root"
 
 -- of bytes that are no proof's
 abbrev pub wire_text : WireFault → List ℕ
@@ -31,23 +31,23 @@ wire_text CutInName = codes "the bytes end within the name or its length"
 wire_text CutInKey = codes "the bytes end within the key or its length"
 wire_text BytesFollow = codes "bytes follow the proof"
 
--- of a fault of an entry
+-- of an error of an entry
 abbrev pub audit_text : AuditFault → List ℕ
 audit_text Version = codes "the version is neither 1 nor 2"
-audit_text VersionBack = codes "the version goes back to 1"
+audit_text VersionBack = codes "the version is lower than that of the entry before"
 audit_text FirstEpoch = codes "the first epoch is 0"
-audit_text NotLater = codes "the epoch isn't later than the one before"
-audit_text PreviousEpoch = codes "the epoch before is named wrongly"
-audit_text PreviousLink = codes "the link before is named wrongly"
-audit_text NonceChanged = codes "the nonce of a version 1 entry isn't the one before"
-audit_text Verdict = codes "the signature isn't one for this body"
+audit_text NotLater = codes "the epoch isn't later than that of the entry before"
+audit_text PreviousEpoch = codes "the previous epoch isn't that of the entry before"
+audit_text PreviousLink = codes "the previous link isn't that of the entry before"
+audit_text NonceChanged = codes "the version is 1 and the nonce isn't that of the entry before"
+audit_text Verdict = codes "the signature isn't valid for this body"
 
 -- of whatever is refused
 abbrev pub refusal_text : Refusal → List ℕ
 refusal_text (Check fault) = check_text fault
 refusal_text (Wire fault) = wire_text fault
 refusal_text (Audit fault) = audit_text fault
-refusal_text EntryLength = codes "the entry hasn't 209 bytes"
+refusal_text EntryLength = codes "the entry isn't 209 bytes long"
 refusal_text NoEntry = codes "no entry was accepted yet"
 
 -- a place with a text at its front and a zero byte after it: the text is cut to the room before that byte, and the rest of

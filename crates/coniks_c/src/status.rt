@@ -18,13 +18,13 @@ pub const ABSENT: u32 = 1;
 /// A proof is accepted, and shows another key than the expected one, or a key although none is expected.
 pub const CHANGED: u32 = 9;
 
-/// An entry hasn't 209 bytes.
+/// An entry is not 209 bytes long.
 pub const ENTRY_LENGTH: u32 = 48;
 
 /// No entry was accepted yet.
 pub const NO_ENTRY: u32 = 49;
 
-/// The status of a fault of a proof, 2 to 8.
+/// The status of an error of a proof, 2 to 8.
 pub fn check_status(fault: CheckFault) -> u32
     ensures { result ≡ number fault + 1 }
 {
@@ -56,7 +56,7 @@ pub fn wire_status(fault: WireFault) -> u32
     }
 }
 
-/// The status of a fault of an entry, 33 to 40.
+/// The status of an error of an entry, 33 to 40.
 pub fn audit_status(fault: AuditFault) -> u32
     ensures { result ≡ place_of fault + 33 }
 {

@@ -1,4 +1,4 @@
-//! The texts of faults.
+//! The texts of errors.
 
 ghost use Rattle.std.specs.Prelude.{◌≡◌, ◌≢◌, [], IfNone, IfSome, length};
 ghost use Rattle.coniks_c.specs.Statuses.{refusal_status};
@@ -55,18 +55,18 @@ fn refusal_of(status: u32) -> Option<Refusal>
     })
 }
 
-/// What is said of a fault of a proof.
+/// Returns the text of an error of a proof.
 fn check_text(fault: CheckFault) -> &'static str
     ensures { result.now ≡ check_text fault }
 {
     match fault {
         CheckFault::TooDeep => "the proof has more than 256 siblings",
-        CheckFault::NameLength => "the asked name is empty or longer than 255 bytes",
+        CheckFault::NameLength => "the name is empty or longer than 255 bytes",
         CheckFault::KeyLength => "the proof's key is empty or longer than 16384 bytes",
-        CheckFault::WrongName => "the proof's leaf holds another name",
-        CheckFault::OtherIsSame => "the proof shows the asked index as another one",
-        CheckFault::OtherOffPath => "the proof's other index isn't on the path to the asked one",
-        CheckFault::RootMismatch => "the proof's path doesn't lead to the root",
+        CheckFault::WrongName => "the proof's leaf contains another name",
+        CheckFault::OtherIsSame => "the proof's other index is the requested index",
+        CheckFault::OtherOffPath => "the proof's other index isn't on the path to the requested index",
+        CheckFault::RootMismatch => "the root computed from the proof isn't the expected root",
     }
 }
 
@@ -87,19 +87,19 @@ fn wire_text(fault: WireFault) -> &'static str
     }
 }
 
-/// What is said of a fault of an entry.
+/// Returns the text of an error of an entry.
 fn audit_text(fault: AuditFault) -> &'static str
     ensures { result.now ≡ audit_text fault }
 {
     match fault {
         AuditFault::Version => "the version is neither 1 nor 2",
-        AuditFault::VersionBack => "the version goes back to 1",
+        AuditFault::VersionBack => "the version is lower than that of the entry before",
         AuditFault::FirstEpoch => "the first epoch is 0",
-        AuditFault::NotLater => "the epoch isn't later than the one before",
-        AuditFault::PreviousEpoch => "the epoch before is named wrongly",
-        AuditFault::PreviousLink => "the link before is named wrongly",
-        AuditFault::NonceChanged => "the nonce of a version 1 entry isn't the one before",
-        AuditFault::Verdict => "the signature isn't one for this body",
+        AuditFault::NotLater => "the epoch isn't later than that of the entry before",
+        AuditFault::PreviousEpoch => "the previous epoch isn't that of the entry before",
+        AuditFault::PreviousLink => "the previous link isn't that of the entry before",
+        AuditFault::NonceChanged => "the version is 1 and the nonce isn't that of the entry before",
+        AuditFault::Verdict => "the signature isn't valid for this body",
     }
 }
 
@@ -111,7 +111,7 @@ fn text_of(refusal: Refusal) -> &'static str
         Refusal::Check(fault) => check_text(fault),
         Refusal::Wire(fault) => wire_text(fault),
         Refusal::Audit(fault) => audit_text(fault),
-        Refusal::EntryLength => "the entry hasn't 209 bytes",
+        Refusal::EntryLength => "the entry isn't 209 bytes long",
         Refusal::NoEntry => "no entry was accepted yet",
     }
 }

@@ -14,19 +14,19 @@ use thiserror::Error;
 pub enum AuditFault {
     #[error("the version is neither 1 nor 2")]
     Version,
-    #[error("the version goes back to 1")]
+    #[error("the version is lower than that of the entry before")]
     VersionBack,
     #[error("the first epoch is 0")]
     FirstEpoch,
-    #[error("the epoch isn't later than the one before")]
+    #[error("the epoch isn't later than that of the entry before")]
     NotLater,
-    #[error("the epoch before is named wrongly")]
+    #[error("the previous epoch isn't that of the entry before")]
     PreviousEpoch,
-    #[error("the link before is named wrongly")]
+    #[error("the previous link isn't that of the entry before")]
     PreviousLink,
-    #[error("the nonce of a version 1 entry isn't the one before")]
+    #[error("the version is 1 and the nonce isn't that of the entry before")]
     NonceChanged,
-    #[error("the signature isn't one for this body")]
+    #[error("the signature isn't valid for this body")]
     Verdict,
 }
 

@@ -500,11 +500,11 @@ fn texts_of_faults(rt: HostRuntime) {
     for (fault, want) in [
         (
             MonitorFault::Audit(AuditFault::NotLater),
-            "the entry is refused: the epoch isn't later than the one before",
+            "the entry is refused: the epoch isn't later than that of the entry before",
         ),
         (
             MonitorFault::Check(CheckFault::RootMismatch),
-            "the proof is refused: the proof's path doesn't lead to the root",
+            "the proof is refused: the root computed from the proof isn't the expected root",
         ),
     ] {
         let text = format!(in rt.alloc(); "{fault}").expect(&rt, "memory");

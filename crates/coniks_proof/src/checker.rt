@@ -18,17 +18,17 @@ use thiserror::Error;
 pub enum CheckFault {
     #[error("the proof has more than {} siblings", MAX_LEVEL)]
     TooDeep,
-    #[error("the asked name is empty or longer than {} bytes", MAX_NAME)]
+    #[error("the name is empty or longer than {} bytes", MAX_NAME)]
     NameLength,
     #[error("the proof's key is empty or longer than {} bytes", MAX_KEY)]
     KeyLength,
-    #[error("the proof's leaf holds another name")]
+    #[error("the proof's leaf contains another name")]
     WrongName,
-    #[error("the proof shows the asked index as another one")]
+    #[error("the proof's other index is the requested index")]
     OtherIsSame,
-    #[error("the proof's other index isn't on the path to the asked one")]
+    #[error("the proof's other index isn't on the path to the requested index")]
     OtherOffPath,
-    #[error("the proof's path doesn't lead to the root")]
+    #[error("the root computed from the proof isn't the expected root")]
     RootMismatch,
 }
 
@@ -120,7 +120,7 @@ fn answer_at<'a>(end: &EndRef<'a>) -> Answer<'a>
 /// If several apply, the first in this order is returned.
 ///
 /// - `TooDeep` if the proof has more than `MAX_LEVEL` siblings.
-/// - `NameLength` if the asked name is empty or longer than `MAX_NAME` bytes.
+/// - `NameLength` if the name is empty or longer than `MAX_NAME` bytes.
 /// - `KeyLength` if the proof's key is empty or longer than `MAX_KEY` bytes.
 /// - `WrongName` if the proof's leaf contains another name.
 /// - `OtherIsSame` if the leaf of another index has the asked index.

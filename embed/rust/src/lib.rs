@@ -96,17 +96,17 @@ macro_rules! errors {
 errors! {
     /// The proof has more than 256 siblings.
     TooDeep = 2,
-    /// The asked name is empty or longer than 255 bytes.
+    /// The name is empty or longer than 255 bytes.
     NameLength = 3,
     /// The proof's key is empty or longer than 16,384 bytes.
     KeyLength = 4,
-    /// The proof's leaf holds another name.
+    /// The proof's leaf contains another name.
     WrongName = 5,
-    /// The proof shows the asked index as another one.
+    /// The proof's other index is the requested index.
     OtherIsSame = 6,
-    /// The proof's other index isn't on the path to the asked one.
+    /// The proof's other index isn't on the path to the requested index.
     OtherOffPath = 7,
-    /// The proof's path doesn't lead to the root.
+    /// The root computed from the proof isn't the expected root.
     RootMismatch = 8,
     /// The proof has no bytes.
     NoBytes = 17,
@@ -128,21 +128,21 @@ errors! {
     BytesFollow = 25,
     /// The entry's version is neither 1 nor 2.
     VersionUnknown = 33,
-    /// The entry's version goes back to 1.
+    /// The entry's version is lower than that of the entry before.
     VersionBack = 34,
     /// The first entry's epoch is 0.
     FirstEpoch = 35,
-    /// The entry's epoch isn't later than the one before.
+    /// The entry's epoch isn't later than that of the entry before.
     NotLater = 36,
-    /// The entry names the epoch before wrongly.
+    /// The entry's previous epoch isn't that of the entry before.
     PreviousEpoch = 37,
-    /// The entry names the link before wrongly.
+    /// The entry's previous link isn't that of the entry before.
     PreviousLink = 38,
-    /// The nonce of a version 1 entry isn't the one before.
+    /// The version is 1 and the nonce isn't that of the entry before.
     NonceChanged = 39,
     /// The caller's verification result is not good.
     Signature = 40,
-    /// The entry hasn't 209 bytes.
+    /// The entry isn't 209 bytes long.
     EntryLength = 48,
     /// No entry was accepted yet.
     NoEntry = 49,

@@ -41,5 +41,5 @@ fn an_auditor_is_unchanged_after_an_error() {
 #[test]
 fn every_error_has_a_text() {
     assert!(Error::ALL.iter().all(|it| !it.to_string().is_empty()));
-    assert_eq!(Error::RootMismatch.to_string(), "the proof's path doesn't lead to the root");
+    assert_eq!(Error::RootMismatch.to_string(), "the root computed from the proof isn't the expected root");
 }
