@@ -7,9 +7,10 @@ ghost use Rattle.coniks_proof.specs.Proofs.{said};
 use crate::bytes::Bytes;
 use crate::checker::check;
 use crate::hashing::Hash32;
-use crate::meeting::{Way, parted};
+use crate::meeting::parted;
 use crate::memory::OutOfMemory;
 use crate::paths::{Answer, Proof};
+use crate::strings::Way;
 use crate::values::{Digest, Index, Nonce};
 use std::alloc::Global;
 

@@ -10,16 +10,9 @@ use crate::bytes::Bytes;
 use crate::hashing::{Hash32, commit_hash};
 use crate::paths::{End, carried, joined_hash};
 use crate::proof_ref::Siblings;
-use crate::strings::{level_bytes, sealed_bytes};
+use crate::strings::{Way, level_bytes, sealed_bytes};
 use crate::values::{Digest, Index, MAX_LEVEL, Nonce, in_range};
 use std::alloc::{AllocError, Global};
-
-/// A way to an index from a level down: the siblings beside it, and its end.
-#[derive(Clone, Copy)]
-pub(crate) struct Way<'a> {
-    pub(crate) siblings: &'a [Digest],
-    pub(crate) end: &'a End,
-}
 
 /// The position at which two ways to one index differ.
 #[derive(Drop)]
@@ -273,8 +266,16 @@ pub(crate) fn parted<H: Hash32>(
             siblings_a,
             siblings_b,
         } => {
-            let x = level_bytes(alloc, h, nonce, index, level, siblings_a, a.end)?;
-            let y = level_bytes(alloc, h, nonce, index, level, siblings_b, b.end)?;
+            let a = Way {
+                siblings: siblings_a,
+                end: a.end,
+            };
+            let b = Way {
+                siblings: siblings_b,
+                end: b.end,
+            };
+            let x = level_bytes(alloc, h, nonce, index, level, a)?;
+            let y = level_bytes(alloc, h, nonce, index, level, b)?;
             Ok((x, y))
         }
     }

@@ -1,6 +1,6 @@
 //! Messages that are hashed for nodes, four at a time.
 
-ghost use Rattle.std.specs.Prelude.{◌≡◌, ◌++◌, ◌∷◌, [], ◌≤◌, List, ℕ, flat_map, map, IfOk, OnOk};
+ghost use Rattle.std.specs.Prelude.{◌≡◌, ◌++◌, ◌≤◌, List, ℕ, flat_map, length, map, IfOk, OnOk};
 ghost use Rattle.coniks_proof.specs.Messages.{preimage_of};
 ghost use Rattle.coniks_proof.specs.Preimages.{empty_preimage, leaf_preimage};
 
@@ -56,16 +56,14 @@ pub fn leaf_message(index: &Index, level: usize, commitment: &Digest) -> Message
 fn hash_next<H: Hash32>(
     h: &H,
     nonce: &Nonce,
-    a: &Message,
-    b: &Message,
-    c: &Message,
-    d: &Message,
+    four: &[Message],
     hashes: &mut VecDeque<Digest>,
 ) -> Result<(), AllocError>
-    ensures { OnOk result (map (λ hash. hash.0) hashes.new.items ≡ map (λ hash. hash.0) hashes.old.items
-        ++ H.digest_of h.now (preimage_of nonce.now.0 a.now) ∷ H.digest_of h.now (preimage_of nonce.now.0 b.now)
-        ∷ H.digest_of h.now (preimage_of nonce.now.0 c.now) ∷ H.digest_of h.now (preimage_of nonce.now.0 d.now) ∷ []) }
+    requires { length four.now ≡ 4 }
+    ensures { OnOk result (map (λ hash. hash.0) hashes.new.items
+        ≡ map (λ hash. hash.0) hashes.old.items ++ map (λ message. H.digest_of h.now (preimage_of nonce.now.0 message)) four.now) }
 {
+    let [a, b, c, d] = four else { unreachable!() };
     let (a, b, c, d) = h.hash_four(
         &a.pieces(nonce),
         &b.pieces(nonce),
@@ -96,8 +94,9 @@ pub fn hash_all<H: Hash32>(
 {
     let mut hashes = VecDeque::with_capacity(alloc, messages.len())?;
     let mut rest = messages;
-    while let [a, b, c, d, others @ ..] = rest {
-        hash_next(h, nonce, a, b, c, d, &mut hashes)?;
+    while rest.len() >= 4 {
+        let (four, others) = rest.split_at(4);
+        hash_next(h, nonce, four, &mut hashes)?;
         rest = others;
     }
     for message in rest {

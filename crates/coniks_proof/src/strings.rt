@@ -13,6 +13,13 @@ use crate::proof_ref::Siblings;
 use crate::values::{Digest, Index, MAX_KEY, MAX_LEVEL, MAX_NAME, Nonce, Opening};
 use std::alloc::{AllocError, Global};
 
+/// A way to an index from a level down: the siblings beside it, and its end.
+#[derive(Clone, Copy)]
+pub(crate) struct Way<'a> {
+    pub(crate) siblings: &'a [Digest],
+    pub(crate) end: &'a End,
+}
+
 /// Returns the pieces, one after another, with room for this number of bytes from the start.
 fn bytes_of(alloc: Global, room: usize, pieces: &[&[u8]]) -> Result<Bytes, AllocError>
     ensures { IfOk result (λ bytes. bytes ≡ flat_map (λ piece. piece.now) pieces.now) }
@@ -118,25 +125,24 @@ fn end_bytes<H: Hash32>(
     }
 }
 
-/// Returns the preimage at a level on the way to an index, over the siblings from there down.
+/// Returns the preimage at a level on the way to an index.
 pub(crate) fn level_bytes<H: Hash32>(
     alloc: Global,
     h: &H,
     nonce: &Nonce,
     index: &Index,
     level: usize,
-    siblings: &[Digest],
-    end: &End,
+    way: Way<'_>,
 ) -> Result<Bytes, AllocError>
-    requires deep { level + length siblings.now ≤ MAX_LEVEL }
-    requires fits { LengthsFit end.now }
-    ensures { IfOk result (λ bytes. bytes ≡ preimage (H.digest_of h.now) nonce.now.0 index.now.0 level siblings.now end.now) }
+    requires deep { level + length way.siblings.now ≤ MAX_LEVEL }
+    requires fits { LengthsFit way.end.now }
+    ensures { IfOk result (λ bytes. bytes ≡ preimage (H.digest_of h.now) nonce.now.0 index.now.0 level way.entry.siblings.now way.entry.end.now) }
 {
-    match siblings.split_first() {
-        None => end_bytes(alloc, h, nonce, index, level, end),
+    match way.siblings.split_first() {
+        None => end_bytes(alloc, h, nonce, index, level, way.end),
         Some((sibling, rest)) => {
             let rest = Siblings::Listed(rest);
-            let below = carried(h, nonce, index, level + 1, &rest, &end.borrowed());
+            let below = carried(h, nonce, index, level + 1, &rest, &way.end.borrowed());
             joined_bytes(alloc, bit(index, level), sibling, &below)
         }
     }

@@ -10,8 +10,8 @@ use crate::growth::{only_change, sides};
 use crate::halving::opened;
 use crate::joining::{Pair, join_all};
 use crate::part::{Change, Part, join_parts};
-use crate::table::{Node, Record};
-use coniks_proof::{Hash32, Nonce, Prefix};
+use crate::table::{Base, Node, Record};
+use coniks_proof::{Hash32, Prefix};
 use std::alloc::{AllocError, Global};
 use std::cmp::max;
 use std::collections::VecDeque;
@@ -128,6 +128,7 @@ fn divide_all<'a>(
     ensures divide { IfOk result (λ both. (digest_of : List ℕ → List ℕ) (nonce : List ℕ)
         → AllDivide digest_of nonce nodes.now records.now growing.entry.items both.0.items both.1.items) }
 {
+    // Read for the contract alone.
     let _ = level;
     let mut opened = VecDeque::with_capacity(alloc, growing.len())?;
     let room = max(growing.len(), all_inner_below(nodes, &growing));
@@ -189,24 +190,22 @@ fn fill(
 /// time.
 fn grow_level<H: Hash32>(
     alloc: Global,
-    nodes: &[Node],
-    records: &[Record],
-    h: &H,
-    nonce: &Nonce,
+    base: &Base<'_, H>,
     level: usize,
     growing: VecDeque<Growing>,
 ) -> Result<VecDeque<Part>, AllocError>
-    requires table { IsTable nodes.now records.now }
-    requires growing { AllOpen (length nodes.now) level growing.items }
-    ensures { IfOk result (λ parts. AllGrown (H.digest_of h.now) nonce.now.0 nodes.now records.now growing.entry.items parts.items) }
+    requires table { IsTable base.now.nodes.now base.now.records.now }
+    requires growing { AllOpen (length base.now.nodes.now) level growing.items }
+    ensures { IfOk result (λ parts. AllGrown (H.digest_of base.now.h.now) base.now.nonce.now.0
+        base.now.nodes.now base.now.records.now growing.entry.items parts.items) }
 {
     if growing.is_empty() {
         return Ok(VecDeque::new(alloc));
     }
-    let (opened, next) = divide_all(alloc, nodes, records, level, growing)?;
-    let below = grow_level(alloc, nodes, records, h, nonce, level + 1, next)?;
+    let (opened, next) = divide_all(alloc, base.nodes, base.records, level, growing)?;
+    let below = grow_level(alloc, base, level + 1, next)?;
     let pairs = fill(alloc, opened, below)?;
-    Ok(join_all(alloc, nodes, h, nonce, pairs)?)
+    Ok(join_all(alloc, base.nodes, base.h, base.nonce, pairs)?)
 }
 
 /// Returns the part overwritten by changes, for which it has to be opened, level by level.
@@ -215,24 +214,22 @@ fn grow_level<H: Hash32>(
 #[inline(never)]
 pub(crate) fn grow_by_levels<H: Hash32>(
     alloc: Global,
-    nodes: &[Node],
-    records: &[Record],
-    h: &H,
-    nonce: &Nonce,
+    base: &Base<'_, H>,
     part: Part,
     prefix: &Prefix,
     changes: &[Change],
 ) -> Result<Part, AllocError>
-    requires table { IsTable nodes.now records.now }
+    requires table { IsTable base.now.nodes.now base.now.records.now }
     requires short { length prefix.now < 256 }
     requires some { 0 < length changes.now }
-    requires fits { Fits (length nodes.now) (length prefix.now) part }
-    ensures { IfOk result (λ grown. IsGrown (H.digest_of h.now) nonce.now.0 nodes.now records.now prefix.now part changes.now grown) }
+    requires fits { Fits (length base.now.nodes.now) (length prefix.now) part }
+    ensures { IfOk result (λ grown. IsGrown (H.digest_of base.now.h.now) base.now.nonce.now.0
+        base.now.nodes.now base.now.records.now prefix.now part changes.now grown) }
 {
     let mut next = VecDeque::with_capacity(alloc, 2)?;
-    let (left, right) = divide(nodes, records, part, prefix, changes, &mut next)?;
-    let mut below = grow_level(alloc, nodes, records, h, nonce, prefix.len() + 1, next)?;
+    let (left, right) = divide(base.nodes, base.records, part, prefix, changes, &mut next)?;
+    let mut below = grow_level(alloc, base, prefix.len() + 1, next)?;
     let left = side_or_first(left, &mut below);
     let right = side_or_first(right, &mut below);
-    Ok(join_parts(alloc, nodes, h, nonce, prefix, left, right)?)
+    Ok(join_parts(alloc, base, prefix, left, right)?)
 }

@@ -8,7 +8,7 @@ ghost use Rattle.coniks_tree.specs.Table.{Numbered};
 ghost use Rattle.coniks_tree.specs.Counts.{joined_count};
 ghost use Rattle.coniks_tree.specs.Parts.{Stands, Fits, KeepsNone, Placed, IsSubtree, entries_in, node_count, weight_of};
 
-use crate::table::{Node, Record, RecordNo, Root, node_of};
+use crate::table::{Base, Node, Record, RecordNo, Root, node_of};
 use coniks_proof::{Digest, Hash32, Index, Nonce, Prefix, bit, empty_hash, inner_hash, leaf_hash};
 use std::alloc::{AllocError, Global};
 
@@ -145,25 +145,25 @@ pub(crate) fn made(
 /// Joins two parts of neighbouring prefixes to the part of the prefix above.
 pub(crate) fn join_parts<H: Hash32>(
     alloc: Global,
-    nodes: &[Node],
-    h: &H,
-    nonce: &Nonce,
+    base: &Base<'_, H>,
     prefix: &Prefix,
     left: Part,
     right: Part,
 ) -> Result<Part, AllocError>
     requires short { length prefix.now < 256 }
-    requires left { Fits (length nodes.now) (length prefix.now + 1) left }
-    requires right { Fits (length nodes.now) (length prefix.now + 1) right }
-    ensures fits { IfOk result (λ part. Fits (length nodes.now) (length prefix.now) part) }
+    requires left { Fits (length base.now.nodes.now) (length prefix.now + 1) left }
+    requires right { Fits (length base.now.nodes.now) (length prefix.now + 1) right }
+    ensures fits { IfOk result (λ part. Fits (length base.now.nodes.now) (length prefix.now) part) }
     ensures count { IfOk result (λ part. node_count part ≤ node_count left + node_count right + 1) }
     ensures new { IfOk result (λ part. node_count part ≡ joined_count left right) }
     ensures keeps { IfOk result (λ part. KeepsNone left → KeepsNone right → KeepsNone part) }
     ensures placed { IfOk result (λ part. (all : List Record) → Placed all left → Placed all right → Placed all part) }
     ensures stands { IfOk result (λ part. (records : List Record) (entries : List Numbered)
-        → Stands (H.digest_of h.now) nonce.now.0 nodes.now records left (child prefix.now false) (half false (length prefix.now) entries)
-        → Stands (H.digest_of h.now) nonce.now.0 nodes.now records right (child prefix.now true) (half true (length prefix.now) entries)
-        → Stands (H.digest_of h.now) nonce.now.0 nodes.now records part prefix.now entries) }
+        → Stands (H.digest_of base.now.h.now) base.now.nonce.now.0 base.now.nodes.now records
+        left (child prefix.now false) (half false (length prefix.now) entries)
+        → Stands (H.digest_of base.now.h.now) base.now.nonce.now.0 base.now.nodes.now records
+        right (child prefix.now true) (half true (length prefix.now) entries)
+        → Stands (H.digest_of base.now.h.now) base.now.nonce.now.0 base.now.nodes.now records part prefix.now entries) }
 {
     let weight_left = weight(&left);
     if weight_left + weight(&right) < 2 {
@@ -172,8 +172,8 @@ pub(crate) fn join_parts<H: Hash32>(
         }
         return Ok(right);
     }
-    let left_hash = hash_at(nodes, h, nonce, &prefix.child(false), &left);
-    let right_hash = hash_at(nodes, h, nonce, &prefix.child(true), &right);
-    let hash = inner_hash(h, &left_hash, &right_hash);
+    let left_hash = hash_at(base.nodes, base.h, base.nonce, &prefix.child(false), &left);
+    let right_hash = hash_at(base.nodes, base.h, base.nonce, &prefix.child(true), &right);
+    let hash = inner_hash(base.h, &left_hash, &right_hash);
     Ok(made(alloc, left, right, left_hash, right_hash, hash)?)
 }

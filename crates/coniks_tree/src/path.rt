@@ -138,6 +138,7 @@ pub(crate) fn last_number(nodes: &[Node], records: &[Record], root: usize, index
     let mut number = root;
     let mut level = 0;
     while let Some((near, beside)) = step(nodes, records, number, index, level) {
+        // Read for the contract alone.
         let _ = beside;
         number = near;
         level += 1;

@@ -3,7 +3,7 @@
 ghost use Rattle.std.specs.Prelude.{◌≡◌, ◌<◌, length, slice_get, Some};
 ghost use Rattle.coniks_tree.specs.Table.{hash_of_node};
 
-use coniks_proof::{Binding, Digest, Index, Opening};
+use coniks_proof::{Binding, Digest, Index, Nonce, Opening};
 
 /// The number of a record: its position in the list of a tree's records, from 0.
 #[derive(Clone, Copy, Debug, PartialEq, Eq)]
@@ -34,6 +34,15 @@ pub enum Node {
     Empty(Digest),
     Leaf(RecordNo, Digest),
     Inner(usize, usize, Digest),
+}
+
+/// What new parts are made over: the nodes and records of a tree, and the hash and nonce of the new nodes.
+#[derive(Clone, Copy)]
+pub(crate) struct Base<'a, H> {
+    pub(crate) nodes: &'a [Node],
+    pub(crate) records: &'a [Record],
+    pub(crate) h: &'a H,
+    pub(crate) nonce: &'a Nonce,
 }
 
 /// Returns the node of this number.

@@ -18,7 +18,7 @@ use crate::growth::grow_part;
 use crate::part::{Change, Part, hash_at, join_parts, new_nodes};
 use crate::part_at::part_under;
 use crate::path::{find_from, path_from};
-use crate::table::{Node, Record, RecordNo, Root, node_of, record_of};
+use crate::table::{Base, Node, Record, RecordNo, Root, node_of, record_of};
 use coniks_proof::{Digest, Hash32, Index, Nonce, OutOfMemory, Prefix, Proof};
 use std::alloc::Global;
 
@@ -183,7 +183,13 @@ impl Tree {
             right (child prefix.now true) (half true (length prefix.now) entries)
             → Stands (H.digest_of h.now) nonce.now.0 self.now.nodes.items self.now.records.items part prefix.now entries) }
     {
-        Ok(join_parts(self.alloc, &self.nodes, h, nonce, prefix, left, right)?)
+        let base = Base {
+            nodes: &self.nodes,
+            records: &self.records,
+            h,
+            nonce,
+        };
+        Ok(join_parts(self.alloc, &base, prefix, left, right)?)
     }
 
     /// Overwrites the part of a prefix, which is an argument, with changes, and returns the new part.
@@ -222,16 +228,13 @@ impl Tree {
             → Stands (H.digest_of h.now) nonce.now.0 self.now.nodes.items self.now.records.items
             grown prefix.now (overwritten entries (entries_in changes.now))) }
     {
-        Ok(grow_part(
-            self.alloc,
-            &self.nodes,
-            &self.records,
+        let base = Base {
+            nodes: &self.nodes,
+            records: &self.records,
             h,
             nonce,
-            part,
-            prefix,
-            changes,
-        )?)
+        };
+        Ok(grow_part(self.alloc, &base, part, prefix, changes)?)
     }
 
     /// Returns the number of nodes that an attach of a part adds, its empty nodes and its topmost one included.

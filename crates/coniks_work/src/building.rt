@@ -9,7 +9,7 @@ ghost use Rattle.coniks_tree.specs.declared.table.Record.{Record};
 ghost use Rattle.coniks_work.specs.Grown.{IsOldMap, unchanged};
 
 use crate::gate::Gate;
-use crate::growing::Growing;
+use crate::growing::{Growing, Old};
 use crate::jobs::{MAX_DEPTH, all_jobs};
 use crate::pool::all_parts;
 use crate::upwards::join_upwards;
@@ -109,23 +109,17 @@ pub fn build<H: Hash32 + Sync, G: Gate + Sync, R: Threads + Sync>(
     }
     let depth = cut_for(workers, changes.len(), depth);
     let jobs = all_jobs(alloc, changes, depth)?;
-    let growing = Growing {
+    let old = Old {
         tree,
         h,
         nonce,
         root,
+    };
+    let growing = Growing {
+        old: &old,
         changes,
         jobs: &jobs,
     };
     let mut parts = all_parts(rt, alloc, jobs.len(), workers, &growing, gate)?;
-    Ok(join_upwards(
-        tree,
-        h,
-        nonce,
-        root,
-        depth,
-        &Prefix::root(),
-        changes,
-        &mut parts,
-    )?)
+    Ok(join_upwards(&old, depth, &Prefix::root(), changes, &mut parts)?)
 }

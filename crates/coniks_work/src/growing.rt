@@ -26,6 +26,7 @@ pub(crate) fn old_part(tree: &Tree, root: Option<Root>, prefix: &Prefix) -> Part
         → IsOldMap hash nonce tree.now.nodes.items tree.now.records.items root old
         → Stands hash nonce tree.now.nodes.items tree.now.records.items result prefix.now (under prefix.now old) }
 {
+    // Read for the contract alone.
     let _level = prefix.len();
     match root {
         Some(root) => tree.part_at(root, prefix),
@@ -33,21 +34,27 @@ pub(crate) fn old_part(tree: &Tree, root: Option<Root>, prefix: &Prefix) -> Part
     }
 }
 
+/// An old root of a tree, if there is one, and the hash and nonce of the new nodes.
+#[derive(Clone, Copy)]
+pub(crate) struct Old<'a, H> {
+    pub(crate) tree: &'a Tree,
+    pub(crate) h: &'a H,
+    pub(crate) nonce: &'a Nonce,
+    pub(crate) root: Option<Root>,
+}
+
 /// Returns the part that the old root shows under a prefix, overwritten by changes of indices under it.
 pub(crate) fn grown_part<H: Hash32>(
-    tree: &Tree,
-    h: &H,
-    nonce: &Nonce,
-    root: Option<Root>,
+    old: &Old<'_, H>,
     prefix: &Prefix,
     changes: &[Change],
 ) -> Result<Part, OutOfMemory>
-    requires { IfSome root (λ r. r.0 < length tree.now.nodes.items) }
-    ensures { IfOk result (λ part. IsGrown (H.digest_of h.now) nonce.now.0
-        tree.now.nodes.items tree.now.records.items root prefix.now (entries_in changes.now) part) }
+    requires { IfSome old.now.root (λ r. r.0 < length old.now.tree.now.nodes.items) }
+    ensures { IfOk result (λ part. IsGrown (H.digest_of old.now.h.now) old.now.nonce.now.0
+        old.now.tree.now.nodes.items old.now.tree.now.records.items old.now.root prefix.now (entries_in changes.now) part) }
 {
-    let old = old_part(tree, root, prefix);
-    Ok(tree.grow(h, nonce, old, prefix, changes)?)
+    let part = old_part(old.tree, old.root, prefix);
+    Ok(old.tree.grow(old.h, old.nonce, part, prefix, changes)?)
 }
 
 /// Returns the job of this number.
@@ -61,13 +68,10 @@ fn job_at(jobs: &[Job], number: usize) -> &Job
 /// The jobs, and the values that they need.
 #[derive(Drop)]
 pub(crate) struct Growing<'a, H> {
-    pub(crate) tree: &'a Tree,
-    pub(crate) h: &'a H,
-    pub(crate) nonce: &'a Nonce,
-    pub(crate) root: Option<Root>,
+    pub(crate) old: &'a Old<'a, H>,
     pub(crate) changes: &'a [Change],
     pub(crate) jobs: &'a [Job],
-    pub(crate) ghost known: { IfSome root (λ r. r.0 < length tree.now.nodes.items) } by { Prim.hlevel props },
+    pub(crate) ghost known: { IfSome old.now.root (λ r. r.0 < length old.now.tree.now.nodes.items) } by { Prim.hlevel props },
     pub(crate) ghost within: { LieWithin (length changes.now) jobs.now },
 }
 
@@ -81,19 +85,12 @@ impl<'a, H: Hash32> Work for Growing<'a, H> {
     ghost count = { λ w. length w.jobs.now };
 
     ghost part = { λ w number part. (job : Job) × (slice_get w.jobs.now number ≡ Some job)
-        × IsGrown (H.digest_of w.h.now) w.nonce.now.0 w.tree.now.nodes.items
-        w.tree.now.records.items w.root job.prefix (entries_in (in_range job w.changes.now)) part };
+        × IsGrown (H.digest_of w.old.now.h.now) w.old.now.nonce.now.0 w.old.now.tree.now.nodes.items
+        w.old.now.tree.now.records.items w.old.now.root job.prefix (entries_in (in_range job w.changes.now)) part };
 
     fn run(&self, number: usize) -> Result<Part, OutOfMemory> {
         let job = job_at(self.jobs, number);
         let changes = &self.changes[job.from..job.to];
-        Ok(grown_part(
-            self.tree,
-            self.h,
-            self.nonce,
-            self.root,
-            &job.prefix,
-            changes,
-        )?)
+        Ok(grown_part(self.old, &job.prefix, changes)?)
     }
 }

@@ -5,10 +5,10 @@ ghost use Rattle.coniks_tree.specs.Parts.{entries_in};
 ghost use Rattle.coniks_tree.specs.declared.part.Part.{Part};
 ghost use Rattle.coniks_work.specs.Grown.{IsGrown, AreGrown};
 
-use crate::growing::old_part;
+use crate::growing::{Old, old_part};
 use crate::jobs::MAX_DEPTH;
-use coniks_proof::{Hash32, Nonce, Prefix};
-use coniks_tree::{Change, OutOfMemory, Part, Root, Tree, sides};
+use coniks_proof::{Hash32, Prefix};
+use coniks_tree::{Change, OutOfMemory, Part, sides};
 
 /// Returns the last of the parts.
 fn last_part(parts: &mut Vec<Part>) -> Part
@@ -26,29 +26,26 @@ fn last_part(parts: &mut Vec<Part>) -> Part
 /// It takes the parts of the jobs under the prefix, which are the last ones. A prefix without changes is taken whole, so
 /// it is not opened further.
 pub(crate) fn join_upwards<H: Hash32>(
-    tree: &Tree,
-    h: &H,
-    nonce: &Nonce,
-    root: Option<Root>,
+    old: &Old<'_, H>,
     depth: usize,
     prefix: &Prefix,
     changes: &[Change],
     parts: &mut Vec<Part>,
 ) -> Result<Part, OutOfMemory>
-    requires root { IfSome root (λ r. r.0 < length tree.now.nodes.items) }
+    requires root { IfSome old.now.root (λ r. r.0 < length old.now.tree.now.nodes.items) }
     requires depth { (length prefix.now ≤ depth) × (depth ≤ MAX_DEPTH) }
     requires parts { (before : List Part) × (mine : List Part) × (parts.old.items ≡ before ++ mine)
-        × AreGrown (H.digest_of h.now) nonce.now.0 tree.now.nodes.items tree.now.records.items
-        root (depth - length prefix.now) prefix.now (entries_in changes.now) mine }
+        × AreGrown (H.digest_of old.now.h.now) old.now.nonce.now.0 old.now.tree.now.nodes.items old.now.tree.now.records.items
+        old.now.root (depth - length prefix.now) prefix.now (entries_in changes.now) mine }
     ensures taken { OnOk result ((before mine : List Part) → parts.old.items ≡ before ++ mine
-        → AreGrown (H.digest_of h.now) nonce.now.0 tree.now.nodes.items tree.now.records.items
-        root (depth - length prefix.now) prefix.now (entries_in changes.now) mine
+        → AreGrown (H.digest_of old.now.h.now) old.now.nonce.now.0 old.now.tree.now.nodes.items old.now.tree.now.records.items
+        old.now.root (depth - length prefix.now) prefix.now (entries_in changes.now) mine
         → parts.new.items ≡ before) }
-    ensures grown { IfOk result (λ part. IsGrown (H.digest_of h.now) nonce.now.0
-        tree.now.nodes.items tree.now.records.items root prefix.now (entries_in changes.now) part) }
+    ensures grown { IfOk result (λ part. IsGrown (H.digest_of old.now.h.now) old.now.nonce.now.0
+        old.now.tree.now.nodes.items old.now.tree.now.records.items old.now.root prefix.now (entries_in changes.now) part) }
 {
     if changes.is_empty() {
-        return Ok(old_part(tree, root, prefix));
+        return Ok(old_part(old.tree, old.root, prefix));
     }
     let level = prefix.len();
     if level == depth {
@@ -56,8 +53,8 @@ pub(crate) fn join_upwards<H: Hash32>(
     }
     let (on_left, on_right) = sides(changes, level);
     let below_right = prefix.child(true);
-    let right = join_upwards(tree, h, nonce, root, depth, &below_right, on_right, parts)?;
+    let right = join_upwards(old, depth, &below_right, on_right, parts)?;
     let below_left = prefix.child(false);
-    let left = join_upwards(tree, h, nonce, root, depth, &below_left, on_left, parts)?;
-    Ok(tree.join(h, nonce, prefix, left, right)?)
+    let left = join_upwards(old, depth, &below_left, on_left, parts)?;
+    Ok(old.tree.join(old.h, old.nonce, prefix, left, right)?)
 }

@@ -14,7 +14,7 @@ pub returns-then-is_empty-clause-stands : goal.returns-then-is_empty-clause-stan
 returns-then-is_empty-clause-stands g t c = λ entries ordered apart s.
     let none : c.args.changes.now ≡ [] = nil_from_length c.args.changes.now (grind (arith, nat_tests, c.is_empty.ensures, c.if-is_empty.true)) in
     let same : entries ≡ overwritten entries (entries_in c.args.changes.now) = sym (ap (λ cs. overwritten entries (entries_in cs)) none ∙ overwritten-nothing entries) in
-    subst (Stands (g.H.Hash32.digest_of c.args.h.now) c.args.nonce.now.0 c.args.nodes.now c.args.records.now c.args.part c.args.prefix.now) same s
+    subst (Stands (g.H.Hash32.digest_of c.args.base.now.h.now) c.args.base.now.nonce.now.0 c.args.base.now.nodes.now c.args.base.now.records.now c.args.part c.args.prefix.now) same s
 
 pub returns-clause-count : goal.returns-clause-count
 returns-clause-count g t c = λ old some.
@@ -31,10 +31,10 @@ returns-clause-count g t c = λ old some.
 
 pub returns-clause-stands : goal.returns-clause-stands
 returns-clause-stands g t c = λ entries ordered apart s.
-    let hash = g.H.Hash32.digest_of c.args.h.now in
-    let nonce = c.args.nonce.now.0 in
-    let nodes = c.args.nodes.now in
-    let records = c.args.records.now in
+    let hash = g.H.Hash32.digest_of c.args.base.now.h.now in
+    let nonce = c.args.base.now.nonce.now.0 in
+    let nodes = c.args.base.now.nodes.now in
+    let records = c.args.base.now.records.now in
     let p = c.args.prefix.now in
     let cs = c.args.changes.now in
     let short : length p < 256 = omega (arith, c.only_change.ensures.none c.in_default.is, c.len-level.ensures.len) in
@@ -60,22 +60,22 @@ returns-clause-placed g t c = λ all more placed each.
 pub returns-then-is_empty-clause-new : goal.returns-then-is_empty-clause-new
 returns-then-is_empty-clause-new g t c = λ old below entries ordered apart s.
     let none : c.args.changes.now ≡ [] = nil_from_length c.args.changes.now (grind (arith, nat_tests, c.is_empty.ensures, c.if-is_empty.true)) in
-    new-unchanged _ _ c.args.nodes.now c.args.records.now c.args.part c.args.prefix.now (length c.args.prefix.now) entries (entries_in c.args.changes.now) (ap entries_in none) old
+    new-unchanged _ _ c.args.base.now.nodes.now c.args.base.now.records.now c.args.part c.args.prefix.now (length c.args.prefix.now) entries (entries_in c.args.changes.now) (ap entries_in none) old
     (omega (arith, below, ap length none)) s
 
 pub returns-in-Some-clause-new : goal.returns-in-Some-clause-new
 returns-in-Some-clause-new g t c = λ old below entries ordered apart s.
     let cs = entries_in c.args.changes.now in
-    let left = c.in-Some.ensures.stands _ _ c.args.nodes.now c.args.records.now c.args.prefix.now entries
+    let left = c.in-Some.ensures.stands _ _ c.args.base.now.nodes.now c.args.base.now.records.now c.args.prefix.now entries
     (subst (λ k. AreApart k (overwritten entries cs)) (sym c.len-level.ensures.len) apart) s in
     sym (new-one (length c.args.prefix.now) entries cs (omega (arith, ap length left)))
 
 pub returns-clause-new : goal.returns-clause-new
 returns-clause-new g t c = λ old below entries ordered apart s.
-    let hash = g.H.Hash32.digest_of c.args.h.now in
-    let nonce = c.args.nonce.now.0 in
-    let nodes = c.args.nodes.now in
-    let records = c.args.records.now in
+    let hash = g.H.Hash32.digest_of c.args.base.now.h.now in
+    let nonce = c.args.base.now.nonce.now.0 in
+    let nodes = c.args.base.now.nodes.now in
+    let records = c.args.base.now.records.now in
     let p = c.args.prefix.now in
     let cs = entries_in c.args.changes.now in
     let at = c.len-level.ensures.len in

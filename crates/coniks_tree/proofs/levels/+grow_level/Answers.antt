@@ -3,14 +3,14 @@ use Rattle.coniks_tree.proofs.levels.+grow_level.Goals as goal
 
 pub join_all-requires : goal.join_all-requires
 join_all-requires g t c =
-    let digest_of = g.H.Hash32.digest_of c.args.h.now in
-    let nonce = c.args.nonce.now.0 in
-    divided-fit digest_of nonce c.args.nodes.now c.args.records.now c.args.growing.items c.in_ok-pairs.pairs.items
+    let digest_of = g.H.Hash32.digest_of c.args.base.now.h.now in
+    let nonce = c.args.base.now.nonce.now.0 in
+    divided-fit digest_of nonce c.args.base.now.nodes.now c.args.base.now.records.now c.args.growing.items c.in_ok-pairs.pairs.items
     (rw c.in_ok-pairs.ensures (c.in_ok-opened.ensures.divide digest_of nonce c.in_ok-below.below.items c.in_ok-below.ensures))
 
 pub returns : goal.returns
 returns g t c =
-    let digest_of = g.H.Hash32.digest_of c.args.h.now in
-    let nonce = c.args.nonce.now.0 in
-    joined-grown digest_of nonce c.args.nodes.now c.args.records.now c.args.growing.items c.in_ok-pairs.pairs.items c.in_ok-join_all.field-0.items
+    let digest_of = g.H.Hash32.digest_of c.args.base.now.h.now in
+    let nonce = c.args.base.now.nonce.now.0 in
+    joined-grown digest_of nonce c.args.base.now.nodes.now c.args.base.now.records.now c.args.growing.items c.in_ok-pairs.pairs.items c.in_ok-join_all.field-0.items
     (rw c.in_ok-pairs.ensures (c.in_ok-opened.ensures.divide digest_of nonce c.in_ok-below.below.items c.in_ok-below.ensures)) c.in_ok-join_all.ensures

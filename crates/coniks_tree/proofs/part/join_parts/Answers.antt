@@ -9,17 +9,17 @@ use Rattle.coniks_tree.proofs.part.join_parts.Goals as goal
 
 pub returns-then-weight_left-eq1-clause-stands : goal.returns-then-weight_left-eq1-clause-stands
 returns-then-weight_left-eq1-clause-stands g c = λ records entries sl sr.
-    join_left _ _ c.args.nodes.now records c.args.left c.args.right c.args.prefix.now entries (omega arith) (omega arith) sl sr
+    join_left _ _ c.args.base.now.nodes.now records c.args.left c.args.right c.args.prefix.now entries (omega arith) (omega arith) sl sr
 
 pub returns-then-weight_left-weight-lt2-clause-stands : goal.returns-then-weight_left-weight-lt2-clause-stands
 returns-then-weight_left-weight-lt2-clause-stands g c = λ records entries sl sr.
-    join_right _ _ c.args.nodes.now records c.args.left c.args.right c.args.prefix.now entries (omega arith) (omega arith) sl sr
+    join_right _ _ c.args.base.now.nodes.now records c.args.left c.args.right c.args.prefix.now entries (omega arith) (omega arith) sl sr
 
 pub returns-clause-stands : goal.returns-clause-stands
 returns-clause-stands g c = λ records entries sl sr.
-    let hash = g.H.Hash32.digest_of c.args.h.now in
-    let nonce = c.args.nonce.now.0 in
-    let nodes = c.args.nodes.now in
+    let hash = g.H.Hash32.digest_of c.args.base.now.h.now in
+    let nonce = c.args.base.now.nonce.now.0 in
+    let nodes = c.args.base.now.nodes.now in
     let p = c.args.prefix.now in
     let heavy : 2 ≤ weight_of c.args.left + weight_of c.args.right = omega arith in
     let many = join_many hash nonce nodes records c.args.left c.args.right p entries heavy sl sr in

@@ -3,9 +3,9 @@ use Rattle.coniks_work.proofs.growing.grown_part.Goals as goal
 
 pub returns : goal.returns
 returns g c =
-    let hash = g.H.Hash32.digest_of c.args.h.now in
-    let nonce = c.args.nonce.now.0 in
-    let old = c.old_part-old.ensures in
+    let hash = g.H.Hash32.digest_of c.args.old.now.h.now in
+    let nonce = c.args.old.now.nonce.now.0 in
+    let old = c.old_part-part.ensures in
     let grown = c.in_ok-grow.ensures in
-    grown_from hash nonce c.args.tree.now.nodes.items c.args.tree.now.records.items c.args.root c.args.prefix.now c.args.changes.now c.old_part-old.result c.in_ok-grow.field-0
+    grown_from hash nonce c.args.old.now.tree.now.nodes.items c.args.old.now.tree.now.records.items c.args.old.now.root c.args.prefix.now c.args.changes.now c.old_part-part.result c.in_ok-grow.field-0
     old.unmade old.count old.keeps old.placed (old.stands hash nonce) grown.fits grown.same grown.placed grown.count grown.stands grown.keeps grown.new

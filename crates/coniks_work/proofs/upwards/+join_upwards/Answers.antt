@@ -16,7 +16,8 @@ pub returns-then-is_empty-clause-grown : goal.returns-then-is_empty-clause-grown
 returns-then-is_empty-clause-grown g t c =
     let none : c.args.changes.now ≡ [] = nil_from_length c.args.changes.now (grind (arith, nat_tests, c.is_empty.ensures, c.if-is_empty.true)) in
     let old = c.old_part.ensures in
-    rw none (old_grown _ _ _ _ _ c.args.prefix.now c.old_part.result old.unmade old.fits old.count old.keeps old.placed (old.stands (g.H.Hash32.digest_of c.args.h.now) c.args.nonce.now.0))
+    rw none (old_grown _ _ _ _ _ c.args.prefix.now c.old_part.result old.unmade old.fits old.count old.keeps old.placed
+    (old.stands (g.H.Hash32.digest_of c.args.old.now.h.now) c.args.old.now.nonce.now.0))
 
 pub returns-then-level-depth-clause-grown : goal.returns-then-level-depth-clause-grown
 returns-then-level-depth-clause-grown g t c =
@@ -26,7 +27,7 @@ returns-then-level-depth-clause-grown g t c =
     let same : length p ≡ c.args.depth = omega (arith, c.len-level.ensures.len, c.if-level-depth.true) in
     let r = c.requires.parts in
     -- the prefix has one part, which is the last one
-    let one = grown_one (g.H.Hash32.digest_of c.args.h.now) c.args.nonce.now.0 c.args.tree.now.nodes.items c.args.tree.now.records.items c.args.root
+    let one = grown_one (g.H.Hash32.digest_of c.args.old.now.h.now) c.args.old.now.nonce.now.0 c.args.old.now.tree.now.nodes.items c.args.old.now.tree.now.records.items c.args.old.now.root
     c.args.depth p (entries_in c.args.changes.now) r.1 same some r.3 in
     let last = same_from_push r.0 c.last_part.new.parts.items one.0 c.last_part.result (sym (r.2 ∙ ap (λ l. r.0 ++ l) one.1) ∙ c.last_part.ensures) in
     rw (← last.1) one.2
@@ -34,9 +35,9 @@ returns-then-level-depth-clause-grown g t c =
 -- ---- above it: the parts of the right side are taken first, and then those of the left one
 
 on_sides : (g : given.Over) (t : ℕ) (c : goal.After-sides g t) (before mine : List Part)
-    → AreGrown (g.H.Hash32.digest_of c.args.h.now) c.args.nonce.now.0 c.args.tree.now.nodes.items c.args.tree.now.records.items c.args.root
+    → AreGrown (g.H.Hash32.digest_of c.args.old.now.h.now) c.args.old.now.nonce.now.0 c.args.old.now.tree.now.nodes.items c.args.old.now.tree.now.records.items c.args.old.now.root
     (c.args.depth - length c.args.prefix.now) c.args.prefix.now (entries_in c.args.changes.now) mine
-    → OnSides (g.H.Hash32.digest_of c.args.h.now) c.args.nonce.now.0 c.args.tree.now.nodes.items c.args.tree.now.records.items c.args.root
+    → OnSides (g.H.Hash32.digest_of c.args.old.now.h.now) c.args.old.now.nonce.now.0 c.args.old.now.tree.now.nodes.items c.args.old.now.tree.now.records.items c.args.old.now.root
     c.args.depth c.args.prefix.now (entries_in c.args.changes.now) before mine
 on_sides g t c before mine grown =
     let some : 0 < length (entries_in c.args.changes.now) =
