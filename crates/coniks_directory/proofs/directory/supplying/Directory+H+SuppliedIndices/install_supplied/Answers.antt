@@ -6,9 +6,9 @@ use Rattle.coniks_directory.specs.SuppliedBatches.{IsSuppliedUpdate, indices_in,
 use Rattle.coniks_directory.specs.Updates.{LeavesSigner}
 use Rattle.coniks_directory.proofs.AgreementLemmas.{body_agree, update_of_agree, whole_agree}
 use Rattle.coniks_directory.proofs.SuppliedBatchLemmas.{all_ok, held_take, if_err-map, if_ok-map, kept_agree, of_ok, supplied_all}
-use Rattle.coniks_directory.proofs.directory.Directory+H+SuppliedIndices.install_supplied.Goals.{After-install, After-supply_all, Else-is_err}
-use Rattle.coniks_directory.proofs.directory.Directory+H+SuppliedIndices.install_supplied.Given as given
-use Rattle.coniks_directory.proofs.directory.Directory+H+SuppliedIndices.install_supplied.Goals as goal
+use Rattle.coniks_directory.proofs.directory.supplying.Directory+H+SuppliedIndices.install_supplied.Goals.{After-install, After-supply_all, Else-is_err}
+use Rattle.coniks_directory.proofs.directory.supplying.Directory+H+SuppliedIndices.install_supplied.Given as given
+use Rattle.coniks_directory.proofs.directory.supplying.Directory+H+SuppliedIndices.install_supplied.Goals as goal
 
 -- the registered names keep their indices, as far as the update's were supplied
 kept_in : (g : given.Over) (c : After-supply_all g)

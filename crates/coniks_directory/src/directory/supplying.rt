@@ -1,0 +1,376 @@
+//! A directory whose indices are supplied: lookups, batches and installs that come with the indices of names.
+
+ghost use Rattle.std.specs.Prelude.{◌≡◌, ◌<◌, ◌+◌, ◌-◌, ◌^◌, ◌++◌, ◌∷◌, [], List, ℕ, None, Some, IfErr, IfOk, OnErr, OnOk, length, true, false};
+ghost use Rattle.coniks_chain.specs.Entries.{body_bytes};
+ghost use Rattle.coniks_proof.specs.Batches.{after};
+ghost use Rattle.coniks_proof.specs.Registry.{has_name};
+ghost use Rattle.coniks_directory.specs.Batches.{IsAccepted, operations};
+ghost use Rattle.coniks_directory.specs.Directories.{FindsAt, HasGoodChain, NextBodyBy, ShowsAt, batch_index, entry, heads, history, registry};
+ghost use Rattle.coniks_directory.specs.History.{nonce_bytes};
+ghost use Rattle.coniks_directory.specs.Supplied.{IsMissedAt, MaySupply};
+ghost use Rattle.coniks_directory.specs.Updates.{HasRefused, IsUpdate, IsUpdateOf, RotatesTo};
+
+use crate::batch::{BatchFault, Op, within_limits};
+use crate::directory::Directory;
+use crate::install::may_install;
+use crate::judge::judged;
+use crate::lengths::is_name;
+use crate::lookup::{LookupAtFault, SignedProof};
+use crate::preparing::{Build, Origin, update_on};
+use crate::source::IndexSource;
+use crate::supplied::{SuppliedIndices, SupplyFault, SupplyIndex};
+use crate::supplied_batch::{
+    BatchIndices, SuppliedBatch, SuppliedBatchFault, earlier_of, supply_all,
+};
+use crate::update::{InstallFault, Prepared};
+use coniks_chain::{Entry, Sign};
+use coniks_proof::{Hash32, Index, Proof};
+use coniks_shared::{Board, Publisher};
+use coniks_work::Gate;
+use std::alloc::AllocError;
+use std::thread::Threads;
+
+impl<H: Hash32, X: IndexSource> Directory<H, X> {
+    ghost use Rattle.coniks_directory.specs.Supplied.{HasOtherIndex};
+
+    /// Returns whether the name is registered with an index other than this one.
+    pub fn has_other_index(&self, name: &[u8], index: &Index) -> bool
+        ensures yes { result ≡ true → HasOtherIndex (X.index_of self.now.index) (registry self.now) name.now index.now.0 }
+        ensures no { result ≡ false → has_name (registry self.now) name.now ≡ true → X.index_of self.now.index name.now ≡ index.now.0 }
+    {
+        let own = self.source.index(name);
+        own.0 != index.0 && self.is_registered_at(&own, name)
+    }
+
+    /// Looks up a name at an index that comes with the call, and stores nothing.
+    ///
+    /// The proof is the one that `lookup` returns if the source gives the name this index. The call waits for no other
+    /// thread.
+    ///
+    /// # Errors
+    ///
+    /// If several apply, the first in this order is returned.
+    ///
+    /// - `UnknownEpoch` if no epoch was installed under exactly this number.
+    /// - `NameLength` if the name is empty or longer than `MAX_NAME` bytes.
+    /// - `OtherIndex` if the name is registered with another index.
+    /// - `OutOfMemory` if an allocation fails.
+    pub fn lookup_at(&self, t: u64, name: &[u8], index: Index) -> Result<Proof, LookupAtFault>
+        ensures may { OnOk result (MaySupply (X.index_of self.now.index) (registry self.now) name.now index.0) }
+        ensures ok { IfOk result (FindsAt H.digest_of X.index_of self.now t name.now index.0) }
+        ensures accepted { IfOk result (ShowsAt H.digest_of X.index_of self.now t name.now index.0) }
+        ensures missed { IfErr result (IsMissedAt (X.index_of self.now.index) (history self.now) (registry self.now) t name.now index.0) }
+    {
+        Ok(self.signed_lookup_at(t, name, index)?.proof)
+    }
+
+    /// Looks up a name as `lookup_at` does, and returns the epoch's entry and the index with the proof.
+    ///
+    /// # Errors
+    ///
+    /// The errors of `lookup_at`, in the same order.
+    pub fn signed_lookup_at(
+        &self,
+        t: u64,
+        name: &[u8],
+        supplied: Index,
+    ) -> Result<SignedProof, LookupAtFault>
+        ensures entry { IfOk result (λ it. entry self.now t ≡ Some it.entry) }
+        ensures index { IfOk result (λ it. it.index ≡ supplied) }
+        ensures may { OnOk result (MaySupply (X.index_of self.now.index) (registry self.now) name.now supplied.0) }
+        ensures ok { IfOk result (λ it. FindsAt H.digest_of X.index_of self.now t name.now supplied.0 it.proof) }
+        ensures accepted { IfOk result (λ it. ShowsAt H.digest_of X.index_of self.now t name.now supplied.0 it.proof) }
+        ensures missed { IfErr result (IsMissedAt (X.index_of self.now.index) (history self.now) (registry self.now) t name.now supplied.0) }
+    {
+        let Some((epoch, signed)) = self.held.installed(t) else {
+            return Err(LookupAtFault::UnknownEpoch);
+        };
+        if !is_name(name) {
+            return Err(LookupAtFault::NameLength);
+        }
+        if self.has_other_index(name, &supplied) {
+            return Err(LookupAtFault::OtherIndex);
+        }
+        match self.held.tree.path(epoch.root, &supplied) {
+            Ok(proof) => Ok(SignedProof {
+                entry: signed,
+                index: supplied,
+                proof,
+            }),
+            Err(_) => Err(LookupAtFault::OutOfMemory),
+        }
+    }
+}
+
+impl<H: Hash32, X: SupplyIndex> Directory<H, X> {
+    ghost use Rattle.coniks_directory.specs.Supplied.{AgreeOn, IsSupplied, IsSupplyFault};
+    ghost use Rattle.coniks_directory.specs.Updates.{registry_after};
+
+    /// Supplies the index of a name, which the name has from then on.
+    ///
+    /// A registered name keeps its index and can be supplied it again. All that is installed is unchanged. A prepared
+    /// update can still be installed, unless it binds the name and was prepared under another index of it.
+    ///
+    /// # Errors
+    ///
+    /// If several apply, the first in this order is returned. After an error nothing has changed.
+    ///
+    /// - `NameLength` if the name is empty or longer than `MAX_NAME` bytes.
+    /// - `OtherIndex` if the name is registered with another index.
+    /// - `OutOfMemory` if an allocation fails.
+    pub fn supply(&mut self, name: &[u8], index: Index) -> Result<(), SupplyFault>
+        ensures supplied { OnOk result (IsSupplied (X.index_of self.old.index) name.now index.0 (X.index_of self.new.index)) }
+        ensures may { OnOk result (MaySupply (X.index_of self.old.index) (registry self.old) name.now index.0) }
+        ensures agree { AgreeOn (X.index_of self.old.index) (X.index_of self.new.index) (registry self.old) }
+        ensures updates { OnOk result ((update : Prepared)
+            → (has_name (registry_after self.old.state update) name.now ≡ true → X.index_of self.old.index name.now ≡ index.0)
+            → IsUpdateOf (H.digest_of self.old.hash) (X.index_of self.old.index) self.old.state update
+            → IsUpdateOf (H.digest_of self.new.hash) (X.index_of self.new.index) self.new.state update) }
+        ensures state { self.new.state ≡ self.old.state }
+        ensures hash { self.new.hash ≡ self.old.hash }
+        ensures refused { IfErr result (IsSupplyFault (X.index_of self.old.index) (registry self.old) name.now index.0) }
+        ensures unchanged { OnErr result (self.new ≡ self.old) }
+    {
+        if !is_name(name) {
+            return Err(SupplyFault::NameLength);
+        }
+        if self.has_other_index(name, &index) {
+            return Err(SupplyFault::OtherIndex);
+        }
+        let Ok(()) = self.source.supply(name, index) else {
+            return Err(SupplyFault::OutOfMemory);
+        };
+        Ok(())
+    }
+}
+
+impl<H: Hash32> Directory<H, SuppliedIndices> {
+    ghost use Rattle.std.specs.Prelude.{length};
+    ghost use Rattle.coniks_directory.specs.Supplied.{AgreeOn, supplied_index};
+    ghost use Rattle.coniks_directory.specs.SuppliedBatches.{IsSuppliedUpdate, indices_of, put_indices};
+    ghost use Rattle.coniks_directory.specs.Updates.{Grows, IsRefused, LeavesSigner, MayInstall, base_of, nodes_added, refusals, registry_after, shown_after};
+
+    /// Supplies the indices of an update's names and installs the update, as `install` does.
+    ///
+    /// The update contains the indices. A name is registered from then on, and keeps its index.
+    ///
+    /// # Errors
+    ///
+    /// The errors of `install`, in the same order and with the update. After an error nothing is installed or published.
+    /// After `OutOfMemory` or `SignerRefused`, some of the update's indices may be supplied, and the same update can be
+    /// installed again.
+    #[tactic(auto, using(crate::proofs::FreshLemmas::growth))]
+    pub fn install_supplied<S: Sign>(
+        &mut self,
+        update: Prepared,
+        t: u64,
+        signer: &mut S,
+        publisher: &mut Publisher,
+        board: &Board,
+    ) -> Result<Entry, (InstallFault, Prepared)>
+        requires update { (index : List ℕ → List ℕ) × IsSuppliedUpdate (H.digest_of self.old.hash) (supplied_index self.old.index) self.old.state update index }
+        requires made { S.made_of signer.old < 2 ^ 64 - 1 }
+        requires refused { S.refused_of signer.old < 2 ^ 64 - 1 }
+        requires table { publisher.old.table ≡ board.now.table }
+        requires published { publisher.old.heads ≡ heads H.digest_of self.old }
+
+        // What is installed.
+        ensures history { OnOk result (history self.new ≡ history self.old ++ shown_after self.old.state update t ∷ []) }
+        ensures chain { IfOk result (λ entry. self.new.state.chain ≡ self.old.state.chain ++ entry ∷ []) }
+        ensures nodes { OnOk result (length self.new.state.nodes ≡ length self.old.state.nodes + nodes_added update) }
+        ensures body { IfOk result (λ entry. (index : List ℕ → List ℕ)
+            → IsSuppliedUpdate (H.digest_of self.old.hash) (supplied_index self.old.index) self.old.state update index
+            → entry.body ≡ NextBodyBy H.digest_of self.old index (shown_after self.old.state update t)) }
+        ensures may { OnOk result (MayInstall self.old.state (base_of update) t (length publisher.old.heads) board.now.capacity) }
+        ensures hash { self.new.hash ≡ self.old.hash }
+        ensures grows { Grows self.old.state self.new.state }
+
+        // The update's names have their indices from then on, and the registered ones keep theirs.
+        ensures indices { OnOk result (self.new.index ≡ put_indices self.old.index (indices_of update)) }
+        ensures kept { AgreeOn (supplied_index self.old.index) (supplied_index self.new.index) (registry self.old) }
+        ensures given { OnOk result ((index : List ℕ → List ℕ)
+            → IsSuppliedUpdate (H.digest_of self.old.hash) (supplied_index self.old.index) self.old.state update index
+            → AgreeOn index (supplied_index self.new.index) (registry_after self.old.state update)) }
+
+        // The one signature that the signer made is the one that is stored in the chain.
+        ensures made { OnOk result ((S.made_of signer.new ≡ S.made_of signer.old + 1) × (S.refused_of signer.new ≡ S.refused_of signer.old)) }
+        ensures signed { IfOk result (λ entry. S.last_of signer.new ≡ Some entry) }
+        ensures asked { IfOk result (λ entry. S.signs signer.old (body_bytes entry.body) (Some entry.signature) signer.new) }
+        ensures verdict { IfOk result (λ entry. S.verdict_of signer.new (body_bytes entry.body) entry.signature.0 ≡ true) }
+        ensures good { HasGoodChain H.digest_of (S.verdict_of signer.old) self.old → HasGoodChain H.digest_of (S.verdict_of signer.new) self.new }
+        ensures verdicts_kept { (bytes signature : List ℕ) → S.verdict_of signer.new bytes signature ≡ S.verdict_of signer.old bytes signature }
+
+        // The heads on the board.
+        ensures heads { publisher.new.heads ≡ heads H.digest_of self.new }
+        ensures table { publisher.new.table ≡ publisher.old.table }
+
+        // An error.
+        ensures refused { IfErr result (λ r. IsRefused self.old.state (base_of update) t (length publisher.old.heads) board.now.capacity r.0) }
+        ensures unchanged { OnErr result ((self.new.state ≡ self.old.state) × (publisher.new ≡ publisher.old)) }
+        ensures handed_back { IfErr result (λ r. r.1 ≡ update) }
+        ensures unsigned { IfErr result (λ r. HasRefused S.made_of S.refused_of S.last_of signer.old signer.new (refusals r.0)) }
+        ensures unasked { IfErr result
+            (λ r. (index : List ℕ → List ℕ) → IsSuppliedUpdate (H.digest_of self.old.hash) (supplied_index self.old.index) self.old.state update index
+            → LeavesSigner S.signs (NextBodyBy H.digest_of self.old index (shown_after self.old.state update t)) signer.old signer.new r.0) }
+    {
+        let (published, capacity) = (publisher.published(), board.capacity());
+        if let Err(fault) = may_install(&self.held, update.base, t, published, capacity) {
+            return Err((fault, update));
+        }
+        if supply_all(&mut self.source, &update.records).is_err() {
+            return Err((InstallFault::OutOfMemory, update));
+        }
+        self.install(update, t, signer, publisher, board)
+    }
+}
+
+impl<H: Hash32, X: IndexSource> Directory<H, X> {
+    ghost use Rattle.std.specs.Prelude.{not, ◌&&◌};
+    ghost use Rattle.std.specs.Str.{bytes_eq};
+    ghost use Rattle.coniks_directory.specs.State.{Whole};
+    ghost use Rattle.coniks_directory.specs.Supplied.{Supplied};
+    ghost use Rattle.coniks_directory.specs.SuppliedBatches.{IsEarliest, IsFresh, given_index, index_in, indexed, other_from};
+
+    /// Adds the index that comes with an operation, unless its name is registered or an earlier operation has the name.
+    ///
+    /// Returns whether the name is registered with another index.
+    fn add_fresh(
+        &self,
+        fresh: &mut SuppliedIndices,
+        name: &[u8],
+        index: Index,
+    ) -> Result<bool, AllocError>
+        ensures fresh { OnOk result ((named : List Supplied) → IsFresh (registry self.now) fresh.old named
+            → IsFresh (registry self.now) fresh.new (named ++ (name.now, index.0) ∷ [])) }
+        ensures other { IfOk result (λ is_other. is_other ≡ has_name (registry self.now)
+            name.now && not (bytes_eq (X.index_of self.now.index name.now) index.0)) }
+    {
+        let own = self.source.index(name);
+        if self.is_registered_at(&own, name) {
+            return Ok(own.0 != index.0);
+        }
+        fresh.supply_first(name, index)?;
+        Ok(false)
+    }
+
+    /// Returns the indices that a batch is checked by, and the position of the first operation with another index, if
+    /// any.
+    ///
+    /// Such an operation has a name that is registered with an index other than its own. A registered name keeps its
+    /// index, and another name has the one that comes with it. If the batch has a name twice, its first index counts.
+    fn indices_with(
+        &self,
+        batch: &SuppliedBatch<'_>,
+    ) -> Result<(BatchIndices<'_, X>, Option<usize>), AllocError>
+        requires { length batch.now.ops.now ≡ length batch.now.indices.now }
+        ensures indices { IfOk result (λ it. given_index it.0.fresh (X.index_of it.0.source.now) ≡ batch_index X.index_of self.now batch.now) }
+        ensures other { IfOk result (λ it. it.1 ≡ other_from (X.index_of self.now.index)
+            (registry self.now) 0 (indexed batch.now.ops.now batch.now.indices.now)) }
+    {
+        let mut fresh = SuppliedIndices::new(self.alloc);
+        let mut other = None;
+        for place in 0..batch.ops.len() {
+            let index = batch.indices[place];
+            let is_other = self.add_fresh(&mut fresh, batch.ops[place].name.as_slice(), index)?;
+            other = other.or(is_other.then_some(place));
+        }
+        let indices = BatchIndices {
+            source: &self.source,
+            fresh,
+        };
+        Ok((indices, other))
+    }
+
+    /// Returns the error of a batch if this position is the first with another index.
+    ///
+    /// It is the first error of the operations, unless that index comes before it.
+    fn fault_or_other(
+        &self,
+        indices: &BatchIndices<'_, X>,
+        ops: &[Op],
+        place: usize,
+    ) -> SuppliedBatchFault
+        requires { Whole (H.digest_of self.now.hash) (given_index indices.now.fresh (X.index_of indices.now.source.now)) self.now.state }
+        ensures { IsEarliest (given_index indices.now.fresh (X.index_of indices.now.source.now)) (registry self.now) (operations ops.now) place result }
+    {
+        let root = self.held.latest_root();
+        let Err(fault) = judged(self.alloc, &self.h, indices, &self.held.tree, root, ops) else {
+            return SuppliedBatchFault::OtherIndex { position: place };
+        };
+        match fault {
+            BatchFault::At { position, fault } => earlier_of(position, fault, place),
+            other => SuppliedBatchFault::Batch(other),
+        }
+    }
+}
+
+impl<H: Hash32 + Sync, X: IndexSource> Directory<H, X> {
+    ghost use Rattle.coniks_directory.specs.Nodes.{epoch_nodes};
+    ghost use Rattle.coniks_directory.specs.SuppliedBatches.{IsSuppliedFault, IsSuppliedUpdate, IsWithin, indexed, indices_by, indices_of, supplied_fault};
+    ghost use Rattle.coniks_directory.specs.Updates.{nodes_added, registry_after};
+
+    /// Prepares a batch whose operations come with the indices of their names, as `prepare` and `prepare_with` do.
+    ///
+    /// Nothing is stored. `install_supplied` supplies the indices, so a batch that is refused or never installed leaves
+    /// none. A new name is registered at the index that comes with its operation, whatever index the source has for it.
+    /// There are as many indices as operations.
+    ///
+    /// # Errors
+    ///
+    /// - `Batch` with the errors of `prepare`, in the same order. `OutOfMemory` can also replace `OtherIndex`.
+    /// - `OtherIndex` if a name is registered with another index; it contains the position of the first such operation.
+    ///   An earlier operation's error comes first. So does an error of this operation that comes before `IndexClash`.
+    pub fn prepare_supplied<G: Gate + Sync, R: Threads + Sync>(
+        &self,
+        rt: &R,
+        batch: &SuppliedBatch<'_>,
+        depth: usize,
+        workers: usize,
+        gate: &G,
+    ) -> Result<Prepared, SuppliedBatchFault>
+        requires { length batch.now.ops.now ≡ length batch.now.indices.now }
+        ensures update { IfOk result (λ p. IsUpdate (H.digest_of self.now.hash) (batch_index X.index_of self.now batch.now) self.now.state p) }
+        ensures installable { IfOk result
+            (λ p. IsSuppliedUpdate (H.digest_of self.now.hash) (X.index_of self.now.index) self.now.state p (batch_index X.index_of self.now batch.now)) }
+        ensures rotates { IfOk result (RotatesTo self.now.state (nonce_bytes batch.now.nonce)) }
+        ensures registry { IfOk result (λ p. registry_after self.now.state p ≡ after (registry self.now) (operations batch.now.ops.now)) }
+        ensures indices { IfOk result (λ p. indices_of p ≡ indices_by (batch_index X.index_of self.now batch.now) (operations batch.now.ops.now)) }
+        ensures nodes { IfOk result (λ p. nodes_added p ≡ epoch_nodes (batch_index X.index_of self.now batch.now)
+            (history self.now) (nonce_bytes batch.now.nonce) (operations batch.now.ops.now)) }
+        ensures accepted { OnOk result
+            (IsAccepted (batch_index X.index_of self.now batch.now) (registry self.now) (operations batch.now.ops.now) depth workers) }
+        ensures within { OnOk result (IsWithin (indexed batch.now.ops.now batch.now.indices.now) depth workers) }
+        ensures faultless { OnOk result
+            (supplied_fault (X.index_of self.now.index) (registry self.now) (indexed batch.now.ops.now batch.now.indices.now) ≡ None) }
+        ensures refused { IfErr result
+            (IsSuppliedFault (X.index_of self.now.index) (registry self.now) (indexed batch.now.ops.now batch.now.indices.now) depth workers) }
+    {
+        // Read for the contract alone.
+        let _ = &self.held;
+        if let Err(fault) = within_limits(batch.ops, depth, workers) {
+            return Err(SuppliedBatchFault::Batch(fault));
+        }
+        let Ok((indices, other)) = self.indices_with(batch) else {
+            return Err(SuppliedBatchFault::Batch(BatchFault::OutOfMemory));
+        };
+        if let Some(position) = other {
+            return Err(self.fault_or_other(&indices, batch.ops, position));
+        }
+        let build = Build {
+            rt,
+            depth,
+            workers,
+            gate,
+        };
+        let origin = Origin {
+            alloc: self.alloc,
+            h: &self.h,
+            source: &indices,
+            held: &self.held,
+        };
+        match update_on(&build, &origin, batch.nonce, batch.ops) {
+            Ok(update) => Ok(update),
+            Err(fault) => Err(SuppliedBatchFault::Batch(fault)),
+        }
+    }
+}
