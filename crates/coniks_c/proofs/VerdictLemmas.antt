@@ -1,4 +1,4 @@
--- Of a verdict function an entry asks no more than its verdict on that entry.
+-- Whether an entry is accepted depends on a verification function only at that entry.
 use Rattle.std.proofs.Common.{◌≡◌, ◌==◌, ℕ, List, Bool, Option, subst, ◌∙◌}
 use Rattle.coniks_proof.specs.Faults.{Has, IsFirst}
 use Rattle.coniks_proof.specs.Sha256.{sha256}

@@ -11,7 +11,7 @@ use Rattle.coniks_proof.specs.declared.paths.Proof.{Proof}
 abbrev pub ShowsAnswer : List ℕ → List ℕ → List ℕ → List ℕ → List ℕ → Option (List ℕ) → Type 0
 ShowsAnswer nonce root index name bytes answer = (proof : Proof) × IsWire bytes proof × Accepts sha256 nonce root index name proof answer
 
--- the bytes are a proof's, of whose faults this is the first
+-- the bytes are a proof's, and this is its first error
 abbrev pub IsRefusedCheck : List ℕ → List ℕ → List ℕ → List ℕ → List ℕ → CheckFault → Type 0
 IsRefusedCheck nonce root index name bytes fault = (proof : Proof)
     × IsWire bytes proof × IsFirst (Has sha256 nonce root index name proof) fault

@@ -22,7 +22,7 @@ status_of_seen Same = 0
 status_of_seen Absent = 1
 status_of_seen Changed = 9
 
--- a fault of a proof, of bytes that are no proof's, and of an entry
+-- an error of a proof, of bytes that are not a proof, and of an entry
 abbrev pub IsCheckStatus : ℕ → Type 0
 IsCheckStatus status = (fault : CheckFault) × (status ≡ number fault + 1)
 

@@ -22,7 +22,7 @@ Sees verdict before name index expected entry bytes seen =
     (proof : Proof) × IsWire bytes proof × IsSoundStep sha256 verdict before name index entry proof (answer_of proof.end)
     × (seen ≡ seen_of expected (answer_of proof.end))
 
--- the bytes are a proof's, and this is the first fault of the step with it
+-- the bytes are a proof's, and this is the first error of the step with it
 abbrev pub IsRefusedStep : (List ℕ → List ℕ → Bool) → Option AuditorState → List ℕ → List ℕ → Entry → List ℕ → MonitorFault → Type 0
 IsRefusedStep verdict before name index entry bytes fault =
     (proof : Proof) × IsWire bytes proof × IsFirstStepFault sha256 verdict before name index entry proof fault

@@ -49,7 +49,7 @@ row verdict before entry follows PreviousLink = follows.rows.1.1.1.1.1.0
 row verdict before entry follows NonceChanged = follows.rows.1.1.1.1.1.1.0
 row verdict before entry follows Verdict = follows.rows.1.1.1.1.1.1.1.0
 
--- an entry at fault doesn't follow
+-- an entry with an error doesn't follow
 pub refuses : (verdict : List ℕ → List ℕ → Bool) (before : Option AuditorState) (entry : Entry) (fault : AuditFault) → IsFirstEntryFault verdict before entry fault → ¬ Follows verdict before entry
 refuses verdict before entry fault first = λ follows. first.here (row verdict before entry follows fault)
 

@@ -79,7 +79,7 @@ sound-all hash verdict start name index items n all sound = λ k x there.
     let below = slice_get_within items k x there in
     sound k x (omega arith) there
 
--- a step at fault isn't sound
+-- a step with an error isn't sound
 step_refuses : (hash : List ℕ → List ℕ) (verdict : List ℕ → List ℕ → Bool) (before : Option AuditorState) (name index : List ℕ) (entry : Entry) (proof : Proof) (fault : MonitorFault)
     → IsFirstStepFault hash verdict before name index entry proof fault → ¬ IsSoundStep hash verdict before name index entry proof (answer_of proof.end)
 step_refuses hash verdict before name index entry proof (Audit fault) first = λ sound. refuses verdict before entry fault first sound.follows

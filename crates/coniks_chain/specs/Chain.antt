@@ -29,7 +29,7 @@ abbrev pub link_before : Option AuditorState → List ℕ
 link_before None = zeros
 link_before (Some before) = before.link.0
 
--- the condition under which an entry does not have this fault
+-- the condition under which an entry does not have this error
 abbrev pub Meets : (List ℕ → List ℕ → Bool) → Option AuditorState → Entry → AuditFault → Type 0
 Meets verdict before entry Version = (entry.body.version ≡ 1) ⊎ (entry.body.version ≡ 2)
 Meets verdict before entry VersionBack = IfSome before (λ b. b.version ≤ entry.body.version)
@@ -40,16 +40,16 @@ Meets verdict before entry PreviousLink = entry.body.previous.0 ≡ link_before 
 Meets verdict before entry NonceChanged = IfSome before (λ b. entry.body.version ≡ 1 → entry.body.nonce.0 ≡ b.nonce.0)
 Meets verdict before entry Verdict = verdict (body_bytes entry.body) entry.signature.0 ≡ true
 
--- an entry has none of these faults
+-- an entry has none of these errors
 abbrev pub MeetsAll : (List ℕ → List ℕ → Bool) → Option AuditorState → Entry → List AuditFault → Type 0
 MeetsAll verdict before entry [] = Unit {0}
 MeetsAll verdict before entry (fault ∷ rest) = Meets verdict before entry fault × MeetsAll verdict before entry rest
 
--- the faults in the order in which they are checked
+-- the errors in the order in which they are checked
 abbrev pub faults : List AuditFault
 faults = Version ∷ VersionBack ∷ FirstEpoch ∷ NotLater ∷ PreviousEpoch ∷ PreviousLink ∷ NonceChanged ∷ Verdict ∷ []
 
--- the place of a fault among them
+-- the place of an error among them
 abbrev pub place_of : AuditFault → ℕ
 place_of Version = 0
 place_of VersionBack = 1
@@ -60,11 +60,11 @@ place_of PreviousLink = 5
 place_of NonceChanged = 6
 place_of Verdict = 7
 
--- the entry has no fault after what is before it
+-- the entry has no error after what is before it
 pub record Follows (verdict : List ℕ → List ℕ → Bool) (before : Option AuditorState) (entry : Entry) : Type 0 where
   pub rows : MeetsAll verdict before entry faults
 
--- the entry has this fault and none before it in the order
+-- the entry has this error and none before it in the order
 pub record IsFirstEntryFault (verdict : List ℕ → List ℕ → Bool)
     (before : Option AuditorState) (entry : Entry) (fault : AuditFault) : Type 0 where
   pub here : ¬ Meets verdict before entry fault
@@ -93,7 +93,7 @@ Continues hash verdict start entries = (k : ℕ) (entry : Entry)
 abbrev pub GoodChain : (List ℕ → List ℕ) → (List ℕ → List ℕ → Bool) → List Entry → Type 0
 GoodChain hash verdict entries = Continues hash verdict None entries
 
--- the first place at which an entry doesn't follow, and its first fault
+-- the first place at which an entry doesn't follow, and its first error
 pub record IsFirstRefused (hash : List ℕ → List ℕ) (verdict : List ℕ → List ℕ → Bool)
     (start : Option AuditorState) (entries : List Entry) (place : ℕ) (fault : AuditFault) : Type 0 where
   pub earlier : ContinuesTo hash verdict start entries place

@@ -26,7 +26,7 @@ pub record IsSoundStep (hash : List ℕ → List ℕ) (verdict : List ℕ → Li
   pub follows : Follows verdict before entry
   pub accepted : Accepts hash entry.body.nonce.0 entry.body.root.0 index name proof answer
 
--- the first fault of a step: the audit's come before the check's
+-- the first error of a step: the audit's come before the check's
 abbrev pub IsFirstStepFault : (List ℕ → List ℕ) → (List ℕ → List ℕ → Bool)
     → Option AuditorState → List ℕ → List ℕ → Entry → Proof → MonitorFault → Type 0
 IsFirstStepFault hash verdict before name index entry proof (Audit fault) = IsFirstEntryFault verdict before entry fault
@@ -50,7 +50,7 @@ IsSoundRun hash verdict start name index items =
     (k : ℕ) (item : Entry × Proof) → slice_get items k ≡ Some item
     → IsSoundStep hash verdict (before_at hash start (entries_watched items) k) name index item.0 item.1 (answer_of item.1.end)
 
--- the first place of a run that isn't sound, and its first fault
+-- the first place of a run that isn't sound, and its first error
 pub record IsFirstUnsound (hash : List ℕ → List ℕ) (verdict : List ℕ → List ℕ → Bool) (start : Option AuditorState)
     (name index : List ℕ) (items : List (Entry × Proof)) (place : ℕ) (fault : MonitorFault) : Type 0 where
   pub earlier : IsSoundTo hash verdict start name index items place

@@ -256,7 +256,7 @@ module _ (hash index_of also : List ℕ → List ℕ) where
       (subst (λ bs. AgreeOn index_of also (registry ++ bs)) (sym (append_assoc earlier (b ∷ []) (map bound_by ops))) agree) in
       ap (λ f. placed place f (fault_from index_of registry (earlier ++ b ∷ []) (place + 1) ops)) here ∙ ap (placed place (fault_of also registry earlier op)) rest
 
-  -- a batch's fault is the same by a function that agrees on the registry that the batch leaves
+  -- a batch's error is the same by a function that agrees on the registry that the batch leaves
   pub first_agree : (registry : Registry) (ops : List Operation) → AgreeOn index_of also (after registry ops) → first_fault index_of registry ops ≡ first_fault also registry ops
   first_agree registry ops agree = fault_from_agree registry [] 0 ops (λ name has.
       agree name (has_either registry (map bound_by ops) name (has_name (after registry ops) name ≡ true) (has_still registry (map bound_by ops) name) (has_new registry (map bound_by ops) name) has))

@@ -154,7 +154,7 @@ few_kept : (root : Option Root) → node_count (unchanged root) ≤ 1
 few_kept (Some root) = omega arith
 few_kept None = omega arith
 
--- the part that `build` makes of the changes of a batch without fault, as its tree grows by them
+-- the part that `build` makes of the changes of a batch without error, as its tree grows by them
 module _ (hash index_of : List ℕ → List ℕ) (nonce latest : List ℕ) (nodes : List Node) (records : List Record) (root : Option Root) (registry : Registry) (ops : List Operation)
     (new : List Record) (numbers : BTreeMap (List ℕ) ℕ) (changes : List Change) (growth : Growth) (p : Part)
     (shown : ShowsLatest hash index_of latest nodes records root registry) (none : first_fault index_of registry ops ≡ None) (s : ArePendingRecords hash index_of (map bound_by ops) new numbers)

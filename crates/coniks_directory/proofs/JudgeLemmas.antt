@@ -1,4 +1,4 @@
--- The faults of operations, and the operations in turn.
+-- The errors of operations, and the operations in turn.
 use Rattle.std.proofs.Common.{◌<◌, ◌≤◌, get_or, ◌≡◌, ℕ, ◌+◌, List, [], ◌∷◌, ◌++◌, length, map, take, drop, Bool, true, false, sym, ap, ◌∙◌, ◌||◌, cond, refl, Option, Some, None, option_map, slice_get}
 use Rattle.coniks_directory.proofs.Words.{Fault, IsJudged, MAX_KEY, MAX_NAME, Operation, Registered, Registry, at_drop_all, at_drop_more}
 use Rattle.coniks_directory.proofs.Words.{bound_by, clashes, fault_from, fault_of, first_fault, fits, get_or_from_slice_get, has_name}
@@ -8,7 +8,7 @@ use Rattle.coniks_directory.specs.declared.batch.Op.{Op}
 use Rattle.coniks_proof.proofs.Lemmas.{clashes-append}
 use Rattle.coniks_directory.proofs.LastLemmas.{take_next}
 
--- a name that isn't among the earlier ones, and whose kind has no fault, is left with a clash or none
+-- a name that isn't among the earlier ones, and whose kind has no error, is left with a clash or none
 pub at_clash : (index_of : List ℕ → List ℕ) (registry : Registry) (before : List Registered) (op : Operation) → fits MAX_NAME op.name ≡ true → fits MAX_KEY op.key ≡ true
     → (a b clash : Bool) → has_name before op.name ≡ false → kind_fault op.kind (has_name registry op.name) ≡ None → clashes index_of registry op.name ≡ a → clashes index_of before op.name ≡ b
     → a || b ≡ clash → fault_of index_of registry before op ≡ cond clash (Some index_clash) None
@@ -26,7 +26,7 @@ op_at ops i op below is = slice_get-map operation_of ops i ∙ ap (option_map op
 pub bound-next : (ops : List Operation) (i : ℕ) (op : Operation) → slice_get ops i ≡ Some op → map bound_by (take i ops) ++ bound_by op ∷ [] ≡ map bound_by (take (i + 1) ops)
 bound-next ops i op at = sym (ap (map bound_by) (take_next ops i op at) ∙ map-append bound_by (take i ops) (op ∷ []))
 
--- the first fault is the next operation's, or that of the operations after it
+-- the first error is the next operation's, or that of the operations after it
 pub judged-next : (index_of : List ℕ → List ℕ) (registry : Registry) (ops : List Operation) (i : ℕ) (op : Operation) (f : Option Fault) → slice_get ops i ≡ Some op → IsJudged index_of registry ops i
     → fault_of index_of registry (map bound_by (take i ops)) op ≡ f
     → first_fault index_of registry ops ≡ placed i f (fault_from index_of registry (map bound_by (take (i + 1) ops)) (i + 1) (drop (i + 1) ops))

@@ -1,4 +1,4 @@
--- Batches whose operations have indices: the indices by which they are checked, their first fault, and what an install supplies.
+-- Batches whose operations have indices: the indices that they are checked with, their first error, and what an install supplies.
 use Rattle.std.proofs.Common.{◌≡◌, ◌≤◌, ◌<◌, ◌⊎◌, get_or, ℕ, zero, suc, ◌+◌, List, [], ◌∷◌, ◌++◌, length, map, take, drop, Bool, true, false, ◌||◌, refl, sym, ap, ◌∙◌, arith, inl, inr, Option, Some, None, Result, Ok, Err, if◌then◌else◌, slice_get, nat_lt, nat_le}
 use Rattle.std.specs.Prelude.{IfErr, IfOk, OnOk}
 use Rattle.std.specs.Bool.{then_some}
@@ -258,7 +258,7 @@ pub other-all : (index_of : List ℕ → List ℕ) (registry : Registry) (xs : L
 other-all index_of registry xs i other past first =
     sym (first ∙ ap (option_or other) (at_drop_all (other_from index_of registry i) xs i past) ∙ elim other as (λ o. option_or o None ≡ o) [ None ↦ refl | Some p ↦ refl ])
 
--- ---- the first fault
+-- ---- the first error
 
 other_later : (index_of : List ℕ → List ℕ) (registry : Registry) (place : ℕ) (xs : List Indexed) (q : ℕ) → other_from index_of registry place xs ≡ Some q → place ≤ q
 other_later index_of registry place [] q found = absurd (let never = found in cc)
@@ -318,7 +318,7 @@ at_once place f later =
     ]
 
 module _ (index_of index : List ℕ → List ℕ) (registry : Registry) where
-  -- the first fault is the earliest of the operations' and the other indices'
+  -- the first error is the earliest of the operations' and the other indices'
   pub earliest_fault : (earlier : List Registered) (place : ℕ) (xs : List Indexed)
       → supplied_fault_from index_of registry index earlier place xs ≡ earliest (fault_from index registry earlier place (operations_of xs)) (other_from index_of registry place xs)
   earliest_fault earlier place [] = refl
@@ -352,7 +352,7 @@ module _ (index_of : List ℕ → List ℕ) (registry : Registry) (ops : List Op
   abbrev batch : List Indexed
   batch = indexed ops indices
 
-  -- the first fault by the operations alone, and by the other indices
+  -- the first error by the operations alone, and by the other indices
   faults : (other : Option ℕ) → other_from index_of registry 0 batch ≡ other
       → supplied_fault index_of registry batch ≡ earliest (first_fault (index_in index_of registry batch) registry (operations ops)) other
   faults other is =
@@ -392,7 +392,7 @@ module _ (index_of : List ℕ → List ℕ) (registry : Registry) (ops : List Op
   judged_fault batch_fault.OutOfMemory within other f = within
   judged_fault (batch_fault.At position fault) within other f = (within, faults None other ∙ ap (λ g. earliest g None) f)
 
--- the error that names the earliest fault
+-- the error that names the earliest one
 pub told_earliest : (index : List ℕ → List ℕ) (registry : Registry) (ops : List Operation) (place : ℕ) (fault : SuppliedBatchFault) (at : ℕ × SuppliedFault) → supplied_fault_is fault ≡ Some at
     → earliest (first_fault index registry ops) (Some place) ≡ Some at → IsEarliest index registry ops place fault
 told_earliest index registry ops place (InBatch batch_fault.Workers) at told first = absurd (let never = told in cc)

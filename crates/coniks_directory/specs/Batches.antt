@@ -37,14 +37,14 @@ fault_is IndexClash = index_clash
 abbrev pub AreWorkers : ℕ → Type 0
 AreWorkers workers = (1 ≤ workers) × (workers ≤ MAX_WORKERS)
 
--- workers, depth and the batch's length are within their limits, and no operation is at fault
+-- workers, depth and the batch's length are within their limits, and no operation has an error
 pub record IsAccepted (index_of : List ℕ → List ℕ) (registry : Registry) (ops : List Operation) (depth workers : ℕ) : Type 0 where
   pub worker_count : AreWorkers workers
   pub shallow : depth ≤ MAX_DEPTH
   pub few : length ops ≤ MAX_OPERATIONS
   pub faultless : first_fault index_of registry ops ≡ None
 
--- why a batch isn't accepted: of what applies, the first in the order of the faults; or an allocation failed
+-- the error of a batch that isn't accepted: the first that applies, in their order; or an allocation failed
 abbrev pub IsBatchFault : (List ℕ → List ℕ) → Registry → List Operation → ℕ → ℕ → BatchFault → Type 0
 IsBatchFault index_of registry ops depth workers Workers = (workers ≡ 0) ⊎ (MAX_WORKERS < workers)
 IsBatchFault index_of registry ops depth workers Depth = AreWorkers workers × (MAX_DEPTH < depth)

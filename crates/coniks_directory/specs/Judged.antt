@@ -56,7 +56,7 @@ pub record ArePendingRecords (hash index_of : List ℕ → List ℕ) (bound : Li
   pub counted : btree_map_len numbers ≡ length records
   pub distinct : IsMap (entries_of hash index_of bound)
 
--- the first `i` operations of a batch have no fault, so that its first fault is that of the others
+-- the first `i` operations of a batch have no error, so the batch's first error is that of the others
 abbrev pub IsJudged : (List ℕ → List ℕ) → Registry → List Operation → ℕ → Type 0
 IsJudged index_of registry ops i = first_fault index_of registry ops ≡
     fault_from index_of registry (map bound_by (take i ops)) i (drop i ops)
@@ -68,7 +68,7 @@ pub record AreChangesOf (base : ℕ) (records : List Record) (entries : List Num
   pub only : (e : Numbered) → IsIn e entries → (n : ℕ) × (r : Record) × (slice_get records n ≡ Some r) × (entry_of_record (base + n) r ≡ e)
   pub counted : length entries ≡ length records
 
--- the first operation at fault, and its first fault; or memory
+-- the first operation with an error, and its first error; or an allocation failed
 abbrev pub IsJudgedFault : (List ℕ → List ℕ) → Registry → List Operation → BatchFault → Type 0
 IsJudgedFault index_of registry ops Workers = ⊥
 IsJudgedFault index_of registry ops Depth = ⊥

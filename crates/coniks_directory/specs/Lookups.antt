@@ -34,7 +34,7 @@ IsAcceptedUnder hash index_of history t name it =
     → (has_name shown.registry name ≡ false → IsFree index_of shown.registry (index_of name))
     → Accepts hash it.entry.body.nonce.0 it.entry.body.root.0 it.index.0 name it.proof (key_of shown.registry name)
 
--- why a lookup is refused: the first fault that applies
+-- the error of a refused lookup: the first that applies
 abbrev pub IsMissed : List Shown → ℕ → List ℕ → LookupFault → Type 0
 IsMissed history t name UnknownEpoch = shown_at history t ≡ None
 IsMissed history t name NameLength = (is_some (shown_at history t) ≡ true) × (fits MAX_NAME name ≡ false)

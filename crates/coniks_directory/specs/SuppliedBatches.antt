@@ -63,28 +63,28 @@ pub data SuppliedFault : Type 0 where
   of_operation : Fault → SuppliedFault
   other_index : SuppliedFault
 
--- another index comes after each other fault but the clash of indices
+-- another index comes after each other error but the clash of indices
 abbrev pub or_other : Bool → Option Fault → Option SuppliedFault
 or_other true None = Some other_index
 or_other true (Some index_clash) = Some other_index
 or_other _ None = None
 or_other _ (Some fault) = Some (of_operation fault)
 
--- an operation at a place, if it has a fault
+-- an operation at a place, if it has an error
 abbrev pub placed_fault : ℕ → Option SuppliedFault → Option (ℕ × SuppliedFault) → Option (ℕ × SuppliedFault)
 placed_fault place (Some fault) later = Some (place, fault)
 placed_fault place None later = later
 
--- the faults of operations with indices; a registered name has the index that the first function gives it
+-- the errors of operations with indices; a registered name has the index that the first function gives it
 module _ (index_of : List ℕ → List ℕ) (registry : Registry) where
-  -- the first operation with a fault, from a place on, and its first fault
+  -- the first operation with an error, from a place on, and its first error
   abbrev pub supplied_fault_from : (List ℕ → List ℕ) → List Registered → ℕ → List Indexed → Option (ℕ × SuppliedFault)
   supplied_fault_from index earlier place [] = None
   supplied_fault_from index earlier place (x ∷ xs) =
       placed_fault place (or_other (has_other index_of registry x) (fault_of index registry earlier x.op))
       (supplied_fault_from index (earlier ++ bound_by x.op ∷ []) (place + 1) xs)
 
-  -- the first operation of a batch with a fault, and its first fault
+  -- the first operation of a batch with an error, and its first error
   abbrev pub supplied_fault : List Indexed → Option (ℕ × SuppliedFault)
   supplied_fault batch = supplied_fault_from (index_in index_of registry batch) [] 0 batch
 
@@ -105,7 +105,7 @@ earliest (Some at) None = Some (at.0, of_operation at.1)
 earliest None (Some other) = Some (other, other_index)
 earliest (Some at) (Some other) = Some (earlier_of at.0 at.1 other)
 
--- the place and the fault of the operation that an error names
+-- the place and the error of the operation that an error names
 abbrev pub supplied_fault_is : SuppliedBatchFault → Option (ℕ × SuppliedFault)
 supplied_fault_is (Batch (At position fault)) = Some (position, of_operation (fault_is fault))
 supplied_fault_is (Batch Workers) = None

@@ -90,7 +90,7 @@ pub record MayInstall (s : State) (base t published capacity : ℕ) : Type 0 whe
   pub later : latest_epoch (history_of s) < t
   pub room : published ≢ capacity
 
--- why an update is refused: of what applies, the first in the order of the faults
+-- the error of a refused update: the first that applies, in their order
 abbrev pub IsRefused : State → ℕ → ℕ → ℕ → ℕ → InstallFault → Type 0
 IsRefused s base t published capacity (Stale latest) = (latest ≡ latest_epoch (history_of s)) × (base ≢ length s.epochs)
 IsRefused s base t published capacity (EpochNotLater latest) = (latest ≡ latest_epoch (history_of s))
@@ -99,7 +99,7 @@ IsRefused s base t published capacity BoardFull = (base ≡ length s.epochs) × 
 IsRefused s base t published capacity OutOfMemory = MayInstall s base t published capacity
 IsRefused s base t published capacity SignerRefused = MayInstall s base t published capacity
 
--- the number of refusals of the signer in an install that returned this fault
+-- the number of refusals of the signer in an install that returned this error
 abbrev pub refusals : InstallFault → ℕ
 refusals (Stale latest) = 0
 refusals (EpochNotLater latest) = 0
@@ -131,7 +131,7 @@ abbrev pub CommitLeavesSigner : {S : Type 0} → (S → List ℕ → Option Sign
 CommitLeavesSigner signs body old new (Batch fault) = new ≡ old
 CommitLeavesSigner signs body old new (Install fault) = LeavesSigner signs body old new fault
 
--- the number of refusals of the signer in a commit that returned this fault
+-- the number of refusals of the signer in a commit that returned this error
 abbrev pub commit_refusals : CommitFault → ℕ
 commit_refusals (Batch fault) = 0
 commit_refusals (Install fault) = refusals fault

@@ -174,7 +174,7 @@ module _ {S : Type 0} (answer : S → List ℕ → Answer S) where
     flushes_is = flushed;
   }
 
-  -- a fault of the sink in the answer to a line
+  -- an error of the sink in the answer to a line
   pub stops_in_text : (t : S) (line bytes : List ℕ) (old new : Sink) (n : ℕ) (still : Source)
       → bytes ≡ (answer t line).text ++ 10 ∷ [] → Appends old (take n bytes) new → new.flushes ≡ old.flushes → CannotWrite old new → StopsFor answer t (line ∷ []) still still old new Write
   stops_in_text t line bytes old new n still is wrote flushed why = (
@@ -218,7 +218,7 @@ module _ {S : Type 0} (answer : S → List ℕ → Answer S) where
   not_still still (ends, inl failed) = absurd (omega (arith, failed))
   not_still still (ends, inr reads) = absurd (omega (arith, reads))
 
-  -- what a fault says, after other lines were answered, and with more lines after them
+  -- what an error says, after other lines were answered, and with more lines after them
   because-then : (e : RunFault) (still : Source) (old mid new : Sink) (left left' : List (List ℕ)) (part : List ℕ)
       → WritesOn old mid → Because e still still mid new left part → Because e still still old new left' part
   because-then Read still old mid new left left' part on h = absurd (not_still still h.0)
@@ -226,7 +226,7 @@ module _ {S : Type 0} (answer : S → List ℕ → Answer S) where
   because-then OutOfMemory still old mid new left left' part on h = (refl, (WritesOn-then old mid new on h.1.0, h.1.1))
   because-then NoBoard still old mid new left left' part on h = h
 
-  -- what a fault says where the source went on before
+  -- what an error says where the source went on before
   because-read : (e : RunFault) (from from' : Source) (old new : Sink) (left : List (List ℕ)) (part : List ℕ)
       → from'.failed ≡ from.failed → Because e from from old new left part → Because e from from' old new left part
   because-read Read from from' old new left part on h = absurd (not_still from h.0)
@@ -234,7 +234,7 @@ module _ {S : Type 0} (answer : S → List ℕ → Answer S) where
   because-read OutOfMemory from from' old new left part on h = (on, h.1)
   because-read NoBoard from from' old new left part on h = h
 
-  -- a fault among later lines, after the first ones were answered
+  -- an error among later lines, after the first ones were answered
   pub StopsFor-then : (s : S) (xs ys : List (List ℕ)) (still : Source) (old mid new : Sink) (e : RunFault) → WritesOn old mid
       → Appends old (replies answer s xs) mid → mid.flushes ≡ count_after old.flushes xs
       → StopsFor answer (state_after answer s xs) ys still still mid new e → StopsFor answer s (xs ++ ys) still still old new e
@@ -242,12 +242,12 @@ module _ {S : Type 0} (answer : S → List ℕ → Answer S) where
   StopsFor-then s xs ys still old mid new e on wrote flushed h =
       (Stops-then s xs ys old mid new wrote flushed h.0, because-then e still old mid new h.0.left h.0.left h.0.part on h.1)
 
-  -- a fault at the first of these lines
+  -- an error at the first of these lines
   StopsFor-longer : (s : S) (xs ys : List (List ℕ)) (still : Source) (old new : Sink) (e : RunFault) → StopsFor answer s xs still still old new e → StopsFor answer s (xs ++ ys) still still old new e
   unfolding Stops-longer
   StopsFor-longer s xs ys still old new e h = (Stops-longer s xs ys old new h.0, because-then e still old old new h.0.left (h.0.left ++ ys) h.0.part (WritesOn-none old) h.1)
 
-  -- a fault at a line that ends in the chunk
+  -- an error at a line that ends in the chunk
   pub stops_at_line : {s t : S} {held line chunk front : List ℕ} (xs ys : List ℕ) (still : Source) (e : RunFault) {old mid new : Sink} {a : Bool}
       → chunk ≡ front ++ (xs ++ 10 ∷ ys) → NoNewlineBefore xs (length xs) → AnswersWhole answer s held front old mid t line a → StopsFor answer t ((line ++ xs) ∷ []) still still mid new e
       → StopsFor answer s (whole_after held chunk) still still old new e
@@ -272,7 +272,7 @@ module _ {S : Type 0} (answer : S → List ℕ → Answer S) where
     (refl, (p.writes_on, refl)),
   )
 
-  -- a fault in a later chunk
+  -- an error in a later chunk
   pub ends_in_chunk : {s t : S} {line bytes : List ℕ} (chunk : List ℕ) {from from' : Source} {old mid new : Sink} {a : Bool} {e : RunFault}
       → Takes from (bytes ++ chunk) from' → from'.failed ≡ from.failed
       → AnswersWhole answer s [] bytes old mid t line a → StopsFor answer t (whole_after line chunk) from from mid new e
@@ -295,7 +295,7 @@ module _ {S : Type 0} (answer : S → List ℕ → Answer S) where
   lines_of-last : (line bytes : List ℕ) → line ≢ [] → line ≡ rest_after [] bytes → lines_of bytes ≡ whole_after [] bytes ++ line ∷ []
   lines_of-last line bytes some is = ap (λ (ls : List (List ℕ)). whole_after [] bytes ++ ls) (ap last_line (sym is) ∙ last_line-some line some)
 
-  -- a fault at the last line
+  -- an error at the last line
   pub ends_at_last : {s t : S} {line bytes : List ℕ} {from from' : Source} {old mid new : Sink} {a : Bool} {e : RunFault}
       → line ≢ [] → Takes from bytes from' → from'.failed ≡ from.failed → ComesToEnd from from'
       → AnswersWhole answer s [] bytes old mid t line a → StopsFor answer t (line ∷ []) from from mid new e
@@ -417,7 +417,7 @@ module _ {S : Type 0} (answer : S → List ℕ → Answer S) where
         written = h.written;
       }
 
-  -- after a fault what was written begins the output of the whole input
+  -- after an error what was written begins the output of the whole input
   pub part_of_input : {s : S} {input : List ℕ} {from from' : Source} {to to' : Sink} {e : RunFault}
       → from.left ≡ Some input → EndsBadly answer s from from' to to' e → WritesPart (output answer s input) to to'
   part_of_input {s} {input} {from} {from'} {to} {to'} {e} told h =

@@ -80,14 +80,14 @@ pub record Stops {S : Type 0} (answer : S → List ℕ → Answer S) (start : S)
   pub written : Appends old (replies answer start done ++ part) new
   pub flushes_is : new.flushes ≡ count_after old.flushes done
 
--- what each fault means for the streams, for the lines without a reply, and for the written part of the next reply
+-- what each error means for the streams, for the lines without a reply, and for the written part of the next reply
 abbrev pub Because : RunFault → Source → Source → Sink → Sink → List (List ℕ) → List ℕ → Type 0
 Because Read from from' to to' left part = CannotRead from from' × (WritesOn to to' × ((left ≡ []) × (part ≡ [])))
 Because Write from from' to to' left part = (from'.failed ≡ from.failed) × CannotWrite to to'
 Because OutOfMemory from from' to to' left part = (from'.failed ≡ from.failed) × (WritesOn to to' × (part ≡ []))
 Because NoBoard from from' to to' left part = ⊥
 
--- a fault stopped the run at these lines
+-- an error stopped the run at these lines
 abbrev pub StopsFor : {S : Type 0} → (S → List ℕ → Answer S) → S → List (List ℕ) → Source → Source → Sink → Sink → RunFault → Type 0
 StopsFor answer start lines from from' to to' fault = (run : Stops answer start lines to to')
     × Because fault from from' to to' run.left run.part
@@ -105,7 +105,7 @@ pub record EndsWell {S : Type 0} (answer : S → List ℕ → Answer S) (start :
 abbrev pub AreRead : Source → Source → List ℕ → List (List ℕ) → Type 0
 AreRead from from' bytes lines = (lines ≡ whole_lines bytes) ⊎ (ComesToEnd from from' × (lines ≡ lines_of bytes))
 
--- a run that a fault ended: the bytes that it read, their lines, and how far it came over these
+-- a run that an error ended: the bytes that it read, their lines, and how far it came over these
 pub record EndsBadly {S : Type 0} (answer : S → List ℕ → Answer S) (start : S)
     (from from' : Source) (to to' : Sink) (fault : RunFault) : Type 0 where
   pub bytes : List ℕ

@@ -1,4 +1,4 @@
--- Batches without fault, operation by operation and as a whole.
+-- Batches without error, operation by operation and as a whole.
 use Rattle.std.proofs.Common.{◌≡◌, ℕ, ◌+◌, List, [], ◌∷◌, ◌++◌, length, map, Bool, true, false, refl, sym, ap, subst, ◌∙◌, not, ◌||◌, ◌&&◌, ◌⊎◌, nat_lt, nat_le, inl, inr, Option, Some, None, if◌then◌else◌, append_assoc}
 use Rattle.std.proofs.lemmas.Bool.{and_parts, false_from_ne_true, le-leb, leb-true, lt-ltb, ltb-true, not-false, or_cases, or_left, or_right}
 use Rattle.std.proofs.lemmas.List.{append-nil}
@@ -13,9 +13,9 @@ use Rattle.coniks_proof.proofs.MapLemmas.{same_entry}
 use Rattle.coniks_proof.proofs.RegistryLemmas.{entry_in}
 use Rattle.coniks_proof.proofs.NameLemmas.{clash_found, clash_made, eq_apart, eq_same, has_name-append, has_of, in_overlaid, named_of}
 
--- ---- an operation without fault
+-- ---- an operation without error
 
--- none of the faults applies to the operation, after earlier ones bound these
+-- none of the errors applies to the operation, after earlier ones bound these
 pub record IsClear (index_of : List ℕ → List ℕ) (registry : Registry) (earlier : List Registered) (op : Operation) : Type 0 where
   pub named : fits MAX_NAME op.name ≡ true
   pub keyed : fits MAX_KEY op.key ≡ true
@@ -196,7 +196,7 @@ module _ (index_of : List ℕ → List ℕ) (registry : Registry) where
             | inr same ↦ let has_op : has_name (map bound_by ops) op.name ≡ true = has_of (map bound_by ops) op.name (bound_by o) (bound_there o ops there) (sym same) in cc
           ])
 
-  -- the words of the definition say that no operation is at fault
+  -- the words of the definition say that no operation has an error
   pub may_follow : (ops : List Operation) → HaveOwnIndices index_of registry → first_fault index_of registry ops ≡ None → MayFollow index_of registry ops
   may_follow ops own none =
       let clear = clear_from [] 0 ops none in

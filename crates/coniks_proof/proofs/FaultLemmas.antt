@@ -1,4 +1,4 @@
--- A proof is accepted if and only if it has no fault.
+-- A proof is accepted if and only if it has no error.
 use Rattle.std.proofs.Common.{◌≡◌, ◌≢◌, ◌<◌, ◌≤◌, ◌⊎◌, ℕ, zero, suc, List, [], ◌∷◌, length, Bool, true, false, refl, sym, arith, inl, inr, Option}
 use Rattle.std.specs.Str.{bytes_eq}
 use Rattle.std.proofs.lemmas.Slice.Eq.{bytes_eq-Decides}
@@ -13,7 +13,7 @@ use Rattle.coniks_proof.specs.declared.paths.End.TheVariants.{Empty, Other, Here
 use Rattle.coniks_proof.specs.declared.checker.CheckFault.{CheckFault}
 use Rattle.coniks_proof.specs.declared.checker.CheckFault.TheVariants.{TooDeep, NameLength, KeyLength, WrongName, OtherIsSame, OtherOffPath, RootMismatch}
 
--- an end that fits has none of the faults of an end
+-- an end that fits has none of the errors of an end
 pub fits-no_fault : (index name : List ℕ) (level : ℕ) (end : End) (fault : CheckFault) → EndFits index name level end → EndHas index name level end fault → ⊥
 fits-no_fault index name level Empty KeyLength fits has = has
 fits-no_fault index name level Empty WrongName fits has = has
@@ -37,7 +37,7 @@ fits-no_fault index name level (Here here key o) TooDeep fits has = has
 fits-no_fault index name level (Here here key o) NameLength fits has = has
 fits-no_fault index name level (Here here key o) RootMismatch fits has = has
 
--- an accepted proof has no fault
+-- an accepted proof has no error
 pub accepts-no_fault : (hash : List ℕ → List ℕ) (nonce root index name : List ℕ) (proof : Proof) (answer : Option (List ℕ)) (fault : CheckFault)
     → Accepts hash nonce root index name proof answer → Has hash nonce root index name proof fault → ⊥
 accepts-no_fault hash nonce root index name proof answer TooDeep ok has = let depth = ok.well_formed.depth in omega arith
@@ -49,7 +49,7 @@ accepts-no_fault hash nonce root index name proof answer WrongName ok has = fits
 accepts-no_fault hash nonce root index name proof answer OtherIsSame ok has = fits-no_fault index name (length proof.siblings) proof.end OtherIsSame ok.well_formed.end_fits has
 accepts-no_fault hash nonce root index name proof answer OtherOffPath ok has = fits-no_fault index name (length proof.siblings) proof.end OtherOffPath ok.well_formed.end_fits has
 
--- ---- and where there is no fault it is accepted
+-- ---- and where there is no error it is accepted
 
 stable : (x y : List ℕ) → (x ≢ y → ⊥) → x ≡ y
 stable x y twice =
@@ -99,7 +99,7 @@ end_sound index name level (Other other c) none =
 end_sound index name level (Here here key o) none =
     (stable here name (none WrongName), some_there (length key) (λ e. none KeyLength (inl e)), at_most MAX_KEY (length key) (λ e. none KeyLength (inr e)))
 
--- no end is too deep, nor has it a fault of the asked name's length or of the root
+-- no end is too deep, nor has it an error of the asked name's length or of the root
 end_has_none : (index name : List ℕ) (level : ℕ) (end : End)
     → (EndHas index name level end TooDeep → ⊥) × (EndHas index name level end NameLength → ⊥) × (EndHas index name level end RootMismatch → ⊥)
 end_has_none index name level Empty = ((λ has. has), (λ has. has), λ has. has)
@@ -116,7 +116,7 @@ end_none hash nonce root index name proof none TooDeep has = (end_has_none index
 end_none hash nonce root index name proof none NameLength has = (end_has_none index name (length proof.siblings) proof.end).1 has
 end_none hash nonce root index name proof none RootMismatch has = (end_has_none index name (length proof.siblings) proof.end).2 has
 
--- a proof with no fault is accepted
+-- a proof with no error is accepted
 pub no_fault-accepts : (hash : List ℕ → List ℕ) (nonce root index name : List ℕ) (proof : Proof) → ((fault : CheckFault) → Has hash nonce root index name proof fault → ⊥)
     → Accepts hash nonce root index name proof (answer_of proof.end)
 no_fault-accepts hash nonce root index name proof none = record {

@@ -298,14 +298,14 @@ wire_front bytes proof wire =
 wire_end : (proof : Proof) → IsWritable proof → EndRead (end_bytes proof.end) (kind_of proof.end) []
 wire_end proof writable = subst (λ ys. EndRead ys (kind_of proof.end) []) (append-nil (end_bytes proof.end)) (at_end proof.end [] writable.end)
 
--- the fault of an end, in the whole and in the end alone
+-- the error of an end, in the whole and in the end alone
 to_end : (bytes rest : List ℕ) (kind : ℕ) (fault : WireFault) → FrontRead bytes kind rest → EndHas (slice_index bytes 0) (end_in bytes) fault → EndHas kind rest fault
 to_end bytes rest kind fault front has = subst (λ ys. EndHas kind ys fault) front.end_is (subst (λ k. EndHas k (end_in bytes) fault) front.kind_is has)
 
 of_end : (bytes rest : List ℕ) (kind : ℕ) (fault : WireFault) → FrontRead bytes kind rest → EndHas kind rest fault → EndHas (slice_index bytes 0) (end_in bytes) fault
 of_end bytes rest kind fault front has = subst (λ k. EndHas k (end_in bytes) fault) (sym front.kind_is) (subst (λ ys. EndHas kind ys fault) (sym front.end_is) has)
 
--- the bytes of a proof have no fault
+-- the bytes of a proof have no error
 pub wire-no_fault : (bytes : List ℕ) (proof : Proof) (fault : WireFault) → IsWire bytes proof → WireHas bytes fault → ⊥
 wire-no_fault bytes proof NoBytes wire has = (wire_front bytes proof wire).none NoBytes has
 wire-no_fault bytes proof UnknownKind wire has = (wire_front bytes proof wire).none UnknownKind has
@@ -334,7 +334,7 @@ wire_made bytes rest left kind ds end front ending none = record {
     nothing [] e = append-nil (end_bytes end)
     nothing (y ∷ ys) e = absurd (omega arith)
 
--- ---- the first fault
+-- ---- the first error
 
 front_order : (bytes : List ℕ) (fault : WireFault) → FrontHas bytes fault → order fault < 5
 front_order bytes NoBytes has = omega arith
@@ -397,7 +397,7 @@ end-first bytes rest kind fault front is = record { there = end_there bytes rest
     first CutInKey below has = is.first CutInKey below (to_end bytes rest kind CutInKey front has)
     first BytesFollow below has = is.first BytesFollow below (to_end bytes rest kind BytesFollow front has)
 
--- bytes that follow are the only fault of the end
+-- bytes that follow are the only error of the end
 pub follow-first : (rest left : List ℕ) (kind : ℕ) → EndRead rest kind left → 0 < length left → IsFirstFault (EndHas kind rest) BytesFollow
 follow-first rest left kind end some = record { there = end.more some; first = end.none }
 

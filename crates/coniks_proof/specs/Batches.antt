@@ -42,7 +42,7 @@ fits most bytes = nat_lt 0 (length bytes) && nat_le (length bytes) most
 abbrev pub clashes : (List ℕ → List ℕ) → List Registered → List ℕ → Bool
 clashes index_of bound name = list_any (λ b. bytes_eq (index_of b.name) (index_of name) && not (bytes_eq b.name name)) bound
 
--- the fault of an operation of a kind, on a name that is present or not
+-- the error of an operation of a kind, on a name that is present or not
 abbrev pub kind_fault : Kind → Bool → Option Fault
 kind_fault register true = Some name_taken
 kind_fault register false = None
@@ -54,7 +54,7 @@ abbrev pub or_else : Option Fault → Option Fault → Option Fault
 or_else (Some fault) other = Some fault
 or_else None other = other
 
--- the first fault that applies to an operation, after earlier operations of its batch bound these
+-- the first error that applies to an operation, after earlier operations of its batch bound these
 abbrev pub fault_of : (List ℕ → List ℕ) → Registry → List Registered → Operation → Option Fault
 fault_of index_of registry earlier op =
     if not (fits MAX_NAME op.name) then Some name_length
@@ -63,18 +63,18 @@ fault_of index_of registry earlier op =
     else or_else (kind_fault op.kind (has_name registry op.name))
     (if clashes index_of (registry ++ earlier) op.name then Some index_clash else None)))
 
--- an operation at a place, if it has a fault
+-- an operation at a place, if it has an error
 abbrev pub placed : ℕ → Option Fault → Option (ℕ × Fault) → Option (ℕ × Fault)
 placed place (Some fault) later = Some (place, fault)
 placed place None later = later
 
--- the first operation with a fault, from a place on, and its first fault
+-- the first operation with an error, from a place on, and its first error
 abbrev pub fault_from : (List ℕ → List ℕ) → Registry → List Registered → ℕ → List Operation → Option (ℕ × Fault)
 fault_from index_of registry earlier place [] = None
 fault_from index_of registry earlier place (op ∷ ops) =
     placed place (fault_of index_of registry earlier op) (fault_from index_of registry (earlier ++ bound_by op ∷ []) (place + 1) ops)
 
--- the first operation of a batch with a fault, and its first fault
+-- the first operation of a batch with an error, and its first error
 abbrev pub first_fault : (List ℕ → List ℕ) → Registry → List Operation → Option (ℕ × Fault)
 first_fault index_of registry ops = fault_from index_of registry [] 0 ops
 

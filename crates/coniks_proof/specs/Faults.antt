@@ -1,4 +1,4 @@
--- What can be wrong with a proof, and which fault comes first.
+-- What can be wrong with a proof, and which error comes first.
 use Rattle.coniks_proof.specs.declared.values.TheConstants.{MAX_KEY, MAX_LEVEL, MAX_NAME}
 use Rattle.std.specs.Prelude.{◌≡◌, ◌≢◌, ◌<◌, ◌⊎◌, ℕ, List, length}
 use Rattle.coniks_proof.specs.Bits.{first_bits}
@@ -9,7 +9,7 @@ use Rattle.coniks_proof.specs.declared.paths.End.TheVariants.{Other, Here}
 use Rattle.coniks_proof.specs.declared.checker.CheckFault.{CheckFault}
 use Rattle.coniks_proof.specs.declared.checker.CheckFault.TheVariants.{TooDeep, NameLength, KeyLength, WrongName, OtherIsSame, OtherOffPath, RootMismatch}
 
--- the order of the faults
+-- the order of the errors
 abbrev pub number : CheckFault → ℕ
 number TooDeep = 1
 number NameLength = 2
@@ -19,7 +19,7 @@ number OtherIsSame = 5
 number OtherOffPath = 6
 number RootMismatch = 7
 
--- the faults of an end, at a level
+-- the errors of an end, at a level
 abbrev pub EndHas : List ℕ → List ℕ → ℕ → End → CheckFault → Type 0
 EndHas index name level (Here here key opening) KeyLength = (length key ≡ 0) ⊎ (MAX_KEY < length key)
 EndHas index name level (Here here key opening) WrongName = here ≢ name
@@ -27,7 +27,7 @@ EndHas index name level (Other other commitment) OtherIsSame = other.0 ≡ index
 EndHas index name level (Other other commitment) OtherOffPath = first_bits other.0 level ≢ first_bits index level
 EndHas index name level _ _ = ⊥
 
--- the proof has this fault
+-- the proof has this error
 abbrev pub Has : (List ℕ → List ℕ) → List ℕ → List ℕ → List ℕ → List ℕ → Proof → CheckFault → Type 0
 Has hash nonce root index name proof TooDeep = MAX_LEVEL < length proof.siblings
 Has hash nonce root index name proof NameLength = (length name ≡ 0) ⊎ (MAX_NAME < length name)
@@ -37,7 +37,7 @@ Has hash nonce root index name proof WrongName = EndHas index name (length proof
 Has hash nonce root index name proof OtherIsSame = EndHas index name (length proof.siblings) proof.end OtherIsSame
 Has hash nonce root index name proof OtherOffPath = EndHas index name (length proof.siblings) proof.end OtherOffPath
 
--- of these faults it is the first
+-- of these errors it is the first
 pub record IsFirst (has : CheckFault → Type 0) (fault : CheckFault) : Type 0 where
   pub there : has fault
   pub first : (other : CheckFault) → number other < number fault → has other → ⊥

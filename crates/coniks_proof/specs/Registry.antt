@@ -1,4 +1,4 @@
--- Registries: what each registered name is bound to, and the map that the tree holds of it.
+-- Registries: what each registered name is bound to, and the map that the tree stores for it.
 use Rattle.coniks_proof.specs.declared.values.TheConstants.{MAX_KEY, MAX_NAME}
 use Rattle.std.specs.Prelude.{◌≡◌, ◌<◌, ◌≤◌, ℕ, List, [], ◌∷◌, ◌++◌, length, Bool, true, false, not, map, filter, Option, option_map}
 use Rattle.std.specs.List.{list_any, find}
@@ -46,7 +46,7 @@ commitment_to hash b = hash (commitment_preimage b.opening b.name b.key)
 abbrev pub entry_of : (List ℕ → List ℕ) → (List ℕ → List ℕ) → Registered → Entry Registered
 entry_of hash index_of b = record { index = index_of b.name; commitment = commitment_to hash b; behind = b }
 
--- the map that the tree holds of a registry
+-- the map that the tree stores for a registry
 abbrev pub entries_of : (List ℕ → List ℕ) → (List ℕ → List ℕ) → Registry → List (Entry Registered)
 entries_of hash index_of registry = map (entry_of hash index_of) registry
 

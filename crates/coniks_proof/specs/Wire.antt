@@ -76,7 +76,7 @@ Refuses proof NameTooLong = (length proof.siblings < 2 ^ 16) × (2 ^ 16 ≤ name
 Refuses proof KeyTooLong = (length proof.siblings < 2 ^ 16) × (name_length proof.end < 2 ^ 16) × (2 ^ 32 ≤ key_length proof.end)
 Refuses proof OutOfMemory = HasRoom proof
 
--- the order of the faults
+-- the order of the errors
 abbrev pub order : WireFault → ℕ
 order NoBytes = 1
 order UnknownKind = 2
@@ -129,7 +129,7 @@ EndHas kind bytes BytesFollow =
     ⊎ ((kind ≡ 2) × (0 < length (after_key (after_name (drop 32 bytes)))))
 EndHas kind bytes _ = ⊥
 
--- the bytes have this fault
+-- the bytes have this error
 abbrev pub WireHas : List ℕ → WireFault → Type 0
 WireHas bytes NoBytes = FrontHas bytes NoBytes
 WireHas bytes UnknownKind = FrontHas bytes UnknownKind
@@ -141,7 +141,7 @@ WireHas bytes CutInName = EndHas (slice_index bytes 0) (end_in bytes) CutInName
 WireHas bytes CutInKey = EndHas (slice_index bytes 0) (end_in bytes) CutInKey
 WireHas bytes BytesFollow = EndHas (slice_index bytes 0) (end_in bytes) BytesFollow
 
--- of these faults it is the first
+-- of these errors it is the first
 pub record IsFirstFault (has : WireFault → Type 0) (fault : WireFault) : Type 0 where
   pub there : has fault
   pub first : (other : WireFault) → order other < order fault → has other → ⊥

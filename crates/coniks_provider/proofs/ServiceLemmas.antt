@@ -88,7 +88,7 @@ module _ (o : ProviderDirectory) (b : BatchLine) (depth workers : ℕ) (parallel
   refused_is (OfBatch batch.OutOfMemory) outcome f is = absurd (let never = is in cc)
   refused_is (OtherIndex position) outcome f is = let on = few_on f.0.few in rw (on, f.1) is
 
-  -- a batch without fault is refused for its number, if at all
+  -- a batch without error is refused for its number, if at all
   pub number_is : IsWithin b.ops depth workers → supplied_fault (supplied_index o.indices) (latest_registry o.history) b.ops ≡ None → provider_refusal o b ≡ provider_number_refusal o b.epoch
   number_is within none = let on = few_on within.few in rw (on, none) refl
 

@@ -40,7 +40,7 @@ pub data ProviderOutcome : Type 0 where
   already_open : ProviderOutcome
   -- a batch has too many operations
   batch_too_long : ProviderOutcome
-  -- the operation at this place is at fault
+  -- the operation at this place has an error
   bad_batch : (place : ℕ) → SuppliedFault → ProviderOutcome
   -- the epoch isn't later than the latest one
   epoch_not_later : (latest : ℕ) → ProviderOutcome

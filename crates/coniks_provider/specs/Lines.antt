@@ -16,7 +16,7 @@ abbrev pub indexed_with_first : Indexed → Result (List Indexed) ℕ → Result
 indexed_with_first x (Ok xs) = Ok (x ∷ xs)
 indexed_with_first x (Err place) = Err place
 
--- the operation at a place, and those after it; a place without one is at fault
+-- the operation at a place, and those after it; a place without one is an error
 abbrev pub indexed_at_place : ℕ → Option Indexed → Result (List Indexed) ℕ → Result (List Indexed) ℕ
 indexed_at_place place None others = Err place
 indexed_at_place place (Some x) others = indexed_with_first x others

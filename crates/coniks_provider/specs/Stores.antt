@@ -84,7 +84,7 @@ pub record IsProvided (board : Boarded) (published : BoardEnd) (opened : Option 
   pub capacity : board.capacity ≡ most_provider_epochs
   pub served : IsServingIf published opened
 
--- the fault of a batch, as a reply; none if an allocation failed
+-- the error of a batch, as a reply; none if an allocation failed
 abbrev pub refused_as : SuppliedBatchFault → Option ProviderOutcome
 refused_as (OfBatch batch.BatchTooLong) = Some batch_too_long
 refused_as (OfBatch (batch.At position fault)) = Some (bad_batch position (of_operation (fault_is fault)))

@@ -107,7 +107,7 @@ provider_number_refusal o epoch =
     then (if nat_lt (length o.chain) most_provider_epochs then None else Some board_full)
     else Some (epoch_not_later (latest_epoch o.history))
 
--- the first operation at fault refuses the batch, else its number may
+-- the first operation with an error refuses the batch, else its number may
 abbrev pub provider_refusal_from : ProviderDirectory → ℕ → Option (ℕ × SuppliedFault) → Option ProviderOutcome
 provider_refusal_from o epoch (Some at) = Some (bad_batch at.0 at.1)
 provider_refusal_from o epoch None = provider_number_refusal o epoch
@@ -250,7 +250,7 @@ provider_turn s line = option_map_or (λ d. provider_command_turn s d (text_in (
 abbrev pub provider_answer : ProviderState → List ℕ → Answer ProviderState
 provider_answer s line = answer_by provider_reply_data is_accepted_line (provider_turn s line)
 
--- what a fault leaves: that of its lines; if there is no board, nothing was read or written
+-- what an error leaves: that of its lines; if there is no board, nothing was read or written
 abbrev pub ProviderFails : Source → Source → Sink → Sink → RunFault → Type 0
 ProviderFails from from' to to' Read = EndsBadly provider_answer None from from' to to' Read
 ProviderFails from from' to to' Write = EndsBadly provider_answer None from from' to to' Write

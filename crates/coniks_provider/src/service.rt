@@ -192,7 +192,7 @@ impl Service {
             Err(LookupAtFault::OtherIndex) => return Ok(Reply::BadIndex),
             Err(LookupAtFault::OutOfMemory) => return Err(AllocError),
         };
-        // The contract of `chain` gives the properties of the chain.
+        // Read for the contract alone.
         let _chain = self.directory.chain();
         let name = String::from_str(alloc, name)?;
         Ok(Reply::LookedUp { name, found })

@@ -22,7 +22,7 @@ abbrev pub spent_view : BoardView
 spent_view = board_view false false [] [] [] 0
 
 -- The one view that writes has all published blocks, and the words stored of the next
--- one. What any view has seen, or was told of, begins the published blocks.
+-- one. What any view has seen, or received, begins the published blocks.
 pub record FitsBoard (capacity writer : ℕ) (published : List (List ℕ)) (pending : List ℕ) (i : ℕ) (v : BoardView) : Type 0 where
   pub writes : v.writes ≡ true → (i ≡ writer) × (v.blocks ≡ published) × (v.pending ≡ pending)
   pub seen : Begins v.blocks published

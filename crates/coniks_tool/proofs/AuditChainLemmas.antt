@@ -29,7 +29,7 @@ use Rattle.coniks_tool.proofs.AuditFaultLemmas.{follows-none, none-follows}
 abbrev after : AuditState → Entry → AuditState
 after s e = record { key = s.key; before = Some (before_of sha256 e) }
 
--- this entry was there, it has no fault, and this is the state after it
+-- this entry was there, it has no error, and this is the state after it
 record IsTaken (s : AuditState) (found : Option Entry) (state : AuditState) : Type 0 where
   pub entry : Entry
   pub there : found ≡ Some entry
@@ -55,7 +55,7 @@ object_says s (Some d) = entry_says s (entry_in d)
 line_says : (s : AuditState) (line : List ℕ) → Says s (entry_on line) (audit_turn s line)
 line_says s line = object_says s (object_in line)
 
--- an entry with no fault is accepted
+-- an entry with no error is accepted
 abbrev Takes : AuditState → Entry → AuditTurn → Type 0
 Takes s e t = (is_audited t.outcome ≡ true) × (t.state ≡ after s e)
 

@@ -1,4 +1,4 @@
--- The first fault of an entry.
+-- The first error of an entry.
 use Rattle.std.proofs.Common.{◌≡◌, ℕ, zero, suc, List, [], ◌∷◌, take, Bool, true, false, ◌≤◌, ◌||◌, not, ⊎_elim, arith, Option, Some, None, refl, sym, ap, subst, Decides}
 use Rattle.std.specs.Prelude.{◌==◌, bytes_eq, is_some, nat_lt, slice_get}
 use Rattle.std.proofs.lemmas.Option.{same_Some}
@@ -36,7 +36,7 @@ decides v None e NonceChanged = (λ _. tt, λ _. refl)
 decides v (Some b) e NonceChanged = Decides-implies (e.body.version == 1) (bytes_eq e.body.nonce.0 b.nonce.0) (Decides-eqb e.body.version 1) (bytes_eq-Decides e.body.nonce.0 b.nonce.0)
 decides v before e Verdict = (λ m. m, λ m. m)
 
--- each fault stands at its place
+-- each error stands at its place
 at_place : (fault : AuditFault) → slice_get faults (place_of fault) ≡ Some fault
 at_place Version = refl
 at_place _ = refl
@@ -70,14 +70,14 @@ module _ (v : List ℕ → List ℕ → Bool) (before : Option AuditorState) (e 
   none_unmet (g ∷ fs) (suc place) all zero f less at = subst (λ h. unmet h ≡ false) (same_Some g f at) (off g all.0)
   none_unmet (g ∷ fs) (suc place) all (suc k) f less at = none_unmet fs place all.1 k f (omega arith) at
 
-  -- an entry that follows has no fault
+  -- an entry that follows has no error
   pub follows-none : Follows v before e → audit_fault v before e ≡ None
   follows-none follows = none-found unmet faults (none_unmet faults 8 follows.rows)
 
   pub none-follows : audit_fault v before e ≡ None → Follows v before e
   none-follows none = record { rows = met faults 8 (found-none unmet faults none) }
 
-  -- the fault that is told is the first
+  -- the error that is returned is the first
   pub first-some : (fault : AuditFault) → IsFirstEntryFault v before e fault → audit_fault v before e ≡ Some fault
   first-some fault first =
       first-found unmet faults (place_of fault) fault (at_place fault) ((Decides-not _ (decides v before e fault)).1 first.here) (none_unmet faults (place_of fault) first.earlier)

@@ -1,4 +1,4 @@
--- The first fault of a proof is the one that is computed.
+-- The first error of a proof is the one that is computed.
 use Rattle.std.proofs.Common.{◌≡◌, ◌+◌, ◌-◌, ℕ, List, [], ◌∷◌, length, Bool, true, false, Option, Some, None, refl, sym, ◌∙◌, arith, Decides}
 use Rattle.std.specs.Prelude.{slice_get}
 use Rattle.std.proofs.lemmas.Option.{slice_get_within}
@@ -43,7 +43,7 @@ same_bits-decides (false ∷ xs) (false ∷ ys) = let d = same_bits-decides xs y
 never : Decides false ⊥
 never = (λ on. false≢true on, λ no. absurd no)
 
--- the test of an end tells whether it has the fault
+-- the test of an end tells whether it has the error
 end-decides : (index name : List ℕ) (level : ℕ) (end : End) (fault : CheckFault) → Decides (end_has index name level end fault) (EndHas index name level end fault)
 end-decides index name level (Here here key o) KeyLength = Decides-or _ _ (Decides-eqb (length key) 0) (Decides-ltb MAX_KEY (length key))
 end-decides index name level (Here here key o) WrongName = Decides-not _ (bytes_eq-Decides here name)
@@ -51,7 +51,7 @@ end-decides index name level (Other other c) OtherIsSame = bytes_eq-Decides othe
 end-decides index name level (Other other c) OtherOffPath = Decides-not _ (same_bits-decides (first_bits other.0 level) (first_bits index level))
 end-decides index name level _ _ = never
 
--- each fault stands at the place before its number
+-- each error stands at the place before its number
 at_place : (fault : CheckFault) → slice_get check_faults (number fault - 1) ≡ Some fault
 at_place TooDeep = refl
 at_place _ = refl
@@ -64,7 +64,7 @@ numbered : (fault : CheckFault) → number fault ≡ 1 + (number fault - 1)
 numbered fault = number-at number check_faults 1 (number fault - 1) fault in_order (at_place fault)
 
 module _ (hash : List ℕ → List ℕ) (nonce root index name : List ℕ) (proof : Proof) where
-  -- the test of a proof tells whether it has the fault
+  -- the test of a proof tells whether it has the error
   decides : (fault : CheckFault) → Decides (has hash nonce root index name proof fault) (Has hash nonce root index name proof fault)
   decides TooDeep = Decides-ltb 256 (length proof.siblings)
   decides NameLength = Decides-or _ _ (Decides-eqb (length name) 0) (Decides-ltb 255 (length name))
@@ -80,16 +80,16 @@ module _ (hash : List ℕ → List ℕ) (nonce root index name : List ℕ) (proo
   absent : (fault : CheckFault) → has hash nonce root index name proof fault ≡ false → ¬ Has hash nonce root index name proof fault
   absent fault none there = false≢true (sym none ∙ (decides fault).1 there)
 
-  -- no fault
+  -- no error
   pub none-none : ((fault : CheckFault) → ¬ Has hash nonce root index name proof fault) → check_fault hash nonce root index name proof ≡ None
   unfolding check_fault
   none-none none = none-found (has hash nonce root index name proof) check_faults (λ k fault less at. off fault (none fault))
 
-  -- an accepted proof has no fault
+  -- an accepted proof has no error
   pub accepts-none : (answer : Option (List ℕ)) → Accepts hash nonce root index name proof answer → check_fault hash nonce root index name proof ≡ None
   accepts-none answer ok = none-none (λ fault has. accepts-no_fault hash nonce root index name proof answer fault ok has)
 
-  -- a proof with no fault is accepted
+  -- a proof with no error is accepted
   pub none-accepts : check_fault hash nonce root index name proof ≡ None → Accepts hash nonce root index name proof (answer_of proof.end)
   unfolding check_fault
   none-accepts none =
@@ -97,7 +97,7 @@ module _ (hash : List ℕ → List ℕ) (nonce root index name : List ℕ) (proo
       no_fault-accepts hash nonce root index name proof (λ fault.
       absent fault (all (number fault - 1) fault (slice_get_within check_faults (number fault - 1) fault (at_place fault)) (at_place fault)))
 
-  -- the fault that is told is the first
+  -- the error that is returned is the first
   pub first-some : (fault : CheckFault) → IsFirst (Has hash nonce root index name proof) fault → check_fault hash nonce root index name proof ≡ Some fault
   unfolding check_fault
   first-some fault is =

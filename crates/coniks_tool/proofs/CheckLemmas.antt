@@ -15,7 +15,7 @@ accepted-outcome q name answer same ok =
     let accepts = subst (λ n. Accepts sha256 q.nonce q.root q.index n q.proof answer) same ok in
     ap answered (sym accepts.answered) ∙ ap (judged q) (sym (accepts-none sha256 q.nonce q.root q.index q.name q.proof answer accepts))
 
--- a refused one by its first fault
+-- a refused one by its first error
 pub refused-outcome : (q : Asked) (name : List ℕ) (fault : CheckFault) → name ≡ q.name → IsFirst (Has sha256 q.nonce q.root q.index name q.proof) fault → at_fault fault ≡ question_outcome (Ok q)
 refused-outcome q name fault same is =
     let first = subst (λ n. IsFirst (Has sha256 q.nonce q.root q.index n q.proof) fault) same is in

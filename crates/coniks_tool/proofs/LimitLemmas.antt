@@ -117,7 +117,7 @@ entered-limited (Some p) none =
     by None limits none = tt
     by (Some s) limits none = limits p.1 none
 
--- without a fault the numbers that the words give a run are within their limits
+-- without an error the numbers that the words give a run are within their limits
 pub faultless-limited : (words : List Text) → fault_of keydir words ≡ [] → IfSome (subcommand_of keydir words) IsLimited
 faultless-limited words none =
     let names = names_of (built keydir) in

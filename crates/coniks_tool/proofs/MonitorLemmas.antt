@@ -44,7 +44,7 @@ module _ (s : MonitorState) (entry : Entry) (proof : Proof) where
       ap (audited_turn s entry proof) (follows-none (is_seal s.key) s.before entry sound.follows)
       ∙ ap (checked_turn s entry proof) (accepts-none sha256 entry.body.nonce.0 entry.body.root.0 s.index s.name proof (answer_of proof.end) sound.accepted)
 
-  -- another one is refused by its first fault
+  -- another one is refused by its first error
   pub refused-step : (fault : MonitorFault) → IsFirstStepFault sha256 (is_seal s.key) s.before s.name s.index entry proof fault
       → step_turn s entry proof ≡ record { outcome = at_fault fault; state = s }
   refused-step (Audit fault) is = ap (audited_turn s entry proof) (first-some (is_seal s.key) s.before entry fault is)
@@ -88,7 +88,7 @@ module _ (s : MonitorState) (entry : Entry) (proof : Proof) where
   audited_first fault (Some found) is some = subst First (same_Some (Audit found) fault some) (some-first (is_seal s.key) s.before entry found is)
   audited_first fault None is some = checked_first fault of_proof refl (none-follows (is_seal s.key) s.before entry is) some
 
-  -- the fault that is told is the first
+  -- the error that is returned is the first
   pub told-first : (fault : MonitorFault) → (step_turn s entry proof).outcome ≡ at_fault fault → First fault
   told-first fault same = audited_first fault of_entry refl (ap fault_in same)
 

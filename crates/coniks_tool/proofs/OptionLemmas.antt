@@ -40,7 +40,7 @@ found-has {X} P test (x ∷ xs) all = by (test x) (found-has P test xs all.1)
     by true later = all.0
     by false later = later
 
--- more values without a fault
+-- more values without an error
 
 more-none : (i : Bool) (p : _) (xs ys : List Text) → values_kinds i p xs ≡ [] → values_kinds i p ys ≡ [] → values_kinds i p (xs ++ ys) ≡ []
 more-none i p [] ys first more = more

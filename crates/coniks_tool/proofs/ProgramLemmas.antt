@@ -101,7 +101,7 @@ told-at_2 (Ok BadKey) old new told is = (bad_key_line, told)
 told-at_2 (Ok BadExpectation) old new told is = (bad_expectation_line, told)
 told-at_2 (Err fault) old new told is = absurd (omega (arith, is))
 
--- at 3 the fault that ended it is told
+-- at 3 the error that ended it is told
 pub told-at_3 : {F : RunFault → Type 0} (outcome : Result Ending RunFault) (old new : Sink) → TellsIf (told_of outcome) old new
     → IfErr outcome F → status_of outcome ≡ 3 → (fault : RunFault) × (Tells old (fault_line fault) new × F fault)
 told-at_3 (Ok (Done true)) old new told fails is = absurd (omega (arith, is))
@@ -111,7 +111,7 @@ told-at_3 (Ok BadKey) old new told fails is = absurd (omega (arith, is))
 told-at_3 (Ok BadExpectation) old new told fails is = absurd (omega (arith, is))
 told-at_3 (Err fault) old new told fails is = (fault, (told, fails))
 
--- two things that are said of a fault
+-- two things that are said of an error
 pub both-at_3 : (F G : RunFault → Type 0) (outcome : Result Ending RunFault) → IfErr outcome F → IfErr outcome G → IfErr outcome (λ fault. F fault × G fault)
 both-at_3 F G (Ok ending) fails stops = tt
 both-at_3 F G (Err fault) fails stops = (fails, stops)
@@ -160,7 +160,7 @@ module _ (words : List (List ℕ)) (from from' : Source) (to to' : Sink) where
   explained-ends_for kind (Ok BadExpectation) among is shown = absurd is
   explained-ends_for kind (Err fault) among is shown = tt
 
-  -- a fault of the run that the words choose, or of help
+  -- an error of the run that the words choose, or of help
   pub run-stops_at : (choice : Choice) (outcome : Result Ending RunFault) → fault_of keydir words ≡ [] → chosen (subcommand_of keydir words) ≡ Some choice
       → IfErr outcome (λ fault. BreaksOff (Some choice) from from' to to' fault ⊎ NeverBegins from from' to to' fault) → IfErr outcome (StopsAt words from from' to to')
   run-stops_at choice outcome none is stops = IfErr-weaker outcome _ (StopsAt words from from' to to') (λ fault here. elim here [

@@ -43,7 +43,7 @@ accepted_is index_of history epoch ops depth workers published a later room most
     let fits : nat_lt (length history) most_epochs ≡ true = grind (arith, nat_tests) in
     rw (few, a.faultless, rises, fits) refl
 
--- a commit's fault is why the batch is refused
+-- a commit's error is why the batch is refused
 pub refused_is : (index_of : List ℕ → List ℕ) (s : State) (ops : List Operation) (depth workers epoch published capacity : ℕ) (fault : CommitFault) → AreWorkers workers → depth ≤ MAX_DEPTH
     → published ≡ length (history_of s) → capacity ≡ most_epochs → 0 ≡ 0 + commit_refusals fault → IsCommitFault index_of s ops depth workers epoch published capacity fault
     → IsRefusedBy (refusal index_of (history_of s) epoch ops) fault
@@ -134,7 +134,7 @@ made_and_room {H} {X} {P} (Err e) v v' p p' made made' refused refused' epoch pu
     let long' : length v'.state.chain ≡ length v.state.chain = ap (λ (w : View H X). length w.state.chain) same.0 in
     (kept.0 ∙ own ∙ sym long', omega arith)
 
--- a commit's fault, whatever it is
+-- a commit's error, whatever it is
 pub refused_by : {H X P : Type 0} (index_of index_of' : List ℕ → List ℕ) (v v' : View H X) (p p' : P) (ops : List Operation)
     (depth workers epoch published capacity made made' : ℕ) (last last' : Option Entry) (result : Result Entry CommitFault) → AreWorkers workers → depth ≤ MAX_DEPTH
     → published ≡ length v.state.chain → capacity ≡ most_epochs → IfErr result (λ fault. (made' ≡ made) × (0 ≡ 0 + commit_refusals fault) × (last' ≡ last))

@@ -134,7 +134,7 @@ entered-chosen None is = tt
 entered-chosen (Some p) is = among p.0 p.1 (built keydir).subs
     ((λ _. refl), ((λ _. refl), ((λ _. refl), ((λ _. refl), ((λ answers. absurd (help-isnt p.0 is (only (bytes_eq (codes "help") p.0) answers))), tt)))))
 
--- without a fault the words name a subcommand by which something is chosen
+-- without an error the words name a subcommand by which something is chosen
 pub faultless-chosen : (words : List Text) → fault_of keydir words ≡ [] → IfSome (subcommand_of keydir words) IsChosen
 faultless-chosen words none =
     let names = names_of (built keydir) in

@@ -28,7 +28,7 @@ none_audited key = record { key = key; before = None }
 abbrev pub AuditTurn : Type 0
 AuditTurn = Turn AuditOutcome AuditState
 
--- an entry with this first fault is refused and the state stays; one with none is what the next one is compared with
+-- an entry with this first error is refused and the state stays; one with none is what the next one is compared with
 abbrev pub judged_turn : AuditState → Entry → Option AuditFault → AuditTurn
 judged_turn s entry (Some fault) = refused s (at_fault fault)
 judged_turn s entry None = record {

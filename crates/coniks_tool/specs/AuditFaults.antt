@@ -1,4 +1,4 @@
--- The first fault of an entry, computed.
+-- The first error of an entry, computed.
 use Rattle.std.specs.Prelude.{ℕ, List, ◌==◌, ◌||◌, Bool, true, Option, is_some, nat_lt, not, find}
 use Rattle.std.specs.Option.{option_map_or}
 use Rattle.std.specs.Str.{bytes_eq}
@@ -9,7 +9,7 @@ use Rattle.coniks_chain.specs.declared.auditor.AuditFault.TheVariants.{Version, 
 use Rattle.coniks_chain.specs.Chain.{epoch_before, link_before, faults}
 use Rattle.coniks_chain.specs.Entries.{body_bytes}
 
--- whether an entry does not have this fault
+-- whether an entry does not have this error
 abbrev pub meets : (List ℕ → List ℕ → Bool) → Option AuditorState → Entry → AuditFault → Bool
 meets verdict before entry Version = entry.body.version == 1 || entry.body.version == 2
 meets verdict before entry VersionBack = option_map_or (λ b. not (nat_lt entry.body.version b.version)) before true
@@ -21,6 +21,6 @@ meets verdict before entry NonceChanged = option_map_or
     (λ b. not (entry.body.version == 1) || bytes_eq entry.body.nonce.0 b.nonce.0) before true
 meets verdict before entry Verdict = verdict (body_bytes entry.body) entry.signature.0
 
--- the first fault of an entry after what is before it
+-- the first error of an entry after what is before it
 abbrev pub audit_fault : (List ℕ → List ℕ → Bool) → Option AuditorState → Entry → Option AuditFault
 audit_fault verdict before entry = find (λ fault. not (meets verdict before entry fault)) faults

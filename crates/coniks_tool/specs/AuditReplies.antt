@@ -26,7 +26,7 @@ audit_outcome reply.NotJson = not_json
 audit_outcome reply.NoEntry = no_entry
 audit_outcome (reply.AtFault fault) = at_fault fault
 
--- the name of a fault
+-- the name of an error
 abbrev pub audit_fault_name : AuditFault → List ℕ
 audit_fault_name Version = codes "Version"
 audit_fault_name VersionBack = codes "VersionBack"

@@ -48,7 +48,7 @@ asked_in d =
     needs Proof (proof_in d) (λ proof.
     Ok (record { index = index; name = name; nonce = nonce; root = root; proof = proof }))))))
 
--- a proof with this first fault is refused; one without a fault has the answer of its end
+-- a proof with this first error is refused; one without an error has the answer of its end
 abbrev pub judged : Asked → Option CheckFault → CheckOutcome
 judged q (Some fault) = at_fault fault
 judged q None = answered (answer_of q.proof.end)

@@ -1,4 +1,4 @@
--- The first fault of a proof, computed.
+-- The first error of a proof, computed.
 use Rattle.std.specs.Prelude.{ℕ, List, [], ◌∷◌, length, ◌==◌, ◌||◌, Bool, true, false, not, nat_lt, Option, find, if◌then◌else◌}
 use Rattle.std.specs.Str.{bytes_eq}
 use Rattle.coniks_proof.specs.Bits.{first_bits}
@@ -22,7 +22,7 @@ same_bits (false ∷ xs) (y ∷ ys) = if y then false else same_bits xs ys
 abbrev pub is_off : ℕ → ℕ → Bool
 is_off limit n = n == 0 || nat_lt limit n
 
--- whether an end has a fault, at a level
+-- whether an end has an error, at a level
 abbrev pub end_has : List ℕ → List ℕ → ℕ → End → CheckFault → Bool
 end_has index name level (Here here key opening) KeyLength = is_off MAX_KEY (length key)
 end_has index name level (Here here key opening) WrongName = not (bytes_eq here name)
@@ -30,17 +30,17 @@ end_has index name level (Other other commitment) OtherIsSame = bytes_eq other.0
 end_has index name level (Other other commitment) OtherOffPath = not (same_bits (first_bits other.0 level) (first_bits index level))
 end_has index name level _ _ = false
 
--- whether a proof has a fault
+-- whether a proof has an error
 abbrev pub has : (List ℕ → List ℕ) → List ℕ → List ℕ → List ℕ → List ℕ → Proof → CheckFault → Bool
 has hash nonce root index name proof TooDeep = nat_lt MAX_LEVEL (length proof.siblings)
 has hash nonce root index name proof NameLength = is_off MAX_NAME (length name)
 has hash nonce root index name proof RootMismatch = not (bytes_eq (hash (preimage hash nonce index 0 proof.siblings proof.end)) root)
 has hash nonce root index name proof fault = end_has index name (length proof.siblings) proof.end fault
 
--- the faults in the order in which they are checked
+-- the errors in the order in which they are checked
 abbrev pub check_faults : List CheckFault
 check_faults = TooDeep ∷ NameLength ∷ KeyLength ∷ WrongName ∷ OtherIsSame ∷ OtherOffPath ∷ RootMismatch ∷ []
 
--- the first fault of a proof
+-- the first error of a proof
 unfoldable pub check_fault : (List ℕ → List ℕ) → List ℕ → List ℕ → List ℕ → List ℕ → Proof → Option CheckFault
 check_fault hash nonce root index name proof = find (has hash nonce root index name proof) check_faults

@@ -29,7 +29,7 @@ check_outcome reply.NotJson = not_json
 check_outcome (reply.NoMember m) = no_member m
 check_outcome (reply.AtFault fault) = at_fault fault
 
--- the name of a fault
+-- the name of an error
 abbrev pub check_fault_name : CheckFault → List ℕ
 check_fault_name TooDeep = codes "TooDeep"
 check_fault_name NameLength = codes "NameLength"

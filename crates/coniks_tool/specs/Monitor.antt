@@ -47,7 +47,7 @@ watching key w = record { key = key; name = w.name; index = w.index; before = w.
 abbrev pub MonitorTurn : Type 0
 MonitorTurn = Turn MonitorOutcome MonitorState
 
--- an accepted entry with a proof that has this first fault: the state stays. One with none is what the next one is compared with
+-- an accepted entry with a proof that has this first error: the state stays. One with none is what the next one is compared with
 abbrev pub checked_turn : MonitorState → EntryOf → ProofOf → Option CheckFault → MonitorTurn
 checked_turn s entry proof (Some fault) = refused s (at_fault (Check fault))
 checked_turn s entry proof None =
@@ -56,7 +56,7 @@ checked_turn s entry proof None =
       state = record s { before = Some (before_of sha256 entry) };
     }
 
--- an entry with this first fault is refused and the state stays; under one with none the proof is checked, for the name at its index
+-- an entry with this first error is refused and the state stays; under one with none the proof is checked, for the name at its index
 abbrev pub audited_turn : MonitorState → EntryOf → ProofOf → Option AuditFault → MonitorTurn
 audited_turn s entry proof (Some fault) = refused s (at_fault (Audit fault))
 audited_turn s entry proof None = checked_turn s entry proof (check_fault sha256 entry.body.nonce.0 entry.body.root.0 s.index s.name proof)

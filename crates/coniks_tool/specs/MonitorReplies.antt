@@ -40,7 +40,7 @@ seen_name Same = codes "same"
 seen_name Changed = codes "changed"
 seen_name Absent = codes "absent"
 
--- the name of a fault
+-- the name of an error
 abbrev pub monitor_fault_name : MonitorFault → List ℕ
 monitor_fault_name (Audit fault) = audit_fault_name fault
 monitor_fault_name (Check fault) = check_fault_name fault

@@ -20,7 +20,7 @@ use Rattle.coniks_tool.specs.declared.cli.choice.Unread.TheVariants as unread
 use Rattle.coniks_tool.specs.declared.cli.ending.Ending.{Ending}
 use Rattle.coniks_tool.specs.declared.cli.ending.Ending.TheVariants.{Done, Refused, BadKey, BadExpectation}
 
--- the line for a fault
+-- the line for an error
 abbrev pub fault_line : RunFault → List ℕ
 fault_line Read = codes "keydir: read failed\n"
 fault_line Write = codes "keydir: write failed\n"
@@ -122,7 +122,7 @@ Runs (Some check) from from' to to' all = (state : Stateless) × EndsWell check_
 Runs (Some (audit text)) from from' to to' all = Audits text from from' to to' all
 Runs (Some (monitor text name expect)) from from' to to' all = Monitors text name expect from from' to to' all
 
--- a fault ended the chosen run, after these replies
+-- an error ended the chosen run, after these replies
 abbrev pub BreaksOff : Option Choice → Source → Source → Sink → Sink → RunFault → Type 0
 BreaksOff None from from' to to' fault = ⊥
 BreaksOff (Some (run workers depth)) from from' to to' fault = ScriptFails from from' to to' fault
@@ -150,12 +150,12 @@ pub record RunsFor (words : List (List ℕ)) (from from' : Source) (to to' : Sin
   pub faultless : fault_of keydir words ≡ []
   pub runs : Runs (chosen (subcommand_of keydir words)) from from' to to' all
 
--- `clap` finds no mistake in the arguments, and a fault ended the run that they choose
+-- `clap` finds no mistake in the arguments, and an error ended the run that they choose
 pub record BreaksOffFor (words : List (List ℕ)) (from from' : Source) (to to' : Sink) (fault : RunFault) : Type 0 where
   pub faultless : fault_of keydir words ≡ []
   pub breaks : BreaksOff (chosen (subcommand_of keydir words)) from from' to to' fault
 
--- what a fault leaves of the input and the output: that of the run, or of help or the version, or all of it
+-- what an error leaves of the input and the output: that of the run, or of help or the version, or all of it
 abbrev pub StopsAt : List (List ℕ) → Source → Source → Sink → Sink → RunFault → Type 0
 StopsAt words from from' to to' fault =
     BreaksOffFor words from from' to to' fault ⊎
@@ -214,7 +214,7 @@ pub record AsksForBoard (words : List (List ℕ)) : Type 0 where
   pub faultless : fault_of keydir words ≡ []
   pub has_board : HasBoard (chosen (subcommand_of keydir words))
 
--- what each fault says: which stream did not go on, if one did not; without a
+-- what each error says: which stream did not go on, if one did not; without a
 -- board, that one was wanted, and that nothing was read or written
 abbrev pub Fails : Type 0 → Source → Source → Sink → Sink → RunFault → Type 0
 Fails wanted from from' to to' Read = CannotRead from from' × WritesOn to to'

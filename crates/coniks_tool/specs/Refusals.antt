@@ -14,7 +14,7 @@ use Rattle.coniks_tool.specs.Limits.{most_epochs}
 pub data Refusal : Type 0 where
   -- it has too many operations
   too_long : Refusal
-  -- the operation at this place has this fault
+  -- the operation at this place has this error
   at : (position : ℕ) (fault : Fault) → Refusal
   -- its epoch isn't later than the latest one
   not_later : (latest : ℕ) → Refusal
@@ -28,7 +28,7 @@ number_refusal history epoch =
     then (if nat_lt (length history) most_epochs then None else Some full)
     else Some (not_later (latest_epoch history))
 
--- the first operation at fault refuses the batch, else its number may
+-- the first operation with an error refuses the batch, else its number may
 abbrev pub refusal_from : List Shown → ℕ → Option (ℕ × Fault) → Option Refusal
 refusal_from history epoch (Some found) = Some (at found.0 found.1)
 refusal_from history epoch None = number_refusal history epoch
@@ -40,7 +40,7 @@ refusal index_of history epoch ops =
     then refusal_from history epoch (first_fault index_of (latest_registry history) ops)
     else Some too_long
 
--- a commit's fault is this refusal; or an allocation failed
+-- a commit's error is this refusal; or an allocation failed
 abbrev pub IsRefusedBy : Option Refusal → CommitFault → Type 0
 IsRefusedBy why (Batch batch.Workers) = ⊥
 IsRefusedBy why (Batch batch.Depth) = ⊥

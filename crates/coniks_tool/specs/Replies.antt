@@ -13,7 +13,7 @@ use Rattle.coniks_tool.specs.declared.lines.printing.Member.TheVariants as named
 use Rattle.coniks_tool.specs.declared.run.reply.Reply.{Reply}
 use Rattle.coniks_tool.specs.declared.run.reply.Reply.TheVariants as reply
 
--- what comes of a line: a reply in numbers, byte lists and the faults of batches
+-- what comes of a line: a reply in numbers, byte lists and the errors of batches
 pub data Outcome : Type 0 where
   -- the registry is open
   opened : Outcome
@@ -35,7 +35,7 @@ pub data Outcome : Type 0 where
   already_open : Outcome
   -- a batch has too many operations
   batch_too_long : Outcome
-  -- the operation at this place is at fault
+  -- the operation at this place has an error
   bad_batch : (place : ℕ) → Fault → Outcome
   -- the epoch isn't later than the latest one
   epoch_not_later : (latest : ℕ) → Outcome
@@ -78,7 +78,7 @@ member_name named.Proof = codes "proof"
 member_name named.Entry = codes "entry"
 member_name named.Signature = codes "signature"
 
--- the name of an operation's fault
+-- the name of an operation's error
 abbrev pub fault_name : Fault → List ℕ
 fault_name name_length = codes "NameLength"
 fault_name key_length = codes "KeyLength"

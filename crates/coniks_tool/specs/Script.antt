@@ -156,7 +156,7 @@ turn s line = option_map_or (λ d. command_turn s d (text_in (codes "cmd") d)) (
 abbrev pub script_answer : ScriptState → List ℕ → Answer ScriptState
 script_answer s line = answer_by reply_data is_accepted (turn s line)
 
--- the state after a fault of `run`: that of its lines; without a board, nothing was read or written
+-- the state after an error of `run`: that of its lines; without a board, nothing was read or written
 abbrev pub ScriptFails : Source → Source → Sink → Sink → RunFault → Type 0
 ScriptFails from from' to to' Read = EndsBadly script_answer None from from' to to' Read
 ScriptFails from from' to to' Write = EndsBadly script_answer None from from' to to' Write

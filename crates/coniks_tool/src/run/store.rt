@@ -85,7 +85,7 @@ impl Service {
             publisher,
             board,
         );
-        // The contract of `chain` gives the properties of the chain.
+        // Read for the contract alone.
         let _chain = self.directory.chain();
         committed
     }
@@ -101,7 +101,7 @@ impl Service {
             Err(LookupFault::NameLength) => return Ok(Reply::NameLength),
             Err(LookupFault::OutOfMemory) => return Err(AllocError),
         };
-        // The contract of `chain` gives the properties of the chain.
+        // Read for the contract alone.
         let _chain = self.directory.chain();
         let name = String::from_str(alloc, name)?;
         Ok(Reply::LookedUp { name, found })

@@ -5,7 +5,7 @@ use Rattle.coniks_c.specs.Crossing.{before_in}
 use Rattle.coniks_c.proofs.VerdictLemmas.{checked_alike}
 use Rattle.coniks_c.proofs.monitor.coniks_monitor_step.Goals as goal
 
--- the entry follows under any function that gives the caller's verdict, and the fault is the proof's
+-- the entry follows under any function that gives the caller's verdict, and the error is the proof's
 pub returns-in-Err-Check-clause-checked : goal.returns-in-Err-Check-clause-checked
 returns-in-Err-Check-clause-checked c fault is verdict told =
     let same : c.in-Err-Check.fault ≡ fault = search rules in
