@@ -15,7 +15,7 @@ import os
 import subprocess
 import sys
 from pathlib import Path
-from typing import Sequence, Union
+from typing import Sequence
 
 HERE = Path(__file__).resolve().parent
 TOP = HERE.parent.parent
@@ -27,52 +27,34 @@ import tools
 from tally import Tally
 
 
-def try_example(tally: Tally, program: Path) -> None:
-    """What the example prints, and its types."""
+def try_all(tally: Tally, program: str, faults: int) -> None:
+    import replicas
+    import runs
     import stand_ins
 
+    replicas.try_replicas(tally.tell, program)
+    runs.try_faults(tally, program, faults)
     if not stand_ins.HAS_NACL or not stand_ins.has_library():
-        tally.skip("the transcript of examples/cluster", "embed/build" if stand_ins.HAS_NACL else "PyNaCl")
-    else:
-        ran = subprocess.run([sys.executable, EXAMPLE / "run", program], capture_output=True, text=True)
-        tally.tell(
-            "examples/cluster/transcript.txt",
-            ran.stdout == (EXAMPLE / "transcript.txt").read_text("utf-8"),
-            ran.stdout + ran.stderr,
-        )
-    if not tools.has("mypy"):
-        return tally.skip("the types of examples/cluster", "mypy")
-    words: list[Union[str, Path]] = [
-        "mypy",
-        "--strict",
-        "--cache-dir",
-        os.devnull,
-        "--python-executable",
-        sys.executable,
-        EXAMPLE / "run",
-    ]
-    path = os.environ | {"MYPYPATH": f"{HERE}:{EXAMPLE}:{TOP}/examples/provider"}
-    ran = subprocess.run(words, capture_output=True, text=True, env=path)
-    tally.tell("mypy --strict examples/cluster", ran.returncode == 0, ran.stdout + ran.stderr)
+        return tally.skip("the transcript of examples/cluster", "embed/build" if stand_ins.HAS_NACL else "PyNaCl")
+    ran = subprocess.run([sys.executable, EXAMPLE / "run", program], capture_output=True, text=True)
+    tally.tell("the transcript", ran.stdout == (EXAMPLE / "transcript.txt").read_text("utf-8"), ran.stdout + ran.stderr)
 
 
 def main(words: Sequence[str]) -> int:
-    if words[:1] == ["--speed"]:
-        import speed
-
-        return speed.main(str(Path(words[1]).resolve()), *map(int, words[2:]))
-    tally = Tally()
-    program = Path(words[0] if words else TOP / "crates/provider/out/provider").resolve()
-    lacking = [it for it in ["PostgreSQL", "psycopg"] if not tools.has(it)] + ["the program `provider`"] * (not program.is_file())
+    tally, is_speed = Tally(), words[:1] == ["--speed"]
+    named = words[is_speed:] or [str(TOP / "crates/provider/out/provider")]
+    program, numbers = str(Path(named[0]).resolve()), [int(it) for it in named[1:]]
+    lacking = [it for it in ["PostgreSQL", "psycopg"] if not tools.has(it)] + ["the program `provider`"] * (
+        not Path(program).is_file()
+    )
     for it in lacking:
         tally.skip("coniks.postgres and coniks.replica", it)
-    if not lacking:
-        import replicas
-        import runs
+    if is_speed and not lacking:
+        import speed
 
-        replicas.try_replicas(tally.tell, str(program))
-        runs.try_faults(tally.tell, tally.skip, str(program), int(words[1]) if len(words) > 1 else 8)
-        try_example(tally, program)
+        return speed.main(program, *numbers)
+    if not lacking:
+        try_all(tally, program, *(numbers or [8]))
     print(tally.line())
     return 1 if tally.failed else 0
 

@@ -9,11 +9,21 @@ import subprocess
 import time
 from contextlib import suppress
 from pathlib import Path
-from typing import Any
+from typing import Any, Callable
+
+import psycopg
 
 # PostgreSQL refuses to run as root: Debian's package makes this user.
 USER = "postgres"
 OPTIONS = ["-c", "listen_addresses=", "-c", "unix_socket_permissions=0700", "-c", "shared_buffers=16MB"]
+
+
+def soon(call: Callable[[], object], seconds: float = 20) -> bool:
+    """Waits until a call returns something true. Returns whether it did."""
+    until = time.monotonic() + seconds
+    while not (is_so := bool(call())) and time.monotonic() < until:
+        time.sleep(0.005)
+    return is_so
 
 
 class Database:
@@ -25,36 +35,25 @@ class Database:
         self.folder, self.conninfo = folder, f"host={folder} dbname=postgres user={USER}"
         if self._as:
             shutil.chown(folder, USER, USER)
-        self._run(
-            "initdb", "--no-sync", "--auth=trust", f"--username={USER}", "--wal-segsize=1", "--locale=C", f"--pgdata={folder}/data"
-        )
+        self._begin("initdb", "--no-sync", "--auth=trust", f"--username={USER}", "--wal-segsize=1", "--locale=C", "data").wait()
         self.start()
 
-    def _run(self, program: str, *words: str) -> None:
-        ran = subprocess.run([self._programs / program, *words], capture_output=True, text=True, cwd="/", **self._as)
-        if ran.returncode:
-            raise ChildProcessError(f"{program} failed: {ran.stdout}{ran.stderr}")
+    def _begin(self, program: str, *words: str) -> subprocess.Popen[bytes]:
+        # It ends when this process does, even if that is killed.
+        whole = ["setpriv", "--pdeathsig=QUIT", f"{self._programs}/{program}", *words]
+        with open(self.folder / "said", "ab") as said:
+            return subprocess.Popen(whole, stdout=said, stderr=said, cwd=self.folder, start_new_session=True, **self._as)
 
     def start(self) -> None:
         """Starts PostgreSQL, and waits until it answers."""
-        # It ends when this process does, even if that is killed.
-        words = [
-            "setpriv",
-            "--pdeathsig=QUIT",
-            f"{self._programs}/postgres",
-            "-D",
-            f"{self.folder}/data",
-            "-k",
-            f"{self.folder}",
-            *OPTIONS,
-        ]
-        with open(self.folder / "said", "ab") as said:
-            self._server = subprocess.Popen(words, stdout=said, stderr=said, cwd="/", start_new_session=True, **self._as)
-        while self.is_running():
-            with suppress(ChildProcessError):
-                return self._run("pg_isready", "--quiet", f"--host={self.folder}")
-            time.sleep(0.02)
-        raise ChildProcessError(f"PostgreSQL ended: {(self.folder / 'said').read_text()[-2000:]}")
+        self._server = self._begin("postgres", "-D", "data", "-k", str(self.folder), *OPTIONS)
+        soon(lambda: self._begin("pg_isready", "--quiet", f"--host={self.folder}").wait() == 0 or not self.is_running(), 60)
+        if not self.is_running():
+            raise ChildProcessError(f"PostgreSQL ended: {(self.folder / 'said').read_text()[-2000:]}")
+
+    def execute(self, query: str) -> None:
+        with psycopg.connect(self.conninfo, autocommit=True) as connection:
+            connection.execute(query)
 
     def is_running(self) -> bool:
         return self._server.poll() is None

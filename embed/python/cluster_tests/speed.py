@@ -1,102 +1,91 @@
-"""Measures lookups per second, with one replica and with three at once, and the time of a takeover.
-
-Run as a program, this is a replica. It reads a number of seconds from standard input and looks names up for that long.
-"""
+"""Measures the lookups of one replica and of three at once, the processors that they use, and the time of a takeover."""
 
 from __future__ import annotations
 
-import itertools
 import os
 import random
 import statistics
-import subprocess
-import sys
 import tempfile
 import time
+from concurrent.futures import ThreadPoolExecutor
 from pathlib import Path
-from typing import Iterator, Optional, Sequence
+from typing import Sequence
+from unittest import mock
 
-TOP = Path(__file__).resolve().parent.parent.parent.parent
-sys.path[:0] = [str(TOP / "embed/python/provider_tests"), str(TOP / "examples/cluster")]
-
-import stand_ins
 from coniks.postgres import PostgresLog
 from coniks.provider import Provider, Register
 from coniks.replica import Replica
 from database import Database
+from node import Node, Service
+from stand_ins import KEY, POLICY, Salted, index
 
 BATCH = 4096
-KEYS = stand_ins.Salted()
 
 
-class Held(PostgresLog):
-    """Shows no line from a position on."""
+class Measured(Replica):
+    def rate(self, call: str, names: int, seconds: float) -> list[float]:
+        """Lookups a second, and how many processors Python and the child use meanwhile."""
+        chance, count, start = random.Random(), 0, self._clocks()
+        while time.monotonic() < start[0] + seconds:
+            asked = [f"user-{chance.randrange(names)}" for _ in range(500)]
+            count += len(self.lookups(asked) if call == "lookups" else [self.lookup(it) for it in asked])
+        took, own, child = (now - then for now, then in zip(self._clocks(), start))
+        return [count / took, own / took, child / took]
 
-    end: Optional[int] = None
-
-    def read(self, position: int) -> Iterator[bytes]:
-        return itertools.islice(super().read(position), None if self.end is None else max(0, self.end - position))
-
-
-def looking(conninfo: str, program: str, names: int) -> None:
-    chance = random.Random(os.getpid())
-    with PostgresLog(conninfo) as log, Replica(log, program, stand_ins.index, policy=stand_ins.POLICY) as replica:
-        print("ready", flush=True)
-        for line in sys.stdin:
-            start, count = time.monotonic(), 0
-            while time.monotonic() < start + float(line):
-                count += len(replica.lookups([f"user-{chance.randrange(names)}" for _ in range(500)]))
-            print(count / (time.monotonic() - start), flush=True)
+    def _clocks(self) -> list[float]:
+        """The time, and the processor time of this process and of its child, whose clock has this number on Linux."""
+        return [time.monotonic(), time.process_time(), time.clock_gettime(~(self.pid or 0) << 3 | 2)]
 
 
-def line_of(replica: subprocess.Popen[str]) -> str:
-    assert replica.stdout
-    return replica.stdout.readline()
+class Measuring(Service):
+    def open(self, log: PostgresLog) -> Replica:
+        return Measured(log, self.program, index, policy=POLICY)
 
 
-def rate(replicas: Sequence[subprocess.Popen[str]], seconds: float) -> float:
-    """Lookups a second of some replicas at once."""
-    for it in replicas:
-        print(seconds, file=it.stdin, flush=True)
-    return sum(float(line_of(it)) for it in replicas)
+def rates(nodes: Sequence[Node], call: str, names: int, seconds: float) -> list[float]:
+    """The sums of what some replicas do at once."""
+    with ThreadPoolExecutor() as pool:
+        made = [pool.submit(it.call, "rate", call, names, seconds) for it in nodes]
+        return [sum(it) for it in zip(*(it.result() for it in made))]
+
+
+def measure_lookups(conninfo: str, program: str, names: int, seconds: float, rounds: int) -> None:
+    nodes = [Node(Measuring(conninfo, program, None)) for _ in range(3)]
+    for it in nodes:
+        it.call("latest")
+    for call in ("lookup", "lookups"):
+        found = [[rates(nodes[:count], call, names, seconds) for count in (1, 3)] for _ in range(rounds)]
+        for what, of in zip(["one replica", "three"], zip(*found)):
+            rate, own, child = map(statistics.median, zip(*of))
+            print(f"{call}: {rate:.0f} a second of {what}, on {own:.2f} processors in Python and {child:.2f} in children")
+        ratio = statistics.median(three[0] / one[0] for one, three in found)
+        print(f"{call}: three make {ratio:.2f} times as many, load {os.getloadavg()[0]:.1f}", flush=True)
+    for it in nodes:
+        it.kill()
+
+
+def measure_takeover(log: PostgresLog, program: str, own: Provider, behind: int) -> Provider:
+    start = time.monotonic()
+    replica = Replica(log, program, index, policy=POLICY)
+    replayed, first = time.monotonic() - start, own.latest().epoch + 1
+    with mock.patch.object(log, "read", side_effect=lambda position: iter([])):
+        for epoch in range(first, first + behind):
+            own.commit(epoch, [Register(f"user-{epoch}-{it}", KEY) for it in range(BATCH)])
+    start = time.monotonic()
+    new = replica.promote(Salted().sign)
+    took = time.monotonic() - start
+    print(f"takeover: {took:.3f} s by a standby that lacks {behind} batches of {BATCH} names; a replay of all {replayed:.2f} s")
+    own.close()
+    return new
 
 
 def main(program: str, names: int = 100_000, seconds: float = 3, rounds: int = 5) -> int:
-    with tempfile.TemporaryDirectory() as folder, Database(Path(folder)) as database, Held(database.conninfo) as log:
-        assert isinstance(log, Held)
-        own = Provider(program, stand_ins.index, KEYS.sign, log, policy=stand_ins.POLICY)
-        epochs = itertools.count(1)
-        for first in range(0, names, BATCH):
-            own.commit(next(epochs), [Register(f"user-{it}", stand_ins.KEY) for it in range(first, min(names, first + BATCH))])
-        words = [sys.executable, __file__, database.conninfo, program, str(names)]
-        replicas = [subprocess.Popen(words, stdin=subprocess.PIPE, stdout=subprocess.PIPE, text=True) for _ in range(3)]
-        assert [line_of(it) for it in replicas] == ["ready\n"] * 3
-        found = [(rate(replicas[:1], seconds), rate(replicas, seconds)) for _ in range(rounds)]
-        one, three = map(statistics.median, zip(*found))
-        ratio = statistics.median(b / a for a, b in found)
-        print(
-            f"lookups a second: {one:.0f} of one replica, {three:.0f} of three, median ratio {ratio:.2f}; load {os.getloadavg()[0]:.1f}"
-        )
-        for it in replicas:
-            it.communicate()
+    with tempfile.TemporaryDirectory() as folder, Database(Path(folder)) as database, PostgresLog(database.conninfo) as log:
+        own = Provider(program, index, Salted().sign, log, policy=POLICY)
+        for epoch, first in enumerate(range(0, names, BATCH), 1):
+            own.commit(epoch, [Register(f"user-{it}", KEY) for it in range(first, min(names, first + BATCH))])
+        measure_lookups(database.conninfo, program, names, seconds, rounds)
         for behind in (0, 1, 10):
-            log.end = log.wait(0, 0)
-            start = time.monotonic()
-            replica = Replica(log, program, stand_ins.index, policy=stand_ins.POLICY)
-            replayed = time.monotonic() - start
-            for number in range(behind):
-                own.commit(next(epochs), [Register(f"more-{behind}-{number}-{it}", stand_ins.KEY) for it in range(BATCH)])
-            log.end, start = None, time.monotonic()
-            new = replica.promote(KEYS.sign)
-            took = time.monotonic() - start
-            print(
-                f"takeover: {took:.3f} s by a standby that lacks {behind} batches of {BATCH} names; a replay of all {replayed:.2f} s"
-            )
-            own.close()
-            own = new
+            own = measure_takeover(log, program, own, behind)
         own.close()
     return 0
-
-
-if __name__ == "__main__":
-    looking(sys.argv[1], sys.argv[2], int(sys.argv[3]))

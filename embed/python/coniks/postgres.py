@@ -13,7 +13,7 @@ import secrets
 import select
 import threading
 import time
-from contextlib import contextmanager, suppress
+from contextlib import suppress
 from typing import Any, Callable, Iterator, Optional, TypeVar
 
 import psycopg
@@ -52,17 +52,25 @@ class _Session:
         self._conninfo, self._prepare, self._lock = conninfo, prepare, threading.RLock()
         self._connection: Optional[Connection] = None
 
-    @contextmanager
-    def use(self) -> Iterator[Connection]:
-        with self._lock:
-            try:
-                if self._connection is None:
-                    self._connection = psycopg.connect(self._conninfo, autocommit=True)
-                    self._prepare(self._connection)
-                yield self._connection
-            except BaseException:
-                self.close()
-                raise
+    def do(self, what: str, call: Callable[[Connection], Answer], patience: float = 0) -> Answer:
+        """What a call returns. After a lost connection it is called again: once, or for `patience` seconds."""
+        until, is_last = time.monotonic() + patience, False
+        while True:
+            with self._lock:
+                try:
+                    if self._connection is None:
+                        self._connection = psycopg.connect(self._conninfo, autocommit=True)
+                        self._prepare(self._connection)
+                    return call(self._connection)
+                except psycopg.Error as error:
+                    self.close()
+                    if is_last or not isinstance(error, (psycopg.OperationalError, psycopg.InterfaceError)):
+                        raise LogFailed(f"{what}: {error}") from error
+                except BaseException:
+                    self.close()
+                    raise
+            is_last = time.monotonic() > until
+            time.sleep(_PAUSE)
 
     def close(self) -> None:
         with self._lock:
@@ -86,7 +94,7 @@ class PostgresLog:
         whole = make_conninfo(**{"connect_timeout": "5", "application_name": table, **conninfo_to_dict(conninfo)})
         # A replica waits on a connection of its own, so that appends and reads need not wait for it.
         self._main, self._waiting = _Session(whole, self._check), _Session(whole, self._listen)
-        self._asked(self._main, lambda connection: None)
+        self._main.do("the log can't be opened", lambda connection: None)
 
     def _value(self, connection: Connection, query: str, row: Optional[dict[str, Any]] = None) -> Any:
         found = connection.execute(self._sql[query], row).fetchone()
@@ -110,42 +118,32 @@ class PostgresLog:
         if b"\n" in line:
             raise ValueError("a line has no newline")
         row = {"position": position, "line": line, "token": secrets.token_bytes(16)}
-        until = time.monotonic() + self._patience
-        while True:
-            try:
-                return self._insert(row)
-            except (psycopg.OperationalError, psycopg.InterfaceError) as error:
-                if time.monotonic() > until:
-                    raise LogFailed(f"whether line {position} was stored isn't known: {error}") from error
-                time.sleep(_PAUSE)
-            except psycopg.Error as error:
-                raise LogFailed(f"the log can't be written: {error}") from error
+        self._main.do(f"line {position} may be stored or not", lambda it: self._insert(it, row), self._patience)
 
-    def _insert(self, row: dict[str, Any]) -> None:
+    def _insert(self, connection: Connection, row: dict[str, Any]) -> None:
         """Inserts a row. If PostgreSQL still commits an earlier try, this one waits for it."""
-        with self._main.use() as connection:
-            try:
-                if connection.execute(self._sql["append"], row).rowcount != 1:
-                    raise LogFailed(f"the log has no line before position {row['position']}")
-            except psycopg.errors.UniqueViolation:
-                if not self._value(connection, "is_mine", row):
-                    raise Overtaken(f"position {row['position']} of the log is taken") from None
+        try:
+            if connection.execute(self._sql["append"], row).rowcount != 1:
+                raise LogFailed(f"the log has no line before position {row['position']}")
+        except psycopg.errors.UniqueViolation:
+            if not self._value(connection, "is_mine", row):
+                raise Overtaken(f"position {row['position']} of the log is taken") from None
 
     def read(self, position: int) -> Iterator[bytes]:
         """Returns the lines from a position on. Raises `LogFailed` if one is missing before a later one."""
-        while True:
-            rows = self._asked(self._main, lambda it: it.execute(self._sql["read"], (position, _AT_ONCE), binary=True).fetchall())
+        while rows := self._main.do("the log can't be read", lambda it: self._rows(it, position)):
             for number, line in rows:
                 if number != position:
                     raise LogFailed(f"line {position} of the log is missing")
                 yield line
                 position += 1
-            if not rows:
-                return
+
+    def _rows(self, connection: Connection, position: int) -> list[Any]:
+        return connection.execute(self._sql["read"], (position, _AT_ONCE), binary=True).fetchall()
 
     def wait(self, position: int, seconds: float) -> int:
         """Waits until the log has a line at this position, at most some seconds. Returns how many lines it has."""
-        return self._asked(self._waiting, lambda connection: self._wait(connection, position, seconds))
+        return self._waiting.do("the log can't be read", lambda it: self._wait(it, position, seconds))
 
     def _wait(self, connection: Connection, position: int, seconds: float) -> int:
         self._is_notified = False
@@ -154,16 +152,6 @@ class PostgresLog:
             readable.register(connection.fileno(), select.POLLIN)
             readable.poll(seconds * 1000)
         return int(self._value(connection, "count"))
-
-    def _asked(self, session: _Session, call: Callable[[Connection], Answer]) -> Answer:
-        """What a call that changes nothing returns. If the connection was lost, it is called once more over another one."""
-        with suppress(psycopg.Error), session.use() as connection:
-            return call(connection)
-        try:
-            with session.use() as connection:
-                return call(connection)
-        except psycopg.Error as error:
-            raise LogFailed(f"the log can't be read: {error}") from error
 
     def close(self) -> None:
         """Closes the connections. A later call opens them again."""

@@ -21,7 +21,7 @@ from typing import Callable, Optional, Sequence, Union
 
 from .faults import Closed, LogFailed, SignerFailed
 from .log import Path, SharedLog
-from .provider import _HALFWAY, Directory, Provider, _Engine, _sized, _words
+from .provider import Directory, Provider, _Engine, _sized, _words
 
 __all__ = ["Lag", "Replica"]
 
@@ -111,24 +111,21 @@ class Replica(Directory):
         self, sign: Callable[[bytes], bytes], *, verify: Optional[Callable[[bytes, bytes], bool]] = None, sign_pending: bool = True
     ) -> Provider:
         """Makes a provider of the replica, which is closed. It replays only what the replica hasn't, then signs and installs the
-        pending update if there is one. Raises `SignerFailed`, or `LogFailed` if the log can't be read, and then the replica goes
-        on. After another error, as `Overtaken`, it goes on after `restart`."""
+        pending update if there is one; lookups wait meanwhile. Raises `SignerFailed`, or `LogFailed` if the log can't be read,
+        and then the replica goes on. After another error, as `Overtaken`, it goes on after `restart`."""
         self.follow()
+        failed: Optional[SignerFailed] = None
         with self._steps() as engine:
             engine.open()
             provider = Provider._over(self, sign, verify)
-            self._engine = None
-        self._broken = _HALFWAY
-        try:
-            if provider.pending and sign_pending:
-                provider.retry()
-        except SignerFailed:
-            with self._asking:
-                self._engine, provider._engine, self._broken = provider._engine, None, None
-            raise
-        except BaseException:
-            provider.close()
-            raise
+            try:
+                if provider.pending and sign_pending:
+                    provider.retry()
+                self._engine = None
+            except SignerFailed as error:
+                failed = error
+        if failed:
+            raise failed
         self.close()
         return provider
 

@@ -96,19 +96,24 @@ class Ed25519:
 
 
 class Signer:
-    """Lists each body that it is asked for, and then signs it, unless it is told to fail."""
+    """Lists each body that it is asked for, and then signs it, unless it is told to fail. It has what a service has beside that."""
+
+    policy, index = POLICY, staticmethod(index)
 
     def __init__(self, room: Union[str, Path], keys: Scheme) -> None:
         self.file, self.keys, self.fails = Path(room) / "asked", keys, 0
-        self.before: Callable[[], object] = lambda: None
+        self.before: Optional[Callable[[], object]] = None
 
     def __call__(self, body: bytes) -> bytes:
         append(self.file, body.hex())
-        self.before()
+        if self.before:
+            self.before()
         if self.fails:
             self.fails -= 1
             raise TimeoutError("the signer is told to fail")
         return self.keys.sign(body)
+
+    sign = __call__
 
     def verify(self, body: bytes, signature: bytes) -> bool:
         return self.keys.verify(body, signature)
