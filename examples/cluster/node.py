@@ -6,7 +6,7 @@ import multiprocessing
 import threading
 from contextlib import suppress
 from dataclasses import dataclass
-from typing import Any, Optional, Union
+from typing import Any, Callable, Optional, Union
 
 from coniks.postgres import PostgresLog
 from coniks.provider import Overtaken, Provider, ProviderError
@@ -19,14 +19,11 @@ SPAWN = multiprocessing.get_context("spawn")
 class Service:
     """What the process runs. `keys` has `policy`, `index`, `sign` and `verify`."""
 
-    conninfo: str
+    make_log: Callable[[], PostgresLog]
     program: str
     keys: Any
     is_writer: bool = False
     nonce: Optional[bytes] = None
-
-    def open_log(self) -> PostgresLog:
-        return PostgresLog(self.conninfo)
 
     def open(self, log: PostgresLog) -> Union[Provider, Replica]:
         it = self.keys
@@ -37,7 +34,7 @@ class Service:
     def serve(self, pipe: Any) -> None:
         """Answers calls. The first one opens the directory; once it was overtaken, the next one opens a replica."""
         opened: Union[Provider, Replica, None] = None
-        with suppress(EOFError), self.open_log() as log:
+        with suppress(EOFError), self.make_log() as log:
             while True:
                 (call, *arguments), answer = pipe.recv(), None
                 try:
@@ -63,7 +60,6 @@ class Node:
         self.process = SPAWN.Process(target=service.serve, args=(other,), daemon=True)
         self.process.start()
         other.close()
-        self.service: Any = service
         self.is_writer, self._lock = service.is_writer, threading.Lock()
 
     def send(self, call: str, *arguments: Any) -> None:

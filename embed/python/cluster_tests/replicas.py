@@ -22,15 +22,14 @@ from coniks.replica import Replica
 
 def lost(log: PostgresLog, call: Callable[..., object]) -> Any:
     """While this is entered, the next insert calls a function and then loses the connection."""
-    real, calls = log._insert, [call]
 
     def insert(*words: Any) -> None:
-        if not calls:
-            return real(*words)
-        calls.pop()(*words)
+        inserts.side_effect = None
+        call(*words)
         raise psycopg.OperationalError("lost")
 
-    return mock.patch.object(log, "_insert", insert)
+    inserts = mock.Mock(wraps=log._insert, side_effect=insert)
+    return mock.patch.object(log, "_insert", inserts)
 
 
 def try_appends(tell: Tell, mine: PostgresLog, other: PostgresLog, third: PostgresLog) -> None:
@@ -119,7 +118,7 @@ def try_promotion(tell: Tell, pair: Pair) -> None:
     own, replica, signer, log = pair.own, pair.replica, pair.signer, pair.log
     own.commit(4, [Register("user-1", b"key")])
     tell("promotion: the replica follows", soon(lambda: replica.latest().epoch == 4))
-    with mock.patch.object(log, "read", side_effect=LogFailed("gone")):
+    with mock.patch.object(log, "_rows", side_effect=LogFailed("gone")):
         own.commit(5, [])
         is_told = soon(lambda: replica.lag().lines == 2 and isinstance(replica.lag().error, LogFailed))
         time.sleep(0.3)
@@ -129,9 +128,9 @@ def try_promotion(tell: Tell, pair: Pair) -> None:
     tell("replica: it follows again", soon(lambda: replica.latest().epoch == 5))
     position = own._engine.position if own._engine else 0
     own.commit(6, [])
-    with mock.patch.object(log, "read", wraps=log.read) as read:
+    with mock.patch.object(log, "_rows", wraps=log._rows) as rows:
         new = pair.lead()
-        tell("promotion: only what wasn't read is replayed", all(it.args[0] >= position for it in read.call_args_list))
+        tell("promotion: only what wasn't read is replayed", all(it.args[1] >= position for it in rows.call_args_list))
     tell("promotion: the last lines are read", new.commit(7, [Register("seven", b"key")]).epoch == new.lookup("seven").epoch)
     raises(tell, "promotion: the replica is closed", Closed, replica.latest)
     raises(tell, "promotion: the old provider", Overtaken, lambda: own.commit(7, [Register("other", b"key")]))
@@ -161,10 +160,10 @@ def try_pending(tell: Tell, pair: Pair) -> None:
 
 def try_wrong(tell: Tell, pair: Pair) -> None:
     """Lines that a replica's child doesn't answer so."""
-    replica, read = pair.replica, pair.log.read
+    replica, rows = pair.replica, pair.log._rows
     pair.own.commit(1, [Register("alice", b"key")])
     for epoch, what, old in [(2, "body", b'"body":"01'), (3, "link", b'"link":"')]:
-        with mock.patch.object(pair.log, "read", lambda at: (it.replace(old, old + b"f") for it in read(at))):
+        with mock.patch.object(pair.log, "_rows", lambda *at: [(it, line.replace(old, old + b"f")) for it, line in rows(*at)]):
             pair.own.commit(epoch, [])
             tell(f"replica: another {what} stops it", soon(lambda: isinstance(replica.lag().error, ReplayDiffers)))
             raised = raises(tell, f"replica: each call then, another {what}", RestartNeeded, lambda: replica.lookup("alice"))

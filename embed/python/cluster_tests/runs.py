@@ -11,7 +11,7 @@ import time
 from collections import Counter
 from concurrent.futures import ThreadPoolExecutor
 from contextlib import ExitStack, contextmanager, suppress
-from dataclasses import dataclass
+from functools import partial
 from pathlib import Path
 from typing import Any, Iterator
 
@@ -33,10 +33,13 @@ SCHEMES: list[type[Scheme]] = [stand_ins.Ed25519, stand_ins.Salted] if stand_ins
 CUT = "SELECT pg_terminate_backend(pid) FROM pg_stat_activity WHERE application_name = 'coniks_log' AND random() < 0.7"
 
 
-class TrappedLog(PostgresLog):
-    """Sends its process a signal after some steps: each append has one before it and one after it."""
+class Trapped(PostgresLog):
+    """Sends its process a signal after some steps: each append has one before it and one after it. `trap` has the number of the
+    steps that are left, and the signal. It is shared with another process."""
 
-    trap: Any
+    def __init__(self, conninfo: str, trap: Any, patience: float) -> None:
+        super().__init__(conninfo, patience=patience)
+        self.trap = trap
 
     def append(self, position: int, line: bytes) -> None:
         self._step()
@@ -49,21 +52,14 @@ class TrappedLog(PostgresLog):
             os.kill(os.getpid(), self.trap[1])
 
 
-@dataclass
-class Trapped(Service):
-    """Has a `TrappedLog`. `trap` is shared with the process: the number of steps that are left, and the signal."""
-
-    patience: float = 20
-    trap: Any = None
-
-    def open_log(self) -> PostgresLog:
-        log = TrappedLog(self.conninfo, patience=self.patience)
-        log.trap = self.trap
-        return log
-
-
 class Member(Node):
     """A process of the cluster."""
+
+    def __init__(self, cluster: Cluster, is_writer: bool) -> None:
+        self.trap = SPAWN.RawArray("l", 2)
+        log = partial(Trapped, cluster.database.conninfo, self.trap, cluster.chance.choice([0.3, 20]))
+        super().__init__(Service(log, cluster.program, cluster.signer, is_writer))
+        cluster.callback(self.kill)
 
     def tried(self, call: str, *arguments: Any) -> Any:
         """What a call returns, or its error, after which the directory is restarted if need be."""
@@ -89,16 +85,13 @@ class Member(Node):
         latest = self.surely("latest")
         return bool(self.is_writer and latest and self.surely("commit", latest.epoch + 1, []))
 
-    def is_stopped(self) -> bool:
-        return not self.process.is_alive() or ") T " in Path(f"/proc/{self.process.pid}/stat").read_text()
-
-    def strike(self, number: int, steps: int) -> None:
-        """Sends a signal after some steps, or now if there are none or they aren't made."""
-        self.service.trap[1], self.service.trap[0] = number, steps
-        soon(lambda: not steps or self.is_stopped(), 2)
-        self.service.trap[0] = 0
-        with suppress(ProcessLookupError):
-            os.kill(self.process.pid or 0, number)
+    def signal(self, number: int, steps: int = 0) -> None:
+        """Sends a signal after some steps, or after two seconds without them."""
+        self.trap[1], self.trap[0] = number, steps
+        soon(lambda: self.trap[0] <= 0, 2)
+        self.trap[0] = 0
+        assert self.process.pid
+        os.kill(self.process.pid, number)
 
 
 class Cluster(ExitStack):
@@ -116,15 +109,9 @@ class Cluster(ExitStack):
         self.acknowledged: list[tuple[Epoch, list[Operation]]] = []
         self.shown: dict[tuple[str, int], Lookup] = {}
         self.names, self.wrong = list[str](), list[str]()
-        self.members = [self.member(True)]
+        self.members = [Member(self, True)]
         self.members[0].surely("commit", 1, [])
-        self.members += [self.member(False) for _ in range(2)]
-
-    def member(self, is_writer: bool) -> Member:
-        more: dict[str, Any] = {"patience": self.chance.choice([0.3, 20]), "trap": SPAWN.RawArray("l", 2)}
-        member = Member(Trapped(self.database.conninfo, self.program, self.signer, is_writer, **more))
-        self.callback(member.kill)
-        return member
+        self.members += [Member(self, False) for _ in range(2)]
 
     @contextmanager
     def load(self) -> Iterator[None]:
@@ -169,24 +156,22 @@ class Cluster(ExitStack):
         if not isinstance(answer, (LogFailed, RestartNeeded)) and not (isinstance(answer, NameUnknown) and not member.commits()):
             self.wrong.append(repr(answer))
 
-    # The faults. Each returns when nothing is out of order any more.
-
     def _strike(self, number: int) -> Member:
         """Sends a signal to a provider. Then another member leads."""
         struck = self.chance.choice([it for it in self.members if it.is_writer] or self.members)
-        struck.strike(number, self.chance.randrange(5))
+        struck.signal(number, self.chance.randrange(5))
         self.chance.choice([it for it in self.members if it is not struck]).surely("lead")
         return struck
 
     def kill_writer(self) -> None:
         self.members.remove(self._strike(signal.SIGKILL))
-        self.members.append(self.member(self.chance.random() < 0.5))
+        self.members.append(Member(self, self.chance.random() < 0.5))
         self._works.append(self._pool.submit(self._work, self.members[-1], self.chance.random()))
 
     def pause_writer(self) -> None:
         paused = self._strike(signal.SIGSTOP)
         time.sleep(self.chance.uniform(0, 0.3))
-        os.kill(paused.process.pid or 0, signal.SIGCONT)
+        paused.signal(signal.SIGCONT)
 
     def kill_database(self) -> None:
         self.database.kill()

@@ -8,6 +8,7 @@ import statistics
 import tempfile
 import time
 from concurrent.futures import ThreadPoolExecutor
+from functools import partial
 from pathlib import Path
 from typing import Sequence
 from unittest import mock
@@ -50,7 +51,7 @@ def rates(nodes: Sequence[Node], call: str, names: int, seconds: float) -> list[
 
 
 def measure_lookups(conninfo: str, program: str, names: int, seconds: float, rounds: int) -> None:
-    nodes = [Node(Measuring(conninfo, program, None)) for _ in range(3)]
+    nodes = [Node(Measuring(partial(PostgresLog, conninfo), program, None)) for _ in range(3)]
     for it in nodes:
         it.call("latest")
     for call in ("lookup", "lookups"):
@@ -68,7 +69,7 @@ def measure_takeover(log: PostgresLog, program: str, own: Provider, behind: int)
     start = time.monotonic()
     replica = Replica(log, program, index, policy=POLICY)
     replayed, first = time.monotonic() - start, own.latest().epoch + 1
-    with mock.patch.object(log, "read", side_effect=lambda position: iter([])):
+    with mock.patch.object(log, "_rows", return_value=[]):
         for epoch in range(first, first + behind):
             own.commit(epoch, [Register(f"user-{epoch}-{it}", KEY) for it in range(BATCH)])
     start = time.monotonic()

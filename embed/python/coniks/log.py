@@ -5,13 +5,14 @@ from __future__ import annotations
 import fcntl
 import os
 import time
-from typing import Iterator, Protocol, Union
+from typing import Iterator, Protocol, TypeVar, Union
 
 from .faults import LogFailed, Overtaken
 
 __all__ = ["FileLog", "Log", "Path", "SharedLog"]
 
 Path = Union[str, "os.PathLike[str]"]
+_Self = TypeVar("_Self", bound="Closing")
 _CHUNK = 1 << 20
 _LOCK_SECONDS = 1
 
@@ -34,7 +35,20 @@ class SharedLog(Log, Protocol):
         """Waits until the log has a line at this position, at most some seconds. Returns how many lines it has."""
 
 
-class FileLog:
+class Closing:
+    """What a `with` statement closes at its end."""
+
+    def close(self) -> None:
+        raise NotImplementedError
+
+    def __enter__(self: _Self) -> _Self:
+        return self
+
+    def __exit__(self, *_: object) -> None:
+        self.close()
+
+
+class FileLog(Closing):
     """A log in a file, one line after another. One process has it open at a time.
 
     The file has mode 0600: it contains keys, and the openings that blind the commitments.
@@ -158,12 +172,6 @@ class FileLog:
         if self._file >= 0:
             os.close(self._file)
             self._file = -1
-
-    def __enter__(self) -> FileLog:
-        return self
-
-    def __exit__(self, *_: object) -> None:
-        self.close()
 
 
 def _sync_folder(path: Path) -> None:

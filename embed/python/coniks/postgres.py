@@ -21,6 +21,7 @@ from psycopg import sql
 from psycopg.conninfo import conninfo_to_dict, make_conninfo
 
 from .faults import LogFailed, Overtaken
+from .log import Closing
 
 __all__ = ["PostgresLog"]
 
@@ -79,7 +80,7 @@ class _Session:
                 self._connection = None
 
 
-class PostgresLog:
+class PostgresLog(Closing):
     """A log in a table of PostgreSQL. Several processes have it open, and each position is taken once.
 
     `conninfo` is libpq's connection string. The table is created if there is none. Its name is also that of the channel by
@@ -157,9 +158,3 @@ class PostgresLog:
         """Closes the connections. A later call opens them again."""
         self._main.close()
         self._waiting.close()
-
-    def __enter__(self) -> PostgresLog:
-        return self
-
-    def __exit__(self, *_: object) -> None:
-        self.close()

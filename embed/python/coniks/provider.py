@@ -42,11 +42,11 @@ import threading
 import time
 from contextlib import contextmanager
 from dataclasses import dataclass, field
-from typing import Any, Callable, Iterable, Iterator, Mapping, Optional, Sequence, TypeVar, Union
+from typing import Any, Callable, Iterable, Iterator, Mapping, Optional, Sequence, Union
 
 from . import BODY_LENGTH, ENTRY_LENGTH, _bytes, _number, faults
 from .faults import *
-from .log import FileLog, Log, Path, SharedLog
+from .log import Closing, FileLog, Log, Path, SharedLog
 
 __all__ = [
     "Change",
@@ -311,10 +311,9 @@ class _Engine:
 
 
 _HALFWAY = ProviderError("a call was interrupted")
-_Self = TypeVar("_Self", bound="Directory")
 
 
-class Directory:
+class Directory(Closing):
     """What `Provider` and `coniks.replica.Replica` share: a child that answers lookups."""
 
     def __init__(self, start: Callable[[], _Engine], index: Callable[[str], bytes], engine: Optional[_Engine] = None):
@@ -326,8 +325,8 @@ class Directory:
 
     @contextmanager
     def _steps(self, is_start: bool = False) -> Iterator[_Engine]:
-        """Steps between which the child and the log may differ. A `Fault` changes neither; after all else a restart is needed,
-        whose steps begin with a new engine."""
+        """Steps between which the child and the log may differ. A `Fault` or `SignerFailed` changes neither; after all else a
+        restart is needed, whose steps begin with a new engine."""
         with self._asking:
             if self._is_closed:
                 raise Closed("the directory is closed")
@@ -342,7 +341,7 @@ class Directory:
                     self._engine = self._new()
                 yield self._engine
             except ProviderError as error:
-                self._broken = None if isinstance(error, Fault) and not is_start else error
+                self._broken = None if isinstance(error, (Fault, SignerFailed)) and not is_start else error
                 raise
             self._broken = None
 
@@ -419,12 +418,6 @@ class Directory:
         with self._asking:
             self._is_closed = True
             self._stop(1)
-
-    def __enter__(self: _Self) -> _Self:
-        return self
-
-    def __exit__(self, *_: object) -> None:
-        self.close()
 
 
 class Provider(Directory):

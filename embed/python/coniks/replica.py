@@ -19,7 +19,7 @@ import time
 from dataclasses import dataclass
 from typing import Callable, Optional, Sequence, Union
 
-from .faults import Closed, LogFailed, SignerFailed
+from .faults import LogFailed
 from .log import Path, SharedLog
 from .provider import Directory, Provider, _Engine, _sized, _words
 
@@ -81,8 +81,6 @@ class Replica(Directory):
                     raise LogFailed(f"the log has {self._lines} lines, of which {position} were replayed: it lost some")
                 self.follow()
                 self._error = None
-            except Closed:
-                return
             except Exception as error:
                 self._error = error
                 self._is_over.wait(PAUSE)
@@ -114,18 +112,12 @@ class Replica(Directory):
         pending update if there is one; lookups wait meanwhile. Raises `SignerFailed`, or `LogFailed` if the log can't be read,
         and then the replica goes on. After another error, as `Overtaken`, it goes on after `restart`."""
         self.follow()
-        failed: Optional[SignerFailed] = None
         with self._steps() as engine:
             engine.open()
             provider = Provider._over(self, sign, verify)
-            try:
-                if provider.pending and sign_pending:
-                    provider.retry()
-                self._engine = None
-            except SignerFailed as error:
-                failed = error
-        if failed:
-            raise failed
+            if provider.pending and sign_pending:
+                provider.retry()
+            self._engine = None
         self.close()
         return provider
 
