@@ -15,46 +15,43 @@ import os
 import subprocess
 import sys
 from pathlib import Path
-from typing import Sequence
 
-HERE = Path(__file__).resolve().parent
-TOP = HERE.parent.parent
+TOP = Path(__file__).resolve().parent.parent.parent
 EXAMPLE = TOP / "examples/cluster"
 sys.dont_write_bytecode = True
-sys.path[:0] = [str(HERE / "cluster_tests"), str(HERE / "provider_tests"), str(EXAMPLE), str(TOP / "scripts")]
+sys.path[:0] = [
+    str(TOP / it) for it in ("embed/python/cluster_tests", "embed/python/provider_tests", "examples/cluster", "scripts")
+]
 
 import tools
 from tally import Tally
 
 
-def try_all(tally: Tally, program: str, faults: int) -> None:
+def try_all(tally: Tally, program: str, faults: int = 8) -> None:
     import replicas
     import runs
     import stand_ins
 
     replicas.try_replicas(tally.tell, program)
     runs.try_faults(tally, program, faults)
-    if not stand_ins.HAS_NACL or not stand_ins.has_library():
-        return tally.skip("the transcript of examples/cluster", "embed/build" if stand_ins.HAS_NACL else "PyNaCl")
+    if not (stand_ins.HAS_NACL and stand_ins.has_library()):
+        return tally.skip("the transcript of examples/cluster", "PyNaCl and embed/build")
     ran = subprocess.run([sys.executable, EXAMPLE / "run", program], capture_output=True, text=True)
     tally.tell("the transcript", ran.stdout == (EXAMPLE / "transcript.txt").read_text("utf-8"), ran.stdout + ran.stderr)
 
 
-def main(words: Sequence[str]) -> int:
+def main(words: list[str]) -> int:
     tally, is_speed = Tally(), words[:1] == ["--speed"]
-    named = words[is_speed:] or [str(TOP / "crates/provider/out/provider")]
-    program, numbers = str(Path(named[0]).resolve()), [int(it) for it in named[1:]]
-    lacking = [it for it in ["PostgreSQL", "psycopg"] if not tools.has(it)] + ["the program `provider`"] * (
-        not Path(program).is_file()
-    )
-    for it in lacking:
+    named, *numbers = words[is_speed:] or [f"{TOP}/crates/provider/out/provider"]
+    program, lacking = Path(named).resolve(), [it for it in ["PostgreSQL", "psycopg"] if not tools.has(it)]
+    for it in lacking if program.is_file() else [*lacking, "the program `provider`"]:
         tally.skip("coniks.postgres and coniks.replica", it)
-    if is_speed and not lacking:
+    if not tally.skipped and is_speed:
         import speed
 
-        return speed.main(program, *numbers)
-    if not lacking:
-        try_all(tally, program, *(numbers or [8]))
+        return speed.main(str(program), *map(int, numbers))
+    if not tally.skipped:
+        try_all(tally, str(program), *map(int, numbers))
     print(tally.line())
     return 1 if tally.failed else 0
 

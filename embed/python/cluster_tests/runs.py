@@ -17,7 +17,7 @@ from typing import Any, Iterator
 
 import stand_ins
 from coniks.postgres import PostgresLog
-from coniks.provider import Change, Epoch, LogFailed, Lookup, NameUnknown, Operation, Overtaken, ProviderError, Register
+from coniks.provider import Change, Epoch, Latest, LogFailed, Lookup, NameUnknown, Operation, Overtaken, ProviderError, Register
 from coniks.provider import RestartNeeded, entries
 from database import Database, soon
 from node import SPAWN, Node, Service
@@ -59,14 +59,18 @@ class Member(Node):
         self.trap = SPAWN.RawArray("l", 2)
         log = partial(Trapped, cluster.database.conninfo, self.trap, cluster.chance.choice([0.3, 20]))
         super().__init__(Service(log, cluster.program, cluster.signer, is_writer))
+        self.told = cluster.told
         cluster.callback(self.kill)
 
     def tried(self, call: str, *arguments: Any) -> Any:
-        """What a call returns, or its error, after which the directory is restarted if need be."""
+        """What a call returns, or its error if a fault excuses it. A provider that was overtaken may not know a name yet."""
         try:
             return self.call(call, *arguments)
-        except ProviderError as error:
-            if isinstance(error, (LogFailed, RestartNeeded)) and not isinstance(error, Overtaken):
+        except (LogFailed, RestartNeeded, NameUnknown) as error:
+            self.told[f"{type(error).__name__} told"] += 1
+            if isinstance(error, NameUnknown) and self.commits():
+                raise
+            if not isinstance(error, (Overtaken, NameUnknown)):
                 with suppress(ProviderError):
                     self.call("restart")
             return error
@@ -123,8 +127,7 @@ class Cluster(ExitStack):
                 yield
             finally:
                 self._is_loaded = False
-        for it in self._works:
-            it.result()
+        self.wrong += [repr(it.exception()) for it in self._works if it.exception()]
 
     def _work(self, member: Member, seed: float) -> None:
         chance, number = random.Random(seed), 0
@@ -132,29 +135,20 @@ class Cluster(ExitStack):
             while self._is_loaded:
                 if member.is_writer:
                     self._commit(member, chance, f"user-{seed}-{(number := number + 1)}")
-                found = self._answer(member, "lookup", chance.choice(["no name", f"user-{seed}-{number}-0", *self.names]))
-                if found and self.shown.setdefault((found.name, found.epoch), found) != found:
-                    self.wrong.append(f"two answers: {found.line}")
+                found = member.tried("lookup", chance.choice(["no name", f"user-{seed}-{number}-0", *self.names]))
+                if isinstance(found, Lookup) and self.shown.setdefault((found.name, found.epoch), found) != found:
+                    self.wrong.append(f"two answers: {found.line!r}")
 
     def _commit(self, member: Member, chance: random.Random, name: str) -> None:
-        """Registers names and changes keys. It doesn't change a name twice."""
+        """Registers names, and changes keys of others."""
         key, names = b"key %d " % chance.randrange(1 << 30) * chance.choice([1, 1, 500]), list(self.names)
         made: list[Operation] = [Register(f"{name}-{it}", key) for it in range(chance.randrange(3))]
         made += [Change(it, key) for it in chance.sample(names, min(len(names), chance.randrange(3)))]
-        latest = self._answer(member, "latest")
-        epoch = latest and self._answer(member, "commit", latest.epoch + chance.randrange(1, 3), made)
-        if epoch:
+        latest = member.tried("latest")
+        epoch = isinstance(latest, Latest) and member.tried("commit", latest.epoch + chance.randrange(1, 3), made)
+        if isinstance(epoch, Epoch):
             self.acknowledged.append((epoch, made))
             self.names += [it.name for it in made if isinstance(it, Register)]
-
-    def _answer(self, member: Member, call: str, *arguments: Any) -> Any:
-        """What a call returns, or None. Counts its error. A provider that was overtaken may not know a name yet."""
-        answer = member.tried(call, *arguments)
-        if not isinstance(answer, ProviderError):
-            return answer
-        self.told[f"{type(answer).__name__} told"] += 1
-        if not isinstance(answer, (LogFailed, RestartNeeded)) and not (isinstance(answer, NameUnknown) and not member.commits()):
-            self.wrong.append(repr(answer))
 
     def _strike(self, number: int) -> Member:
         """Sends a signal to a provider. Then another member leads."""
@@ -221,6 +215,7 @@ class Cluster(ExitStack):
         yield "all members answer the same", answers[1:] == answers[:-1] and answers[0][0] == chain
         yield "one member commits", [it.is_writer for it in self.members].count(True) == 1
         yield "no other error was told", not self.wrong
+        self.wrong = []
 
 
 def try_faults(tally: Tally, program: str, count: int, seed: int = 20261126) -> None:
