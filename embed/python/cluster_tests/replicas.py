@@ -74,9 +74,12 @@ def try_waits(tell: Tell, database: Database, mine: PostgresLog, other: Postgres
     raises(tell, "log: a read without PostgreSQL", LogFailed, lambda: [*mine.read(0)])
     raises(tell, "log: a wait without PostgreSQL", LogFailed, lambda: mine.wait(0, 1))
     raises(tell, "log: an open without PostgreSQL", LogFailed, lambda: PostgresLog(database.conninfo))
+    trying = threading.Thread(target=other.append, args=(105, b"later"))
+    trying.start()
+    time.sleep(0.5)
     database.start()
-    mine.append(105, b"later")
-    tell("log: after PostgreSQL was killed", [*mine.read(104)] == [b"after", b"later"])
+    trying.join()
+    tell("log: an append that waits for PostgreSQL", [*mine.read(104)] == [b"after", b"later"])
 
 
 class Pair(ExitStack):
@@ -130,7 +133,7 @@ def try_promotion(tell: Tell, pair: Pair) -> None:
     own.commit(6, [])
     with mock.patch.object(log, "_rows", wraps=log._rows) as rows:
         new = pair.lead()
-        tell("promotion: only what wasn't read is replayed", all(it.args[1] >= position for it in rows.call_args_list))
+        tell("promotion: only what wasn't read is replayed", min(it.args[1] for it in rows.call_args_list) >= position)
     tell("promotion: the last lines are read", new.commit(7, [Register("seven", b"key")]).epoch == new.lookup("seven").epoch)
     raises(tell, "promotion: the replica is closed", Closed, replica.latest)
     raises(tell, "promotion: the old provider", Overtaken, lambda: own.commit(7, [Register("other", b"key")]))
@@ -170,13 +173,13 @@ def try_wrong(tell: Tell, pair: Pair) -> None:
             tell(f"replica: the cause, another {what}", raised and isinstance(raised.__cause__, ReplayDiffers))
         replica.restart()
         tell(f"replica: a restart after another {what}", replica.lookup("alice") == pair.own.lookup("alice"))
+        tell(f"replica: no error then, another {what}", soon(lambda: replica.lag().error is None))
 
 
 def try_replicas(tell: Tell, program: str) -> None:
     with tempfile.TemporaryDirectory() as folder, Database(Path(folder)) as database:
-        mine, other, third, empty = (
-            PostgresLog(database.conninfo, it, patience=1) for it in ["coniks_log"] * 2 + ["odd name", "empty"]
-        )
+        mine, other = (PostgresLog(database.conninfo, patience=it) for it in (1, 60))
+        third, empty = (PostgresLog(database.conninfo, it) for it in ("odd name", "empty"))
         try_appends(tell, mine, other, third)
         try_waits(tell, database, mine, other)
         for test in (try_following, try_promotion, try_pending, try_wrong):
