@@ -109,7 +109,7 @@ class Replica(Directory):
         self, sign: Callable[[bytes], bytes], *, verify: Optional[Callable[[bytes, bytes], bool]] = None, sign_pending: bool = True
     ) -> Provider:
         """Makes a provider of the replica, which is closed. It replays only what the replica hasn't, then signs and installs the
-        pending update if there is one; lookups wait meanwhile. Raises `SignerFailed`, or `LogFailed` if the log can't be read,
+        pending update if there is one; other calls wait meanwhile. Raises `SignerFailed`, or `LogFailed` if the log can't be read,
         and then the replica goes on. After another error, as `Overtaken`, it goes on after `restart`."""
         self.follow()
         with self._steps() as engine:
