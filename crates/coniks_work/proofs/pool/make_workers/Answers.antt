@@ -6,6 +6,9 @@ use Rattle.coniks_work.proofs.PoolLemmas.{first_last}
 use Rattle.coniks_work.proofs.pool.make_workers.Goals.{else-loop-hired-test, then-loop-hired-test+in_default}
 use Rattle.coniks_work.proofs.pool.make_workers.Goals as goal
 
+pub loop-hired-init : goal.loop-hired-init
+loop-hired-init c = record { first_is = search rules; few = grind arith; fresh = search rules }
+
 pub returns-clause-first : goal.returns-clause-first
 returns-clause-first c =
     let f : c.loop-hired-test.first ≡ drawing c.args.claims.now.table c.args.claims.now.limit [] false true (length c.loop-hired.pool.items) =

@@ -1,10 +1,10 @@
-use Rattle.std.proofs.Common.{◌≡◌, ◌<◌, ◌≤◌, ◌-◌, ◌++◌, ℕ, List, [], length, ap, sym, ◌∙◌, arith, true, false}
+use Rattle.std.proofs.Common.{subst, ◌≡◌, ◌<◌, ◌≤◌, ◌-◌, ◌++◌, ℕ, List, [], length, ap, sym, ◌∙◌, arith, true, false}
 use Rattle.std.proofs.lemmas.Bool.Decides.{nat_tests}
 use Rattle.std.proofs.lemmas.List.{nil_from_length, length-map, same_from_push}
 use Rattle.coniks_proof.proofs.Lemmas.{length-child}
 use Rattle.coniks_tree.specs.Parts.{entries_in, entry_of_change}
 use Rattle.coniks_tree.specs.declared.part.Part.{Part}
-use Rattle.coniks_work.specs.Grown.{AreGrown}
+use Rattle.coniks_work.specs.Grown.{AreGrown, IsGrown}
 use Rattle.coniks_work.proofs.GrownLemmas.{OnSides, grown_as, grown_one, grown_sides, joined_grown, old_grown}
 use Rattle.coniks_work.proofs.upwards.+join_upwards.Given as given
 use Rattle.coniks_work.proofs.upwards.+join_upwards.Goals as goal
@@ -30,7 +30,8 @@ returns-then-level-depth-clause-grown g t c =
     let one = grown_one (g.H.Hash32.digest_of c.args.old.now.h.now) c.args.old.now.nonce.now.0 c.args.old.now.tree.now.nodes.items c.args.old.now.tree.now.records.items c.args.old.now.root
     c.args.depth p (entries_in c.args.changes.now) r.1 same some r.3 in
     let last = same_from_push r.0 c.last_part.new.parts.items one.0 c.last_part.result (sym (r.2 ∙ ap (λ l. r.0 ++ l) one.1) ∙ c.last_part.ensures) in
-    rw (← last.1) one.2
+    subst (IsGrown (g.H.Hash32.digest_of c.args.h.now) c.args.nonce.now.0 c.args.tree.now.nodes.items c.args.tree.now.records.items c.args.root
+    p (entries_in c.args.changes.now)) last.1 one.2
 
 -- ---- above it: the parts of the right side are taken first, and then those of the left one
 
