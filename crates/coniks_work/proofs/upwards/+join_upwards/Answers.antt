@@ -30,8 +30,8 @@ returns-then-level-depth-clause-grown g t c =
     let one = grown_one (g.H.Hash32.digest_of c.args.old.now.h.now) c.args.old.now.nonce.now.0 c.args.old.now.tree.now.nodes.items c.args.old.now.tree.now.records.items c.args.old.now.root
     c.args.depth p (entries_in c.args.changes.now) r.1 same some r.3 in
     let last = same_from_push r.0 c.last_part.new.parts.items one.0 c.last_part.result (sym (r.2 ∙ ap (λ l. r.0 ++ l) one.1) ∙ c.last_part.ensures) in
-    subst (IsGrown (g.H.Hash32.digest_of c.args.h.now) c.args.nonce.now.0 c.args.tree.now.nodes.items c.args.tree.now.records.items c.args.root
-    p (entries_in c.args.changes.now)) last.1 one.2
+    subst (IsGrown (g.H.Hash32.digest_of c.args.old.now.h.now) c.args.old.now.nonce.now.0
+    c.args.old.now.tree.now.nodes.items c.args.old.now.tree.now.records.items c.args.old.now.root p (entries_in c.args.changes.now)) last.1 one.2
 
 -- ---- above it: the parts of the right side are taken first, and then those of the left one
 
