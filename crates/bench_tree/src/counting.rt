@@ -5,21 +5,21 @@ ghost use Rattle.sha2.specs.Sha256.{sha256};
 use coniks_proof::{Digest, Hash32, Sha256Hash};
 use std::cell::Cell;
 
-/// SHA-256, and how many times it was called.
+/// SHA-256, with a count of its calls.
 #[derive(Drop)]
 pub struct Counting {
     calls: Cell<u64>,
 }
 
 impl Counting {
-    /// A hash that wasn't called yet.
+    /// Returns a hash without calls.
     pub fn new() -> Counting {
         Counting {
             calls: Cell::new(0),
         }
     }
 
-    /// How many times it was called, modulo 2^64.
+    /// Returns the number of calls, modulo 2^64.
     pub fn calls(&self) -> u64 {
         self.calls.get()
     }

@@ -1,10 +1,12 @@
-//! What an epoch costs: registers pseudo-random indices in batches, and prints how many nodes and hashes that took, and how
-//! many it takes to make every node anew under another nonce.
+//! Measures what an epoch costs.
 //!
-//! Without words it registers 1,000 indices in batches of 64, and prints the same each time. With the words INDICES and
-//! BATCH it registers so many in batches of so many, and prints seconds and resident memory too. With the words WORKERS and
-//! DEPTH after them it also times how one more batch is built, and all that is registered under another nonce, by one
-//! worker and by so many at this cutting depth, and how paths are found.
+//! The program registers pseudo-random indices in batches. It prints the numbers of nodes and hashes, and those of a
+//! rotation of the nonce, which rehashes the tree.
+//!
+//! Without arguments it registers 1,000 indices in batches of 64, and prints the same each time. The arguments INDICES and
+//! BATCH set both numbers; seconds and resident memory are printed too. With the arguments WORKERS and DEPTH after them it
+//! also times one more batch and a rotation of the nonce, each by one worker and by WORKERS workers at the split depth
+//! DEPTH, and searches of authentication paths.
 #![tactic(auto)]
 
 mod counting;

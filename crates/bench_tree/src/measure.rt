@@ -1,11 +1,11 @@
-//! What a run takes of time and memory.
+//! The time and memory of a run.
 
 use anyhow::Result;
 use std::rt::Files;
 use std::time::Duration;
 use std::{fs, io};
 
-/// How much memory the process has in use, as Linux tells it; nothing where it doesn't.
+/// Returns the resident memory of the process, if Linux reports it.
 fn resident<R: Files + AllocGlobal>(rt: &R) -> io::Result<Option<String>> {
     let status = fs::read_to_string(rt, "/proc/self/status")?;
     for line in status.lines() {
@@ -16,7 +16,7 @@ fn resident<R: Files + AllocGlobal>(rt: &R) -> io::Result<Option<String>> {
     Ok(None)
 }
 
-/// Prints the time that a run took, and the memory that is in use.
+/// Prints the time of a run and the resident memory.
 pub fn print_cost<R: Files + AllocGlobal + Print>(rt: &R, time: Duration) -> Result<()> {
     println!(rt; "seconds: {}.{:03}", time.as_secs(), time.subsec_millis())?;
     match resident(rt)? {

@@ -1,4 +1,4 @@
-//! How many indices are registered, and in what batches.
+//! The number of indices, and the size of their batches.
 
 ghost use Rattle.std.specs.Prelude.{◌<◌, ◌≤◌, IfOk};
 ghost use Rattle.coniks_work.specs.Limits.{deepest_cut, most_workers};
@@ -7,7 +7,7 @@ use anyhow::{Context, Result, ensure};
 use coniks_proof::MAX_OPERATIONS;
 use coniks_work::{MAX_DEPTH, MAX_WORKERS};
 
-/// So many workers, and the depth at which they cut a batch.
+/// A number of workers, and their split depth.
 #[derive(Drop)]
 pub struct Parallelism {
     /// 1 to `MAX_WORKERS`.
@@ -19,7 +19,7 @@ pub struct Parallelism {
     ghost shallow: { depth ≤ deepest_cut },
 }
 
-/// So many indices in batches of at most so many.
+/// A number of indices, registered in batches.
 #[derive(Drop)]
 pub struct Plan {
     pub indices: u64,
@@ -27,25 +27,25 @@ pub struct Plan {
     pub batch: u64,
     /// Whether the cost in seconds and memory is printed.
     pub is_measured: bool,
-    /// Who builds one more batch, to be timed.
+    /// The workers that build one more batch, which is timed.
     pub parallelism: Option<Parallelism>,
     ghost some: { 0 < batch },
 }
 
 impl Plan {
-    /// How many batches there are.
+    /// Returns the number of batches.
     pub fn batches(&self) -> u64 {
         self.indices.div_ceil(self.batch)
     }
 }
 
-/// A number in decimal digits.
+/// Parses a number in decimal digits.
 fn number_of(word: &str) -> Result<u64> {
     word.parse::<u64>()
         .context(format_args!("reading {word:?}"))
 }
 
-/// A number in decimal digits, at most so great.
+/// Parses a number in decimal digits, at most this large.
 fn bounded(word: &str, most: usize) -> Result<usize>
     ensures { IfOk result (λ number. number ≤ most) }
 {
@@ -56,7 +56,7 @@ fn bounded(word: &str, most: usize) -> Result<usize>
     Ok(number)
 }
 
-/// The batches that two words name.
+/// Parses the numbers of indices and of a batch.
 fn batches_of(indices: &str, batch: &str) -> Result<Plan> {
     let indices = number_of(indices)?;
     let batch = number_of(batch)?;
@@ -73,7 +73,7 @@ fn batches_of(indices: &str, batch: &str) -> Result<Plan> {
     })
 }
 
-/// The workers and the depth that two words name.
+/// Parses the number of workers and the split depth.
 fn parallelism_of(workers: &str, depth: &str) -> Result<Parallelism> {
     let workers = bounded(workers, MAX_WORKERS)?;
     let depth = bounded(depth, MAX_DEPTH)?;
@@ -81,7 +81,7 @@ fn parallelism_of(workers: &str, depth: &str) -> Result<Parallelism> {
     Ok(Parallelism { workers, depth })
 }
 
-/// The plan that the words of the command line name, the program's own name first.
+/// Parses the command line, which begins with the program's own name.
 pub fn plan_of(words: &[String]) -> Result<Plan> {
     match words {
         [_, indices, batch] => Ok(batches_of(indices, batch)?),

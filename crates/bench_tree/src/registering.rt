@@ -1,4 +1,4 @@
-//! A registry of pseudo-random indices, an epoch for each batch.
+//! A registry of pseudo-random indices, with an epoch for each batch.
 
 ghost use Rattle.std.specs.Prelude.{List, length};
 ghost use Rattle.coniks_tree.specs.Parts.{Fits, Placed};
@@ -15,10 +15,10 @@ use std::alloc::{AllocError, Global};
 use std::fmt;
 use std::thread::Threads;
 
-/// The nonce that a renewal brings.
+/// The nonce of a rotation.
 const RENEWED: Nonce = Nonce([0x44; 32]);
 
-/// How much was made, and the latest root's hash.
+/// The numbers of nodes and hashes, and the latest root's hash.
 #[derive(Drop)]
 pub struct Counts {
     nodes: usize,
@@ -35,7 +35,7 @@ impl fmt::Display for Counts {
     }
 }
 
-/// What it takes to make every node anew.
+/// The numbers of nodes and hashes of a rotation.
 #[derive(Drop)]
 pub struct Renewal {
     nodes: usize,
@@ -52,12 +52,12 @@ impl fmt::Display for Renewal {
     }
 }
 
-/// The index of a number, which is SHA-256 of its 8 bytes.
+/// Returns the index of a number: SHA-256 of its 8 bytes.
 pub fn index_of(number: u64) -> Index {
     Index(Sha256Hash.hash(&[&number.to_be_bytes()]).0)
 }
 
-/// The indices of these numbers, in increasing order.
+/// Returns the indices of these numbers, in increasing order.
 fn indices_of(alloc: Global, from: u64, to: u64) -> Result<Vec<(Index, u64)>, AllocError> {
     let mut indices = Vec::new(alloc);
     for number in from..to {
@@ -67,8 +67,8 @@ fn indices_of(alloc: Global, from: u64, to: u64) -> Result<Vec<(Index, u64)>, Al
     Ok(indices)
 }
 
-/// The records of these numbers, in the order of their indices: the name is the number's 8 bytes, and the key the index's
-/// 32.
+/// Returns the records of these numbers, in the order of their indices. A name has 8 bytes, the number, and a key 32, the
+/// index.
 fn records_of<H: Hash32>(
     alloc: Global,
     h: &H,
@@ -83,7 +83,7 @@ fn records_of<H: Hash32>(
     Ok(records)
 }
 
-/// What the latest root shows; nothing where the tree has no such root.
+/// Returns the part that the latest root shows, or nothing if the tree has no such root.
 fn part_before(tree: &Tree, latest: Option<Root>) -> Part
     ensures fits { Fits (length tree.now.nodes.items) 0 result }
     ensures placed { (all : List Record) → Extends tree.now.records.items all → Placed all result }
@@ -94,7 +94,7 @@ fn part_before(tree: &Tree, latest: Option<Root>) -> Part
     }
 }
 
-/// A tree that gains an epoch for each batch, by a hash that counts.
+/// A tree with an epoch for each batch, and a hash that counts its calls.
 #[derive(Drop)]
 pub struct Registry {
     alloc: Global,
@@ -104,7 +104,7 @@ pub struct Registry {
 }
 
 impl Registry {
-    /// A registry of nothing.
+    /// Returns an empty registry.
     pub fn new(alloc: Global) -> Registry {
         Registry {
             alloc,
@@ -114,7 +114,7 @@ impl Registry {
         }
     }
 
-    /// Registers what a plan says.
+    /// Registers the indices of a plan.
     pub fn register_all(&mut self, plan: &Plan) -> Result<(), OutOfMemory> {
         for number in 0..plan.batches() {
             let from = number.saturating_mul(plan.batch);
@@ -137,13 +137,13 @@ impl Registry {
         Ok(())
     }
 
-    /// The changes of one more batch that registers these numbers. The registry stays as it is.
+    /// Returns the changes of one more batch that registers these numbers. The registry is unchanged.
     pub fn changes(&self, from: u64, to: u64) -> Result<Vec<Change>, AllocError> {
         let records = records_of(self.alloc, &Sha256Hash, from, to)?;
         Ok(changes_to(self.alloc, self.tree.records(), &records)?)
     }
 
-    /// The part of one more batch, built by several workers. The registry stays as it is.
+    /// Builds the part of one more batch with several workers. The registry is unchanged.
     pub fn part<R: Threads + Sync>(
         &self,
         rt: &R,
@@ -165,7 +165,7 @@ impl Registry {
         )?)
     }
 
-    /// The authentication path to an index from the latest root; none where there is no root.
+    /// Returns the authentication path to an index from the latest root, if there is a root.
     pub fn path(&self, index: &Index) -> Result<Option<Proof>, OutOfMemory> {
         match known(&self.tree, self.latest) {
             Some(root) => Ok(Some(self.tree.path(root, index)?)),
@@ -173,7 +173,7 @@ impl Registry {
         }
     }
 
-    /// All that is registered, as the changes that build it from nothing.
+    /// Returns all entries, as the changes that build them from nothing.
     pub fn entries(&self) -> Result<Vec<Change>, OutOfMemory> {
         match known(&self.tree, self.latest) {
             Some(root) => Ok(self.tree.entries(root)?),
@@ -181,7 +181,7 @@ impl Registry {
         }
     }
 
-    /// The part of all entries under another nonce, built by several workers from nothing. The registry stays as it is.
+    /// Builds the part of all entries under another nonce with several workers. The registry is unchanged.
     pub fn renewed<R: Threads + Sync>(
         &self,
         rt: &R,
@@ -202,7 +202,7 @@ impl Registry {
         )?)
     }
 
-    /// How many nodes all that is registered takes under another nonce, and how often is hashed for them.
+    /// Returns the numbers of nodes and hashes of a rotation of the nonce.
     pub fn renewal(&self) -> Result<Renewal, OutOfMemory> {
         let hash = Counting::new();
         let entries = self.entries()?;
@@ -215,7 +215,7 @@ impl Registry {
         })
     }
 
-    /// How much was made until now.
+    /// Returns the numbers so far.
     pub fn counts(&self, alloc: Global) -> Result<Counts, AllocError> {
         let root = match self.latest {
             Some(root) if root.0 < self.tree.nodes() => self.tree.node_hash(root),

@@ -1,4 +1,4 @@
-//! How long one more batch takes to be built, all names under another nonce, and a path to be found.
+//! The times of one more batch, of a rotation of the nonce, and of a search of a path.
 
 use crate::plan::{Parallelism, Plan};
 use crate::registering::{Registry, index_of};
@@ -10,13 +10,13 @@ use std::rt::Clock;
 use std::thread::Threads;
 use std::time::{Duration, Instant};
 
-/// How often each of the two builds a batch, in turn.
+/// The number of builds of a batch by each of the two, in turn.
 const REPEATS: usize = 51;
 
-/// How often each of the two makes every node anew, in turn.
+/// The number of rotations by each of the two, in turn.
 const RENEWALS: usize = 7;
 
-/// How many paths are looked up in one go, and how often.
+/// The number of paths of a round, and the number of rounds.
 const LOOKUPS: u64 = 10_000;
 
 const ROUNDS: usize = 11;
@@ -32,7 +32,7 @@ impl fmt::Display for Micros {
     }
 }
 
-/// How long a crew takes to build the part of these changes.
+/// Returns how long these workers take to build the part of the changes.
 fn build_time<R: Threads + Sync + Clock>(
     rt: &R,
     registry: &Registry,
@@ -46,7 +46,7 @@ fn build_time<R: Threads + Sync + Clock>(
     Ok(time)
 }
 
-/// Prints the least of a crew's times for something, and the one in the middle.
+/// Prints the least and the median of the times of these workers.
 fn print_times<R: Print>(
     rt: &R,
     what: &str,
@@ -63,7 +63,7 @@ fn print_times<R: Print>(
     Ok(())
 }
 
-/// Prints how long the batch after a plan's takes, by one worker without a cut and by a crew, which build it in turn.
+/// Prints the times of one more batch, built in turn by one worker without a split and by several.
 pub fn print_builds<R: Threads + Sync + Clock + Print + AllocGlobal>(
     rt: &R,
     registry: &Registry,
@@ -87,7 +87,7 @@ pub fn print_builds<R: Threads + Sync + Clock + Print + AllocGlobal>(
     Ok(())
 }
 
-/// How long it takes to list all that is registered, and a crew to build it under another nonce.
+/// Returns how long these workers take to list all entries and build them under another nonce.
 fn renewal_time<R: Threads + Sync + Clock>(
     rt: &R,
     registry: &Registry,
@@ -101,7 +101,7 @@ fn renewal_time<R: Threads + Sync + Clock>(
     Ok(time)
 }
 
-/// Prints how long it takes to make every node anew, by one worker without a cut and by a crew, in turn.
+/// Prints the times of a rotation, made in turn by one worker without a split and by several.
 pub fn print_renewals<R: Threads + Sync + Clock + Print + AllocGlobal>(
     rt: &R,
     registry: &Registry,
@@ -122,7 +122,7 @@ pub fn print_renewals<R: Threads + Sync + Clock + Print + AllocGlobal>(
     Ok(())
 }
 
-/// How long it takes to find the authentication paths to these indices, one after another.
+/// Returns how long the authentication paths to these indices take, one after another.
 fn lookup_time<R: Clock>(rt: &R, registry: &Registry, indices: &[Index]) -> Result<Duration> {
     let start = Instant::now(rt)?;
     for index in indices {
@@ -131,7 +131,7 @@ fn lookup_time<R: Clock>(rt: &R, registry: &Registry, indices: &[Index]) -> Resu
     Ok(start.elapsed(rt)?)
 }
 
-/// Prints how long it takes one thread to find the authentication paths to the first names, in no order of their indices.
+/// Prints how long one thread takes for the authentication paths to the first names, whose indices are in no order.
 pub fn print_lookups<R: Clock + Print + AllocGlobal>(rt: &R, registry: &Registry) -> Result<()> {
     let mut indices = Vec::new(rt.alloc());
     for number in 0..LOOKUPS {

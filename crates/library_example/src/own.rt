@@ -1,7 +1,7 @@
-//! What a user of the libraries brings: a hash, a source of indices and a source of signatures.
+//! What a user of the libraries provides: a hash, an index source and a source of signatures.
 //!
 //! All three are made of SHA-256 with tags of their own. Index and signature are for demonstrations and claim no security: a
-//! provider has a verifiable unpredictable function and a signature in their place.
+//! provider has a verifiable random function (VRF) and a signature scheme in their place.
 
 ghost use Rattle.std.specs.Prelude.{◌≡◌, ◌++◌, ◌∷◌, []};
 ghost use Rattle.coniks_proof.specs.Sha256.{sha256};
@@ -37,15 +37,15 @@ impl IndexSource for KeyedIndex {
     }
 }
 
-/// A key that signs by SHA-256 of the byte 03, the key and the body, written twice. Who can judge such a signature can also
-/// make one.
+/// A key whose signature is SHA-256 of the byte 03, the key and the body, written twice. Anyone who can verify it can forge
+/// it.
 #[derive(Clone, Copy, Drop)]
 pub struct DemoKey {
     pub key: [u8; 32],
 }
 
 impl DemoKey {
-    /// The signature of a body's bytes.
+    /// Returns the signature of a body's bytes.
     fn seal(&self, body: &[u8; BODY_BYTES]) -> Signature
         ensures { result.0 ≡ sha256 (3 ∷ self.now.key ++ body.now) ++ sha256 (3 ∷ self.now.key ++ body.now) }
     {

@@ -1,10 +1,11 @@
 //! A directory under load: epochs are committed while watchers look at the board and readers look names up.
 //!
-//! Without words it commits 20 epochs of 16 names by 3 workers, beside 4 watchers and 2 readers that look up 50 times each
-//! in each epoch. With the words EPOCHS, BATCH, WORKERS, WATCHERS, READERS and LOOKUPS there are so many of each, and how
-//! often the watchers looked and how long it took is printed too. What is wrong is counted: an install that is refused, a
-//! watcher's answer that is no head of the chain or is before an earlier one, a lookup whose proof isn't accepted with
-//! what its epoch binds.
+//! Without arguments it commits 20 epochs of 16 names with 3 workers, beside 4 watchers and 2 readers with 50 lookups each
+//! in each epoch. The arguments EPOCHS, BATCH, WORKERS, WATCHERS, READERS and LOOKUPS set these numbers; the number of looks
+//! and the time are printed too.
+//!
+//! It counts wrong results: an install that is refused, a head that is not in the chain or comes before an earlier one, and
+//! a lookup whose proof is not accepted with what its epoch binds.
 #![tactic(auto)]
 
 mod names;

@@ -4,12 +4,12 @@ use coniks_directory::{Op, OpKind};
 use coniks_proof::{Bytes, Opening};
 use std::alloc::{AllocError, Global};
 
-/// The name of a number.
+/// Returns the name of a number.
 pub fn name_of(number: u64) -> [u8; 8] {
     number.to_be_bytes()
 }
 
-/// The operation that registers the name of a number.
+/// Returns the operation that registers the name of a number.
 fn registration(alloc: Global, number: u64) -> Result<Op, AllocError> {
     let name = name_of(number);
     Ok(Op {
@@ -20,7 +20,7 @@ fn registration(alloc: Global, number: u64) -> Result<Op, AllocError> {
     })
 }
 
-/// The operations that register so many names from a number on.
+/// Returns the operations that register this many names from a number on.
 pub fn registrations(alloc: Global, first: u64, count: usize) -> Result<Vec<Op>, AllocError> {
     let mut ops = Vec::new(alloc);
     for place in 0..count {

@@ -1,4 +1,4 @@
-//! How many there are of each.
+//! The numbers of a run.
 
 ghost use Rattle.std.specs.Prelude.{◌≡◌, ◌≤◌, IfOk};
 ghost use Rattle.coniks_shared.specs.Limits.{most_heads};
@@ -9,7 +9,7 @@ use coniks_proof::MAX_OPERATIONS;
 use coniks_shared::MAX_HEADS;
 use coniks_work::MAX_WORKERS;
 
-/// How many epochs, names in each, workers, watchers, readers, and lookups of each reader in an epoch.
+/// The numbers of epochs, names in each, workers, watchers, readers, and lookups of each reader in an epoch.
 #[derive(Drop)]
 pub struct Plan {
     pub epochs: usize,
@@ -18,14 +18,14 @@ pub struct Plan {
     pub watchers: usize,
     pub readers: usize,
     pub lookups: usize,
-    /// Whether what differs from run to run is printed.
+    /// Whether the values that differ from run to run are printed.
     pub is_measured: bool,
     ghost some: { (1 ≤ epochs) × (epochs ≤ most_heads) },
     ghost worker_count: { (1 ≤ workers) × (workers ≤ most_workers) },
     ghost watched: { 1 ≤ watchers },
 }
 
-/// A number in decimal digits, from 1 to the most.
+/// Parses a number in decimal digits, from 1 to a limit.
 fn number_of(word: &str, most: usize) -> Result<usize>
     ensures { IfOk result (λ number. (1 ≤ number) × (number ≤ most)) }
 {
@@ -36,7 +36,7 @@ fn number_of(word: &str, most: usize) -> Result<usize>
     Ok(number)
 }
 
-/// The plan that the words of the command line name, the program's own name first.
+/// Parses the command line, which begins with the program's own name.
 pub fn plan_of(words: &[String]) -> Result<Plan> {
     match words {
         [_, epochs, batch, workers, watchers, readers, lookups] => Ok(Plan {

@@ -39,7 +39,7 @@ pub struct Provider<'a> {
 }
 
 impl<'a> Provider<'a> {
-    /// A provider with no epochs.
+    /// Returns a provider without epochs.
     pub fn new(alloc: Global, board: &'a Board, publisher: Publisher) -> Provider<'a>
         requires tabled { publisher.table ≡ board.now.table }
         requires headed { publisher.heads ≡ [] }
@@ -53,7 +53,7 @@ impl<'a> Provider<'a> {
         }
     }
 
-    /// Installs an update. None where it is refused.
+    /// Installs an update. Returns `None` if it is refused.
     pub fn install(&mut self, update: Prepared, t: u64) -> Option<Entry>
         requires { IsUpdateOf (⟦<Sha256Hash as Hash32>⟧.digest_of self.old.directory.hash)
             (⟦<DemoIndex as IndexSource>⟧.index_of self.old.directory.index) self.old.directory.state update }
@@ -73,7 +73,7 @@ impl<'a> Provider<'a> {
     }
 }
 
-/// Prepares a batch by so many workers, over prefixes of eight bits. None where it is refused.
+/// Prepares a batch with this many workers, at a split depth of 8. Returns `None` if it is refused.
 pub fn prepared<R: Threads + Sync>(
     rt: &R,
     directory: &Names,

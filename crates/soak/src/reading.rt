@@ -1,4 +1,4 @@
-//! Readers, and what they are told.
+//! Readers, and the results of their lookups.
 
 use crate::names::name_of;
 use crate::provider::{NONCE, Names, source};
@@ -10,7 +10,7 @@ use coniks_proof::{Answer, Sha256Hash, check};
 struct Numbers(u64);
 
 impl Numbers {
-    /// The next number below a bound; 0 where that is 0.
+    /// Returns the next number below a bound, or 0 if the bound is 0.
     fn below(&mut self, bound: u64) -> u64 {
         self.0 = self
             .0
@@ -20,8 +20,8 @@ impl Numbers {
     }
 }
 
-/// Whether a lookup of a name at an epoch is answered by a proof that is accepted with the name's key where the name is
-/// bound there, and as absence where it isn't.
+/// Returns whether the proof of a name at an epoch is accepted with the name's key, or as absence if the name is not bound
+/// there.
 fn is_told(directory: &Names, t: u64, number: u64, is_bound: bool) -> bool {
     let name = name_of(number);
     let (Some(root), Ok(proof)) = (directory.root_at(t), directory.lookup(t, &name)) else {
@@ -41,7 +41,8 @@ fn is_told(directory: &Names, t: u64, number: u64, is_bound: bool) -> bool {
     }
 }
 
-/// How many of so many lookups are wrong, at epochs from 1 to the latest one, each of which binds so many names more.
+/// Returns how many of the lookups are wrong. Their epochs are from 1 to the latest one, and each epoch binds `batch` more
+/// names.
 pub fn wrong_lookups(
     directory: &Names,
     reader: u64,

@@ -1,4 +1,4 @@
-//! The rounds: in each a batch is prepared while readers look names up, and then it is installed.
+//! Rounds: a batch is prepared while readers look names up, and then installed.
 
 ghost use Rattle.std.specs.Prelude.{◌≡◌, ◌<◌, ◌≤◌, length, All};
 
@@ -15,7 +15,7 @@ use std::sync::atomic::{AtomicU64, Ordering};
 use std::thread;
 use std::thread::Threads;
 
-/// What came of it.
+/// The results of a run.
 #[derive(Clone, Copy)]
 pub struct Counts {
     pub installs: u64,
@@ -24,7 +24,8 @@ pub struct Counts {
     pub wrong: u64,
 }
 
-/// How many lookups are wrong, of so many readers on threads of their own. Before the first epoch they look nothing up.
+/// Returns the number of wrong lookups of these readers, each on a thread of its own. Before the first epoch there are
+/// none.
 fn wrong_of_readers<R: Threads + Sync>(
     rt: &R,
     alloc: Global,
@@ -49,7 +50,7 @@ fn wrong_of_readers<R: Threads + Sync>(
     Ok(wrong)
 }
 
-/// Prepares the batch of an epoch while readers look names up, and installs it. How much of it is wrong.
+/// Prepares the batch of an epoch while readers look names up, and installs it. Returns the number of wrong results.
 fn round<R: Threads + Sync>(
     rt: &R,
     alloc: Global,
@@ -72,7 +73,7 @@ fn round<R: Threads + Sync>(
     }
 }
 
-/// Commits all epochs, and says then that all is over. How much of it is wrong.
+/// Commits all epochs, then sets the flag that ends the watchers. Returns the number of wrong results.
 fn commit_all<R: Threads + Sync>(
     rt: &R,
     alloc: Global,
@@ -95,7 +96,7 @@ fn commit_all<R: Threads + Sync>(
     wrong
 }
 
-/// Commits all epochs beside the watchers. How much of it is wrong.
+/// Commits all epochs beside the watchers. Returns the number of wrong results.
 fn commit_watched<R: Threads + Sync>(
     rt: &R,
     alloc: Global,

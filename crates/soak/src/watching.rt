@@ -1,4 +1,4 @@
-//! Watchers, and what they answer.
+//! Watchers, and the heads that they see.
 
 ghost use Rattle.std.specs.Prelude.{◌≡◌, ◌<◌, length, All, IfOk};
 
@@ -10,10 +10,10 @@ use std::sync::atomic::{AtomicU64, Ordering};
 use std::thread;
 use std::thread::Threads;
 
-/// More often than a watcher looks.
+/// A limit above the number of looks of any watcher.
 const MANY: u64 = 1 << 40;
 
-/// A watcher with its answers, each once, and how often it looked.
+/// A watcher with the heads that it saw, each once, and the number of its looks.
 #[derive(Drop)]
 pub struct Watch {
     watcher: Watcher,
@@ -22,7 +22,7 @@ pub struct Watch {
     wrong: u64,
 }
 
-/// So many watchers of a board, each with no answers.
+/// Returns this many watchers of a board.
 pub fn watches_of(
     alloc: Global,
     count: usize,
@@ -49,7 +49,7 @@ pub fn watches_of(
     Ok(watches)
 }
 
-/// Keeps an answer that isn't the last one.
+/// Stores a head unless it is the last one.
 fn keep(watch: &mut Watch, answer: Option<Head>)
     ensures { watch.new.watcher ≡ watch.old.watcher }
 {
@@ -65,7 +65,7 @@ fn keep(watch: &mut Watch, answer: Option<Head>)
     }
 }
 
-/// Looks until all is over, and once more then.
+/// Looks until the run is over, and once more after that.
 fn look_until(watch: &mut Watch, board: &Board, over: &AtomicU64)
     requires { watch.old.watcher.table ≡ board.now.table }
     ensures { watch.new.watcher.table ≡ watch.old.watcher.table }
@@ -80,7 +80,7 @@ fn look_until(watch: &mut Watch, board: &Board, over: &AtomicU64)
     }
 }
 
-/// Has each watcher look, on a thread of its own, until all is over.
+/// Runs each watcher on a thread of its own until the run is over.
 pub fn watch_each<R: Threads + Sync>(rt: &R, board: &Board, watches: &mut [Watch], over: &AtomicU64)
     requires own { All (λ w. w.watcher.table ≡ board.now.table) watches.old }
     requires some { 0 < length watches.old }
@@ -100,7 +100,7 @@ pub fn watch_each<R: Threads + Sync>(rt: &R, board: &Board, watches: &mut [Watch
     );
 }
 
-/// Whether a head is that of the chain's entry of its epoch, where the epochs are 1, 2 and so on.
+/// Returns whether a head is that of the chain's entry for its epoch. The epochs are 1, 2 and so on.
 fn is_of_chain(head: &Head, chain: &[Entry]) -> bool {
     let place = head.epoch.wrapping_sub(1) as usize;
     match chain.get(place) {
@@ -109,7 +109,7 @@ fn is_of_chain(head: &Head, chain: &[Entry]) -> bool {
     }
 }
 
-/// How many answers are no head of the chain, or before an earlier one.
+/// Returns how many of the heads are not in the chain, or come before an earlier one.
 fn wrong_answers(answers: &[Head], chain: &[Entry]) -> u64 {
     let mut last = 0;
     let mut wrong = 0u64;
@@ -122,7 +122,7 @@ fn wrong_answers(answers: &[Head], chain: &[Entry]) -> u64 {
     wrong
 }
 
-/// How often the watchers looked, and how much of what they answered is wrong.
+/// Returns the number of looks of all watchers, and of wrong heads.
 pub fn looks_and_wrong(watches: &[Watch], chain: &[Entry]) -> (u64, u64) {
     let (mut looks, mut wrong) = (0u64, 0u64);
     for one in watches {
