@@ -65,7 +65,8 @@ fn check_text(fault: CheckFault) -> &'static str
         CheckFault::KeyLength => "the proof's key is empty or longer than 16384 bytes",
         CheckFault::WrongName => "the proof's leaf contains another name",
         CheckFault::OtherIsSame => "the proof's other index is the requested index",
-        CheckFault::OtherOffPath => "the proof's other index isn't on the path to the requested index",
+        CheckFault::OtherOffPath =>
+            "the proof's other index isn't on the path to the requested index",
         CheckFault::RootMismatch => "the root computed from the proof isn't the expected root",
     }
 }
