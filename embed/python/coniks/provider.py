@@ -89,6 +89,9 @@ class Change:
 
 
 Operation = Union[Register, Change]
+Index = Callable[[str], bytes]
+Sign = Callable[[bytes], bytes]
+Verify = Callable[[bytes, bytes], bool]
 
 
 @dataclass(frozen=True)
@@ -316,7 +319,7 @@ _HALFWAY = ProviderError("a call was interrupted")
 class Directory(Closing):
     """What `Provider` and `coniks.replica.Replica` share: a child that answers lookups."""
 
-    def __init__(self, start: Callable[[], _Engine], index: Callable[[str], bytes], engine: Optional[_Engine] = None):
+    def __init__(self, start: Callable[[], _Engine], index: Index, engine: Optional[_Engine] = None):
         self._new, self._index, self._engine = start, index, engine
         self._is_closed, self._owner = False, os.getpid()
         # Held while the child answers, until the log has what it must. Lookups go on while the signer is asked.
@@ -438,13 +441,13 @@ class Provider(Directory):
     def __init__(
         self,
         program: Union[Path, Sequence[str]],
-        index: Callable[[str], bytes],
-        sign: Callable[[bytes], bytes],
+        index: Index,
+        sign: Sign,
         log: Log,
         *,
         policy: bytes,
         nonce: Optional[bytes] = None,
-        verify: Optional[Callable[[bytes, bytes], bool]] = None,
+        verify: Optional[Verify] = None,
         workers: Optional[int] = None,
         depth: Optional[int] = None,
         timeout: Optional[float] = None,
@@ -462,9 +465,7 @@ class Provider(Directory):
             raise
 
     @classmethod
-    def _over(
-        cls, directory: Directory, sign: Callable[[bytes], bytes], verify: Optional[Callable[[bytes, bytes], bool]]
-    ) -> Provider:
+    def _over(cls, directory: Directory, sign: Sign, verify: Optional[Verify]) -> Provider:
         """A provider that goes on with the engine of another directory."""
         provider = cls.__new__(cls)
         Directory.__init__(provider, directory._new, directory._index, directory._engine)

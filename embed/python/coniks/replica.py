@@ -17,11 +17,11 @@ from __future__ import annotations
 import threading
 import time
 from dataclasses import dataclass
-from typing import Callable, Optional, Sequence, Union
+from typing import Optional, Sequence, Union
 
 from .faults import LogFailed
 from .log import Path, SharedLog
-from .provider import Directory, Provider, _Engine, _sized, _words
+from .provider import Directory, Index, Provider, Sign, Verify, _Engine, _sized, _words
 
 __all__ = ["Lag", "Replica"]
 
@@ -51,7 +51,7 @@ class Replica(Directory):
         self,
         log: SharedLog,
         program: Union[Path, Sequence[str]],
-        index: Callable[[str], bytes],
+        index: Index,
         *,
         policy: bytes,
         workers: Optional[int] = None,
@@ -105,9 +105,7 @@ class Replica(Directory):
             replayed = self._engine.position if self._engine else 0
             return Lag(max(0, self._lines - replayed), time.monotonic() - self._since, self._broken or self._error)
 
-    def promote(
-        self, sign: Callable[[bytes], bytes], *, verify: Optional[Callable[[bytes, bytes], bool]] = None, sign_pending: bool = True
-    ) -> Provider:
+    def promote(self, sign: Sign, *, verify: Optional[Verify] = None, sign_pending: bool = True) -> Provider:
         """Makes a provider of the replica, which is closed. It replays only what the replica hasn't, then signs and installs the
         pending update if there is one; other calls wait meanwhile. Raises `SignerFailed`, or `LogFailed` if the log can't be read,
         and then the replica goes on. After another error, as `Overtaken`, it goes on after `restart`."""
