@@ -5,11 +5,7 @@
 
 A replica has a child of its own, replays each line that the log gets, and compares the child's answer with the logged one. It
 asks no signer and appends nothing. Its lookups show an epoch some time after the provider's `commit` returned: `lag` returns how
-far it is behind, and `follow` brings it to where the log is.
-
-`promote` makes a provider of a replica once the one there was is gone, which is for the service to decide. If two providers
-write, the log gives each position to one of them, and a call of the other one raises `Overtaken`. Close that one, and open a
-replica in its place.
+far it is behind, and `follow` brings it to where the log is. `promote` makes a provider of it. docs/CLUSTER.md has when to call it.
 """
 
 from __future__ import annotations
@@ -24,10 +20,6 @@ from .log import Path, SharedLog
 from .provider import Directory, Index, Provider, Sign, Verify, _Engine, _sized, _words
 
 __all__ = ["Lag", "Replica"]
-
-# How often a replica looks for new lines if it isn't notified, and how long it pauses after an error, in seconds.
-POLL = 1.0
-PAUSE = 0.2
 
 
 @dataclass(frozen=True)
@@ -60,7 +52,7 @@ class Replica(Directory):
     ):
         words, policy = _words(program, workers, depth), _sized(policy, 32, "the policy")
         super().__init__(lambda: _Engine(words, timeout, log, policy, None), index)
-        self._log, self._lines, self._is_over = log, 0, threading.Event()
+        self._log, self._lines = log, 0
         self._error: Optional[Exception] = None
         self.restart()
         threading.Thread(target=self._run, daemon=True).start()
@@ -73,17 +65,18 @@ class Replica(Directory):
 
     def _run(self) -> None:
         """Follows the log until the replica is closed."""
-        while not self._is_over.is_set():
+        while not self._is_closed:
             try:
                 position = self._position()
-                self._lines = self._log.wait(position, POLL)
+                # A replica that isn't notified looks each second.
+                self._lines = self._log.wait(position, 1)
                 if self._lines < position:
                     raise LogFailed(f"the log has {self._lines} lines, of which {position} were replayed: it lost some")
                 self.follow()
                 self._error = None
             except Exception as error:
                 self._error = error
-                self._is_over.wait(PAUSE)
+                time.sleep(0.2)
 
     def _position(self) -> int:
         with self._steps() as engine:
@@ -118,8 +111,3 @@ class Replica(Directory):
             self._engine = None
         self.close()
         return provider
-
-    def close(self) -> None:
-        """Ends the child. The log stays open, since the caller opened it."""
-        self._is_over.set()
-        super().close()
