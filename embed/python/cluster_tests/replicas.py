@@ -16,7 +16,7 @@ from stand_ins import POLICY, Salted, Signer, Tell, audited, index, opened
 from units import raises
 from coniks.postgres import PostgresLog
 from coniks.provider import Closed, EpochNotLater, LogFailed, NotOpen, Overtaken, Provider, Register, ReplayDiffers
-from coniks.provider import RestartNeeded, SignerFailed, entries
+from coniks.provider import RestartNeeded, SignerFailed, _Engine, entries
 from coniks.replica import Replica
 
 
@@ -30,6 +30,20 @@ def lost(log: PostgresLog, call: Callable[..., object]) -> Any:
 
     inserts = mock.Mock(wraps=log._insert, side_effect=insert)
     return mock.patch.object(log, "_insert", inserts)
+
+
+def notified_early(log: PostgresLog, append: Callable[[], object]) -> Any:
+    """While this is entered, a line is appended after the first query. Its notification comes with the rows of the next one."""
+    rows, left = log._rows, [append]
+
+    def queried(connection: psycopg.Connection[Any], *query: Any) -> Any:
+        found = rows(connection, *query)
+        if left:
+            left.pop()()
+            rows(connection, *query)
+        return found
+
+    return mock.patch.object(log, "_rows", queried)
 
 
 def try_appends(tell: Tell, mine: PostgresLog, other: PostgresLog, third: PostgresLog) -> None:
@@ -55,13 +69,17 @@ def try_appends(tell: Tell, mine: PostgresLog, other: PostgresLog, third: Postgr
 
 
 def try_waits(tell: Tell, database: Database, mine: PostgresLog, other: PostgresLog) -> None:
-    threading.Timer(0.2, lambda: other.append(103, b"notified")).start()
+    threading.Timer(0.2, lambda: mine.append(103, b"notified")).start()
     start = time.monotonic()
     tell("log: a waiting reader is notified", mine.wait(103, 10) == 104 and time.monotonic() - start < 8)
-    tell("log: a reader waits no longer", mine.wait(104, 0.1) == 104)
+    start = time.monotonic()
+    tell("log: a reader waits no longer", mine.wait(104, 0.1) == 104 and 0.1 <= time.monotonic() - start < 8)
+    with notified_early(mine, lambda: other.append(104, b"early")):
+        start = time.monotonic()
+        tell("log: a line is notified before the wait", mine.wait(104, 10) == 105 and time.monotonic() - start < 8)
     database.execute("SELECT pg_terminate_backend(pid) FROM pg_stat_activity WHERE application_name = 'coniks_log'")
-    tell("log: connections that were cut", mine.wait(0, 5) == 104 and [*mine.read(103)] == [b"notified"])
-    mine.append(104, b"after")
+    tell("log: connections that were cut", mine.wait(0, 5) == 105 and [*mine.read(103)] == [b"notified", b"early"])
+    mine.append(105, b"after")
     database.execute("DELETE FROM coniks_log WHERE position = 50")
     lines = mine.read(49)
     tell("log: a line before a missing one", next(lines) == b"49")
@@ -70,16 +88,16 @@ def try_waits(tell: Tell, database: Database, mine: PostgresLog, other: Postgres
     unsafe = f"{database.conninfo} options='-c synchronous_commit=off'"
     raises(tell, "log: a commit that may be lost", LogFailed, lambda: PostgresLog(unsafe))
     database.kill()
-    raises(tell, "log: an append without PostgreSQL", LogFailed, lambda: mine.append(105, b""))
+    raises(tell, "log: an append without PostgreSQL", LogFailed, lambda: mine.append(106, b""))
     raises(tell, "log: a read without PostgreSQL", LogFailed, lambda: [*mine.read(0)])
     raises(tell, "log: a wait without PostgreSQL", LogFailed, lambda: mine.wait(0, 1))
     raises(tell, "log: an open without PostgreSQL", LogFailed, lambda: PostgresLog(database.conninfo))
-    trying = threading.Thread(target=other.append, args=(105, b"later"))
+    trying = threading.Thread(target=other.append, args=(106, b"later"))
     trying.start()
     time.sleep(0.5)
     database.start()
     trying.join()
-    tell("log: an append that waits for PostgreSQL", [*mine.read(104)] == [b"after", b"later"])
+    tell("log: an append that waits for PostgreSQL", [*mine.read(105)] == [b"after", b"later"])
 
 
 class Pair(ExitStack):
@@ -106,7 +124,7 @@ def try_following(tell: Tell, pair: Pair) -> None:
     tell("replica: so is the chain", own.chain() == replica.chain() == [*entries(pair.log)])
     tell("replica: from an epoch on", replica.chain(1) == own.chain()[1:] and audited(own.chain(), Salted(), False))
     tell("replica: no lag", soon(lambda: replica.lag().lines == 0 and replica.lag().seconds < 2 and not replica.lag().error))
-    with mock.patch.object(pair.log._waiting, "_prepare"):
+    with mock.patch.dict(pair.log._sql, listen=pair.log._sql["count"]):
         pair.log.close()
         own.commit(3, [])
         tell("replica: it follows without a notification", soon(lambda: replica.latest().epoch == 3))
@@ -121,7 +139,7 @@ def try_promotion(tell: Tell, pair: Pair) -> None:
     own, replica, signer, log = pair.own, pair.replica, pair.signer, pair.log
     own.commit(4, [Register("user-1", b"key")])
     tell("promotion: the replica follows", soon(lambda: replica.latest().epoch == 4))
-    with mock.patch.object(log, "_rows", side_effect=LogFailed("gone")):
+    with mock.patch.dict(log._sql, read="no query"):
         own.commit(5, [])
         is_told = soon(lambda: replica.lag().lines == 2 and isinstance(replica.lag().error, LogFailed))
         time.sleep(0.3)
@@ -131,9 +149,9 @@ def try_promotion(tell: Tell, pair: Pair) -> None:
     tell("replica: it follows again", soon(lambda: replica.latest().epoch == 5))
     position = own._engine.position if own._engine else 0
     own.commit(6, [])
-    with mock.patch.object(log, "_rows", wraps=log._rows) as rows:
+    with mock.patch.object(log, "read", wraps=log.read) as read:
         new = pair.lead()
-        tell("promotion: only what wasn't read is replayed", min(it.args[1] for it in rows.call_args_list) >= position)
+        tell("promotion: only what wasn't read is replayed", min(it.args[0] for it in read.call_args_list) >= position)
     tell("promotion: the last lines are read", new.commit(7, [Register("seven", b"key")]).epoch == new.lookup("seven").epoch)
     raises(tell, "promotion: the replica is closed", Closed, replica.latest)
     raises(tell, "promotion: the old provider", Overtaken, lambda: own.commit(7, [Register("other", b"key")]))
@@ -163,10 +181,10 @@ def try_pending(tell: Tell, pair: Pair) -> None:
 
 def try_wrong(tell: Tell, pair: Pair) -> None:
     """Lines that a replica's child doesn't answer so."""
-    replica, rows = pair.replica, pair.log._rows
+    replica, take = pair.replica, _Engine.take
     pair.own.commit(1, [Register("alice", b"key")])
     for epoch, what, old in [(2, "body", b'"body":"01'), (3, "link", b'"link":"')]:
-        with mock.patch.object(pair.log, "_rows", lambda *at: [(it, line.replace(old, old + b"f")) for it, line in rows(*at)]):
+        with mock.patch.object(_Engine, "take", lambda engine, line: take(engine, line.replace(old, old + b"f"))):
             pair.own.commit(epoch, [])
             tell(f"replica: another {what} stops it", soon(lambda: isinstance(replica.lag().error, ReplayDiffers)))
             raised = raises(tell, f"replica: each call then, another {what}", RestartNeeded, lambda: replica.lookup("alice"))
@@ -193,3 +211,4 @@ def try_replicas(tell: Tell, program: str) -> None:
             raises(tell, "replica: an empty log", NotOpen, lambda: replica.lookup("alice"))
             with replica.promote(Salted().sign) as new:
                 tell("promotion: over an empty log", new.commit(1, []).epoch == 1)
+        tell("replica: the thread of each one ends", soon(lambda: threading.active_count() == 1))

@@ -69,7 +69,7 @@ def measure_takeover(log: PostgresLog, program: str, own: Provider, behind: int)
     start = time.monotonic()
     replica = Replica(log, program, index, policy=POLICY)
     replayed, first = time.monotonic() - start, own.latest().epoch + 1
-    with mock.patch.object(log, "_rows", return_value=[]):
+    with mock.patch.object(log, "read", return_value=[]):
         for epoch in range(first, first + behind):
             own.commit(epoch, [Register(f"user-{epoch}-{it}", KEY) for it in range(BATCH)])
     start = time.monotonic()

@@ -27,20 +27,17 @@ __all__ = ["PostgresLog"]
 
 Connection = psycopg.Connection[Any]
 Answer = TypeVar("Answer")
-_AT_ONCE = 32
-_PAUSE = 0.05
 _SQL = {
-    "is_durable": "SELECT current_setting('fsync') = 'on' AND current_setting('synchronous_commit') <> 'off'",
-    "is_there": "SELECT to_regclass(quote_ident({name})) IS NOT NULL",
+    "state": """SELECT current_setting('fsync') = 'on' AND current_setting('synchronous_commit') <> 'off',
+        to_regclass(quote_ident({name})) IS NOT NULL""",
     "create": """CREATE TABLE IF NOT EXISTS {table}
         (position bigint PRIMARY KEY CHECK (position >= 0), line bytea NOT NULL, token bytea NOT NULL)""",
     # Without the row before, none is inserted: positions have no gap.
-    "append": """WITH added AS (INSERT INTO {table} SELECT %(position)s::bigint, %(line)b::bytea, %(token)b::bytea
-            WHERE %(position)s::bigint = 0 OR EXISTS (SELECT FROM {table} WHERE position = %(position)s::bigint - 1)
-            RETURNING position)
-        SELECT pg_notify({name}, position::text) FROM added""",
+    "append": """INSERT INTO {table} SELECT %(position)s::bigint, %(line)b::bytea, %(token)b::bytea
+        WHERE %(position)s::bigint = 0 OR EXISTS (SELECT FROM {table} WHERE position = %(position)s::bigint - 1)
+        RETURNING pg_notify({name}, position::text)""",
     "is_mine": "SELECT token = %(token)b::bytea FROM {table} WHERE position = %(position)s::bigint",
-    "read": "SELECT position, line FROM {table} WHERE position >= %s ORDER BY position LIMIT %s",
+    "read": "SELECT position, line FROM {table} WHERE position >= %(position)s ORDER BY position LIMIT 32",
     "count": "SELECT coalesce(max(position) + 1, 0) FROM {table}",
     "listen": "LISTEN {table}",
 }
@@ -53,7 +50,7 @@ class _Session:
         self._conninfo, self._prepare, self._lock = conninfo, prepare, threading.RLock()
         self._connection: Optional[Connection] = None
 
-    def do(self, what: str, call: Callable[[Connection], Answer], patience: float = 0) -> Answer:
+    def do(self, what: str, call: Callable[..., Answer], *arguments: Any, patience: float = 0) -> Answer:
         """What a call returns. After a lost connection it is called again: once, or for `patience` seconds."""
         until, is_last = time.monotonic() + patience, False
         while True:
@@ -62,16 +59,15 @@ class _Session:
                     if self._connection is None:
                         self._connection = psycopg.connect(self._conninfo, autocommit=True)
                         self._prepare(self._connection)
-                    return call(self._connection)
-                except psycopg.Error as error:
+                    return call(self._connection, *arguments)
+                except BaseException as error:
                     self.close()
+                    if not isinstance(error, psycopg.Error):
+                        raise
                     if is_last or not isinstance(error, (psycopg.OperationalError, psycopg.InterfaceError)):
                         raise LogFailed(f"{what}: {error}") from error
-                except BaseException:
-                    self.close()
-                    raise
             is_last = time.monotonic() > until
-            time.sleep(_PAUSE)
+            time.sleep(0.05)
 
     def close(self) -> None:
         with self._lock:
@@ -89,29 +85,25 @@ class PostgresLog(Closing):
     """
 
     def __init__(self, conninfo: str, table: str = "coniks_log", *, patience: float = 10):
-        self._patience, self._is_notified = patience, False
-        names = {"table": sql.Identifier(table), "name": sql.Literal(table)}
-        self._sql = {name: sql.SQL(text).format(**names) for name, text in _SQL.items()}
+        self._patience, self._notified = patience, threading.Event()
+        self._sql = {it: sql.SQL(text).format(table=sql.Identifier(table), name=sql.Literal(table)) for it, text in _SQL.items()}
         whole = make_conninfo(**{"connect_timeout": "5", "application_name": table, **conninfo_to_dict(conninfo)})
         # A replica waits on a connection of its own, so that appends and reads need not wait for it.
-        self._main, self._waiting = _Session(whole, self._check), _Session(whole, self._listen)
-        self._main.do("the log can't be opened", lambda connection: None)
+        self._main, self._waiting = _Session(whole, self._check), _Session(whole, self._check)
+        self._main.do("the log can't be opened", self._rows, "count")
 
-    def _value(self, connection: Connection, query: str, row: Optional[dict[str, Any]] = None) -> Any:
-        found = connection.execute(self._sql[query], row).fetchone()
-        return found and found[0]
+    def _rows(self, connection: Connection, query: str, row: Optional[dict[str, Any]] = None) -> list[Any]:
+        return connection.execute(self._sql[query], row, binary=True).fetchall()
 
     def _check(self, connection: Connection) -> None:
-        if not self._value(connection, "is_durable"):
+        connection.add_notify_handler(lambda _: self._notified.set())
+        [(is_durable, is_there)] = self._rows(connection, "state")
+        if not is_durable:
             raise LogFailed("PostgreSQL can lose what it committed: fsync and synchronous_commit must be on")
-        if not self._value(connection, "is_there"):
+        if not is_there:
             # Another process may create the table at the same time.
             with suppress(psycopg.errors.UniqueViolation):
                 connection.execute(self._sql["create"])
-
-    def _listen(self, connection: Connection) -> None:
-        connection.add_notify_handler(lambda _: setattr(self, "_is_notified", True))
-        connection.execute(self._sql["listen"])
 
     def append(self, position: int, line: bytes) -> None:
         """Stores a line. If the connection is lost, the row's token tells whether this append or another one took the position.
@@ -119,40 +111,38 @@ class PostgresLog(Closing):
         if b"\n" in line:
             raise ValueError("a line has no newline")
         row = {"position": position, "line": line, "token": secrets.token_bytes(16)}
-        self._main.do(f"line {position} may be stored or not", lambda it: self._insert(it, row), self._patience)
+        self._main.do(f"line {position} may be stored or not", self._insert, row, patience=self._patience)
 
     def _insert(self, connection: Connection, row: dict[str, Any]) -> None:
         """Inserts a row. If PostgreSQL still commits an earlier try, this one waits for it."""
         try:
-            if connection.execute(self._sql["append"], row).rowcount != 1:
+            if not self._rows(connection, "append", row):
                 raise LogFailed(f"the log has no line before position {row['position']}")
         except psycopg.errors.UniqueViolation:
-            if not self._value(connection, "is_mine", row):
+            if self._rows(connection, "is_mine", row) != [(True,)]:
                 raise Overtaken(f"position {row['position']} of the log is taken") from None
 
     def read(self, position: int) -> Iterator[bytes]:
         """Returns the lines from a position on. Raises `LogFailed` if one is missing before a later one."""
-        while rows := self._main.do("the log can't be read", lambda it: self._rows(it, position)):
+        while rows := self._main.do("the log can't be read", self._rows, "read", {"position": position}):
             for number, line in rows:
                 if number != position:
                     raise LogFailed(f"line {position} of the log is missing")
                 yield line
                 position += 1
 
-    def _rows(self, connection: Connection, position: int) -> list[Any]:
-        return connection.execute(self._sql["read"], (position, _AT_ONCE), binary=True).fetchall()
-
     def wait(self, position: int, seconds: float) -> int:
         """Waits until the log has a line at this position, at most some seconds. Returns how many lines it has."""
-        return self._waiting.do("the log can't be read", lambda it: self._wait(it, position, seconds))
+        return self._waiting.do("the log can't be read", self._wait, position, seconds)
 
     def _wait(self, connection: Connection, position: int, seconds: float) -> int:
-        self._is_notified = False
-        if self._value(connection, "count") <= position and not self._is_notified:
+        self._notified.clear()
+        connection.execute(self._sql["listen"])
+        if self._rows(connection, "count")[0][0] <= position and not self._notified.is_set():
             readable = select.poll()
-            readable.register(connection.fileno(), select.POLLIN)
+            readable.register(connection, select.POLLIN)
             readable.poll(seconds * 1000)
-        return int(self._value(connection, "count"))
+        return int(self._rows(connection, "count")[0][0])
 
     def close(self) -> None:
         """Closes the connections. A later call opens them again."""
