@@ -5,77 +5,59 @@ from __future__ import annotations
 import multiprocessing
 import threading
 from contextlib import suppress
-from dataclasses import dataclass
-from typing import Any, Callable, Optional, Union
+from typing import Any, Callable, Optional
 
 from coniks.postgres import PostgresLog
-from coniks.provider import Overtaken, Provider, ProviderError
+from coniks.provider import Directory, Overtaken, Provider, ProviderError
 from coniks.replica import Replica
 
 SPAWN = multiprocessing.get_context("spawn")
-
-
-@dataclass
-class Service:
-    """What the process runs. `keys` has `policy`, `index`, `sign` and `verify`."""
-
-    make_log: Callable[[], PostgresLog]
-    program: str
-    keys: Any
-    is_writer: bool = False
-    nonce: Optional[bytes] = None
-
-    def open(self, log: PostgresLog) -> Union[Provider, Replica]:
-        it = self.keys
-        if self.is_writer:
-            return Provider(self.program, it.index, it.sign, log, policy=it.policy, nonce=self.nonce, verify=it.verify)
-        return Replica(log, self.program, it.index, policy=it.policy)
-
-    def serve(self, pipe: Any) -> None:
-        """Answers calls. The first one opens the directory; once it was overtaken, the next one opens a replica."""
-        opened: Union[Provider, Replica, None] = None
-        with suppress(EOFError), self.make_log() as log:
-            while True:
-                (call, *arguments), answer = pipe.recv(), None
-                try:
-                    opened = opened or self.open(log)
-                    if call != "lead":
-                        answer = getattr(opened, call)(*arguments)
-                    elif isinstance(opened, Replica):
-                        opened, self.is_writer = opened.promote(self.keys.sign, verify=self.keys.verify), True
-                except ProviderError as error:
-                    answer = error
-                    if isinstance(error, Overtaken):
-                        if opened:
-                            opened.close()
-                        opened, self.is_writer = None, False
-                pipe.send((answer, self.is_writer))
+MakeLog = Callable[[], PostgresLog]
 
 
 class Node:
-    """The side that calls the process, from several threads."""
+    """The side that calls the process, from several threads. `keys` has `policy`, `nonce`, `index`, `sign` and `verify`."""
 
-    def __init__(self, service: Service):
-        self._pipe, other = SPAWN.Pipe()
-        self.process = SPAWN.Process(target=service.serve, args=(other,), daemon=True)
+    def __init__(self, make_log: MakeLog, program: str, keys: Any, is_writer: bool = False, replica: type[Replica] = Replica):
+        self.pipe, other = SPAWN.Pipe()
+        self.process = SPAWN.Process(target=serve, args=(other, make_log, program, keys, is_writer, replica), daemon=True)
         self.process.start()
         other.close()
-        self.is_writer, self._lock = service.is_writer, threading.Lock()
-
-    def send(self, call: str, *arguments: Any) -> None:
-        self._pipe.send((call, *arguments))
+        self.is_writer, self._lock = is_writer, threading.Lock()
 
     def call(self, call: str, *arguments: Any) -> Any:
         """What a method of the directory returns or raises; `lead` promotes a replica. Waits while the process is stopped, and
-        raises `EOFError` if it ended."""
-        with self._lock, suppress(OSError):
-            self.send(call, *arguments)
-            answer, self.is_writer = self._pipe.recv()
-            if isinstance(answer, Exception):
-                raise answer
-            return answer
-        raise EOFError
+        raises `EOFError` or `OSError` if it ended."""
+        with self._lock:
+            self.pipe.send((call, *arguments))
+            answer, self.is_writer = self.pipe.recv()
+        if isinstance(answer, Exception):
+            raise answer
+        return answer
 
     def kill(self) -> None:
         self.process.kill()
         self.process.join()
+
+
+def serve(pipe: Any, make_log: MakeLog, program: str, keys: Any, is_writer: bool, replica: type[Replica]) -> None:
+    """Answers calls. The first one opens the directory; once it was overtaken, the next one opens a replica."""
+    opened: Optional[Directory] = None
+    with suppress(EOFError), make_log() as log:
+        while True:
+            (call, *arguments), answer = pipe.recv(), None
+            try:
+                if not opened and is_writer:
+                    opened = Provider(program, keys.index, keys.sign, log, policy=keys.policy, nonce=keys.nonce, verify=keys.verify)
+                opened = opened or replica(log, program, keys.index, policy=keys.policy)
+                if call != "lead":
+                    answer = getattr(opened, call)(*arguments)
+                elif isinstance(opened, Replica):
+                    opened, is_writer = opened.promote(keys.sign, verify=keys.verify), True
+            except ProviderError as error:
+                answer = error
+                if isinstance(error, Overtaken):
+                    if opened:
+                        opened.close()
+                    opened, is_writer = None, False
+            pipe.send((answer, is_writer))

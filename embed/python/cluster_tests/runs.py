@@ -20,7 +20,7 @@ from coniks.postgres import PostgresLog
 from coniks.provider import Change, Epoch, Latest, LogFailed, Lookup, NameUnknown, Operation, Overtaken, ProviderError, Register
 from coniks.provider import RestartNeeded, entries
 from database import Database, soon
-from node import SPAWN, Node, Service
+from node import SPAWN, Node
 from stand_ins import Scheme, Signer, audited, has_library, shown
 from tally import Tally
 
@@ -58,7 +58,7 @@ class Member(Node):
     def __init__(self, cluster: Cluster, is_writer: bool) -> None:
         self.trap = SPAWN.RawArray("l", 2)
         log = partial(Trapped, cluster.database.conninfo, self.trap, cluster.chance.choice([0.3, 20]))
-        super().__init__(Service(log, cluster.program, cluster.signer, is_writer))
+        super().__init__(log, cluster.program, cluster.signer, is_writer)
         self.told = cluster.told
         cluster.callback(self.kill)
 
@@ -131,7 +131,7 @@ class Cluster(ExitStack):
 
     def _work(self, member: Member, seed: float) -> None:
         chance, number = random.Random(seed), 0
-        with suppress(EOFError):
+        with suppress(EOFError, OSError):
             while self._is_loaded:
                 if member.is_writer:
                     self._commit(member, chance, f"user-{seed}-{(number := number + 1)}")

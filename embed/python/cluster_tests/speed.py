@@ -17,8 +17,8 @@ from coniks.postgres import PostgresLog
 from coniks.provider import Provider, Register
 from coniks.replica import Replica
 from database import Database
-from node import Node, Service
-from stand_ins import KEY, POLICY, Salted, index
+from node import Node
+from stand_ins import KEY, POLICY, Salted, Signer, index
 
 BATCH = 4096
 
@@ -38,11 +38,6 @@ class Measured(Replica):
         return [time.monotonic(), time.process_time(), time.clock_gettime(~(self.pid or 0) << 3 | 2)]
 
 
-class Measuring(Service):
-    def open(self, log: PostgresLog) -> Replica:
-        return Measured(log, self.program, index, policy=POLICY)
-
-
 def rates(nodes: Sequence[Node], call: str, names: int, seconds: float) -> list[float]:
     """The sums of what some replicas do at once."""
     with ThreadPoolExecutor() as pool:
@@ -51,7 +46,7 @@ def rates(nodes: Sequence[Node], call: str, names: int, seconds: float) -> list[
 
 
 def measure_lookups(conninfo: str, program: str, names: int, seconds: float, rounds: int) -> None:
-    nodes = [Node(Measuring(partial(PostgresLog, conninfo), program, None)) for _ in range(3)]
+    nodes = [Node(partial(PostgresLog, conninfo), program, Signer, replica=Measured) for _ in range(3)]
     for it in nodes:
         it.call("latest")
     for call in ("lookup", "lookups"):

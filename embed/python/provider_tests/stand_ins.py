@@ -98,7 +98,7 @@ class Ed25519:
 class Signer:
     """Lists each body that it is asked for, and then signs it, unless it is told to fail. It has what a service has beside that."""
 
-    policy, index = POLICY, staticmethod(index)
+    policy, nonce, index = POLICY, None, staticmethod(index)
 
     def __init__(self, room: Union[str, Path], keys: Scheme) -> None:
         self.file, self.keys, self.fails = Path(room) / "asked", keys, 0
