@@ -5,14 +5,12 @@ from __future__ import annotations
 import os
 import random
 import signal
-import subprocess
 import tempfile
 import time
 from collections import Counter
 from concurrent.futures import ThreadPoolExecutor
 from contextlib import ExitStack, contextmanager, suppress
 from functools import partial
-from pathlib import Path
 from typing import Any, Iterator
 
 import stand_ins
@@ -21,7 +19,7 @@ from coniks.provider import Change, Epoch, Latest, LogFailed, Lookup, NameUnknow
 from coniks.provider import RestartNeeded, entries
 from database import Database, soon
 from node import SPAWN, Node
-from stand_ins import Scheme, Signer, audited, has_library, shown
+from stand_ins import Scheme, Signer, audited, has_library, shown, small_disk
 from tally import Tally
 
 FAULTS = ["kill writer", "pause writer", "kill database", "cut connections", "start writers", "fill disk"]
@@ -103,12 +101,8 @@ class Cluster(ExitStack):
 
     def __init__(self, program: str, scheme: type[Scheme], chance: random.Random) -> None:
         super().__init__()
-        room, folder = (Path(self.enter_context(tempfile.TemporaryDirectory())) for _ in range(2))
-        mounted = subprocess.run(["mount", "-t", "tmpfs", "-o", "size=80m", "tmpfs", folder], capture_output=True)
-        self.is_small = mounted.returncode == 0
-        if self.is_small:
-            self.callback(lambda: subprocess.run(["umount", "--lazy", folder], check=True))
-        self.database, self.signer = self.enter_context(Database(folder)), Signer(room, scheme())
+        self.signer = Signer(self.enter_context(tempfile.TemporaryDirectory()), scheme())
+        self.database = self.enter_context(Database(self.enter_context(small_disk("80m"))))
         self.program, self.chance, self.told = program, chance, Counter[str]()
         self.acknowledged: list[tuple[Epoch, list[Operation]]] = []
         self.shown: dict[tuple[str, int], Lookup] = {}
@@ -182,9 +176,8 @@ class Cluster(ExitStack):
 
     def fill_disk(self) -> None:
         ballast = self.database.folder / "ballast"
-        with suppress(OSError), open(ballast, "wb", buffering=0) as file:
-            while True:
-                file.write(bytes(1 << 16))
+        with suppress(OSError):
+            ballast.write_bytes(bytes(80 << 20))
         time.sleep(self.chance.uniform(0.2, 1))
         ballast.unlink()
         if not self.database.is_running():
@@ -224,7 +217,7 @@ def try_faults(tally: Tally, program: str, count: int, seed: int = 20261126) -> 
         with Cluster(program, SCHEMES[first // FAULTS_OF_ROOM % len(SCHEMES)], chance) as cluster:
             for number in range(first, min(count, first + FAULTS_OF_ROOM)):
                 fault = FAULTS[number % len(FAULTS)]
-                if fault == "fill disk" and not cluster.is_small:
+                if fault == "fill disk" and not cluster.database.folder.is_mount():
                     tally.skip(fault, "the right to mount a tmpfs")
                     continue
                 with cluster.load():

@@ -6,10 +6,13 @@ from __future__ import annotations
 import hashlib
 import json
 import os
+import subprocess
 import sys
+import tempfile
 import time
+from contextlib import contextmanager
 from pathlib import Path
-from typing import Any, Callable, Iterable, Optional, Protocol, Union
+from typing import Any, Callable, Iterable, Iterator, Optional, Protocol, Union
 
 HERE = Path(__file__).resolve().parent
 TOP = HERE.parent.parent.parent
@@ -66,6 +69,17 @@ def append(file: Path, text: str) -> None:
 
 def lines(file: Union[str, Path]) -> list[str]:
     return Path(file).read_text().splitlines() if Path(file).exists() else []
+
+
+@contextmanager
+def small_disk(size: str) -> Iterator[Path]:
+    """A temporary folder. It is the mount point of a tmpfs of this size, if this process has the right to mount one."""
+    with tempfile.TemporaryDirectory() as folder:
+        subprocess.run(["mount", "-t", "tmpfs", "-o", f"size={size}", "tmpfs", folder], capture_output=True)
+        try:
+            yield Path(folder)
+        finally:
+            subprocess.run(["umount", "--lazy", folder], capture_output=True)
 
 
 class Salted:

@@ -9,14 +9,13 @@ from __future__ import annotations
 import errno
 import os
 import signal
-import subprocess
 import tempfile
 from contextlib import contextmanager
 from pathlib import Path
 from typing import Any, Callable, Iterator, NoReturn, Optional, Union
 from unittest import mock
 
-from stand_ins import Salted, Signer, Tell, audited, has_library, opened
+from stand_ins import Salted, Signer, Tell, audited, has_library, opened, small_disk
 from coniks.provider import FileLog, Log, LogFailed, ProgramFailed, Provider, ProviderError, Register, RestartNeeded, SignerFailed
 from coniks.provider import entries
 
@@ -218,15 +217,10 @@ def try_undone(tell: Tell, program: str, library: bool) -> None:
 
 def try_full_disk(tell: Tell, skip: Callable[[str, str], None], program: str, rounds: int = 8) -> None:
     """A small tmpfs fills up while a directory commits. After each time it is emptied a little, and the directory goes on."""
-    library = has_library()
-    with tempfile.TemporaryDirectory() as room:
-        ran = subprocess.run(["mount", "-t", "tmpfs", "-o", "size=256k", "tmpfs", room], capture_output=True)
-        if ran.returncode:
+    with small_disk("256k") as room:
+        if not room.is_mount():
             return skip("a full disk", "the right to mount a tmpfs")
-        try:
-            fill(tell, Path(room), program, rounds, library)
-        finally:
-            subprocess.run(["umount", room], check=True)
+        fill(tell, room, program, rounds, has_library())
 
 
 def fill(tell: Tell, room: Path, program: str, rounds: int, library: bool) -> None:
