@@ -1,4 +1,4 @@
-"""Faults of a cluster under load. Clients list what they were told; after each fault all of it must be there, and at each member."""
+"""Faults of a cluster under load. Clients list what they were told; after each fault all of it must be there, at each member."""
 
 from __future__ import annotations
 
@@ -9,25 +9,23 @@ import tempfile
 import time
 from collections import Counter
 from concurrent.futures import ThreadPoolExecutor
-from contextlib import ExitStack, contextmanager, suppress
+from contextlib import ExitStack, suppress
 from functools import partial
 from typing import Any, Iterator
 
-import stand_ins
 from coniks.postgres import PostgresLog
 from coniks.provider import Change, Epoch, Latest, LogFailed, Lookup, NameUnknown, Operation, Overtaken, ProviderError, Register
 from coniks.provider import RestartNeeded, entries
 from database import Database, soon
 from node import SPAWN, Node
-from stand_ins import Scheme, Signer, audited, has_library, shown, small_disk
+from stand_ins import HAS_NACL, Ed25519, Salted, Scheme, Signer, audited, has_library, lines, shown, small_disk
 from tally import Tally
 
 FAULTS = ["kill writer", "pause writer", "kill database", "cut connections", "start writers", "fill disk"]
 # The number of faults on one cluster. A new cluster then replaces it, so that replays stay short.
 FAULTS_OF_ROOM = 20
-SECONDS = 120
 # By `Salted`, two signatures of one body differ.
-SCHEMES: list[type[Scheme]] = [stand_ins.Ed25519, stand_ins.Salted] if stand_ins.HAS_NACL else [stand_ins.Salted]
+SCHEMES: list[type[Scheme]] = [Ed25519, Salted] if HAS_NACL else [Salted]
 CUT = "SELECT pg_terminate_backend(pid) FROM pg_stat_activity WHERE application_name = 'coniks_log' AND random() < 0.7"
 
 
@@ -54,10 +52,9 @@ class Member(Node):
     """A process of the cluster."""
 
     def __init__(self, cluster: Cluster, is_writer: bool) -> None:
-        self.trap = SPAWN.RawArray("l", 2)
+        self.told, self.trap = cluster.told, SPAWN.RawArray("l", 2)
         log = partial(Trapped, cluster.database.conninfo, self.trap, cluster.chance.choice([0.3, 20]))
         super().__init__(log, cluster.program, cluster.signer, is_writer)
-        self.told = cluster.told
         cluster.callback(self.kill)
 
     def tried(self, call: str, *arguments: Any) -> Any:
@@ -75,7 +72,7 @@ class Member(Node):
 
     def surely(self, call: str, *arguments: Any) -> Any:
         """Calls until there is no error. Returns None if another member writes."""
-        until = time.monotonic() + SECONDS
+        until = time.monotonic() + 120
         while isinstance(answer := self.tried(call, *arguments), ProviderError) and not isinstance(answer, Overtaken):
             if time.monotonic() > until:
                 raise answer
@@ -97,28 +94,29 @@ class Member(Node):
 
 
 class Cluster(ExitStack):
-    """Three processes over a database on a small disk, and what their clients were told. `load` runs the clients."""
+    """Three processes over a database on a small disk, and what their clients were told."""
 
     def __init__(self, program: str, scheme: type[Scheme], chance: random.Random) -> None:
         super().__init__()
-        self.signer = Signer(self.enter_context(tempfile.TemporaryDirectory()), scheme())
-        self.database = self.enter_context(Database(self.enter_context(small_disk("80m"))))
         self.program, self.chance, self.told = program, chance, Counter[str]()
         self.acknowledged: list[tuple[Epoch, list[Operation]]] = []
         self.shown: dict[tuple[str, int], Lookup] = {}
         self.names, self.wrong = list[str](), list[str]()
+        self.signer = Signer(self.enter_context(tempfile.TemporaryDirectory()), scheme())
+        self.database = self.enter_context(Database(self.enter_context(small_disk("80m"))))
         self.members = [Member(self, True)]
         self.members[0].surely("commit", 1, [])
         self.members += [Member(self, False) for _ in range(2)]
 
-    @contextmanager
-    def load(self) -> Iterator[None]:
-        """Commits by each provider, and lookups by all."""
+    def strike(self, fault: str) -> None:
+        """Causes a fault while each provider commits and all members look up."""
         self._is_loaded = True
         with ThreadPoolExecutor(8) as self._pool:
             self._works = [self._pool.submit(self._work, it, self.chance.random()) for it in self.members]
             try:
-                yield
+                time.sleep(self.chance.uniform(0, 0.4))
+                getattr(self, fault.replace(" ", "_"))()
+                time.sleep(self.chance.uniform(0, 0.3))
             finally:
                 self._is_loaded = False
         self.wrong += [repr(it.exception()) for it in self._works if it.exception()]
@@ -144,7 +142,7 @@ class Cluster(ExitStack):
             self.acknowledged.append((epoch, made))
             self.names += [it.name for it in made if isinstance(it, Register)]
 
-    def _strike(self, number: int) -> Member:
+    def _signal(self, number: int) -> Member:
         """Sends a signal to a provider. Then another member leads."""
         struck = self.chance.choice([it for it in self.members if it.is_writer] or self.members)
         struck.signal(number, self.chance.randrange(5))
@@ -152,12 +150,12 @@ class Cluster(ExitStack):
         return struck
 
     def kill_writer(self) -> None:
-        self.members.remove(self._strike(signal.SIGKILL))
+        self.members.remove(self._signal(signal.SIGKILL))
         self.members.append(Member(self, self.chance.random() < 0.5))
         self._works.append(self._pool.submit(self._work, self.members[-1], self.chance.random()))
 
     def pause_writer(self) -> None:
-        paused = self._strike(signal.SIGSTOP)
+        paused = self._signal(signal.SIGSTOP)
         time.sleep(self.chance.uniform(0, 0.3))
         paused.signal(signal.SIGCONT)
 
@@ -187,23 +185,19 @@ class Cluster(ExitStack):
         """Each promise, and whether it is kept, once each member knows who commits and has replayed all."""
         if not any([it.commits() for it in self.members]):
             self.members[0].surely("lead")
-        for it in self.members:
-            if not it.is_writer:
-                it.surely("follow")
+        soon(lambda: len({it.surely("latest") for it in self.members}) == 1)
         with PostgresLog(self.database.conninfo) as log:
-            chain, lines = list(entries(log)), b"\n".join(log.read(0))
+            chain, logged = list(entries(log)), b"\n".join(log.read(0))
         recent = {(it.name, epoch.epoch): it.key for epoch, made in self.acknowledged[-10:] for it in made}
         asked = [*recent, *self.chance.sample(sorted(self.shown), min(len(self.shown), 30))]
-        answers = [
-            [it.surely("chain"), it.surely("latest"), *(it.surely("lookup", *name) for name in asked)] for it in self.members
-        ]
+        answers = [[it.surely("chain"), it.surely("latest"), *(it.surely("lookup", *of) for of in asked)] for it in self.members]
         found = answers[0][2:]
         yield "each acknowledged epoch is in the log", {epoch.entry for epoch, _ in self.acknowledged} <= {*chain}
         yield "each acknowledged key is shown", [shown(it) for it in found[: len(recent)]] == [*recent.values()]
         yield "each entry shown is in the log", {it.entry for it in self.shown.values()} <= {*chain}
         yield "each lookup has its answer", all(self.shown.get((it.name, it.epoch), it) == it for it in found)
         yield "one body for each epoch", self.signer.is_asked_once()
-        yield "a body is signed once it is logged", all(it.encode() in lines for it in stand_ins.lines(self.signer.file))
+        yield "a body is signed once it is logged", all(it.encode() in logged for it in lines(self.signer.file))
         yield "the chain is audited", audited(chain, self.signer.keys, has_library())
         yield "all members answer the same", answers[1:] == answers[:-1] and answers[0][0] == chain
         yield "one member commits", [it.is_writer for it in self.members].count(True) == 1
@@ -220,15 +214,12 @@ def try_faults(tally: Tally, program: str, count: int, seed: int = 20261126) -> 
                 if fault == "fill disk" and not cluster.database.folder.is_mount():
                     tally.skip(fault, "the right to mount a tmpfs")
                     continue
-                with cluster.load():
-                    time.sleep(chance.uniform(0, 0.4))
-                    getattr(cluster, fault.replace(" ", "_"))()
-                    time.sleep(chance.uniform(0, 0.3))
+                cluster.strike(fault)
                 for what, is_kept in cluster.check():
                     tally.tell(f"fault {number}, {fault}: {what}", is_kept, cluster.wrong[:3])
                     counts["promises broken"] += not is_kept
                 counts[fault] += 1
-            asked = stand_ins.lines(cluster.signer.file)
+            asked = lines(cluster.signer.file)
             counts.update({"bodies signed": len(asked), "signed again": len(asked) - len({*asked}), **cluster.told})
             counts.update({"epochs acknowledged": len(cluster.acknowledged), "lookups kept": len(cluster.shown)})
     print("faults: " + ", ".join(f"{it} {counts[it]}" for it in counts), flush=True)
