@@ -16,12 +16,11 @@ import subprocess
 import sys
 from pathlib import Path
 
-TOP = Path(__file__).resolve().parent.parent.parent
+HERE = Path(__file__).resolve().parent
+TOP = HERE.parent.parent
 EXAMPLE = TOP / "examples/cluster"
 sys.dont_write_bytecode = True
-sys.path[:0] = [
-    str(TOP / it) for it in ("embed/python/cluster_tests", "embed/python/provider_tests", "examples/cluster", "scripts")
-]
+sys.path[:0] = [str(HERE / "cluster_tests"), str(HERE / "provider_tests"), str(EXAMPLE), str(TOP / "scripts")]
 
 import tools
 from tally import Tally

@@ -7,7 +7,7 @@ import shutil
 import signal
 import subprocess
 import time
-from contextlib import suppress
+from contextlib import AbstractContextManager, suppress
 from pathlib import Path
 from typing import Any, Callable
 
@@ -26,7 +26,7 @@ def soon(call: Callable[[], object], seconds: float = 20) -> bool:
     return is_so
 
 
-class Database:
+class Database(AbstractContextManager["Database"]):
     """A PostgreSQL in an empty folder, which can be killed and started again. Only its user and root reach the socket."""
 
     def __init__(self, folder: Path):
@@ -66,9 +66,6 @@ class Database:
                     os.kill(int(it), signal.SIGKILL)
         self._server.kill()
         self._server.wait()
-
-    def __enter__(self) -> Database:
-        return self
 
     def __exit__(self, *_: object) -> None:
         self.kill()
