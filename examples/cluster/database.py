@@ -51,9 +51,11 @@ class Database(AbstractContextManager["Database"]):
         if not self.is_running():
             raise ChildProcessError(f"PostgreSQL ended: {(self.folder / 'said').read_text()[-2000:]}")
 
-    def execute(self, query: str) -> None:
+    def execute(self, query: str) -> list[Any]:
+        """Executes a query, and returns its rows."""
         with psycopg.connect(self.conninfo, autocommit=True) as connection:
-            connection.execute(query)
+            cursor = connection.execute(query)
+            return cursor.fetchall() if cursor.description else []
 
     def is_running(self) -> bool:
         return self._server.poll() is None

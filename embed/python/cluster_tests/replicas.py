@@ -19,6 +19,9 @@ from coniks.provider import Closed, EpochNotLater, LogFailed, NotOpen, Overtaken
 from coniks.provider import RestartNeeded, SignerFailed, _Engine, entries
 from coniks.replica import Replica
 
+# The processes of PostgreSQL that wait for a standby.
+WAITS = "SELECT pid FROM pg_stat_activity WHERE wait_event = 'SyncRep' AND application_name = 'coniks_log'"
+
 
 def lost(log: PostgresLog, call: Callable[..., object]) -> Any:
     """While this is entered, the next insert calls a function and then loses the connection."""
@@ -98,6 +101,27 @@ def try_waits(tell: Tell, database: Database, mine: PostgresLog, other: Postgres
     database.start()
     trying.join()
     tell("log: an append that waits for PostgreSQL", [*mine.read(105)] == [b"after", b"later"])
+
+
+def try_standby(tell: Tell, database: Database, mine: PostgresLog, other: PostgresLog) -> None:
+    """A synchronous standby is named that isn't there. What was committed without it is neither acknowledged nor read."""
+    database.execute("ALTER SYSTEM SET synchronous_standby_names = 'standby'")
+    database.execute("SELECT pg_reload_conf()")
+    read: list[bytes] = []
+    waiting = [threading.Thread(target=other.append, args=(107, b"cut"))]
+    waiting.append(threading.Thread(target=lambda: read.extend(mine.read(107))))
+    waiting[0].start()
+    tell("standby: an append waits", soon(lambda: len(database.execute(WAITS)) == 1))
+    database.execute(WAITS.replace("pid", "pg_terminate_backend(pid)"))
+    tell("standby: the row is there", soon(lambda: database.execute("SELECT 1 FROM coniks_log WHERE position = 107")))
+    waiting[1].start()
+    tell("standby: both wait", soon(lambda: len(database.execute(WAITS)) == 2))
+    tell("standby: neither returns", all(it.is_alive() for it in waiting) and not read)
+    database.execute("ALTER SYSTEM RESET synchronous_standby_names")
+    database.execute("SELECT pg_reload_conf()")
+    for it in waiting:
+        it.join()
+    tell("standby: the line is read", read == [b"cut"])
 
 
 class Pair(ExitStack):
@@ -200,6 +224,7 @@ def try_replicas(tell: Tell, program: str) -> None:
         third, empty = (PostgresLog(database.conninfo, it) for it in ("odd name", "empty"))
         try_appends(tell, mine, other, third)
         try_waits(tell, database, mine, other)
+        try_standby(tell, database, mine, other)
         for test in (try_following, try_promotion, try_pending, try_wrong):
             with Pair(program, database, test.__name__) as pair:
                 test(tell, pair)

@@ -40,6 +40,9 @@ _SQL = {
     "read": "SELECT position, line FROM {table} WHERE position >= %(position)s ORDER BY position LIMIT 32",
     "count": "SELECT coalesce(max(position) + 1, 0) FROM {table}",
     "listen": "LISTEN {table}",
+    # Its commit waits until a synchronous standby has all rows seen before. One can be seen too early, if the connection that
+    # waited to commit it was cut, or PostgreSQL was restarted.
+    "replicated": "SELECT pg_logical_emit_message(true, {name}, '')",
 }
 
 
@@ -121,15 +124,21 @@ class PostgresLog(Closing):
         except psycopg.errors.UniqueViolation:
             if self._rows(connection, "is_mine", row) != [(True,)]:
                 raise Overtaken(f"position {row['position']} of the log is taken") from None
+            self._rows(connection, "replicated")
 
     def read(self, position: int) -> Iterator[bytes]:
         """Returns the lines from a position on. Raises `LogFailed` if one is missing before a later one."""
-        while rows := self._main.do("the log can't be read", self._rows, "read", {"position": position}):
+        while rows := self._main.do("the log can't be read", self._read, position):
             for number, line in rows:
                 if number != position:
                     raise LogFailed(f"line {position} of the log is missing")
                 yield line
                 position += 1
+
+    def _read(self, connection: Connection, position: int) -> list[Any]:
+        if rows := self._rows(connection, "read", {"position": position}):
+            self._rows(connection, "replicated")
+        return rows
 
     def wait(self, position: int, seconds: float) -> int:
         """Waits until the log has a line at this position, at most some seconds. Returns how many lines it has."""
