@@ -176,8 +176,8 @@ fn watch(
 fn bytes_and_links(rt: HostRuntime) {
     for place in [0, 1] {
         let entry = entry_at(&rt, place);
-        assert_eq!(rt; link(&Sha256Hash, &entry), link_at(&rt, place));
-        assert_eq!(rt; link(&Flat, &entry), Digest([0; 32]));
+        assert!(rt; link(&Sha256Hash, &entry) == link_at(&rt, place));
+        assert!(rt; link(&Flat, &entry) == Digest([0; 32]));
         entry.known();
     }
 }
@@ -189,7 +189,7 @@ fn bytes_of_a_body(rt: HostRuntime) {
     assert!(rt; Body::read(&bytes).bytes() == bytes);
     bytes[0] = 2;
     let other = Body::read(&bytes);
-    assert_eq!(rt; other.version, 2);
+    assert!(rt; other.version == 2);
     assert!(rt; other.bytes() == bytes);
 }
 
@@ -207,18 +207,18 @@ fn fields_of_a_body(rt: HostRuntime) {
     };
     assert!(rt; first == want);
     let second = entry_at(&rt, 1).body;
-    assert_eq!(rt; (second.t, second.t_prev), (4, 1));
-    assert_eq!(rt; second.previous, link_at(&rt, 0));
+    assert!(rt; (second.t, second.t_prev) == (4, 1));
+    assert!(rt; second.previous == link_at(&rt, 0));
 }
 
 #[test]
 fn audited_chains(rt: HostRuntime) {
     let good = good_chain(&rt);
     let last = head_at(&rt, 5, 2);
-    assert_eq!(rt; audit(&Sha256Hash, &good, &Yes), Ok(Some(last)));
+    assert!(rt; audit(&Sha256Hash, &good, &Yes) == Ok(Some(last)));
     let second = head_at(&rt, 4, 1);
-    assert_eq!(rt; audit(&Sha256Hash, &good[..2], &Yes), Ok(Some(second)));
-    assert_eq!(rt; audit(&Sha256Hash, &[], &Yes), Ok(None));
+    assert!(rt; audit(&Sha256Hash, &good[..2], &Yes) == Ok(Some(second)));
+    assert!(rt; audit(&Sha256Hash, &[], &Yes) == Ok(None));
 }
 
 #[test]
@@ -227,13 +227,13 @@ fn refused_chains(rt: HostRuntime) {
     let mut bent = good;
     bent[1].body.previous.0[31] ^= 1;
     let refused = audit(&Sha256Hash, &bent, &Yes);
-    assert_eq!(rt; refused, Err((1, AuditFault::PreviousLink)));
+    assert!(rt; refused == Err((1, AuditFault::PreviousLink)));
     let mut late = good;
     late[2].body.t = 4;
     let refused = audit(&Sha256Hash, &late, &Yes);
-    assert_eq!(rt; refused, Err((2, AuditFault::NotLater)));
+    assert!(rt; refused == Err((2, AuditFault::NotLater)));
     let refused = audit(&Sha256Hash, &good, &Only(good[0].signature));
-    assert_eq!(rt; refused, Err((1, AuditFault::Verdict)));
+    assert!(rt; refused == Err((1, AuditFault::Verdict)));
 }
 
 /// Where a chain is refused under any signature, and why.
@@ -246,19 +246,16 @@ fn refusal(chain: &[Entry]) -> Option<(usize, AuditFault)> {
 fn hostile_chains(rt: HostRuntime) {
     let [one, two, three] = good_chain(&rt);
     let early = AuditFault::PreviousEpoch;
-    assert_eq!(rt; refusal(&[two, one, three]), Some((0, early)));
-    assert_eq!(rt; refusal(&[one, three, two]), Some((1, early)));
-    assert_eq!(rt; refusal(&[one, one, two]), Some((1, AuditFault::NotLater)));
-    assert_eq!(rt; refusal(&[one, two, two]), Some((2, AuditFault::NotLater)));
-    assert_eq!(rt; refusal(&[one, two, one]), Some((2, AuditFault::NotLater)));
-    assert_eq!(rt; refusal(&[one, three]), Some((1, early)));
-    assert_eq!(rt; refusal(&[two, three]), Some((0, early)));
+    assert!(rt; refusal(&[two, one, three]) == Some((0, early)));
+    assert!(rt; refusal(&[one, three, two]) == Some((1, early)));
+    assert!(rt; refusal(&[one, one, two]) == Some((1, AuditFault::NotLater)));
+    assert!(rt; refusal(&[one, two, two]) == Some((2, AuditFault::NotLater)));
+    assert!(rt; refusal(&[one, two, one]) == Some((2, AuditFault::NotLater)));
+    assert!(rt; refusal(&[one, three]) == Some((1, early)));
+    assert!(rt; refusal(&[two, three]) == Some((0, early)));
     let mut other = one;
     other.signature.0[0] ^= 1;
-    assert_eq!(rt;
-        refusal(&[other, two, three]),
-        Some((1, AuditFault::PreviousLink))
-    );
+    assert!(rt; refusal(&[other, two, three]) == Some((1, AuditFault::PreviousLink)));
 }
 
 /// What an auditor says of an entry whose signature is taken, or isn't.
@@ -292,12 +289,12 @@ fn answers(rt: &impl Abort, order: [usize; 3], is_signed: bool) -> [Result<(), A
 #[test]
 fn orders_of_feeding(rt: HostRuntime) {
     let early = Err(AuditFault::PreviousEpoch);
-    assert_eq!(rt; answers(&rt, [0, 1, 2], true), [Ok(()); 3]);
-    assert_eq!(rt; answers(&rt, [1, 0, 2], true), [early, Ok(()), early]);
+    assert!(rt; answers(&rt, [0, 1, 2], true) == [Ok(()); 3]);
+    assert!(rt; answers(&rt, [1, 0, 2], true) == [early, Ok(()), early]);
     let again = Err(AuditFault::NotLater);
-    assert_eq!(rt; answers(&rt, [0, 0, 1], true), [Ok(()), again, Ok(())]);
+    assert!(rt; answers(&rt, [0, 0, 1], true) == [Ok(()), again, Ok(())]);
     let unsigned = Err(AuditFault::Verdict);
-    assert_eq!(rt; answers(&rt, [0, 1, 2], false), [unsigned, early, early]);
+    assert!(rt; answers(&rt, [0, 1, 2], false) == [unsigned, early, early]);
 }
 
 /// The head after each entry, and after one that is refused.
@@ -314,8 +311,8 @@ fn heads_of_an_auditor(rt: HostRuntime) {
         (2, Ok(()), 5, 2),
     ] {
         let entry = good.get(place).expect(&rt, "an entry");
-        assert_eq!(rt; auditor.feed(entry, &Yes), want);
-        assert_eq!(rt; auditor.head(), Some(head_at(&rt, epoch, last)));
+        assert!(rt; auditor.feed(entry, &Yes) == want);
+        assert!(rt; auditor.head() == Some(head_at(&rt, epoch, last)));
     }
 }
 
@@ -360,11 +357,11 @@ fn steps_of_a_stored_state(rt: HostRuntime) {
         (1, b'l', Ok(Seen::Changed), Some(4)),
     ] {
         let (seen, left) = stored_step(&rt, alloc, stored, place, key);
-        assert_eq!(rt; seen, want);
-        assert_eq!(rt; left.map(|before| before.t), epoch);
+        assert!(rt; seen == want);
+        assert!(rt; left.map(|before| before.t) == epoch);
         stored = left;
     }
-    assert_eq!(rt; stored.map(|before| before.link), Some(link_at(&rt, 1)));
+    assert!(rt; stored.map(|before| before.link) == Some(link_at(&rt, 1)));
 }
 
 /// A monitor goes on from where another one stood.
@@ -373,10 +370,10 @@ fn resumed_monitor(rt: HostRuntime) {
     let alloc = rt.alloc();
     let mut first = watch(&rt, alloc, b"a", Some(b"k"));
     assert!(rt; first.state().is_none());
-    assert_eq!(rt; step_to(&rt, alloc, &mut first, 0, b'k'), Ok(Seen::Same));
+    assert!(rt; step_to(&rt, alloc, &mut first, 0, b'k') == Ok(Seen::Same));
     let (name, key) = (copied(&rt, alloc, b"a"), copied(&rt, alloc, b"k"));
     let mut next = Monitor::resume(Sha256Hash, first.state(), name, Index([0; 32]), Some(key));
-    assert_eq!(rt; step_to(&rt, alloc, &mut next, 1, b'l'), Ok(Seen::Changed));
+    assert!(rt; step_to(&rt, alloc, &mut next, 1, b'l') == Ok(Seen::Changed));
 }
 
 /// Each fault of a first entry, together with the next one that can stand beside it.
@@ -396,14 +393,14 @@ fn first_faults(rt: HostRuntime) {
         entry.body.t = t;
         entry.body.t_prev = t_prev;
         entry.body.previous.0[0] = link;
-        assert_eq!(rt; fed(&mut auditor, &entry, is_signed), want);
+        assert!(rt; fed(&mut auditor, &entry, is_signed) == want);
     }
 }
 
 /// An auditor that has seen the first entry.
 fn auditor_of_one(rt: &impl Abort) -> Auditor<Sha256Hash> {
     let mut auditor = Auditor::new(Sha256Hash);
-    assert_eq!(rt; auditor.feed(&entry_at(rt, 0), &Yes), Ok(()));
+    assert!(rt; auditor.feed(&entry_at(rt, 0), &Yes) == Ok(()));
     auditor
 }
 
@@ -429,7 +426,7 @@ fn later_faults(rt: HostRuntime) {
         entry.body.t_prev = t_prev;
         entry.body.previous.0[0] ^= link;
         entry.body.nonce.0[0] ^= nonce;
-        assert_eq!(rt; fed(&mut auditor, &entry, is_signed), want);
+        assert!(rt; fed(&mut auditor, &entry, is_signed) == want);
     }
 }
 
@@ -450,7 +447,7 @@ fn after_one(
 ) -> Result<(), AuditFault> {
     let mut auditor = Auditor::new(Flat);
     let first = under(flat_entry(1, 0, 0), version, nonce);
-    assert_eq!(rt; auditor.feed(&first, &Yes), Ok(()));
+    assert!(rt; auditor.feed(&first, &Yes) == Ok(()));
     if is_signed {
         auditor.feed(entry, &Yes)
     } else {
@@ -476,7 +473,7 @@ fn versions_and_nonces(rt: HostRuntime) {
         (2, 7, 0, 7, Err(AuditFault::Version)),
     ] {
         let entry = under(flat_entry(2, 1, 0), next_version, next_nonce);
-        assert_eq!(rt; after_one(&rt, version, nonce, &entry, true), want);
+        assert!(rt; after_one(&rt, version, nonce, &entry, true) == want);
     }
 }
 
@@ -486,13 +483,13 @@ fn order_of_versions_and_nonces(rt: HostRuntime) {
     let mut entry = under(flat_entry(2, 1, 0), 1, 8);
     entry.body.t = 1;
     let told = after_one(&rt, 2, 7, &entry, false);
-    assert_eq!(rt; told, Err(AuditFault::VersionBack));
+    assert!(rt; told == Err(AuditFault::VersionBack));
     let entry = under(flat_entry(2, 1, 0), 1, 8);
     let told = after_one(&rt, 1, 7, &entry, false);
-    assert_eq!(rt; told, Err(AuditFault::NonceChanged));
+    assert!(rt; told == Err(AuditFault::NonceChanged));
     let entry = under(flat_entry(2, 1, 0), 2, 8);
     let told = after_one(&rt, 1, 7, &entry, false);
-    assert_eq!(rt; told, Err(AuditFault::Verdict));
+    assert!(rt; told == Err(AuditFault::Verdict));
 }
 
 #[test]
@@ -508,7 +505,7 @@ fn texts_of_faults(rt: HostRuntime) {
         ),
     ] {
         let text = format!(in rt.alloc(); "{fault}").expect(&rt, "memory");
-        assert_eq!(rt; text.as_str(), want);
+        assert!(rt; text.as_str() == want);
     }
 }
 
@@ -534,7 +531,7 @@ fn watched_epochs(rt: HostRuntime) {
         (0, b'k', Err(MonitorFault::Audit(AuditFault::NotLater))),
         (1, b'l', Ok(Seen::Changed)),
     ] {
-        assert_eq!(rt; step_to(&rt, alloc, &mut monitor, place, key), want);
+        assert!(rt; step_to(&rt, alloc, &mut monitor, place, key) == want);
     }
 }
 
@@ -542,9 +539,9 @@ fn watched_epochs(rt: HostRuntime) {
 fn told_of_a_change(rt: HostRuntime) {
     let alloc = rt.alloc();
     let mut told = watch(&rt, alloc, b"a", Some(b"k"));
-    assert_eq!(rt; step_to(&rt, alloc, &mut told, 0, b'k'), Ok(Seen::Same));
+    assert!(rt; step_to(&rt, alloc, &mut told, 0, b'k') == Ok(Seen::Same));
     told.expect(Some(copied(&rt, alloc, b"l")));
-    assert_eq!(rt; step_to(&rt, alloc, &mut told, 1, b'l'), Ok(Seen::Same));
+    assert!(rt; step_to(&rt, alloc, &mut told, 1, b'l') == Ok(Seen::Same));
 }
 
 /// What is seen of a name in an epoch with no names.
@@ -567,7 +564,7 @@ fn watched_absence(rt: HostRuntime) {
         (b"a", Some(b""), Ok(Seen::Absent)),
         (b"", None, Err(MonitorFault::Check(CheckFault::NameLength))),
     ] {
-        assert_eq!(rt; seen_of_none(&rt, rt.alloc(), name, expected), want);
+        assert!(rt; seen_of_none(&rt, rt.alloc(), name, expected) == want);
     }
 }
 
@@ -575,7 +572,7 @@ fn watched_absence(rt: HostRuntime) {
 fn unexpected_key(rt: HostRuntime) {
     let mut monitor = watch(&rt, rt.alloc(), b"a", None);
     let seen = step_to(&rt, rt.alloc(), &mut monitor, 0, b'k');
-    assert_eq!(rt; seen, Ok(Seen::Changed));
+    assert!(rt; seen == Ok(Seen::Changed));
 }
 
 /// What a run over the two entries, each with its proof, gives.
@@ -601,13 +598,13 @@ fn watched_runs(rt: HostRuntime) {
         absent: 0,
     };
     let run = run_over_two(&rt, rt.alloc(), &mut monitor, &Yes);
-    assert_eq!(rt; run, Ok(tally));
+    assert!(rt; run == Ok(tally));
     let none = Tally {
         same: 0,
         changed: 0,
         absent: 0,
     };
-    assert_eq!(rt; monitor.run(&[], &Yes), Ok(none));
+    assert!(rt; monitor.run(&[], &Yes) == Ok(none));
 }
 
 #[test]
@@ -617,9 +614,9 @@ fn refused_runs(rt: HostRuntime) {
     let first_only = Only(entry_at(&rt, 0).signature);
     let run = run_over_two(&rt, alloc, &mut refused, &first_only);
     let unsigned = MonitorFault::Audit(AuditFault::Verdict);
-    assert_eq!(rt; run, Err((1, unsigned)));
+    assert!(rt; run == Err((1, unsigned)));
     let seen = step_to(&rt, alloc, &mut refused, 1, b'l');
-    assert_eq!(rt; seen, Ok(Seen::Changed));
+    assert!(rt; seen == Ok(Seen::Changed));
 }
 
 /// Whether these are the bytes that hexadecimal digits write.

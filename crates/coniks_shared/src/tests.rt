@@ -96,9 +96,9 @@ fn drawn_once(rt: HostRuntime) {
     let mut hands = eight_hands(&rt, rt.alloc(), &claims, first);
     draw_beside(&rt, &claims, hands.as_mut_slice());
     let all = all_drawn(&rt, rt.alloc(), hands.as_slice());
-    assert_eq!(rt; all.len(), 4096);
+    assert!(rt; all.len() == 4096);
     for (place, number) in all.iter().enumerate() {
-        assert_eq!(rt; *number, place);
+        assert!(rt; *number == place);
     }
 }
 
@@ -183,7 +183,7 @@ fn a_head_is_five_words(rt: HostRuntime) {
         0,
     ];
     for at in 0..11usize {
-        assert_eq!(rt; board.word(at), words[at]);
+        assert!(rt; board.word(at) == words[at]);
     }
     let mut watcher = publisher.watcher(&board).expect(&rt, "a watcher");
     assert!(rt; watcher.latest(&board) == Some(counting_head()));
@@ -193,22 +193,22 @@ fn a_head_is_five_words(rt: HostRuntime) {
 #[test]
 fn the_largest_board(rt: HostRuntime) {
     let (board, mut publisher) = Board::new(rt.alloc(), MAX_HEADS).expect(&rt, "a board");
-    assert_eq!(rt; board.capacity(), 65_536);
+    assert!(rt; board.capacity() == 65_536);
     assert!(rt; publisher.publish(&board, head(1)) == Ok(()));
 }
 
 #[test]
 fn the_third_of_two_is_full(rt: HostRuntime) {
     let (board, mut publisher) = Board::new(rt.alloc(), 2).expect(&rt, "a board");
-    assert_eq!(rt; board.capacity(), 2);
+    assert!(rt; board.capacity() == 2);
     let mut early = publisher.watcher(&board).expect(&rt, "a watcher");
-    assert_eq!(rt; publisher.published(), 0);
+    assert!(rt; publisher.published() == 0);
     assert!(rt; publisher.last() == None);
     assert!(rt; publisher.publish(&board, head(1)) == Ok(()));
     assert!(rt; publisher.last() == Some(head(1)));
     assert!(rt; publisher.publish(&board, head(2)) == Ok(()));
     assert!(rt; publisher.publish(&board, head(3)) == Err(BoardFull));
-    assert_eq!(rt; publisher.published(), 2);
+    assert!(rt; publisher.published() == 2);
     assert!(rt; publisher.last() == Some(head(2)));
     let mut late = publisher.watcher(&board).expect(&rt, "a watcher");
     assert!(rt; late.latest(&board) == Some(head(2)));
@@ -324,7 +324,7 @@ fn four_watchers(rt: HostRuntime) -> Result<(), Fail> {
         })?;
     }
     publish_beside(&rt, shared, &mut publisher, watches.as_mut_slice());
-    assert_eq!(rt; publisher.published(), 40);
+    assert!(rt; publisher.published() == 40);
     for one in &watches {
         assert!(rt; !one.wrong);
     }

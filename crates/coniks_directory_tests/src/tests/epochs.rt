@@ -115,7 +115,7 @@ fn has_chain_of_two(rt: &impl Abort, clerk: &Clerk<Sha256Hash>) {
         epoch: 4,
         link: digest(rt, link),
     };
-    assert_eq!(rt; head, Some(want));
+    assert!(rt; head == Some(want));
 }
 
 /// A key that is changed at a later epoch, and the chain of both.

@@ -80,11 +80,11 @@ fn largest_batch(rt: HostRuntime) {
         &board,
     );
     assert!(rt; entry.is_ok());
-    assert_eq!(rt; directory.nodes(), 12_205);
+    assert!(rt; directory.nodes() == 12_205);
     let root = "dc8fccd2b142454a80b5f5bb4361fed549b910534e87818985abeb04797a199b";
     assert!(rt; directory.root_at(1) == Some(digest(&rt, root)));
-    assert_eq!(rt; key_of(&rt, &directory, &4094u32.to_be_bytes()), 1);
-    assert_eq!(rt; key_of(&rt, &directory, &[b'b'; 255]), 16_384);
+    assert!(rt; key_of(&rt, &directory, &4094u32.to_be_bytes()) == 1);
+    assert!(rt; key_of(&rt, &directory, &[b'b'; 255]) == 16_384);
 }
 
 /// Commits as many epochs as a board has heads, and one more, which is refused.
@@ -94,7 +94,7 @@ fn fill<R: Threads + Sync + Abort>(rt: &R, clerk: &mut Clerk<Flat>) {
     }
     let full = Some(CommitFault::Install(InstallFault::BoardFull));
     assert!(rt; clerk.commit(rt, 65_537, &[]).err() == full);
-    assert_eq!(rt; clerk.directory.chain().len(), 65_536);
+    assert!(rt; clerk.directory.chain().len() == 65_536);
     for t in [1, 40_000, 65_536] {
         assert!(rt; clerk.directory.lookup(t, b"a").is_ok());
     }

@@ -108,5 +108,5 @@ fn signed_outside(rt: HostRuntime) {
     assert!(rt; entry.body == Body::read(&body));
     assert!(rt; entry.signature == made_outside(&body));
     assert!(rt; signer.last() == Some(entry));
-    assert_eq!(rt; (signer.made(), signer.refused()), (1, 2));
+    assert!(rt; (signer.made(), signer.refused()) == (1, 2));
 }

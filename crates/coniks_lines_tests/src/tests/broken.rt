@@ -102,13 +102,13 @@ fn each_failure_counts(rt: HostRuntime) {
         let mut reader = SystemIn::new(BrokenIn { bytes: b"", kind });
         assert!(rt; reader.read(&mut buffer).is_err(), "{kind:?}");
         assert!(rt; reader.read(&mut buffer).is_err(), "{kind:?}");
-        assert_eq!(rt; reader.failures(), 2, "{kind:?}");
+        assert!(rt; reader.failures() == 2, "{kind:?}");
         let mut writer = SystemOut::new(BrokenOut {
             writes_left: 0,
             kind,
         });
         assert!(rt; writer.write(b"a").is_err(), "{kind:?}");
         assert!(rt; writer.flush().is_err(), "{kind:?}");
-        assert_eq!(rt; writer.failures(), 2, "{kind:?}");
+        assert!(rt; writer.failures() == 2, "{kind:?}");
     }
 }

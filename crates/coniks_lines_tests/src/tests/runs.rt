@@ -70,8 +70,8 @@ fn over_memory(rt: HostRuntime) {
     for (input, wanted, accepted) in RUNS {
         let (writer, all) = echoed(alloc, input_of(&rt, alloc, input)).expect(&rt, "a run");
         assert!(rt; writer.bytes() == wanted);
-        assert_eq!(rt; all, accepted);
-        assert_eq!(rt; writer.failures(), 0);
+        assert!(rt; all == accepted);
+        assert!(rt; writer.failures() == 0);
     }
 }
 
@@ -117,10 +117,10 @@ fn long_lines(rt: HostRuntime) {
         let (writer, all) = echoed(alloc, input).expect(&rt, "a run");
         let bytes = writer.bytes();
         assert!(rt; all);
-        assert_eq!(rt; bytes.len(), size + 7);
+        assert!(rt; bytes.len() == size + 7);
         assert!(rt; bytes.starts_with(b"0x"));
         assert!(rt; bytes.ends_with(b"x\n1end\n"));
-        assert_eq!(rt; bytes.iter().filter(|b| **b == b'x').count(), size);
+        assert!(rt; bytes.iter().filter(|b| **b == b'x').count() == size);
     }
 }
 
@@ -131,7 +131,7 @@ fn many_lines(rt: HostRuntime) {
     let input = vec![in rt.alloc(); b'\n'; count].expect(&rt, "memory");
     let (writer, all) = echoed(rt.alloc(), input).expect(&rt, "a run");
     assert!(rt; all);
-    assert_eq!(rt; writer.bytes().len(), 2 * count);
+    assert!(rt; writer.bytes().len() == 2 * count);
     assert!(rt; writer.bytes().ends_with(b"0\n1\n"));
 }
 
@@ -155,7 +155,7 @@ fn a_write_stops(rt: HostRuntime) {
             assert!(rt; ended.all == Err(RunFault::Write), "at call {k}");
             assert!(rt; ended.wrote, "at call {k}");
             let fails = stop == Stop::Fails || flushes.contains(&k);
-            assert_eq!(rt; ended.unwritten, fails as u64, "at call {k}");
+            assert!(rt; ended.unwritten == (fails as u64), "at call {k}");
         }
         let input = input_of(&rt, alloc, b"ab\n!c\nd");
         let ended = stopped_run(alloc, input, 12, stop, wanted);
@@ -180,13 +180,13 @@ fn a_read_fails(rt: HostRuntime) {
         let ended = unread_run(alloc, input, k as u64, wanted[k]);
         assert!(rt; ended.all == Err(RunFault::Read), "at read {k}");
         assert!(rt; ended.wrote, "at read {k}");
-        assert_eq!(rt; ended.unread, 1, "at read {k}");
+        assert!(rt; ended.unread == 1, "at read {k}");
     }
     let input = input_of(&rt, alloc, b"ab\ncd\nef");
     let ended = unread_run(alloc, input, 5, b"0ab\n1cd\n0ef\n");
     assert!(rt; ended.all == Ok(true));
     assert!(rt; ended.wrote);
-    assert_eq!(rt; ended.unread, 0);
+    assert!(rt; ended.unread == 0);
 }
 
 #[test]
@@ -198,8 +198,8 @@ fn streams_of_the_system(rt: HostRuntime) {
     let mut writer = SystemOut::new(&mut written);
     let all = run_lines(alloc, &mut Echo { odd: false }, &mut reader, &mut writer);
     assert!(rt; all == Ok(true));
-    assert_eq!(rt; reader.failures(), 0);
-    assert_eq!(rt; writer.failures(), 0);
+    assert!(rt; reader.failures() == 0);
+    assert!(rt; writer.failures() == 0);
     assert!(rt; written.as_slice() == b"0a\n1b\n".as_slice());
 }
 
@@ -208,7 +208,7 @@ fn standard_streams(rt: HostRuntime) {
     let reader = SystemIn::new(rt.stdin());
     let mut out = SystemOut::new(rt.stdout());
     let mut err = SystemOut::new(rt.stderr());
-    assert_eq!(rt; reader.failures(), 0);
+    assert!(rt; reader.failures() == 0);
     assert!(rt; out.flush().is_ok());
     assert!(rt; err.flush().is_ok());
 }
@@ -224,7 +224,7 @@ fn memory_reads(rt: HostRuntime) {
     assert!(rt; buffer[0] == b'c');
     assert!(rt; reader.read(&mut buffer) == Ok(0));
     assert!(rt; reader.read(&mut buffer) == Ok(0));
-    assert_eq!(rt; reader.failures(), 0);
+    assert!(rt; reader.failures() == 0);
 }
 
 /// Where memory is refused, as it is in a trial run whose n-th allocation fails, nothing is written.
@@ -234,7 +234,7 @@ fn memory_writes(rt: HostRuntime) {
     let mut writer = MemoryOut::new(alloc);
     let first = writer.write(b"ab");
     if first.is_err() {
-        assert_eq!(rt; writer.failures(), 1);
+        assert!(rt; writer.failures() == 1);
         assert!(rt; writer.bytes() == b"".as_slice());
         return;
     }
@@ -242,7 +242,7 @@ fn memory_writes(rt: HostRuntime) {
     assert!(rt; writer.write(b"c") == Ok(1));
     assert!(rt; writer.flush() == Ok(()));
     assert!(rt; writer.bytes() == b"abc".as_slice());
-    assert_eq!(rt; writer.failures(), 0);
+    assert!(rt; writer.failures() == 0);
 }
 
 #[test]
@@ -254,6 +254,6 @@ fn messages(rt: HostRuntime) {
         (RunFault::OutOfMemory, "out of memory"),
     ] {
         let text = fault.to_string(alloc).expect(&rt, "memory");
-        assert_eq!(rt; text.as_str(), wanted);
+        assert!(rt; text.as_str() == wanted);
     }
 }

@@ -62,7 +62,7 @@ impl ByteIn for SlowIn {
 }
 
 /// What a writer does at the call where it stops; a flush fails there in both cases.
-#[derive(Clone, Copy, Debug, PartialEq, Eq)]
+#[derive(Clone, Copy, PartialEq, Eq)]
 pub enum Stop {
     Fails,
     TakesNone,

@@ -105,13 +105,13 @@ fn is_empty(bytes: &[u8]) -> bool {
 fn read(rt: HostRuntime) {
     let alloc = rt.alloc();
     let empty = of_empty(&rt, alloc);
-    assert_eq!(rt; count_in(&empty), 2);
+    assert!(rt; count_in(&empty) == 2);
     assert!(rt; is_empty(&empty));
     let other = of_other(&rt, alloc);
-    assert_eq!(rt; count_in(&other), 0);
+    assert!(rt; count_in(&other) == 0);
     assert!(rt; is_other(&other));
     let here = of_here(&rt, alloc);
-    assert_eq!(rt; count_in(&here), 1);
+    assert!(rt; count_in(&here) == 1);
     assert!(rt; is_here(&here));
 }
 
@@ -145,13 +145,13 @@ fn cut(rt: HostRuntime) {
     ] {
         assert!(rt; are_cut(&bytes, from, to, fault));
     }
-    assert_eq!(rt; fault_of_first(&bytes, 76), None);
+    assert!(rt; fault_of_first(&bytes, 76) == None);
     let bytes = of_other(&rt, alloc);
     assert!(rt; are_cut(&bytes, 3, 67, WireFault::CutInOther));
-    assert_eq!(rt; fault_of_first(&bytes, 67), None);
+    assert!(rt; fault_of_first(&bytes, 67) == None);
     let bytes = of_empty(&rt, alloc);
     assert!(rt; are_cut(&bytes, 3, 67, WireFault::CutInSiblings));
-    assert_eq!(rt; fault_of_first(&bytes, 67), None);
+    assert!(rt; fault_of_first(&bytes, 67) == None);
 }
 
 /// One byte more at each kind of end, and each kind that isn't one.
@@ -165,11 +165,11 @@ fn more_and_unknown(rt: HostRuntime) {
     ] {
         bytes.push(0).expect(&rt, "memory");
         let fault = ProofRef::read(&bytes).err();
-        assert_eq!(rt; fault, Some(WireFault::BytesFollow));
+        assert!(rt; fault == Some(WireFault::BytesFollow));
     }
     for kind in 3..=255u8 {
         let fault = ProofRef::read(&[kind]).err();
-        assert_eq!(rt; fault, Some(WireFault::UnknownKind));
+        assert!(rt; fault == Some(WireFault::UnknownKind));
     }
 }
 

@@ -38,8 +38,8 @@ fn gate_before_job(rt: HostRuntime) {
             early: AtomicU64::new(0),
         };
         let parts = all_parts(&rt, rt.alloc(), 4, workers, &work, &gate).expect(&rt, "memory");
-        assert_eq!(rt; parts.len(), 4);
-        assert_eq!(rt; work.early.load(Ordering::SeqCst), 0);
+        assert!(rt; parts.len() == 4);
+        assert!(rt; work.early.load(Ordering::SeqCst) == 0);
         assert!(rt; gate.once_each());
     }
 }

@@ -21,9 +21,9 @@ fn two_jobs_at_once(rt: HostRuntime) {
     let gate = Meeting::of(2);
     let (nodes, root) = first_epoch(&rt, rt.alloc(), &both, 1, 2, &gate).expect(&rt, "memory");
     assert!(rt; gate.met());
-    assert_eq!(rt; nodes, 3);
+    assert!(rt; nodes == 3);
     let want = "46de554c28df523fe8bbcbf7cf90c45cc1f44d29be6fc4bf4fa5fd416437b6ba";
-    assert_eq!(rt; root, digest(&rt, want));
+    assert!(rt; root == digest(&rt, want));
 }
 
 #[test]
@@ -31,8 +31,8 @@ fn entered_once(rt: HostRuntime) {
     let gate = Counts::new();
     let (nodes, root) = first_epoch(&rt, rt.alloc(), &four(), 8, 3, &gate).expect(&rt, "memory");
     assert!(rt; gate.once_each());
-    assert_eq!(rt; nodes, 7);
-    assert_eq!(rt; root, digest(&rt, OF_FOUR));
+    assert!(rt; nodes == 7);
+    assert!(rt; root == digest(&rt, OF_FOUR));
 }
 
 /// Of two workers one is held at its job until the other has come with the three that are left.
@@ -41,8 +41,8 @@ fn draws_move(rt: HostRuntime) {
     let gate = Meeting::of(4);
     let (nodes, root) = first_epoch(&rt, rt.alloc(), &four(), 8, 2, &gate).expect(&rt, "memory");
     assert!(rt; gate.met());
-    assert_eq!(rt; nodes, 7);
-    assert_eq!(rt; root, digest(&rt, OF_FOUR));
+    assert!(rt; nodes == 7);
+    assert!(rt; root == digest(&rt, OF_FOUR));
 }
 
 /// Forty names, whose indices have forty first bytes, in the order of their indices.
@@ -65,8 +65,8 @@ fn same_for_every_pool(rt: HostRuntime) {
         for depth in [0, 1, 8, 12] {
             let built = first_epoch(&rt, rt.alloc(), &names, depth, workers, &Open);
             let (nodes, root) = built.expect(&rt, "memory");
-            assert_eq!(rt; nodes, 79);
-            assert_eq!(rt; root, want);
+            assert!(rt; nodes == 79);
+            assert!(rt; root == want);
         }
     }
 }
@@ -76,10 +76,10 @@ fn jobs_of_four(rt: HostRuntime) {
     let changes = changes_of(rt.alloc(), &four()).expect(&rt, "memory");
     for (depth, count) in [(0, 1), (1, 2), (2, 3), (3, 4), (12, 4)] {
         let jobs = split(rt.alloc(), &changes, depth).expect(&rt, "memory");
-        assert_eq!(rt; jobs.len(), count);
+        assert!(rt; jobs.len() == count);
     }
     let none = split(rt.alloc(), &[], 8).expect(&rt, "memory");
-    assert_eq!(rt; none.len(), 0);
+    assert!(rt; none.len() == 0);
 }
 
 /// No deeper than was asked for, nor than gives each worker 32 jobs, or 64 where it has 4,096 changes.
@@ -96,7 +96,7 @@ fn cut_for_a_pool(rt: HostRuntime) {
         (4, 100_000, 3, 3),
         (64, 100_000, 0, 0),
     ] {
-        assert_eq!(rt; cut_for(workers, changes, depth), cut);
+        assert!(rt; cut_for(workers, changes, depth) == cut);
     }
 }
 
@@ -120,9 +120,9 @@ fn most_jobs(rt: HostRuntime) {
     let want = digest(&rt, want);
     for (depth, count) in [(8, 256), (11, 2048), (12, 4096)] {
         let jobs = split(rt.alloc(), &changes, depth).expect(&rt, "memory");
-        assert_eq!(rt; jobs.len(), count);
+        assert!(rt; jobs.len() == count);
         let built = first_epoch(&rt, rt.alloc(), &names, depth, 64, &Open);
-        assert_eq!(rt; built.expect(&rt, "memory"), (8191, want));
+        assert!(rt; built.expect(&rt, "memory") == (8191, want));
     }
 }
 
@@ -134,5 +134,5 @@ fn as_many_workers_as_asked_for(rt: HostRuntime) {
     let built = first_epoch(&rt, rt.alloc(), &names, 8, 64, &gate);
     assert!(rt; gate.met());
     let want = "b4a78889400c2799436e930a02ccd8c935afe40650dc0310e44c38c9f2b67f96";
-    assert_eq!(rt; built.expect(&rt, "memory"), (8191, digest(&rt, want)));
+    assert!(rt; built.expect(&rt, "memory") == (8191, digest(&rt, want)));
 }
