@@ -1,5 +1,5 @@
 -- Runs of public calls on a directory, each by its contract, and the directory that the batches define.
-use Rattle.std.specs.Prelude.{◌≡◌, ◌<◌, ◌≤◌, ℕ, List, [], ◌∷◌, ◌++◌, length, Option, None}
+use Rattle.std.specs.Prelude.{◌≡◌, ◌<◌, ◌≤◌, ℕ, List, [], ◌∷◌, ◌++◌, length, Option}
 use Rattle.coniks_proof.specs.Batches.{MayFollow, Operation, after}
 use Rattle.coniks_proof.specs.Registry.{Registry}
 use Rattle.coniks_proof.specs.declared.values.TheConstants.{MAX_OPERATIONS}
