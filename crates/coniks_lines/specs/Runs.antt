@@ -1,5 +1,5 @@
 -- The state of streams and machine after a run over the lines of a source.
-use Rattle.std.specs.Prelude.{◌≡◌, ◌⊎◌, ℕ, ◌+◌, ◌%◌, ◌^◌, ◌++◌, List, [], ◌∷◌, take, Bool}
+use Rattle.std.specs.Prelude.{◌≡◌, ◌⊎◌, ℕ, ◌+◌, ◌%◌, ◌^◌, ◌++◌, List, [], ◌∷◌, take, Bool, Some, Result, IfOk, IfErr, OnErr}
 use Rattle.coniks_lines.specs.Known.{Source, Sink, Takes, Appends, HasNoneLeft, next_count}
 use Rattle.coniks_lines.specs.Lines.{whole_after, rest_after, whole_lines, lines_of}
 use Rattle.coniks_lines.specs.Machine.{Answer, replies, state_after, all_accepted, output}
@@ -113,3 +113,18 @@ pub record EndsBadly {S : Type 0} (answer : S → List ℕ → Answer S) (start 
   pub read : Takes from bytes from'
   pub lines_are : AreRead from from' bytes lines
   pub stops : StopsFor answer start lines from from' to to' fault
+
+-- what an error leaves of a run that wants a board: what `EndsBadly` says; without a board, nothing was read or written
+abbrev pub FailsWithBoard : {S : Type 0} → (S → List ℕ → Answer S) → S → Source → Source → Sink → Sink → RunFault → Type 0
+FailsWithBoard answer start from from' to to' NoBoard = (from' ≡ from) × (to' ≡ to)
+FailsWithBoard answer start from from' to to' fault = EndsBadly answer start from from' to to' fault
+
+-- how a run ends that a machine began in this state: well, or by an error of which `Fails` speaks. If the source's bytes are known,
+-- each of them is answered if the run ends well, and else a beginning of their answers is written
+pub record IsRunOf {S : Type 0} (answer : S → List ℕ → Answer S) (start : S)
+    (Fails : Source → Source → Sink → Sink → RunFault → Type 0)
+    (from from' : Source) (to to' : Sink) (result : Result Bool RunFault) : Type 0 where
+  pub ok : IfOk result (λ all. (state : S) × EndsWell answer start from from' to to' state all)
+  pub err : IfErr result (Fails from from' to to')
+  pub all_of : (input : List ℕ) → from.left ≡ Some input → IfOk result (λ all. (state : S) × AnswersAll answer start input to to' state all)
+  pub part_of : (input : List ℕ) → from.left ≡ Some input → OnErr result (WritesPart (output answer start input) to to')

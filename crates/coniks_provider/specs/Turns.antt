@@ -1,13 +1,9 @@
 -- What `provider` replies to a line.
-use Rattle.std.specs.Prelude.{◌≡◌, ◌==◌, ℕ, ◌+◌, List, [], ◌∷◌, ◌++◌, codes, find, length, Bool, not, ◌&&◌, nat_le, nat_lt, Option, Some, None, Result, Ok, Err, if◌then◌else◌}
+use Rattle.std.specs.Prelude.{◌==◌, ℕ, ◌+◌, List, [], ◌∷◌, ◌++◌, codes, find, length, Bool, not, ◌&&◌, nat_le, nat_lt, Option, Some, None, Result, Ok, Err, if◌then◌else◌}
 use Rattle.std.specs.Option.{option_map_or}
 use Rattle.std.specs.Str.{bytes_eq}
 use Rattle.serde_json.specs.Data.{Data, Items}
-use Rattle.coniks_lines.specs.Known.{Source, Sink}
 use Rattle.coniks_lines.specs.Machine.{Answer}
-use Rattle.coniks_lines.specs.Runs.{EndsBadly}
-use Rattle.coniks_lines.specs.declared.fault.RunFault.{RunFault}
-use Rattle.coniks_lines.specs.declared.fault.RunFault.TheVariants.{Read, Write, OutOfMemory, NoBoard}
 use Rattle.coniks_proof.specs.Sha256.{sha256}
 use Rattle.coniks_proof.specs.Batches.{fits}
 use Rattle.coniks_proof.specs.Registry.{has_name}
@@ -249,10 +245,3 @@ provider_turn s line = option_map_or (λ d. provider_command_turn s d (text_in (
 -- the reply to a line
 abbrev pub provider_answer : ProviderState → List ℕ → Answer ProviderState
 provider_answer s line = answer_by provider_reply_data is_accepted_line (provider_turn s line)
-
--- what an error leaves: that of its lines; if there is no board, nothing was read or written
-abbrev pub ProviderFails : Source → Source → Sink → Sink → RunFault → Type 0
-ProviderFails from from' to to' Read = EndsBadly provider_answer None from from' to to' Read
-ProviderFails from from' to to' Write = EndsBadly provider_answer None from from' to to' Write
-ProviderFails from from' to to' OutOfMemory = EndsBadly provider_answer None from from' to to' OutOfMemory
-ProviderFails from from' to to' NoBoard = (from' ≡ from) × (to' ≡ to)

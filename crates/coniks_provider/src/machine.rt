@@ -1,14 +1,13 @@
 //! The machine of `provider`, and its engine.
 
-ghost use Rattle.std.specs.Prelude.{◌≡◌, ◌<◌, ◌≤◌, ◌+◌, ◌^◌, ℕ, List, None, Some, IfOk, IfErr, OnOk, OnErr, codes};
+ghost use Rattle.std.specs.Prelude.{◌≡◌, ◌<◌, ◌≤◌, ◌+◌, ◌^◌, None, Some, IfOk, OnOk, codes};
 ghost use Rattle.serde_json.specs.View.{view};
 ghost use Rattle.coniks_directory.specs.Batches.{AreWorkers};
-ghost use Rattle.coniks_lines.specs.Machine.{output};
-ghost use Rattle.coniks_lines.specs.Runs.{AnswersAll, EndsWell, WritesPart};
+ghost use Rattle.coniks_lines.specs.Runs.{FailsWithBoard, IsRunOf};
 ghost use Rattle.coniks_work.specs.declared.jobs.TheConstants.{MAX_DEPTH};
 ghost use Rattle.coniks_tool.specs.Members.{array_in, digits_in, if_there, number_in, text_in};
 ghost use Rattle.coniks_provider.specs.Answers.{provider_outcome_of};
-ghost use Rattle.coniks_provider.specs.Turns.{ProviderFails, ProviderState, provider_command_turn, install_turn, provider_lookup_outcome, provider_open_turn, prepare_turn, provider_answer, provider_turn};
+ghost use Rattle.coniks_provider.specs.Turns.{ProviderState, provider_command_turn, install_turn, provider_lookup_outcome, provider_open_turn, prepare_turn, provider_answer, provider_turn};
 
 use crate::batch::BatchRead;
 use crate::operations::read_operations;
@@ -191,23 +190,10 @@ pub fn run_provider<T: Threads + Sync, R: ByteIn, W: ByteOut>(
     requires depth { depth ≤ MAX_DEPTH }
     requires reads { (R.source reader.old).failed + 1 < 2 ^ 64 }
     requires writes { (W.sink writer.old).failed + 1 < 2 ^ 64 }
-    ensures ok { IfOk result (λ all. (state : ProviderState) × EndsWell provider_answer None
+    ensures run { IsRunOf provider_answer None (FailsWithBoard provider_answer None)
         (R.source reader.old) (R.source reader.new)
         (W.sink writer.old) (W.sink writer.new)
-        state all) }
-    ensures err { IfErr result (ProviderFails
-        (R.source reader.old) (R.source reader.new)
-        (W.sink writer.old) (W.sink writer.new)) }
-
-    // If the reader's bytes are known: after Ok each of them is answered, and after an error a prefix of their answers
-    // was written.
-    ensures all_of { (input : List ℕ) → (R.source reader.old).left ≡ Some input
-        → IfOk result (λ all. (state : ProviderState) × AnswersAll provider_answer None input
-        (W.sink writer.old) (W.sink writer.new)
-        state all) }
-    ensures part_of { (input : List ℕ) → (R.source reader.old).left ≡ Some input
-        → OnErr result (WritesPart (output provider_answer None input)
-        (W.sink writer.old) (W.sink writer.new)) }
+        result }
 {
     let store = Store::new(alloc)?;
     let parallelism = Parallelism { rt, workers, depth };

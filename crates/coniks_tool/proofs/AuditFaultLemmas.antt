@@ -36,7 +36,7 @@ decides v None e NonceChanged = (λ _. tt, λ _. refl)
 decides v (Some b) e NonceChanged = Decides-implies (e.body.version == 1) (bytes_eq e.body.nonce.0 b.nonce.0) (Decides-eqb e.body.version 1) (bytes_eq-Decides e.body.nonce.0 b.nonce.0)
 decides v before e Verdict = (λ m. m, λ m. m)
 
--- each error stands at its place
+-- each error is at its place
 at_place : (fault : AuditFault) → slice_get faults (place_of fault) ≡ Some fault
 at_place Version = refl
 at_place _ = refl

@@ -51,7 +51,7 @@ end-decides index name level (Other other c) OtherIsSame = bytes_eq-Decides othe
 end-decides index name level (Other other c) OtherOffPath = Decides-not _ (same_bits-decides (first_bits other.0 level) (first_bits index level))
 end-decides index name level _ _ = never
 
--- each error stands at the place before its number
+-- each error is at the place before its number
 at_place : (fault : CheckFault) → slice_get check_faults (number fault - 1) ≡ Some fault
 at_place TooDeep = refl
 at_place _ = refl

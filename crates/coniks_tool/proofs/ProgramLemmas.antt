@@ -101,7 +101,7 @@ told-at_2 (Ok BadKey) old new told is = (bad_key_line, told)
 told-at_2 (Ok BadExpectation) old new told is = (bad_expectation_line, told)
 told-at_2 (Err fault) old new told is = absurd (omega (arith, is))
 
--- at 3 the error that ended it is told
+-- at status 3 the text is that of the error that ended the run
 pub told-at_3 : {F : RunFault → Type 0} (outcome : Result Ending RunFault) (old new : Sink) → TellsIf (told_of outcome) old new
     → IfErr outcome F → status_of outcome ≡ 3 → (fault : RunFault) × (Tells old (fault_line fault) new × F fault)
 told-at_3 (Ok (Done true)) old new told fails is = absurd (omega (arith, is))

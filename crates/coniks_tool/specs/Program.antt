@@ -5,7 +5,7 @@ use Rattle.clap.specs.Words.{Kinds, IsAmong, fault_of, subcommand_of}
 use Rattle.clap.specs.declared.error.kind.ErrorKind.{ErrorKind}
 use Rattle.clap.specs.declared.error.kind.ErrorKind.TheVariants.{DisplayHelp, DisplayVersion}
 use Rattle.coniks_lines.specs.Known.{Source, Sink, Appends, next_count}
-use Rattle.coniks_lines.specs.Runs.{IsBeginning, WritesOn, CannotRead, CannotWrite, EndsBadly, EndsWell}
+use Rattle.coniks_lines.specs.Runs.{IsBeginning, WritesOn, CannotRead, CannotWrite, EndsBadly, EndsWell, FailsWithBoard}
 use Rattle.coniks_lines.specs.declared.fault.RunFault.{RunFault}
 use Rattle.coniks_lines.specs.declared.fault.RunFault.TheVariants.{Read, Write, OutOfMemory, NoBoard}
 use Rattle.coniks_tool.specs.Audit.{AuditState, audit_answer, none_audited}
@@ -14,7 +14,7 @@ use Rattle.coniks_tool.specs.Choice.{Choice, run, check, audit, monitor, chosen,
 use Rattle.coniks_tool.specs.Expectations.{expectation_in}
 use Rattle.coniks_tool.specs.Keydir.{keydir}
 use Rattle.coniks_tool.specs.Monitor.{MonitorState, monitor_answer, none_watched}
-use Rattle.coniks_tool.specs.Script.{ScriptFails, ScriptState, script_answer}
+use Rattle.coniks_tool.specs.Script.{ScriptState, script_answer}
 use Rattle.coniks_tool.specs.declared.cli.choice.Unread.{Unread}
 use Rattle.coniks_tool.specs.declared.cli.choice.Unread.TheVariants as unread
 use Rattle.coniks_tool.specs.declared.cli.ending.Ending.{Ending}
@@ -125,7 +125,7 @@ Runs (Some (monitor text name expect)) from from' to to' all = Monitors text nam
 -- an error ended the chosen run, after these replies
 abbrev pub BreaksOff : Option Choice → Source → Source → Sink → Sink → RunFault → Type 0
 BreaksOff None from from' to to' fault = ⊥
-BreaksOff (Some (run workers depth)) from from' to to' fault = ScriptFails from from' to to' fault
+BreaksOff (Some (run workers depth)) from from' to to' fault = FailsWithBoard script_answer None from from' to to' fault
 BreaksOff (Some check) from from' to to' fault = EndsBadly check_answer stateless from from' to to' fault
 BreaksOff (Some (audit text)) from from' to to' fault =
     (key : List ℕ) × (key_in text ≡ Some key) × EndsBadly audit_answer (none_audited key) from from' to to' fault

@@ -3,11 +3,7 @@ use Rattle.std.specs.Prelude.{◌≡◌, ◌==◌, ℕ, List, [], ◌∷◌, ◌
 use Rattle.std.specs.Option.{option_map_or}
 use Rattle.std.specs.Str.{bytes_eq}
 use Rattle.serde_json.specs.Data.{Data, Items}
-use Rattle.coniks_lines.specs.Known.{Source, Sink}
 use Rattle.coniks_lines.specs.Machine.{Answer}
-use Rattle.coniks_lines.specs.Runs.{EndsBadly}
-use Rattle.coniks_lines.specs.declared.fault.RunFault.{RunFault}
-use Rattle.coniks_lines.specs.declared.fault.RunFault.TheVariants.{Read, Write, OutOfMemory, NoBoard}
 use Rattle.coniks_proof.specs.Sha256.{sha256}
 use Rattle.coniks_proof.specs.Batches.{Operation, fits}
 use Rattle.coniks_proof.specs.declared.values.TheConstants.{MAX_NAME}
@@ -155,10 +151,3 @@ turn s line = option_map_or (λ d. command_turn s d (text_in (codes "cmd") d)) (
 -- the reply to a line
 abbrev pub script_answer : ScriptState → List ℕ → Answer ScriptState
 script_answer s line = answer_by reply_data is_accepted (turn s line)
-
--- the state after an error of `run`: that of its lines; without a board, nothing was read or written
-abbrev pub ScriptFails : Source → Source → Sink → Sink → RunFault → Type 0
-ScriptFails from from' to to' Read = EndsBadly script_answer None from from' to to' Read
-ScriptFails from from' to to' Write = EndsBadly script_answer None from from' to to' Write
-ScriptFails from from' to to' OutOfMemory = EndsBadly script_answer None from from' to to' OutOfMemory
-ScriptFails from from' to to' NoBoard = (from' ≡ from) × (to' ≡ to)

@@ -1,9 +1,8 @@
 //! The machine of `audit`, and its engine.
 
-ghost use Rattle.std.specs.Prelude.{◌≡◌, ◌<◌, ◌+◌, ◌^◌, ◌↔◌, ℕ, List, IfOk, IfErr, OnOk, OnErr, Some, true};
+ghost use Rattle.std.specs.Prelude.{◌≡◌, ◌<◌, ◌+◌, ◌^◌, ◌↔◌, ℕ, List, IfOk, OnOk, Some, true};
 ghost use Rattle.coniks_lines.specs.Lines.{lines_of};
-ghost use Rattle.coniks_lines.specs.Machine.{output};
-ghost use Rattle.coniks_lines.specs.Runs.{AnswersAll, EndsBadly, EndsWell, WritesPart};
+ghost use Rattle.coniks_lines.specs.Runs.{EndsBadly, IsRunOf};
 ghost use Rattle.coniks_tool.specs.Audit.{AuditState, audit_answer, audit_turn, entry_turn, none_audited};
 ghost use Rattle.coniks_tool.specs.AuditChain.{HoldsGoodChain};
 ghost use Rattle.coniks_tool.specs.AuditReplies.{audit_outcome};
@@ -110,23 +109,12 @@ pub fn run_audit<R: ByteIn, W: ByteOut>(
 ) -> Result<bool, RunFault>
     requires reads { (R.source reader.old).failed + 1 < 2 ^ 64 }
     requires writes { (W.sink writer.old).failed + 1 < 2 ^ 64 }
-    ensures ok { IfOk result (λ all. (state : AuditState) × EndsWell audit_answer (none_audited key)
+    ensures run { IsRunOf audit_answer (none_audited key) (EndsBadly audit_answer (none_audited key))
         (R.source reader.old) (R.source reader.new)
         (W.sink writer.old) (W.sink writer.new)
-        state all) }
-    ensures err { IfErr result (EndsBadly audit_answer (none_audited key)
-        (R.source reader.old) (R.source reader.new)
-        (W.sink writer.old) (W.sink writer.new)) }
+        result }
 
-    // If the reader's bytes are known: after Ok each of them is answered, and after an error a prefix of their answers
-    // was written. Each line is accepted if and only if the lines hold a good chain.
-    ensures all_of { (input : List ℕ) → (R.source reader.old).left ≡ Some input
-        → IfOk result (λ all. (state : AuditState) × AnswersAll audit_answer (none_audited key) input
-        (W.sink writer.old) (W.sink writer.new)
-        state all) }
-    ensures part_of { (input : List ℕ) → (R.source reader.old).left ≡ Some input
-        → OnErr result (WritesPart (output audit_answer (none_audited key) input)
-        (W.sink writer.old) (W.sink writer.new)) }
+    // Each line is accepted if and only if the lines hold a good chain.
     ensures chain { (input : List ℕ) → (R.source reader.old).left ≡ Some input
         → IfOk result (λ all. (all ≡ true) ↔ HoldsGoodChain key (lines_of input)) }
 {

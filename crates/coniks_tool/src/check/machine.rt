@@ -1,10 +1,9 @@
 //! The machine of `check`, and its engine.
 
-ghost use Rattle.std.specs.Prelude.{◌≡◌, ◌<◌, ◌+◌, ◌^◌, ◌++◌, ℕ, List, Ok, IfOk, IfErr, OnOk, OnErr, Some};
+ghost use Rattle.std.specs.Prelude.{◌≡◌, ◌<◌, ◌+◌, ◌^◌, ◌++◌, Ok, IfOk, OnOk, Some};
 ghost use Rattle.serde_json.specs.View.{view};
 ghost use Rattle.serde_json.specs.Written.{compact_text};
-ghost use Rattle.coniks_lines.specs.Machine.{output};
-ghost use Rattle.coniks_lines.specs.Runs.{AnswersAll, EndsBadly, EndsWell, WritesPart};
+ghost use Rattle.coniks_lines.specs.Runs.{EndsBadly, IsRunOf};
 ghost use Rattle.coniks_tool.specs.Check.{Stateless, asked_by, asked_in, check_answer, question_outcome, stateless};
 ghost use Rattle.coniks_tool.specs.CheckReplies.{check_data, check_outcome, is_answered};
 
@@ -92,23 +91,10 @@ pub fn run_check<R: ByteIn, W: ByteOut>(
 ) -> Result<bool, RunFault>
     requires reads { (R.source reader.old).failed + 1 < 2 ^ 64 }
     requires writes { (W.sink writer.old).failed + 1 < 2 ^ 64 }
-    ensures ok { IfOk result (λ all. (state : Stateless) × EndsWell check_answer stateless
+    ensures run { IsRunOf check_answer stateless (EndsBadly check_answer stateless)
         (R.source reader.old) (R.source reader.new)
         (W.sink writer.old) (W.sink writer.new)
-        state all) }
-    ensures err { IfErr result (EndsBadly check_answer stateless
-        (R.source reader.old) (R.source reader.new)
-        (W.sink writer.old) (W.sink writer.new)) }
-
-    // If the reader's bytes are known: after Ok each of them is answered, and after an error a prefix of their answers
-    // was written.
-    ensures all_of { (input : List ℕ) → (R.source reader.old).left ≡ Some input
-        → IfOk result (λ all. (state : Stateless) × AnswersAll check_answer stateless input
-        (W.sink writer.old) (W.sink writer.new)
-        state all) }
-    ensures part_of { (input : List ℕ) → (R.source reader.old).left ≡ Some input
-        → OnErr result (WritesPart (output check_answer stateless input)
-        (W.sink writer.old) (W.sink writer.new)) }
+        result }
 {
     let mut checking = Checking { alloc };
     run_lines(alloc, &mut checking, reader, writer)

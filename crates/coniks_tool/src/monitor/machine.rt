@@ -1,9 +1,8 @@
 //! The machine of `monitor`, and its engine.
 
-ghost use Rattle.std.specs.Prelude.{◌≡◌, ◌<◌, ◌+◌, ◌^◌, ℕ, List, codes, IfOk, IfErr, OnOk, OnErr, Some};
+ghost use Rattle.std.specs.Prelude.{◌≡◌, ◌<◌, ◌+◌, ◌^◌, codes, IfOk, OnOk, Some};
 ghost use Rattle.serde_json.specs.View.{view};
-ghost use Rattle.coniks_lines.specs.Machine.{output};
-ghost use Rattle.coniks_lines.specs.Runs.{AnswersAll, EndsBadly, EndsWell, WritesPart};
+ghost use Rattle.coniks_lines.specs.Runs.{EndsBadly, IsRunOf};
 ghost use Rattle.coniks_tool.specs.EntryLines.{entry_in};
 ghost use Rattle.coniks_tool.specs.Expectations.{expected_in};
 ghost use Rattle.coniks_tool.specs.Members.{text_in};
@@ -173,23 +172,10 @@ pub fn run_monitor<R: ByteIn, W: ByteOut>(
 ) -> Result<bool, RunFault>
     requires reads { (R.source reader.old).failed + 1 < 2 ^ 64 }
     requires writes { (W.sink writer.old).failed + 1 < 2 ^ 64 }
-    ensures ok { IfOk result (λ all. (state : MonitorState) × EndsWell monitor_answer (none_watched key name expected)
+    ensures run { IsRunOf monitor_answer (none_watched key name expected) (EndsBadly monitor_answer (none_watched key name expected))
         (R.source reader.old) (R.source reader.new)
         (W.sink writer.old) (W.sink writer.new)
-        state all) }
-    ensures err { IfErr result (EndsBadly monitor_answer (none_watched key name expected)
-        (R.source reader.old) (R.source reader.new)
-        (W.sink writer.old) (W.sink writer.new)) }
-
-    // If the reader's bytes are known: after Ok each of them is answered, and after an error a prefix of their answers
-    // was written.
-    ensures all_of { (input : List ℕ) → (R.source reader.old).left ≡ Some input
-        → IfOk result (λ all. (state : MonitorState) × AnswersAll monitor_answer (none_watched key name expected) input
-        (W.sink writer.old) (W.sink writer.new)
-        state all) }
-    ensures part_of { (input : List ℕ) → (R.source reader.old).left ≡ Some input
-        → OnErr result (WritesPart (output monitor_answer (none_watched key name expected) input)
-        (W.sink writer.old) (W.sink writer.new)) }
+        result }
 {
     let mut monitoring = Monitoring::new(alloc, key, name, expected);
     run_lines(alloc, &mut monitoring, reader, writer)

@@ -1,14 +1,13 @@
 //! The machine of `run`, and its engine.
 
-ghost use Rattle.std.specs.Prelude.{◌≡◌, ◌<◌, ◌≤◌, ◌+◌, ◌^◌, ℕ, List, None, Some, IfOk, IfErr, OnOk, OnErr, codes};
+ghost use Rattle.std.specs.Prelude.{◌≡◌, ◌<◌, ◌≤◌, ◌+◌, ◌^◌, None, Some, IfOk, OnOk, codes};
 ghost use Rattle.serde_json.specs.View.{view};
 ghost use Rattle.coniks_directory.specs.Batches.{AreWorkers};
-ghost use Rattle.coniks_lines.specs.Machine.{output};
-ghost use Rattle.coniks_lines.specs.Runs.{AnswersAll, EndsWell, WritesPart};
+ghost use Rattle.coniks_lines.specs.Runs.{FailsWithBoard, IsRunOf};
 ghost use Rattle.coniks_work.specs.declared.jobs.TheConstants.{MAX_DEPTH};
 ghost use Rattle.coniks_tool.specs.Members.{array_in, digits_in, if_there, number_in, text_in};
 ghost use Rattle.coniks_tool.specs.Replies.{outcome_of};
-ghost use Rattle.coniks_tool.specs.Script.{ScriptState, ScriptFails, batch_turn, command_turn, lookup_outcome, open_turn, script_answer, turn};
+ghost use Rattle.coniks_tool.specs.Script.{ScriptState, batch_turn, command_turn, lookup_outcome, open_turn, script_answer, turn};
 
 use crate::lines::members::{array, digits32, digits32_if_there, number, read_object, text};
 use crate::lines::printing::Member;
@@ -162,23 +161,10 @@ pub fn run_script<T: Threads + Sync, R: ByteIn, W: ByteOut>(
     requires depth { depth ≤ MAX_DEPTH }
     requires reads { (R.source reader.old).failed + 1 < 2 ^ 64 }
     requires writes { (W.sink writer.old).failed + 1 < 2 ^ 64 }
-    ensures ok { IfOk result (λ all. (state : ScriptState) × EndsWell script_answer None
+    ensures run { IsRunOf script_answer None (FailsWithBoard script_answer None)
         (R.source reader.old) (R.source reader.new)
         (W.sink writer.old) (W.sink writer.new)
-        state all) }
-    ensures err { IfErr result (ScriptFails
-        (R.source reader.old) (R.source reader.new)
-        (W.sink writer.old) (W.sink writer.new)) }
-
-    // If the reader's bytes are known: after Ok each of them is answered, and after an error a prefix of their answers
-    // was written.
-    ensures all_of { (input : List ℕ) → (R.source reader.old).left ≡ Some input
-        → IfOk result (λ all. (state : ScriptState) × AnswersAll script_answer None input
-        (W.sink writer.old) (W.sink writer.new)
-        state all) }
-    ensures part_of { (input : List ℕ) → (R.source reader.old).left ≡ Some input
-        → OnErr result (WritesPart (output script_answer None input)
-        (W.sink writer.old) (W.sink writer.new)) }
+        result }
 {
     let store = Store::new(alloc)?;
     let parallelism = Parallelism { rt, workers, depth };
