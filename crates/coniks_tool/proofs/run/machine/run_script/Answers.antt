@@ -10,6 +10,6 @@ returns g c =
     let to = g.W.ByteOut.sink in
     record {
       run = subst (λ (s : ScriptState). IsRunOf script_answer s (FailsWithBoard script_answer s) (from c.args.reader.now) (from c.run_lines.new.reader)
-      (to c.args.writer.now) (to c.run_lines.new.writer) c.run_lines.result) c.in_ok-store.ensures.ok
-      (run_with_board script_answer _ c.run_lines.result c.run_lines.ensures.ok c.run_lines.ensures.err);
+          (to c.args.writer.now) (to c.run_lines.new.writer) c.run_lines.result) c.in_ok-store.ensures.ok
+          (run_with_board script_answer _ c.run_lines.result c.run_lines.ensures.ok c.run_lines.ensures.err);
     }
