@@ -122,6 +122,10 @@ def try_standby(tell: Tell, database: Database, mine: PostgresLog, other: Postgr
     for it in waiting:
         it.join()
     tell("standby: the line is read", read == [b"cut"])
+    with mock.patch.object(mine, "_rows", wraps=mine._rows) as rows:
+        read = [*mine.read(107)]
+    queries = [it.args[1] for it in rows.call_args_list]
+    tell("standby: a read waits after its rows, and only then", queries == ["read", "replicated", "read"])
 
 
 class Pair(ExitStack):
