@@ -1,6 +1,7 @@
 -- Whether an entry is accepted depends on a verification function only at that entry.
 use Rattle.std.proofs.Common.{◌≡◌, ◌==◌, ℕ, List, Bool, Option, subst, ◌∙◌}
 use Rattle.coniks_proof.specs.Faults.{Has, IsFirst}
+use Rattle.coniks_proof.specs.Hashing.{hashing}
 use Rattle.coniks_proof.specs.Sha256.{sha256}
 use Rattle.coniks_proof.specs.declared.checker.CheckFault.{CheckFault}
 use Rattle.coniks_proof.specs.declared.paths.Proof.{Proof}
@@ -23,7 +24,7 @@ follows_alike told verdict before entry alike follows =
 pub checked_alike : (told : ℕ) (verdict : List ℕ → List ℕ → Bool) (before was : Option AuditorState)
     (name index : List ℕ) (entry asked : Entry) (proof : Proof) (refusal : MonitorFault) (fault : CheckFault)
     → IsFirstStepFault sha256 (λ body signature. told == 1) before name index entry proof refusal → refusal ≡ Check fault → before ≡ was → entry ≡ asked → IsToldBy verdict asked told
-    → Follows verdict was asked × IsFirst (Has sha256 asked.body.nonce.0 asked.body.root.0 index name proof) fault
+    → Follows verdict was asked × IsFirst (Has (hashing sha256 asked.body.nonce.0) asked.body.root.0 index name proof) fault
 checked_alike told verdict before was name index entry asked proof refusal fault refused is_check is_was is_asked judged =
     let by = subst (λ (r : MonitorFault). IsFirstStepFault sha256 (λ body signature. told == 1) before name index entry proof r) is_check refused in
     let there = subst (λ (b : Option AuditorState). IsFirstStepFault sha256 (λ body signature. told == 1) b name index entry proof (Check fault)) is_was by in

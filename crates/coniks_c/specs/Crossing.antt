@@ -1,5 +1,6 @@
 -- The contents of the structs that are passed between C and the libraries.
-use Rattle.std.specs.Prelude.{◌==◌, ◌≡◌, ℕ, List, Bool, Option, Some, None, if◌then◌else◌, replicate}
+use Rattle.std.specs.Prelude.{◌==◌, ◌≡◌, ℕ, Bool, Option, Some, None, if◌then◌else◌, replicate}
+use Rattle.coniks_proof.specs.Octets.{Octets}
 use Rattle.coniks_chain.specs.Entries.{body_bytes}
 use Rattle.coniks_chain.specs.declared.auditor.AuditorState.{AuditorState}
 use Rattle.coniks_chain.specs.declared.entry.Body.{Body}
@@ -39,5 +40,5 @@ body_in body = record {
 }
 
 -- the function's result for the entry's signature is good if and only if the caller's number is 1
-abbrev pub IsToldBy : (List ℕ → List ℕ → Bool) → Entry → ℕ → Type 0
+abbrev pub IsToldBy : (Octets → Octets → Bool) → Entry → ℕ → Type 0
 IsToldBy verdict entry told = verdict (body_bytes entry.body) entry.signature.0 ≡ (told == 1)

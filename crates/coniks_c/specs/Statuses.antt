@@ -1,6 +1,7 @@
 -- The numbers that a call returns.
-use Rattle.std.specs.Prelude.{◌≡◌, ◌+◌, ℕ, List, Option, Some, None}
+use Rattle.std.specs.Prelude.{◌≡◌, ◌+◌, ℕ, Option, Some, None}
 use Rattle.coniks_proof.specs.Faults.{number}
+use Rattle.coniks_proof.specs.Octets.{Octets}
 use Rattle.coniks_proof.specs.Wire.{order}
 use Rattle.coniks_proof.specs.declared.checker.CheckFault.{CheckFault}
 use Rattle.coniks_proof.specs.declared.wire.WireFault.{WireFault}
@@ -12,7 +13,7 @@ use Rattle.coniks_c.specs.declared.text.Refusal.{Refusal}
 use Rattle.coniks_c.specs.declared.text.Refusal.TheVariants.{Check, Wire, Audit, EntryLength, NoEntry}
 
 -- the status of an accepted answer
-abbrev pub status_of_answer : Option (List ℕ) → ℕ
+abbrev pub status_of_answer : Option Octets → ℕ
 status_of_answer (Some key) = 0
 status_of_answer None = 1
 

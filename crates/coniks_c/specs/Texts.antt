@@ -1,5 +1,6 @@
 -- What is said of each refusal, in English and ASCII.
-use Rattle.std.specs.Prelude.{ℕ, List, [], ◌∷◌, ◌++◌, codes, take, drop, length}
+use Rattle.std.specs.Prelude.{[], ◌∷◌, ◌++◌, codes, take, drop, length}
+use Rattle.coniks_proof.specs.Octets.{Octets}
 use Rattle.coniks_proof.specs.declared.checker.CheckFault.{CheckFault}
 use Rattle.coniks_proof.specs.declared.checker.CheckFault.TheVariants.{TooDeep, NameLength, KeyLength, WrongName, OtherIsSame, OtherOffPath, RootMismatch}
 use Rattle.coniks_proof.specs.declared.wire.WireFault.{WireFault}
@@ -10,7 +11,7 @@ use Rattle.coniks_c.specs.declared.text.Refusal.{Refusal}
 use Rattle.coniks_c.specs.declared.text.Refusal.TheVariants.{Check, Wire, Audit, EntryLength, NoEntry}
 
 -- of an error of a proof
-abbrev pub check_text : CheckFault → List ℕ
+abbrev pub check_text : CheckFault → Octets
 check_text TooDeep = codes "the proof has more than 256 siblings"
 check_text NameLength = codes "the name is empty or longer than 255 bytes"
 check_text KeyLength = codes "the proof's key is empty or longer than 16384 bytes"
@@ -20,7 +21,7 @@ check_text OtherOffPath = codes "the proof's other index isn't on the path to th
 check_text RootMismatch = codes "the root computed from the proof isn't the expected root"
 
 -- of bytes that are no proof's
-abbrev pub wire_text : WireFault → List ℕ
+abbrev pub wire_text : WireFault → Octets
 wire_text NoBytes = codes "there are no bytes"
 wire_text UnknownKind = codes "the first byte is no kind of proof"
 wire_text CutInCount = codes "the bytes end within the number of siblings"
@@ -32,7 +33,7 @@ wire_text CutInKey = codes "the bytes end within the key or its length"
 wire_text BytesFollow = codes "bytes follow the proof"
 
 -- of an error of an entry
-abbrev pub audit_text : AuditFault → List ℕ
+abbrev pub audit_text : AuditFault → Octets
 audit_text Version = codes "the version is neither 1 nor 2"
 audit_text VersionBack = codes "the version is lower than that of the entry before"
 audit_text FirstEpoch = codes "the first epoch is 0"
@@ -43,7 +44,7 @@ audit_text NonceChanged = codes "the version is 1 and the nonce isn't that of th
 audit_text Verdict = codes "the signature isn't valid for this body"
 
 -- of whatever is refused
-abbrev pub refusal_text : Refusal → List ℕ
+abbrev pub refusal_text : Refusal → Octets
 refusal_text (Check fault) = check_text fault
 refusal_text (Wire fault) = wire_text fault
 refusal_text (Audit fault) = audit_text fault
@@ -52,6 +53,6 @@ refusal_text NoEntry = codes "no entry was accepted yet"
 
 -- a place with a text at its front and a zero byte after it: the text is cut to the room before that byte, and the rest of
 -- the place is as it was
-abbrev pub written : List ℕ → List ℕ → List ℕ
+abbrev pub written : Octets → Octets → Octets
 written [] text = []
 written (b ∷ place) text = take (length place) text ++ 0 ∷ drop (length text) place

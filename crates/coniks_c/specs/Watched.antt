@@ -1,5 +1,6 @@
 -- What a monitor for C sees, and when its step is refused.
-use Rattle.std.specs.Prelude.{◌≡◌, ◌∷◌, [], ℕ, List, Bool, Option, Some, None}
+use Rattle.std.specs.Prelude.{◌≡◌, ◌∷◌, [], Bool, Option, Some, None}
+use Rattle.coniks_proof.specs.Octets.{Octets}
 use Rattle.coniks_proof.specs.Proofs.{answer_of}
 use Rattle.coniks_proof.specs.Sha256.{sha256}
 use Rattle.coniks_proof.specs.Wire.{IsWire}
@@ -12,17 +13,17 @@ use Rattle.coniks_chain.specs.declared.seen.MonitorFault.{MonitorFault}
 use Rattle.coniks_chain.specs.declared.seen.Seen.{Seen}
 
 -- the expected key, none if there are no bytes
-abbrev pub expectation : List ℕ → Option (List ℕ)
+abbrev pub expectation : Octets → Option Octets
 expectation [] = None
 expectation (b ∷ bytes) = Some (b ∷ bytes)
 
 -- the bytes are a proof's, the step with it is sound, and this is seen
-abbrev pub Sees : (List ℕ → List ℕ → Bool) → Option AuditorState → List ℕ → List ℕ → Option (List ℕ) → Entry → List ℕ → Seen → Type 0
+abbrev pub Sees : (Octets → Octets → Bool) → Option AuditorState → Octets → Octets → Option Octets → Entry → Octets → Seen → Type 0
 Sees verdict before name index expected entry bytes seen =
     (proof : Proof) × IsWire bytes proof × IsSoundStep sha256 verdict before name index entry proof (answer_of proof.end)
     × (seen ≡ seen_of expected (answer_of proof.end))
 
 -- the bytes are a proof's, and this is the first error of the step with it
-abbrev pub IsRefusedStep : (List ℕ → List ℕ → Bool) → Option AuditorState → List ℕ → List ℕ → Entry → List ℕ → MonitorFault → Type 0
+abbrev pub IsRefusedStep : (Octets → Octets → Bool) → Option AuditorState → Octets → Octets → Entry → Octets → MonitorFault → Type 0
 IsRefusedStep verdict before name index entry bytes fault =
     (proof : Proof) × IsWire bytes proof × IsFirstStepFault sha256 verdict before name index entry proof fault

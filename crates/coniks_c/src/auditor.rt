@@ -1,6 +1,7 @@
 //! An auditor whose state the caller keeps.
 
-ghost use Rattle.std.specs.Prelude.{◌==◌, ◌≡◌, ◌≢◌, ◌⊎◌, ◌+◌, List, ℕ, Bool, None, Some, IfNone, IfSome, length, replicate};
+ghost use Rattle.std.specs.Prelude.{◌==◌, ◌≡◌, ◌≢◌, ◌⊎◌, ◌+◌, Bool, None, Some, IfNone, IfSome, length, replicate};
+ghost use Rattle.coniks_proof.specs.Octets.{Octets};
 ghost use Rattle.coniks_proof.specs.Sha256.{sha256};
 ghost use Rattle.coniks_chain.specs.Chain.{Follows, IsFirstEntryFault, before_of, place_of};
 ghost use Rattle.coniks_chain.specs.Entries.{entry_from};
@@ -50,11 +51,11 @@ pub extern "C" fn coniks_auditor_feed(
     signature_verdict: u32,
 ) -> u32
     ensures whole { result ≢ 48 → length entry.now ≡ ENTRY_BYTES }
-    ensures follows { result ≡ 0 → (verdict : List ℕ → List ℕ → Bool)
+    ensures follows { result ≡ 0 → (verdict : Octets → Octets → Bool)
         → IsToldBy verdict (entry_from entry.now) signature_verdict → Follows verdict (before_in state.old) (entry_from entry.now) }
     ensures kept { result ≡ 0 → before_in state.new ≡ Some (before_of sha256 (entry_from entry.now)) }
     ensures unused { result ≡ 0 → state.new.unused ≡ replicate 7 0 }
-    ensures refused { (fault : Fault) → result ≡ place_of fault + 33 → (verdict : List ℕ → List ℕ → Bool)
+    ensures refused { (fault : Fault) → result ≡ place_of fault + 33 → (verdict : Octets → Octets → Bool)
         → IsToldBy verdict (entry_from entry.now) signature_verdict → IsFirstEntryFault verdict (before_in state.old) (entry_from entry.now) fault }
     ensures other { result ≡ 48 → length entry.now ≢ ENTRY_BYTES }
     ensures known { (result ≡ 0) ⊎ IsAuditStatus result ⊎ (result ≡ 48) }

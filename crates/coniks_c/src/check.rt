@@ -1,9 +1,10 @@
 //! A proof, checked.
 
-ghost use Rattle.std.specs.Prelude.{◌≡◌, ◌≢◌, ◌⊎◌, ◌+◌, ◌≤◌, List, ℕ, Option, Some, None, length};
+ghost use Rattle.std.specs.Prelude.{◌≡◌, ◌≢◌, ◌⊎◌, ◌+◌, ◌≤◌, Option, Some, None, length};
 ghost use Rattle.coniks_c.specs.Checked.{IsRefusedCheck, ShowsAnswer, part};
 ghost use Rattle.coniks_c.specs.Statuses.{IsCheckStatus, IsWireStatus, status_of_answer};
 ghost use Rattle.coniks_proof.specs.Faults.{number};
+ghost use Rattle.coniks_proof.specs.Octets.{Octets};
 ghost use Rattle.coniks_proof.specs.Wire.{IsFirstFault, WireHas, order};
 ghost use Rattle.coniks_proof.specs.declared.checker.CheckFault.{CheckFault as Fault};
 ghost use Rattle.coniks_proof.specs.declared.wire.WireFault.{WireFault as Unread};
@@ -31,7 +32,7 @@ pub extern "C" fn coniks_check(
         name.now proof.now (Some (part proof.now key_start.new key_length.new)) }
     ensures within { result ≡ 0 → key_start.new + key_length.new ≤ length proof.now }
     ensures absent { result ≡ 1 → ShowsAnswer nonce.now.bytes root.now.bytes index.now.bytes name.now proof.now None }
-    ensures exact { (answer : Option (List ℕ))
+    ensures exact { (answer : Option Octets)
         → ShowsAnswer nonce.now.bytes root.now.bytes index.now.bytes name.now proof.now answer → result ≡ status_of_answer answer }
     ensures refused { (fault : Fault) → result ≡ number fault + 1 → IsRefusedCheck nonce.now.bytes root.now.bytes index.now.bytes name.now proof.now fault }
     ensures unread { (fault : Unread) → result ≡ order fault + 16 → IsFirstFault (WireHas proof.now) fault }

@@ -1,7 +1,8 @@
 //! A client's monitor of one name, whose state the caller keeps.
 
-ghost use Rattle.std.specs.Prelude.{◌≡◌, ◌≢◌, ◌⊎◌, ◌+◌, List, ℕ, Bool, Some, length, replicate};
+ghost use Rattle.std.specs.Prelude.{◌≡◌, ◌≢◌, ◌⊎◌, ◌+◌, Bool, Some, length, replicate};
 ghost use Rattle.coniks_proof.specs.Faults.{number};
+ghost use Rattle.coniks_proof.specs.Octets.{Octets};
 ghost use Rattle.coniks_proof.specs.Sha256.{sha256};
 ghost use Rattle.coniks_proof.specs.Wire.{IsFirstFault as IsFirstUnread, WireHas, order};
 ghost use Rattle.coniks_proof.specs.declared.checker.CheckFault.{CheckFault as Wrong};
@@ -50,16 +51,16 @@ pub extern "C" fn coniks_monitor_step(
 ) -> u32
     ensures whole { result ≢ 48 → length entry.now ≡ ENTRY_BYTES }
     ensures other { result ≡ 48 → length entry.now ≢ ENTRY_BYTES }
-    ensures seen { (seen : Sight) → result ≡ status_of_seen seen → (verdict : List ℕ → List ℕ → Bool)
+    ensures seen { (seen : Sight) → result ≡ status_of_seen seen → (verdict : Octets → Octets → Bool)
         → IsToldBy verdict (entry_from entry.now) signature_verdict
         → Sees verdict (before_in state.old) name.now index.now.bytes (expectation expected.now) (entry_from entry.now) proof.now seen }
     ensures kept { IsSeenStatus result → before_in state.new ≡ Some (before_of sha256 (entry_from entry.now)) }
     ensures unused { IsSeenStatus result → state.new.unused ≡ replicate 7 0 }
     ensures unread { (fault : Unread) → result ≡ order fault + 16 → IsFirstUnread (WireHas proof.now) fault }
-    ensures audited { (fault : Fault) → result ≡ place_of fault + 33 → (verdict : List ℕ → List ℕ → Bool)
+    ensures audited { (fault : Fault) → result ≡ place_of fault + 33 → (verdict : Octets → Octets → Bool)
         → IsToldBy verdict (entry_from entry.now) signature_verdict
         → IsRefusedStep verdict (before_in state.old) name.now index.now.bytes (entry_from entry.now) proof.now (Audit fault) }
-    ensures checked { (fault : Wrong) → result ≡ number fault + 1 → (verdict : List ℕ → List ℕ → Bool)
+    ensures checked { (fault : Wrong) → result ≡ number fault + 1 → (verdict : Octets → Octets → Bool)
         → IsToldBy verdict (entry_from entry.now) signature_verdict
         → IsRefusedStep verdict (before_in state.old) name.now index.now.bytes (entry_from entry.now) proof.now (Check fault) }
     ensures known { IsSeenStatus result ⊎ (result ≡ 48) ⊎ IsWireStatus result ⊎ IsAuditStatus result ⊎ IsCheckStatus result }

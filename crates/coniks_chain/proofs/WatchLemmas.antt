@@ -4,6 +4,7 @@ use Rattle.std.specs.List.{slice_get}
 use Rattle.std.proofs.lemmas.Option.{slice_get_within, slice_get-map, get_or_from_slice_get}
 use Rattle.std.proofs.lemmas.Bool.{cases_lt}
 use Rattle.std.proofs.lemmas.List.Sums.{count_by_more_yes, count_by_more_no}
+use Rattle.coniks_proof.specs.Hashing.{hashing}
 use Rattle.coniks_proof.specs.declared.paths.Proof.{Proof}
 use Rattle.coniks_proof.specs.Proofs.{answer_of}
 use Rattle.coniks_proof.proofs.Lemmas.{accepts-no_fault}
@@ -84,7 +85,7 @@ step_refuses : (hash : List ℕ → List ℕ) (verdict : List ℕ → List ℕ �
     → IsFirstStepFault hash verdict before name index entry proof fault → ¬ IsSoundStep hash verdict before name index entry proof (answer_of proof.end)
 step_refuses hash verdict before name index entry proof (Audit fault) first = λ sound. refuses verdict before entry fault first sound.follows
 step_refuses hash verdict before name index entry proof (Check fault) first = λ sound.
-    accepts-no_fault hash entry.body.nonce.0 entry.body.root.0 index name proof (answer_of proof.end) fault sound.accepted first.1.there
+    accepts-no_fault (hashing hash entry.body.nonce.0) entry.body.root.0 index name proof (answer_of proof.end) fault sound.accepted first.1.there
 
 -- a run of which one step is refused isn't sound
 pub unsound-no_run : (hash : List ℕ → List ℕ) (verdict : List ℕ → List ℕ → Bool) (start : Option AuditorState) (name index : List ℕ) (items : List (Entry × Proof)) (place : ℕ) (fault : MonitorFault)

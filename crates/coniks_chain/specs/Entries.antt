@@ -1,26 +1,27 @@
 -- Signed entries, their bytes and what is hashed to their links (CONIKS, section 3).
-use Rattle.std.specs.Prelude.{◌≡◌, ◌<◌, ◌^◌, ℕ, List, ◌∷◌, ◌++◌, drop, length, slice_index, take}
+use Rattle.std.specs.Prelude.{◌≡◌, ◌<◌, ◌^◌, ℕ, ◌∷◌, ◌++◌, drop, length, slice_index, take}
 use Rattle.std.specs.Int.{w64, from_be_bytes, to_be_bytes}
+use Rattle.coniks_proof.specs.Octets.{Octets}
 use Rattle.coniks_chain.specs.declared.entry.Body.{Body}
 use Rattle.coniks_chain.specs.declared.entry.Signature.{Signature}
 use Rattle.coniks_chain.specs.declared.entry.Entry.{Entry}
 
 -- the 145 bytes of a body, the parts of the length that their types have
-unfoldable pub body_bytes : Body → List ℕ
+unfoldable pub body_bytes : Body → Octets
 body_bytes body =
     body.version ∷ to_be_bytes w64 body.t ++ to_be_bytes w64 body.t_prev
     ++ body.root.0 ++ body.previous.0 ++ body.nonce.0 ++ body.policy
 
 -- the 209 bytes of an entry: its body's 145 and the signature's 64
-abbrev pub entry_bytes : Entry → List ℕ
+abbrev pub entry_bytes : Entry → Octets
 entry_bytes entry = body_bytes entry.body ++ entry.signature.0
 
 -- n bytes from a place on
-abbrev pub part_at : ℕ → ℕ → List ℕ → List ℕ
+abbrev pub part_at : ℕ → ℕ → Octets → Octets
 part_at place n bytes = take n (drop place bytes)
 
 -- the body that 145 bytes are
-unfoldable pub body_from : List ℕ → Body
+unfoldable pub body_from : Octets → Body
 body_from bytes =
     record {
       version = slice_index bytes 0;
@@ -33,11 +34,11 @@ body_from bytes =
     }
 
 -- the entry that 209 bytes are
-abbrev pub entry_from : List ℕ → Entry
+abbrev pub entry_from : Octets → Entry
 entry_from bytes = record { body = body_from (take 145 bytes); signature = record { 0 = drop 145 bytes } }
 
 -- the 210 bytes that are hashed to the link of an entry
-abbrev pub link_preimage : Entry → List ℕ
+abbrev pub link_preimage : Entry → Octets
 link_preimage entry = 0x53 ∷ entry_bytes entry
 
 -- numbers of eight bytes and arrays of 32, as a body in hand has them

@@ -1,18 +1,19 @@
 -- What a client sees, and how often.
-use Rattle.std.specs.Prelude.{ℕ, ◌+◌, List, Bool, true, false, Option, Some, None, if◌then◌else◌}
+use Rattle.std.specs.Prelude.{ℕ, ◌+◌, Bool, true, false, Option, Some, None, if◌then◌else◌}
 use Rattle.std.specs.Borrow.{Bor}
 use Rattle.std.specs.Option.{option_map}
 use Rattle.std.specs.Str.{bytes_eq}
+use Rattle.coniks_proof.specs.Octets.{Octets}
 use Rattle.coniks_chain.specs.declared.seen.Seen.{Seen}
 use Rattle.coniks_chain.specs.declared.seen.Seen.TheVariants.{Same, Changed, Absent}
 use Rattle.coniks_chain.specs.declared.seen.Tally.{Tally}
 
 -- the key in an option, if any
-abbrev pub key_shown : Option (Bor (List ℕ)) → Option (List ℕ)
+abbrev pub key_shown : Option (Bor Octets) → Option Octets
 key_shown expected = option_map (λ key. key.now) expected
 
 -- what the client sees, from the expected key and the answer
-abbrev pub seen_of : Option (List ℕ) → Option (List ℕ) → Seen
+abbrev pub seen_of : Option Octets → Option Octets → Seen
 seen_of None None = Same
 seen_of (Some want) None = Absent
 seen_of None (Some key) = Changed

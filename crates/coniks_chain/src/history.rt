@@ -1,7 +1,8 @@
 //! A collision from two histories that part.
 
-ghost use Rattle.std.specs.Prelude.{◌≡◌, ◌↔◌, List, ℕ, Bool, IfOk, IfSome, IfNone, IsNone, IsOk};
+ghost use Rattle.std.specs.Prelude.{◌≡◌, ◌↔◌, Bool, IfOk, IfSome, IfNone, IsNone, IsOk};
 ghost use Rattle.coniks_proof.specs.Collisions.{IsCollision};
+ghost use Rattle.coniks_proof.specs.Octets.{Octets};
 ghost use Rattle.coniks_chain.specs.Chain.{GoodChain};
 ghost use Rattle.coniks_chain.specs.Entries.{link_preimage};
 ghost use Rattle.coniks_chain.specs.Fork.{EndsWith, IsFork, HasNoFork};
@@ -82,7 +83,7 @@ pub fn extract_history<H: Hash32>(
     ensures calm { HasNoFork (H.digest_of h.now) a.now b.now → IsOk result }
 
     // For two good chains that end in one link there is a collision, unless the chains are the same.
-    ensures good { IfOk result (λ found. (verdict : List ℕ → List ℕ → Bool) (link : List ℕ)
+    ensures good { IfOk result (λ found. (verdict : Octets → Octets → Bool) (link : Octets)
         → GoodChain (H.digest_of h.now) verdict a.now → GoodChain (H.digest_of h.now) verdict b.now
         → EndsWith (H.digest_of h.now) a.now link → EndsWith (H.digest_of h.now) b.now link → IsNone found ↔ (a.now ≡ b.now)) }
 {

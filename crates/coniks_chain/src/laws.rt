@@ -1,6 +1,7 @@
 //! Lemmas about the definitions, each the contract of a function that only reads.
 
 ghost use Rattle.std.specs.Prelude.{◌≡◌, ◌++◌, ◌∷◌, [], ℕ, List, Bool, Option, Some, None, length, slice_get};
+ghost use Rattle.coniks_proof.specs.Octets.{Octets};
 ghost use Rattle.coniks_proof.specs.declared.paths.Proof.{Proof};
 ghost use Rattle.coniks_chain.specs.Chain.{Continues, Follows, GoodChain, IsFirstRefused, before_at};
 ghost use Rattle.coniks_chain.specs.Clients.{TwoClients};
@@ -12,13 +13,13 @@ ghost use Rattle.coniks_chain.specs.declared.seen.MonitorFault.{MonitorFault};
 
 /// Proves that a good chain with an entry that follows its last is a good chain.
 pub fn chain_grows()
-    ensures { (hash : List ℕ → List ℕ) (verdict : List ℕ → List ℕ → Bool) (entries : List Entry) (entry : Entry) → GoodChain hash verdict entries
+    ensures { (hash : Octets → Octets) (verdict : Octets → Octets → Bool) (entries : List Entry) (entry : Entry) → GoodChain hash verdict entries
         → Follows verdict (before_at hash None entries (length entries)) entry → GoodChain hash verdict (entries ++ entry ∷ []) }
 {}
 
 /// Proves that a good chain is one under every verification with the same results.
 pub fn same_verdict_same_chain()
-    ensures { (hash : List ℕ → List ℕ) (verdict other : List ℕ → List ℕ → Bool) → ((body signature : List ℕ) → other body signature ≡ verdict body signature)
+    ensures { (hash : Octets → Octets) (verdict other : Octets → Octets → Bool) → ((body signature : Octets) → other body signature ≡ verdict body signature)
         → (entries : List Entry) → GoodChain hash verdict entries → GoodChain hash other entries }
 {}
 
@@ -26,27 +27,27 @@ pub fn same_verdict_same_chain()
 ///
 /// In a good chain each entry up to the last of version 1 has version 1 and the first one's nonce.
 pub fn first_version_has_one_nonce()
-    ensures { (hash : List ℕ → List ℕ) (verdict : List ℕ → List ℕ → Bool) (entries : List Entry) (k : ℕ) (first entry : Entry) → GoodChain hash verdict entries
+    ensures { (hash : Octets → Octets) (verdict : Octets → Octets → Bool) (entries : List Entry) (k : ℕ) (first entry : Entry) → GoodChain hash verdict entries
         → slice_get entries 0 ≡ Some first → slice_get entries k ≡ Some entry → entry.body.version ≡ 1
         → (first.body.version ≡ 1) × (entry.body.nonce.0 ≡ first.body.nonce.0) }
 {}
 
 /// Proves that entries do not continue a chain if one of them is refused.
 pub fn refused_is_no_chain()
-    ensures { (hash : List ℕ → List ℕ) (verdict : List ℕ → List ℕ → Bool) (start : Option AuditorState) (entries : List Entry) (place : ℕ) (fault : AuditFault)
+    ensures { (hash : Octets → Octets) (verdict : Octets → Octets → Bool) (start : Option AuditorState) (entries : List Entry) (place : ℕ) (fault : AuditFault)
         → IsFirstRefused hash verdict start entries place fault → ¬ Continues hash verdict start entries }
 {}
 
 /// Proves that a run is not sound if one of its steps is refused.
 pub fn refused_is_no_sound_run()
-    ensures { (hash : List ℕ → List ℕ) (verdict : List ℕ → List ℕ → Bool) (start : Option AuditorState)
-        (name index : List ℕ) (items : List (Entry × Proof)) (place : ℕ) (fault : MonitorFault)
+    ensures { (hash : Octets → Octets) (verdict : Octets → Octets → Bool) (start : Option AuditorState)
+        (name index : Octets) (items : List (Entry × Proof)) (place : ℕ) (fault : MonitorFault)
         → IsFirstUnsound hash verdict start name index items place fault → ¬ IsSoundRun hash verdict start name index items }
 {}
 
 /// Proves that the entries of a sound run from the start are a good chain.
 pub fn sound_run_is_a_chain()
-    ensures { (hash : List ℕ → List ℕ) (verdict : List ℕ → List ℕ → Bool) (name index : List ℕ) (items : List (Entry × Proof))
+    ensures { (hash : Octets → Octets) (verdict : Octets → Octets → Bool) (name index : Octets) (items : List (Entry × Proof))
         → IsSoundRun hash verdict None name index items → GoodChain hash verdict (entries_watched items) }
 {}
 

@@ -1,6 +1,7 @@
 //! Signers of bodies, and the verification of their signatures.
 
-ghost use Rattle.std.specs.Prelude.{◌≡◌, ◌<◌, ◌+◌, ◌-◌, ◌^◌, List, ℕ, Bool, true, Option, Some, None, IfSome, IfNone};
+ghost use Rattle.std.specs.Prelude.{◌≡◌, ◌<◌, ◌+◌, ◌-◌, ◌^◌, ℕ, Bool, true, Option, Some, None, IfSome, IfNone};
+ghost use Rattle.coniks_proof.specs.Octets.{Octets};
 ghost use Rattle.coniks_chain.specs.Entries.{IsBody, body_bytes, signed};
 ghost use Rattle.coniks_chain.specs.Signing.{verified};
 ghost use Rattle.coniks_chain.specs.declared.entry.Signature.{Signature};
@@ -10,7 +11,7 @@ use crate::entry::{BODY_BYTES, Body, Entry, Signature};
 /// Verifies signatures.
 pub trait Verify {
     /// The verification result for a body's bytes and a signature.
-    ghost verdict_of: { Self → List ℕ → List ℕ → Bool };
+    ghost verdict_of: { Self → Octets → Octets → Bool };
 
     /// Returns whether the signature is one for the bytes of the body.
     fn verdict(&self, body: &[u8; BODY_BYTES], signature: &Signature) -> bool
@@ -27,7 +28,7 @@ pub trait Sign: Verify {
     ghost use Rattle.coniks_chain.specs.declared.entry.Signature.{Signature};
 
     /// One call of `sign`: the signer, the bytes, the signature that it returns or `None`, and the signer after the call.
-    ghost signs: { Self → List ℕ → Option Signature → Self → Type 0 };
+    ghost signs: { Self → Octets → Option Signature → Self → Type 0 };
 
     /// The number of signatures that it returned.
     ghost made_of: { Self → ℕ };
@@ -52,7 +53,7 @@ pub trait Sign: Verify {
         // The body is the one that has these bytes.
         ensures last { IfSome result (λ signature. (b : Body) → IsBody b → body_bytes b ≡ body.now → last_of self.new ≡ Some (signed b signature)) }
         ensures last_kept { IfNone result (last_of self.new ≡ last_of self.old) }
-        ensures verdicts_kept { (bytes signature : List ℕ) → Self.verdict_of self.new bytes signature ≡ Self.verdict_of self.old bytes signature };
+        ensures verdicts_kept { (bytes signature : Octets) → Self.verdict_of self.new bytes signature ≡ Self.verdict_of self.old bytes signature };
 
     /// Returns the number of signatures that it returned.
     fn made(&self) -> u64
@@ -144,14 +145,14 @@ pub trait SignatureSource: Verify {
     ///
     /// A source defines what its users know of a call, or `λ _ _ _ _. Unit {0}` if they need nothing. `Signer` and the
     /// directory promise that such a call was made, once and for the body that is signed.
-    ghost gives: { Self → List ℕ → Option Signature → Self → Type 0 };
+    ghost gives: { Self → Octets → Option Signature → Self → Type 0 };
 
     /// Returns a signature for the bytes of a body, or `None` if there is none now.
     ///
     /// The signature can be a wrong one. No verification result changes.
     fn signature(&mut self, body: &[u8; BODY_BYTES]) -> Option<Signature>
         ensures gives { gives self.old body.now result self.new }
-        ensures verdicts_kept { (bytes signature : List ℕ) → Self.verdict_of self.new bytes signature ≡ Self.verdict_of self.old bytes signature };
+        ensures verdicts_kept { (bytes signature : Octets) → Self.verdict_of self.new bytes signature ≡ Self.verdict_of self.old bytes signature };
 }
 
 /// A signer over a source of signatures.
@@ -169,7 +170,7 @@ pub struct Signer<S> {
 fn judged<S: SignatureSource>(source: &mut S, body: &[u8; BODY_BYTES]) -> Option<Signature>
     ensures given { (given : Option Signature) × S.gives source.old body.now given source.new × (result ≡ verified (S.verdict_of source.new body.now) given) }
     ensures verdict { IfSome result (λ signature. S.verdict_of source.new body.now signature.0 ≡ true) }
-    ensures verdicts_kept { (bytes signature : List ℕ) → S.verdict_of source.new bytes signature ≡ S.verdict_of source.old bytes signature }
+    ensures verdicts_kept { (bytes signature : Octets) → S.verdict_of source.new bytes signature ≡ S.verdict_of source.old bytes signature }
 {
     let signature = source.signature(body)?;
     if source.verdict(body, &signature) {

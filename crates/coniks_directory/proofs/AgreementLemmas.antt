@@ -2,6 +2,7 @@
 use Rattle.std.proofs.Common.{◌≡◌, ℕ, ◌+◌, List, [], ◌∷◌, ◌++◌, length, map, take, drop, true, false, refl, sym, ap, subst, ◌∙◌, ◌||◌, inl, inr, Option, None, append_assoc, slice_get, Some}
 use Rattle.std.proofs.lemmas.List.{take-append-drop}
 use Rattle.std.proofs.lemmas.Bool.{or_left}
+use Rattle.coniks_tree.specs.Table.{table}
 use Rattle.coniks_directory.proofs.Words.{Batch, AuditorState, Entry, Epoch, HoldsEpoch, IsAccepted, IsChainOf, IsMap, IsUpdate, IsUpdateOf, Grows, Mirrors, Numbered, Operation, Prepared, Record}
 use Rattle.coniks_directory.proofs.Words.{Registered, Registry, SameEntries, Shown, State, Whole, after, backed_by, before_at, body_of, bound_by, bytes_eq}
 use Rattle.coniks_directory.proofs.Words.{bytes_eq-Decides, clashes, entries_of, false_from_ne_true, fault_from, fault_of, first_fault, has_name, history_of, latest_registry, map-append, or_cases}
@@ -159,7 +160,7 @@ module _ (hash index_of also : List ℕ → List ℕ) where
     agree_at : (n : ℕ) → AgreeOn index_of also (registry_at s.records n)
     agree_at n name has = agree name (have_at s.records n name has)
 
-    holds_agree : (e : Epoch) → HoldsEpoch hash index_of s.nodes s.records e → HoldsEpoch hash also s.nodes s.records e
+    holds_agree : (e : Epoch) → HoldsEpoch hash index_of (table s.nodes s.records) e → HoldsEpoch hash also (table s.nodes s.records) e
     holds_agree e h = record {
       known = h.known;
       counted = h.counted;

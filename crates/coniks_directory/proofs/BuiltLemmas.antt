@@ -1,7 +1,9 @@
 -- What a part and the records of a batch leave.
 use Rattle.std.proofs.Common.{◌≡◌, ◌<◌, ◌≤◌, ◌+◌, ◌*◌, ℕ, suc, List, [], ◌∷◌, ◌++◌, length, map, arith, Bool, true, false, refl, sym, ap, subst, ◌∙◌, inl, inr, Option, Some, None, slice_get}
+use Rattle.coniks_proof.specs.Hashing.{hashing}
+use Rattle.coniks_tree.specs.Table.{Table}
 use Rattle.coniks_directory.proofs.Words.{AllPlaced, AreApart, AreChangesOf, ArePendingRecords, AreSealed, AreInOrder, BTreeMap, Change, Entry, Extends, Fits}
-use Rattle.coniks_directory.proofs.Words.{Growth, IsBuilt, IsIn, IsIndex, IsMap, IsGrowth, IsOldMap, IsSmall, IsStored, KeepsNone, MayFollow, Mirrors, Node, Numbered, Operation, Part}
+use Rattle.coniks_directory.proofs.Words.{Growth, IsBuilt, IsIn, IsIndex, IsMap, IsGrowth, IsOldMap, IsSmall, IsStored, KeepsNone, MayFollow, Mirrors, Numbered, Operation, Part}
 use Rattle.coniks_directory.proofs.Words.{Placed, Record, Registered, Registry, Root, SameEntries, ShowsLatest, Stands, after, backed_by}
 use Rattle.coniks_directory.proofs.Words.{bound_by, entries_of, entry_of, entry_of_change, entry_of_record, false_from_ne_true, first_fault}
 use Rattle.coniks_directory.proofs.Words.{has_name, length-map, most_anew, node_count, overwritten, registered_at, registered_of, unchanged}
@@ -124,11 +126,11 @@ placed_all all [] stored = tt
 placed_all all (c ∷ cs) stored = (stored (entry_of_change c) (inl refl), placed_all all cs (λ e there. stored e (inr there)))
 
 -- the old map, and the registry that it mirrors
-old_map : (hash index_of : List ℕ → List ℕ) (nonce : List ℕ) (nodes : List Node) (records : List Record) (root : Option Root) (registry : Registry)
-    → ShowsLatest hash index_of nonce nodes records root registry
-    → (es : List Numbered) × IsOldMap hash nonce nodes records root es × Mirrors hash index_of records es registry
-old_map hash index_of nonce nodes records (Some root) registry shown = (shown.entries, shown.shows, shown.mirrors)
-old_map hash index_of nonce nodes records None registry none = rw none (
+old_map : (hash index_of : List ℕ → List ℕ) (nonce : List ℕ) (t : Table) (root : Option Root) (registry : Registry)
+    → ShowsLatest hash index_of nonce t root registry
+    → (es : List Numbered) × IsOldMap (hashing hash nonce) t root es × Mirrors hash index_of t.records es registry
+old_map hash index_of nonce t (Some root) registry shown = (shown.entries, shown.shows, shown.mirrors)
+old_map hash index_of nonce t None registry none = rw none (
   [],
   refl,
   record {
@@ -155,10 +157,10 @@ few_kept (Some root) = omega arith
 few_kept None = omega arith
 
 -- the part that `build` makes of the changes of a batch without error, as its tree grows by them
-module _ (hash index_of : List ℕ → List ℕ) (nonce latest : List ℕ) (nodes : List Node) (records : List Record) (root : Option Root) (registry : Registry) (ops : List Operation)
+module _ (hash index_of : List ℕ → List ℕ) (nonce latest : List ℕ) (t : Table) (root : Option Root) (registry : Registry) (ops : List Operation)
     (new : List Record) (numbers : BTreeMap (List ℕ) ℕ) (changes : List Change) (growth : Growth) (p : Part)
-    (shown : ShowsLatest hash index_of latest nodes records root registry) (none : first_fault index_of registry ops ≡ None) (s : ArePendingRecords hash index_of (map bound_by ops) new numbers)
-    (z : AreSealed hash new) (c : AreChangesOf (length records) new (entries_of_changes changes)) where
+    (shown : ShowsLatest hash index_of latest t root registry) (none : first_fault index_of registry ops ≡ None) (s : ArePendingRecords hash index_of (map bound_by ops) new numbers)
+    (z : AreSealed hash new) (c : AreChangesOf (length t.records) new (entries_of_changes changes)) where
   -- there are as many changes as operations
   as_many : length changes ≡ length ops
   as_many = sym (length-map changes entry_of_change) ∙ c.counted ∙ sym (length-map new registered_of) ∙ ap length s.binds ∙ length-map ops bound_by
@@ -166,8 +168,8 @@ module _ (hash index_of : List ℕ → List ℕ) (nonce latest : List ℕ) (node
   own : IsMap (entries_of_changes changes)
   own = increasing_map (entries_of_changes changes) c.increasing
 
-  old : (es : List Numbered) × IsOldMap hash latest nodes records root es × Mirrors hash index_of records es registry
-  old = old_map hash index_of latest nodes records root registry shown
+  old : (es : List Numbered) × IsOldMap (hashing hash latest) t root es × Mirrors hash index_of t.records es registry
+  old = old_map hash index_of latest t root registry shown
 
   may : MayFollow index_of registry ops
   may = may_follow index_of registry ops (own_of_map hash index_of registry old.2.names) none
@@ -180,50 +182,50 @@ module _ (hash index_of : List ℕ → List ℕ) (nonce latest : List ℕ) (node
   unfolding changed
   changed_map = IsMap-overwritten old.0 (entries_of_changes changes) old.2.indices own
 
-  mirrored : Mirrors hash index_of (records ++ new) changed (after registry ops)
+  mirrored : Mirrors hash index_of (t.records ++ new) changed (after registry ops)
   unfolding changed
-  mirrored = Mirrors-after hash index_of records old.0 registry old.2 ops new numbers s z (entries_of_changes changes) c may
+  mirrored = Mirrors-after hash index_of t.records old.0 registry old.2 ops new numbers s z (entries_of_changes changes) c may
 
-  stored : AllPlaced (records ++ new) changes
-  stored = placed_all (records ++ new) changes (stored_new hash index_of records old.0 registry old.2 ops new numbers s z (entries_of_changes changes) c may)
+  stored : AllPlaced (t.records ++ new) changes
+  stored = placed_all (t.records ++ new) changes (stored_new hash index_of t.records old.0 registry old.2 ops new numbers s z (entries_of_changes changes) c may)
 
   -- what `build` says of the part
   pub record IsMade : Type 0 where
-    pub fits : Fits (length nodes) 0 p
+    pub fits : Fits (length t.nodes) 0 p
     pub few : 0 < length growth.changes.items → node_count p ≤ 512 * length growth.changes.items + 1
     pub empty : length growth.changes.items ≡ 0 → p ≡ unchanged growth.root
-    pub placed : (all : List Record) → Extends records all → AllPlaced all growth.changes.items → Placed all p
+    pub placed : (all : List Record) → Extends t.records all → AllPlaced all growth.changes.items → Placed all p
     pub keeps : growth.root ≡ None → KeepsNone p
-    pub many : 0 < length growth.changes.items → (entries : List Numbered) → IsOldMap hash nonce nodes records growth.root entries → AreInOrder 0 (entries_of_changes growth.changes.items)
+    pub many : 0 < length growth.changes.items → (entries : List Numbered) → IsOldMap (hashing hash nonce) t growth.root entries → AreInOrder 0 (entries_of_changes growth.changes.items)
         → AreApart 0 (overwritten entries (entries_of_changes growth.changes.items)) → node_count p ≡ new_nodes 0 entries (entries_of_changes growth.changes.items)
-    pub stands : (entries : List Numbered) → IsOldMap hash nonce nodes records growth.root entries → AreInOrder 0 (entries_of_changes growth.changes.items)
-        → AreApart 0 (overwritten entries (entries_of_changes growth.changes.items)) → Stands hash nonce nodes records p [] (overwritten entries (entries_of_changes growth.changes.items))
+    pub stands : (entries : List Numbered) → IsOldMap (hashing hash nonce) t growth.root entries → AreInOrder 0 (entries_of_changes growth.changes.items)
+        → AreApart 0 (overwritten entries (entries_of_changes growth.changes.items)) → Stands (hashing hash nonce) t p [] (overwritten entries (entries_of_changes growth.changes.items))
 
-  module _ (anew : Bool) (grows : IsGrowth nodes records root anew changes growth) (under : anew ≡ false → latest ≡ nonce) (made : IsMade) where
+  module _ (anew : Bool) (grows : IsGrowth t root anew changes growth) (under : anew ≡ false → latest ≡ nonce) (made : IsMade) where
     -- by the changes as they are from the root
-    stands_kept : anew ≡ false → Stands hash nonce nodes records p [] changed
+    stands_kept : anew ≡ false → Stands (hashing hash nonce) t p [] changed
     unfolding changed old
     stands_kept off =
         let kept = grows.kept off in
         let same : entries_of_changes growth.changes.items ≡ entries_of_changes changes = ap entries_of_changes kept.1 in
-        let there : IsOldMap hash nonce nodes records growth.root old.0 = rw (kept.0, sym (under off)) old.1 in
+        let there : IsOldMap (hashing hash nonce) t growth.root old.0 = rw (kept.0, sym (under off)) old.1 in
         rw same at (made.stands old.0 there (rw same (AreIncreasing-in_order (entries_of_changes changes) own c.increasing)) (rw same (IsMap-apart changed changed_map)))
 
     -- or by the whole changed map from nothing
     listed : anew ≡ true → Lists growth.changes.items changed
     unfolding changed
-    listed on = grows.all on hash latest old.0 old.1 old.2.indices own (AreIncreasing-in_order (entries_of_changes changes) own c.increasing)
+    listed on = grows.all on (hashing hash latest) old.0 old.1 old.2.indices own (AreIncreasing-in_order (entries_of_changes changes) own c.increasing)
 
-    stands_anew : anew ≡ true → Stands hash nonce nodes records p [] changed
+    stands_anew : anew ≡ true → Stands (hashing hash nonce) t p [] changed
     stands_anew on =
         let l = listed on in
-        Lists-stands hash nonce nodes records p growth.changes.items changed changed_map l (made.stands [] (rw (grows.none on) refl) l.order (Lists-apart growth.changes.items changed l))
+        Lists-stands (hashing hash nonce) t p growth.changes.items changed changed_map l (made.stands [] (rw (grows.none on) refl) l.order (Lists-apart growth.changes.items changed l))
 
     -- which has as many entries as the registry has names
     many_anew : anew ≡ true → length growth.changes.items ≤ length (after registry ops)
     many_anew on =
         let l = listed on in
-        let f = registered_at (records ++ new) in
+        let f = registered_at (t.records ++ new) in
         let listed_few = no_more (entries_of_changes growth.changes.items) changed (l.once changed_map) l.same.back in
         let changed_few = no_more (map (backed_by f) changed) (entries_of hash index_of (after registry ops)) (IsMap-backed f changed changed_map) mirrored.same.there in
         omega (arith, listed_few, changed_few, length-map growth.changes.items entry_of_change, length-map changed (backed_by f), length-map (after registry ops) (entry_of hash index_of))
@@ -249,18 +251,18 @@ module _ (hash index_of : List ℕ → List ℕ) (nonce latest : List ℕ) (node
     count_kept off some =
         let kept = grows.kept off in
         let is : entries_of_changes growth.changes.items ≡ entries_of_changes changes = ap entries_of_changes kept.1 in
-        let there : IsOldMap hash nonce nodes records growth.root old.0 = rw (kept.0, sym (under off)) old.1 in
+        let there : IsOldMap (hashing hash nonce) t growth.root old.0 = rw (kept.0, sym (under off)) old.1 in
         let many : length growth.changes.items ≡ length ops = ap length kept.1 ∙ as_many in
         made.many (omega (arith, many, some)) old.0 there (rw is (AreIncreasing-in_order (entries_of_changes changes) own c.increasing)) (rw is (IsMap-apart changed changed_map))
         ∙ ap (new_nodes 0 old.0) is
-        ∙ count_same old.0 (places_of index_of registry) (entries_of_changes changes) (places_of index_of (map bound_by ops)) (mirrors_alike hash index_of records old.0 registry old.2)
-        (changes_alike hash index_of (length records) (map bound_by ops) new numbers (entries_of_changes changes) s c own)
+        ∙ count_same old.0 (places_of index_of registry) (entries_of_changes changes) (places_of index_of (map bound_by ops)) (mirrors_alike hash index_of t.records old.0 registry old.2)
+        (changes_alike hash index_of (length t.records) (map bound_by ops) new numbers (entries_of_changes changes) s c own)
 
     -- or as many as the whole changed map has
     listed_alike : (on : anew ≡ true) → AreAlike (entries_of_changes growth.changes.items) (places_of index_of (after registry ops))
     listed_alike on =
         let l = listed on in
-        let m = mirrors_alike hash index_of (records ++ new) changed (after registry ops) mirrored in
+        let m = mirrors_alike hash index_of (t.records ++ new) changed (after registry ops) mirrored in
         record {
           there = λ e is. m.there e (l.same.back e is);
           back = λ f is. let k = m.back f is in (k.0, l.same.there k.0 k.1, k.2);
@@ -288,15 +290,15 @@ module _ (hash index_of : List ℕ → List ℕ) (nonce latest : List ℕ) (node
       | x ∷ xs ↦ λ is. count_kept off (rw is (omega arith)) ∙ ap (λ os. new_nodes 0 (places_of index_of registry) (places_of index_of (map bound_by os))) is
     ]) refl
 
-    pub built : IsBuilt hash index_of nonce nodes records root registry ops anew p new
+    pub built : IsBuilt hash index_of nonce t root registry ops anew p new
     built = record {
       binds = s.binds;
       fits = made.fits;
       counted = counts anew refl;
       held = held_by index_of new (λ n r at. (s.drafted n r at).indexed);
       small = (elim anew as (λ b. anew ≡ b → IsSmall b root ops (after registry ops) p) [ true ↦ few_anew | false ↦ few_from_root ]) refl;
-      placed = made.placed (records ++ new) (Extends-append records new) (grows.placed (records ++ new) (Extends-append records new) stored);
+      placed = made.placed (t.records ++ new) (Extends-append t.records new) (grows.placed (t.records ++ new) (Extends-append t.records new) stored);
       entries = changed;
-      stands = (elim anew as (λ b. anew ≡ b → Stands hash nonce nodes records p [] changed) [ true ↦ stands_anew | false ↦ stands_kept ]) refl;
+      stands = (elim anew as (λ b. anew ≡ b → Stands (hashing hash nonce) t p [] changed) [ true ↦ stands_anew | false ↦ stands_kept ]) refl;
       mirrors = mirrored;
     }

@@ -1,5 +1,6 @@
 -- An update that isn't stale is one of the directory as it is.
 use Rattle.std.proofs.Common.{◌≡◌, ℕ, List, [], ◌++◌, length, map, refl, sym, ap, ◌∙◌, arith, length-append, append_assoc, Option}
+use Rattle.coniks_proof.specs.Hashing.{hashing}
 use Rattle.coniks_directory.proofs.Words.{RotatesTo, Grows, IsUpdate, IsUpdateOf, Prepared, Record, State, append-nil, history_of, nil_from_length}
 use Rattle.coniks_directory.proofs.Words.{registry_after, registry_at, shown_of}
 use Rattle.coniks_tree.proofs.Lemmas.{Extends-trans, Fits-more, Stands-extended}
@@ -28,7 +29,7 @@ module _ (hash index_of : List ℕ → List ℕ) (s t : State) (p : Prepared) (g
     fits = Fits-more (length s.nodes) (length t.nodes) 0 p.part grows.longer u.fits;
     placed = rw same_records u.placed;
     entries = u.entries;
-    stands = rw same_records (Stands-extended hash p.nonce.0 s.nodes t.nodes s.records grows.nodes p.part [] u.entries u.stands);
+    stands = rw same_records (Stands-extended (hashing hash p.nonce.0) s.nodes t.nodes s.records grows.nodes p.part [] u.entries u.stands);
     mirrors = rw same_records u.mirrors;
   }
 

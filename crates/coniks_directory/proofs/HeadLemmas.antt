@@ -1,5 +1,6 @@
 -- The heads of a chain, whose epochs increase.
 use Rattle.std.proofs.Common.{◌≡◌, ℕ, suc, ◌+◌, ◌≤◌, get_or, append_assoc, length-append, List, [], ◌∷◌, ◌++◌, length, map, refl, sym, ap, subst, ◌∙◌, arith, Option, Some, None, slice_get}
+use Rattle.coniks_proof.specs.Octets.{Octets}
 use Rattle.coniks_directory.proofs.Words.{AreRising, Begins, Body, Head, IsChainOf, Shown, before_at, head_at, heads_of, last_of, link_before}
 use Rattle.coniks_directory.proofs.Words.{map-map, numbers_of, same_Some, zeros}
 use Rattle.coniks_chain.specs.declared.entry.Entry.{Entry}
@@ -43,12 +44,12 @@ no_older hash index_of policy history chain had has latest answer is up begins w
     subst (λ h. latest.epoch ≤ h.epoch) other (subst (λ h. h.epoch ≤ epoch (get_or (heads_of hash chain) last.0 latest)) one sorted)
 
 -- the link of a head, zeros where there is none
-abbrev pub link_in : Option Head → List ℕ
+abbrev pub link_in : Option Head → Octets
 link_in None = zeros
 link_in (Some h) = h.link.0
 
 -- the last head holds the link that the next entry names
-pub last_links : (hash : List ℕ → List ℕ) (chain : List Entry) → link_in (last_of (heads_of hash chain)) ≡ link_before (before_at hash None chain (length chain))
+pub last_links : (hash : Octets → Octets) (chain : List Entry) → link_in (last_of (heads_of hash chain)) ≡ link_before (before_at hash None chain (length chain))
 last_links hash [] = refl
 last_links hash (e ∷ []) = refl
 last_links hash (e ∷ f ∷ chain) = last_links hash (f ∷ chain)

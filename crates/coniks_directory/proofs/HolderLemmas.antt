@@ -1,6 +1,7 @@
 -- Who has an index, and what that says of a name at it.
 use Rattle.std.proofs.Common.{◌≡◌, ℕ, List, [], ◌∷◌, map, true, false, refl, sym, ap, subst, ◌∙◌, not, inl, inr, Option, Some, None, is_some, slice_get}
-use Rattle.coniks_directory.proofs.Words.{Bor, Entry, Finds, HolderIs, IsFree, IsHeld, IsIn, Node, Numbered, Record, RecordNo, Registered}
+use Rattle.coniks_tree.specs.Table.{Table}
+use Rattle.coniks_directory.proofs.Words.{Bor, Entry, Finds, HolderIs, IsFree, IsHeld, IsIn, Numbered, Record, RecordNo, Registered}
 use Rattle.coniks_directory.proofs.Words.{Registry, ShowsRegistry, backed_by, bytes_eq, bytes_eq-Decides, clashes, entries_of, entry_of}
 use Rattle.coniks_directory.proofs.Words.{entry_of_record, false_from_ne_true, has_name, registered_at, registered_by, registered_of}
 use Rattle.coniks_proof.proofs.Lemmas.{clash_found, clash_made, entry_in, eq_same, in_entries, named_in, named_of, same_bool, same_entry}
@@ -16,20 +17,20 @@ backed_in f [] x there = absurd there
 backed_in f (y ∷ es) x (inl here) = inl (ap (backed_by f) here)
 backed_in f (y ∷ es) x (inr later) = inr (backed_in f es x later)
 
-module _ (hash index_of : List ℕ → List ℕ) (nonce : List ℕ) (nodes : List Node) (records : List Record)
-    (root : ℕ) (registry : Registry) (s : ShowsRegistry hash index_of nonce nodes records root registry) where
-  pub found_none : (i : List ℕ) → Finds records i None s.entries → IsFree index_of registry i
+module _ (hash index_of : List ℕ → List ℕ) (nonce : List ℕ) (t : Table)
+    (root : ℕ) (registry : Registry) (s : ShowsRegistry hash index_of nonce t root registry) where
+  pub found_none : (i : List ℕ) → Finds t.records i None s.entries → IsFree index_of registry i
   found_none i finds = λ name at. false_from_ne_true (has_name registry name) (λ h.
       let n = named_of registry name h in
-      let k = in_backed (registered_at records) s.entries (entry_of hash index_of n.bound) (s.mirrors.same.back (entry_of hash index_of n.bound) (entry_in hash index_of n.bound registry n.there)) in
+      let k = in_backed (registered_at t.records) s.entries (entry_of hash index_of n.bound) (s.mirrors.same.back (entry_of hash index_of n.bound) (entry_in hash index_of n.bound registry n.there)) in
       finds k.0 k.1 (ap (λ (e : Entry Registered). e.index) k.2 ∙ ap index_of n.named ∙ at))
 
-  pub found_some : (i : List ℕ) (place : RecordNo) (r : Record) → Finds records i (Some place) s.entries → slice_get records place.0 ≡ Some r → IsHeld index_of registry i (registered_of r)
+  pub found_some : (i : List ℕ) (place : RecordNo) (r : Record) → Finds t.records i (Some place) s.entries → slice_get t.records place.0 ≡ Some r → IsHeld index_of registry i (registered_of r)
   found_some i place r finds at =
       let finds-at = finds.1 in
       let one : finds.0 ≡ r = cc in
       let e : Numbered = entry_of_record place.0 finds.0 in
-      let f = registered_at records in
+      let f = registered_at t.records in
       let stands : IsIn (backed_by f e) (entries_of hash index_of registry) = s.mirrors.same.there (backed_by f e) (backed_in f s.entries e finds.2) in
       let own = in_entries hash index_of (backed_by f e) registry stands in
       let binds : f place.0 ≡ registered_of r = ap registered_by at in

@@ -1,5 +1,7 @@
 -- What an install leaves.
 use Rattle.std.proofs.Common.{◌≡◌, ℕ, suc, ◌<◌, ◌≤◌, List, [], ◌∷◌, ◌++◌, length, map, Bool, true, refl, sym, ap, subst, ◌∙◌, arith, inl, inr, Some, None, slice_get, length-append}
+use Rattle.coniks_proof.specs.Hashing.{hashing}
+use Rattle.coniks_tree.specs.Table.{table}
 use Rattle.coniks_directory.proofs.Words.{Body, Digest, Epoch, Extends, GoodChain, HoldsEpoch}
 use Rattle.coniks_directory.proofs.Words.{IsNext, IsUnder, IsUpdate, Leaves, Node, Numbered, Prepared, Record, Root}
 use Rattle.coniks_directory.proofs.Words.{Shown, Shows, Stands, State, Whole, before_at, body_bytes}
@@ -16,7 +18,7 @@ use Rattle.coniks_directory.proofs.StateLemmas.{registry_at-append}
 -- ---- the epochs before
 
 holds-extended : (hash index_of : List ℕ → List ℕ) (nodes further : List Node) (records more : List Record) (e : Epoch) → Extends nodes further → length nodes ≤ length further
-    → HoldsEpoch hash index_of nodes records e → HoldsEpoch hash index_of further (records ++ more) e
+    → HoldsEpoch hash index_of (table nodes records) e → HoldsEpoch hash index_of (table further (records ++ more)) e
 holds-extended hash index_of nodes further records more e grown longer h =
     let r = h.registry in
     let kept = Extends-append records more in
@@ -25,7 +27,7 @@ holds-extended hash index_of nodes further records more e grown longer h =
       counted = let c = h.counted in omega (arith, length-append records more);
       registry = record {
         entries = r.entries;
-        shows = Shows-extended hash e.nonce.0 nodes further records (records ++ more) grown kept e.root.0 [] r.entries r.shows;
+        shows = Shows-extended (hashing hash e.nonce.0) (table nodes records) (table further (records ++ more)) grown kept e.root.0 [] r.entries r.shows;
         mirrors = rw (registry_at-append records more e.count h.counted) (Mirrors-extended hash index_of records (records ++ more) r.entries _ kept r.mirrors);
       };
     }
@@ -60,13 +62,13 @@ installed_is s p root t count entry nodes records epochs chain records-are count
 module _ (hash index_of : List ℕ → List ℕ) (s : State) (whole : Whole hash index_of s) (p : Prepared) (u : IsUpdate hash index_of s p)
     (t : ℕ) (later : latest_epoch (history_of s) < t) (entry : Entry) (body : IsNext hash index_of s p t entry.body)
     (nodes : List Node) (root : Root) (longer : length s.nodes ≤ length nodes) (older : Extends s.nodes nodes) (known : root.0 < length nodes)
-    (shows : (es : List Numbered) → Stands hash p.nonce.0 s.nodes s.records p.part [] es → Shows hash p.nonce.0 nodes (records_after s p) root.0 [] es) where
+    (shows : (es : List Numbered) → Stands (hashing hash p.nonce.0) (table s.nodes s.records) p.part [] es → Shows (hashing hash p.nonce.0) (table nodes (records_after s p)) root.0 [] es) where
   history-installed : history_of (installed s p nodes root t entry) ≡ history_of s ++ shown_after s p t ∷ []
   history-installed =
       map-append (shown_of (records_after s p)) s.epochs (epoch_after s p root t ∷ [])
       ∙ ap (λ (ss : List Shown). ss ++ shown_after s p t ∷ []) (shown-before s.records p.records.items s.epochs (λ k e at. (whole.held k e at).counted))
 
-  held_next : HoldsEpoch hash index_of nodes (records_after s p) (epoch_after s p root t)
+  held_next : HoldsEpoch hash index_of (table nodes (records_after s p)) (epoch_after s p root t)
   held_next = record {
     known = known;
     counted = omega arith;
@@ -81,7 +83,7 @@ module _ (hash index_of : List ℕ → List ℕ) (s : State) (whole : Whole hash
   whole_next = record {
     held = λ k x at. elim (get-push s.epochs (epoch_after s p root t) k x at) [
       | inl old ↦ holds-extended hash index_of s.nodes nodes s.records p.records.items x older longer (whole.held k x old)
-      | inr new ↦ subst (HoldsEpoch hash index_of nodes (records_after s p)) new.1 held_next
+      | inr new ↦ subst (HoldsEpoch hash index_of (table nodes (records_after s p))) new.1 held_next
     ];
     last = at_end last_count (λ e. e.count) (λ e. refl) (λ x y es. refl) s.epochs (epoch_after s p root t);
     rising = rw (history-installed, map-append (λ (x : Shown). x.t) (history_of s) (shown_after s p t ∷ [])) (rising-push 0 (numbers_of (history_of s)) t whole.rising later);
@@ -120,7 +122,8 @@ module _ (hash index_of : List ℕ → List ℕ) (s : State) (whole : Whole hash
 -- the body that an install signs is that of the epoch which it makes
 pub body_is : (hash index_of : List ℕ → List ℕ) (s : State) (p : Prepared) (t latest : ℕ) (root previous : Digest) (u : IsUpdate hash index_of s p)
     → Whole hash index_of s → latest ≡ latest_epoch (history_of s)
-    → ((es : List Numbered) → Stands hash p.nonce.0 s.nodes s.records p.part [] es → root.0 ≡ node hash p.nonce.0 [] es) → previous.0 ≡ link_before (before_at hash None s.chain (length s.chain))
+    → ((es : List Numbered) → Stands (hashing hash p.nonce.0) (table s.nodes s.records) p.part [] es → root.0 ≡ node (hashing hash p.nonce.0) [] es)
+    → previous.0 ≡ link_before (before_at hash None s.chain (length s.chain))
     → (let b : Body = record { version = p.version; t = t; t_prev = latest; root = root; previous = previous; nonce = p.nonce; policy = s.policy } in IsNext hash index_of s p t b)
 body_is hash index_of s p t latest root previous u whole latest-is root-is previous-is =
     let epoch = latest-is ∙ sym (is_last hash index_of s.policy s.nonce (history_of s) s.chain whole.chain).epoch in

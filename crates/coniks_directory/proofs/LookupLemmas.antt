@@ -1,5 +1,7 @@
 -- What a state shows at an epoch.
 use Rattle.std.proofs.Common.{◌≡◌, ◌==◌, ℕ, List, [], ◌∷◌, map, true, false, refl, sym, ap, subst, ◌∙◌, cond, arith, inl, inr, Some, None, option_map, slice_get}
+use Rattle.coniks_proof.specs.Hashing.{hashing}
+use Rattle.coniks_tree.specs.Table.{table}
 use Rattle.coniks_directory.proofs.Words.{Accepts, AllHaveOwnIndices, AreRising, Body, Epoch, HaveOwnIndices, IsAcceptedAt, IsEpochAt, IsFree}
 use Rattle.coniks_directory.proofs.Words.{IsLength, IsPath, MAX_NAME, Numbered, Proof, Record, Shown, Shows, State, Whole, backed_by}
 use Rattle.coniks_directory.proofs.Words.{entries_of, find, has_name, history_of, key_of, length-map, map-map, node, registered_at, root_at}
@@ -54,25 +56,25 @@ module _ (hash index_of : List ℕ → List ℕ) (s : State) (whole : Whole hash
 
 module _ (hash index_of : List ℕ → List ℕ) (s : State) (t : ℕ) (e : Epoch) (entry : Entry) (i : IsEpochAt hash index_of s t e entry) where
   -- the hash of its root is that of its registry
-  pub rooted : (root : List ℕ) → ((entries : List Numbered) → Shows hash e.nonce.0 s.nodes s.records e.root.0 [] entries → root ≡ node hash e.nonce.0 [] entries)
+  pub rooted : (root : List ℕ) → ((entries : List Numbered) → Shows (hashing hash e.nonce.0) (table s.nodes s.records) e.root.0 [] entries → root ≡ node (hashing hash e.nonce.0) [] entries)
       → Some root ≡ option_map (root_at hash index_of) (shown_at (history_of s) t)
   rooted root is =
       let r = i.holds.registry in
       rw i.shown (ap Some (is r.entries r.shows ∙ mirrored_root hash index_of e.nonce.0 s.records r.entries (shown_of s.records e).registry r.mirrors))
 
   -- a path from its root is one in its registry's tree
-  pub pathed : (j : List ℕ) (proof : Proof) → ((entries : List Numbered) → Shows hash e.nonce.0 s.nodes s.records e.root.0 [] entries
-      → IsPath hash e.nonce.0 (map (backed_by (registered_at s.records)) entries) j proof)
-      → IsPath hash e.nonce.0 (entries_of hash index_of (shown_of s.records e).registry) j proof
+  pub pathed : (j : List ℕ) (proof : Proof) → ((entries : List Numbered) → Shows (hashing hash e.nonce.0) (table s.nodes s.records) e.root.0 [] entries
+      → IsPath (hashing hash e.nonce.0) (map (backed_by (registered_at s.records)) entries) j proof)
+      → IsPath (hashing hash e.nonce.0) (entries_of hash index_of (shown_of s.records e).registry) j proof
   pathed j proof is = let r = i.holds.registry in mirrored_path hash index_of e.nonce.0 s.records r.entries (shown_of s.records e).registry r.mirrors j proof (is r.entries r.shows)
 
-  pub accepted_there : (name : List ℕ) (proof : Proof) → IsLength MAX_NAME name → IsPath hash e.nonce.0 (entries_of hash index_of (shown_of s.records e).registry) (index_of name) proof
+  pub accepted_there : (name : List ℕ) (proof : Proof) → IsLength MAX_NAME name → IsPath (hashing hash e.nonce.0) (entries_of hash index_of (shown_of s.records e).registry) (index_of name) proof
       → IsAcceptedAt hash index_of (history_of s) t name proof
   accepted_there name proof sized path shown there alone =
       let same : shown_of s.records e ≡ shown = same_Some (shown_of s.records e) shown (sym i.shown ∙ there) in
       let m = i.holds.registry.mirrors in
       subst (λ (x : Shown). (has_name x.registry name ≡ false → IsFree index_of x.registry (index_of name))
-      → Accepts hash x.nonce (root_at hash index_of x) (index_of name) name proof (key_of x.registry name)) same
+      → Accepts (hashing hash x.nonce) (root_at hash index_of x) (index_of name) name proof (key_of x.registry name)) same
       (λ own. path_accepted hash index_of e.nonce.0 (root_at hash index_of (shown_of s.records e)) (shown_of s.records e).registry name proof m.names m.limits refl path own sized) alone
 
   -- and so it is under the entry's root and nonce, at the name's index
@@ -83,9 +85,9 @@ module _ (hash index_of : List ℕ → List ℕ) (s : State) (t : ℕ) (e : Epoc
       let root : it.entry.body.root.0 ≡ root_at hash index_of shown = ap (λ (f : Entry). f.body.root.0) entry-is ∙ i.root ∙ ap (root_at hash index_of) same in
       let nonce : it.entry.body.nonce.0 ≡ shown.nonce = ap (λ (f : Entry). f.body.nonce.0) entry-is ∙ i.nonce ∙ ap (λ (x : Shown). x.nonce) same in
       let key = key_of shown.registry name in
-      subst (λ n. Accepts hash n it.entry.body.root.0 it.index.0 name it.proof key) (sym nonce)
-      (subst (λ r. Accepts hash shown.nonce r it.index.0 name it.proof key) (sym root)
-      (subst (λ j. Accepts hash shown.nonce (root_at hash index_of shown) j name it.proof key) (sym index-is) (accepted shown there alone)))
+      subst (λ n. Accepts (hashing hash n) it.entry.body.root.0 it.index.0 name it.proof key) (sym nonce)
+      (subst (λ r. Accepts (hashing hash shown.nonce) r it.index.0 name it.proof key) (sym root)
+      (subst (λ j. Accepts (hashing hash shown.nonce) (root_at hash index_of shown) j name it.proof key) (sym index-is) (accepted shown there alone)))
 
 -- in no epoch's registry two names have one index
 pub all_own : (hash index_of : List ℕ → List ℕ) (s : State) → Whole hash index_of s → AllHaveOwnIndices index_of (history_of s)

@@ -1,5 +1,6 @@
 -- The entries under a root and the bindings of the registry that they mirror.
 use Rattle.std.proofs.Common.{◌≡◌, ℕ, List, [], ◌∷◌, map, refl, sym, ap, subst, ◌∙◌, inl, inr}
+use Rattle.coniks_proof.specs.Hashing.{hashing}
 use Rattle.coniks_directory.proofs.Words.{EndIs, Entry, Extends, IsIn, IsMap, IsNew, IsPath, IsStored, Mirrors, Numbered, Proof, Record}
 use Rattle.coniks_directory.proofs.Words.{Registered, Registry, SameEntries, backed_by, entries_of, node, registered_at, registered_by}
 use Rattle.coniks_directory.proofs.Words.{root_of}
@@ -36,17 +37,18 @@ IsMap-backed f (e ∷ es) m = (m.0, IsNew-backed f e.index es m.1, IsMap-backed 
 
 module _ (hash index_of : List ℕ → List ℕ) (nonce : List ℕ) (records : List Record) (es : List Numbered) (registry : Registry) (m : Mirrors hash index_of records es registry) where
   -- the root over the entries is that of the registry
-  pub mirrored_root : node hash nonce [] es ≡ root_of hash index_of nonce registry
+  pub mirrored_root : node (hashing hash nonce) [] es ≡ root_of hash index_of nonce registry
   mirrored_root =
-      sym (node-backed (registered_at records) hash nonce [] es)
-      ∙ node-same hash nonce [] (map (backed_by (registered_at records)) es) (entries_of hash index_of registry) (IsMap-backed (registered_at records) es m.indices) m.names m.same
+      sym (node-backed (registered_at records) (hashing hash nonce) [] es)
+      ∙ node-same (hashing hash nonce) [] (map (backed_by (registered_at records)) es) (entries_of hash index_of registry) (IsMap-backed (registered_at records) es m.indices) m.names m.same
 
   -- a path in the tree over the entries is one in the tree over the registry
-  pub mirrored_path : (j : List ℕ) (proof : Proof) → IsPath hash nonce (map (backed_by (registered_at records)) es) j proof → IsPath hash nonce (entries_of hash index_of registry) j proof
+  pub mirrored_path : (j : List ℕ) (proof : Proof) → IsPath (hashing hash nonce) (map (backed_by (registered_at records)) es) j proof
+      → IsPath (hashing hash nonce) (entries_of hash index_of registry) j proof
   mirrored_path j proof path =
       let backed = map (backed_by (registered_at records)) es in
       let indices = IsMap-backed (registered_at records) es m.indices in
       record {
-        siblings_are = path.siblings_are ∙ siblings-same hash nonce [] j backed (entries_of hash index_of registry) indices m.names m.same;
+        siblings_are = path.siblings_are ∙ siblings-same (hashing hash nonce) [] j backed (entries_of hash index_of registry) indices m.names m.same;
         end_is = subst (λ (xs : List (Entry Registered)). EndIs j xs proof.end) (end_of-same [] j backed (entries_of hash index_of registry) indices m.names m.same) path.end_is;
       }

@@ -1,5 +1,6 @@
 -- An update of a batch on the state of a directory.
 use Rattle.std.proofs.Common.{◌≡◌, ℕ, zero, suc, ◌+◌, ◌*◌, ◌-◌, ◌≤◌, List, [], ◌∷◌, ◌++◌, length, map, arith, refl, sym, ap, ◌∙◌, Option, Some, None, Bool, true, false, is_some, slice_get}
+use Rattle.coniks_tree.specs.Table.{table}
 use Rattle.coniks_directory.proofs.Words.{AddsFew, RotatesTo, Epoch, IsBuilt, IsLatestRoot, IsSmall, IsUpdateBy, Nonce, Op, Prepared, Registered, Registry, Root, Shown, State}
 use Rattle.coniks_directory.proofs.Words.{Whole, after, bound_by, history_of, latest_registry, length-map, map-append, nonce_after, option_map}
 use Rattle.coniks_directory.proofs.Words.{most_nodes, node_count, operation_of, operations, overlaid, registered_of, registry_after, shown_of}
@@ -62,7 +63,7 @@ module _ (hash index_of : List ℕ → List ℕ) (s : State) where
       count (Some nonce) false same counted = absurd (let never = same in cc)
 
       pub update_by : (new_nonce : Option (List ℕ)) (anew : Bool) → anew ≡ is_some new_nonce → p.base ≡ length s.epochs → RotatesTo s new_nonce p
-          → IsBuilt hash index_of p.nonce.0 s.nodes s.records root (latest_registry (history_of s)) (operations ops) anew p.part p.records.items → IsUpdateBy hash index_of s new_nonce ops p
+          → IsBuilt hash index_of p.nonce.0 (table s.nodes s.records) root (latest_registry (history_of s)) (operations ops) anew p.part p.records.items → IsUpdateBy hash index_of s new_nonce ops p
       update_by new_nonce anew same base rotates b =
           let registry = registry_is p ops b.binds in
           record {

@@ -2,6 +2,7 @@
 use Rattle.std.specs.Prelude.{◌≡◌, ◌<◌, ◌≤◌, ◌+◌, ◌*◌, ◌⊎◌, ℕ, zero, suc, List, [], ◌∷◌, length, map, Some, None}
 use Rattle.coniks_proof.specs.Registry.{Registry}
 use Rattle.coniks_proof.specs.Batches.{Kind, register, change, Operation, Fault, name_length, key_length, name_twice, name_taken, name_unknown, index_clash, first_fault}
+use Rattle.coniks_proof.specs.Octets.{Octets}
 use Rattle.coniks_proof.specs.declared.values.TheConstants.{MAX_OPERATIONS}
 use Rattle.coniks_work.specs.declared.building.TheConstants.{MAX_WORKERS}
 use Rattle.coniks_work.specs.declared.jobs.TheConstants.{MAX_DEPTH}
@@ -38,14 +39,14 @@ abbrev pub AreWorkers : ℕ → Type 0
 AreWorkers workers = (1 ≤ workers) × (workers ≤ MAX_WORKERS)
 
 -- workers, depth and the batch's length are within their limits, and no operation has an error
-pub record IsAccepted (index_of : List ℕ → List ℕ) (registry : Registry) (ops : List Operation) (depth workers : ℕ) : Type 0 where
+pub record IsAccepted (index_of : Octets → Octets) (registry : Registry) (ops : List Operation) (depth workers : ℕ) : Type 0 where
   pub worker_count : AreWorkers workers
   pub shallow : depth ≤ MAX_DEPTH
   pub few : length ops ≤ MAX_OPERATIONS
   pub faultless : first_fault index_of registry ops ≡ None
 
 -- the error of a batch that isn't accepted: the first that applies, in their order; or an allocation failed
-abbrev pub IsBatchFault : (List ℕ → List ℕ) → Registry → List Operation → ℕ → ℕ → BatchFault → Type 0
+abbrev pub IsBatchFault : (Octets → Octets) → Registry → List Operation → ℕ → ℕ → BatchFault → Type 0
 IsBatchFault index_of registry ops depth workers Workers = (workers ≡ 0) ⊎ (MAX_WORKERS < workers)
 IsBatchFault index_of registry ops depth workers Depth = AreWorkers workers × (MAX_DEPTH < depth)
 IsBatchFault index_of registry ops depth workers BatchTooLong = AreWorkers workers × (depth ≤ MAX_DEPTH) × (MAX_OPERATIONS < length ops)

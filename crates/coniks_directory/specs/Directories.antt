@@ -1,6 +1,7 @@
 -- A directory as contracts see it, and what is said of the whole of it.
 use Rattle.std.specs.Prelude.{◌≡◌, ◌==◌, ℕ, List, length, Bool, Option, None, option_map}
 use Rattle.std.specs.List.{find}
+use Rattle.coniks_proof.specs.Octets.{Octets}
 use Rattle.coniks_chain.specs.Chain.{GoodChain, before_at}
 use Rattle.coniks_chain.specs.declared.entry.Body.{Body}
 use Rattle.coniks_chain.specs.declared.entry.Entry.{Entry}
@@ -28,43 +29,43 @@ abbrev pub entry : {H X : Type 0} → View H X → ℕ → Option Entry
 entry {H} {X} d t = find (λ (e : Entry). e.body.t == t) d.state.chain
 
 -- what is said of a directory by the digests of its hash and the indices of its source
-module _ {H X : Type 0} (digest : H → List ℕ → List ℕ) (index : X → List ℕ → List ℕ) (d : View H X) where
+module _ {H X : Type 0} (digest : H → Octets → Octets) (index : X → Octets → Octets) (d : View H X) where
   -- the root of the epoch of exactly this number
-  abbrev pub root_of_epoch : ℕ → Option (List ℕ)
+  abbrev pub root_of_epoch : ℕ → Option Octets
   root_of_epoch t = option_map (root_at (digest d.hash) (index d.index)) (shown_at (history d) t)
 
   -- a function of indices gives each registered name the index that the source gives it, and this name this index
-  abbrev pub GivesIndex : List ℕ → List ℕ → (List ℕ → List ℕ) → Type 0
+  abbrev pub GivesIndex : Octets → Octets → (Octets → Octets) → Type 0
   GivesIndex name supplied index_of = AgreeOn (index d.index) index_of (registry d) × (index_of name ≡ supplied)
 
   -- by each such function a lookup of the name at an epoch gives this proof
-  abbrev pub FindsAt : ℕ → List ℕ → List ℕ → Proof → Type 0
-  FindsAt t name supplied proof = (index_of : List ℕ → List ℕ)
+  abbrev pub FindsAt : ℕ → Octets → Octets → Proof → Type 0
+  FindsAt t name supplied proof = (index_of : Octets → Octets)
       → GivesIndex name supplied index_of → IsFound (digest d.hash) index_of (history d) t name proof
 
   -- and it is accepted for the name at the epoch
-  abbrev pub ShowsAt : ℕ → List ℕ → List ℕ → Proof → Type 0
-  ShowsAt t name supplied proof = (index_of : List ℕ → List ℕ) → GivesIndex name supplied index_of
+  abbrev pub ShowsAt : ℕ → Octets → Octets → Proof → Type 0
+  ShowsAt t name supplied proof = (index_of : Octets → Octets) → GivesIndex name supplied index_of
       → IsAcceptedAt (digest d.hash) index_of (history d) t name proof
 
 -- the body of the next entry by a function of indices, the heads that the chain had, and that it is good by a function of verdicts
-module _ {H X : Type 0} (digest : H → List ℕ → List ℕ) where
-  abbrev pub NextBodyBy : View H X → (List ℕ → List ℕ) → Shown → Body
+module _ {H X : Type 0} (digest : H → Octets → Octets) where
+  abbrev pub NextBodyBy : View H X → (Octets → Octets) → Shown → Body
   NextBodyBy d index_of shown =
       body_of (digest d.hash) index_of d.state.policy (before_at (digest d.hash) None d.state.chain (length d.state.chain)) shown
 
   abbrev pub heads : View H X → List Head
   heads d = heads_of (digest d.hash) d.state.chain
 
-  abbrev pub HasGoodChain : (List ℕ → List ℕ → Bool) → View H X → Type 0
+  abbrev pub HasGoodChain : (Octets → Octets → Bool) → View H X → Type 0
   HasGoodChain verdict d = GoodChain (digest d.hash) verdict d.state.chain
 
 -- the body of the next entry, whose epoch this is
-abbrev pub NextBody : {H X : Type 0} → (H → List ℕ → List ℕ) → (X → List ℕ → List ℕ) → View H X → Shown → Body
+abbrev pub NextBody : {H X : Type 0} → (H → Octets → Octets) → (X → Octets → Octets) → View H X → Shown → Body
 NextBody {H} {X} digest index d shown = NextBodyBy digest d (index d.index) shown
 
 -- the indices that a batch is checked by: those that the source gives registered names, and those that come with the batch
-abbrev pub batch_index : {H X : Type 0} → (X → List ℕ → List ℕ) → View H X → SuppliedBatch → List ℕ → List ℕ
+abbrev pub batch_index : {H X : Type 0} → (X → Octets → Octets) → View H X → SuppliedBatch → Octets → Octets
 batch_index {H} {X} index d batch = index_in (index d.index) (registry d) (indexed batch.ops.now batch.indices.now)
 
 -- it hashes and finds indices as it did

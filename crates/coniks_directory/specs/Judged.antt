@@ -8,6 +8,7 @@ use Rattle.coniks_proof.specs.Entries.{IsIn}
 use Rattle.coniks_proof.specs.Maps.{IsIndex, IsMap}
 use Rattle.coniks_proof.specs.Registry.{Registry, Registered, commitment_to, entries_of, IsLength}
 use Rattle.coniks_proof.specs.Batches.{Operation, bound_by, fault_from, first_fault}
+use Rattle.coniks_proof.specs.Octets.{Octets}
 use Rattle.coniks_proof.specs.declared.values.TheConstants.{MAX_KEY, MAX_NAME}
 use Rattle.coniks_tree.specs.Table.{Numbered, entry_of_record}
 use Rattle.coniks_tree.specs.declared.table.Record.{Record}
@@ -17,39 +18,39 @@ use Rattle.coniks_directory.specs.declared.batch.BatchFault.{BatchFault}
 use Rattle.coniks_directory.specs.declared.batch.BatchFault.TheVariants.{Workers, Depth, BatchTooLong, At, OutOfMemory}
 
 -- the record's index is its name's, and name and key are within their limits
-pub record IsPendingRecord (index_of : List ℕ → List ℕ) (r : Record) : Type 0 where
+pub record IsPendingRecord (index_of : Octets → Octets) (r : Record) : Type 0 where
   pub indexed : r.index.0 ≡ index_of r.binding.name
   pub ranged : IsIndex r.index.0
   pub named : IsLength MAX_NAME r.binding.name
   pub keyed : IsLength MAX_KEY r.binding.key
 
 -- the record with the commitment to its binding
-abbrev pub sealed_by : (List ℕ → List ℕ) → Record → Record
+abbrev pub sealed_by : (Octets → Octets) → Record → Record
 sealed_by hash r = record r { commitment = record { 0 = commitment_to hash (registered_of r) } }
 
 -- these bytes are the commitment to what the record at a place binds
-abbrev pub IsCommitmentAt : (List ℕ → List ℕ) → List Record → ℕ → List ℕ → Type 0
+abbrev pub IsCommitmentAt : (Octets → Octets) → List Record → ℕ → Octets → Type 0
 IsCommitmentAt hash records place bytes = (b : Registered)
     → slice_get (map registered_of records) place ≡ Some b → bytes ≡ commitment_to hash b
 
 -- the records as they were, up to a place with the commitments to their bindings
-abbrev pub AreSealedTo : (List ℕ → List ℕ) → List Record → ℕ → List Record → Type 0
+abbrev pub AreSealedTo : (Octets → Octets) → List Record → ℕ → List Record → Type 0
 AreSealedTo hash records place sealed = sealed ≡ map (sealed_by hash) (take place records) ++ drop place records
 
 -- the records' commitments are those to their bindings
-abbrev pub AreSealed : (List ℕ → List ℕ) → List Record → Type 0
+abbrev pub AreSealed : (Octets → Octets) → List Record → Type 0
 AreSealed hash records = (n : ℕ) (r : Record) → slice_get records n ≡ Some r → r.commitment.0 ≡ commitment_to hash (registered_of r)
 
 -- the number of the record at an index
-abbrev pub number_at : BTreeMap (List ℕ) ℕ → List ℕ → Option ℕ
+abbrev pub number_at : BTreeMap Octets ℕ → Octets → Option ℕ
 number_at numbers index = get (slice_cmp nat_cmp) numbers index
 
 -- the records are those of the bindings, in their order, with indices of their own, and the map finds each by its index, and no other
-pub record ArePendingRecords (hash index_of : List ℕ → List ℕ) (bound : List Registered)
-    (records : List Record) (numbers : BTreeMap (List ℕ) ℕ) : Type 0 where
+pub record ArePendingRecords (hash index_of : Octets → Octets) (bound : List Registered)
+    (records : List Record) (numbers : BTreeMap Octets ℕ) : Type 0 where
   pub binds : map registered_of records ≡ bound
   pub drafted : (n : ℕ) (r : Record) → slice_get records n ≡ Some r → IsPendingRecord index_of r
-  pub kept : (index : List ℕ) (n : ℕ) → number_at numbers index ≡ Some n
+  pub kept : (index : Octets) (n : ℕ) → number_at numbers index ≡ Some n
       → (r : Record) × (slice_get records n ≡ Some r) × (r.index.0 ≡ index)
   pub all : (n : ℕ) (r : Record) → slice_get records n ≡ Some r → number_at numbers r.index.0 ≡ Some n
   pub ordered : IsOrdered (slice_cmp nat_cmp) numbers
@@ -57,7 +58,7 @@ pub record ArePendingRecords (hash index_of : List ℕ → List ℕ) (bound : Li
   pub distinct : IsMap (entries_of hash index_of bound)
 
 -- the first `i` operations of a batch have no error, so the batch's first error is that of the others
-abbrev pub IsJudged : (List ℕ → List ℕ) → Registry → List Operation → ℕ → Type 0
+abbrev pub IsJudged : (Octets → Octets) → Registry → List Operation → ℕ → Type 0
 IsJudged index_of registry ops i = first_fault index_of registry ops ≡
     fault_from index_of registry (map bound_by (take i ops)) i (drop i ops)
 
@@ -69,7 +70,7 @@ pub record AreChangesOf (base : ℕ) (records : List Record) (entries : List Num
   pub counted : length entries ≡ length records
 
 -- the first operation with an error, and its first error; or an allocation failed
-abbrev pub IsJudgedFault : (List ℕ → List ℕ) → Registry → List Operation → BatchFault → Type 0
+abbrev pub IsJudgedFault : (Octets → Octets) → Registry → List Operation → BatchFault → Type 0
 IsJudgedFault index_of registry ops Workers = ⊥
 IsJudgedFault index_of registry ops Depth = ⊥
 IsJudgedFault index_of registry ops BatchTooLong = ⊥

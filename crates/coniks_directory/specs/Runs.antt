@@ -1,6 +1,7 @@
 -- Runs of public calls on a directory, each by its contract, and the directory that the batches define.
 use Rattle.std.specs.Prelude.{◌≡◌, ◌<◌, ◌≤◌, ℕ, List, [], ◌∷◌, ◌++◌, length, Option}
 use Rattle.coniks_proof.specs.Batches.{MayFollow, Operation, after}
+use Rattle.coniks_proof.specs.Octets.{Octets}
 use Rattle.coniks_proof.specs.Registry.{Registry}
 use Rattle.coniks_proof.specs.declared.values.TheConstants.{MAX_OPERATIONS}
 use Rattle.coniks_directory.specs.Batches.{IsAccepted}
@@ -13,37 +14,37 @@ use Rattle.coniks_directory.specs.declared.update.Prepared.{Prepared}
 -- a batch, its epoch, and its nonce, if it has one
 pub record Batch : Type 0 where
   pub t : ℕ
-  pub new_nonce : Option (List ℕ)
+  pub new_nonce : Option Octets
   pub ops : List Operation
 
 -- the epoch that a batch makes after one of this version, nonce and registry
-abbrev pub shown_by : ℕ → List ℕ → Registry → Batch → Shown
+abbrev pub shown_by : ℕ → Octets → Registry → Batch → Shown
 shown_by version nonce registry b =
     record { t = b.t; version = version_after b.new_nonce version; nonce = nonce_after b.new_nonce nonce; registry = after registry b.ops }
 
 -- the epochs that batches make, one after the other, after one of this version, nonce and registry
-abbrev pub epochs_from : ℕ → List ℕ → Registry → List Batch → List Shown
+abbrev pub epochs_from : ℕ → Octets → Registry → List Batch → List Shown
 epochs_from version nonce registry [] = []
 epochs_from version nonce registry (b ∷ bs) =
     shown_by version nonce registry b ∷ epochs_from (version_after b.new_nonce version)
     (nonce_after b.new_nonce nonce) (after registry b.ops) bs
 
 -- the directory that batches define: its epochs, from version 1, the nonce of `open` and the empty registry on
-abbrev pub defined : List ℕ → List Batch → List Shown
+abbrev pub defined : Octets → List Batch → List Shown
 defined nonce batches = epochs_from 1 nonce [] batches
 
 -- each batch is under a later epoch, has not too many operations, and may follow the registry before it
-abbrev pub AreAcceptedFrom : (List ℕ → List ℕ) → ℕ → Registry → List Batch → Type 0
+abbrev pub AreAcceptedFrom : (Octets → Octets) → ℕ → Registry → List Batch → Type 0
 AreAcceptedFrom index_of t registry [] = Unit {0}
 AreAcceptedFrom index_of t registry (b ∷ bs) =
     (t < b.t) × (length b.ops ≤ MAX_OPERATIONS) × MayFollow index_of registry b.ops × AreAcceptedFrom index_of b.t (after registry b.ops) bs
 
 -- a history of accepted batches
-abbrev pub AreAccepted : (List ℕ → List ℕ) → List Batch → Type 0
+abbrev pub AreAccepted : (Octets → Octets) → List Batch → Type 0
 AreAccepted index_of batches = AreAcceptedFrom index_of 0 [] batches
 
 -- what an Ok `prepare`, or `prepare_with` of a nonce, says of its update, by the directory as it was then
-pub record IsPreparedOf (hash index_of : List ℕ → List ℕ) (s : State) (new_nonce : Option (List ℕ))
+pub record IsPreparedOf (hash index_of : Octets → Octets) (s : State) (new_nonce : Option Octets)
     (ops : List Operation) (depth workers : ℕ) (update : Prepared) : Type 0 where
   pub is_update : IsUpdate hash index_of s update
   pub rotates : RotatesTo s new_nonce update
@@ -52,23 +53,23 @@ pub record IsPreparedOf (hash index_of : List ℕ → List ℕ) (s : State) (new
 
 -- public calls on a directory, from `open` on, in which these batches were installed, each by its contract; the
 -- function of indices is the one that the directory holds at the end
-pub data Run (hash : List ℕ → List ℕ) : (List ℕ → List ℕ) → List ℕ → List ℕ → List Batch → State → Type 0 where
-  opened : (index_of : List ℕ → List ℕ) (nonce policy : List ℕ) → Run hash index_of nonce policy [] (nothing nonce policy)
+pub data Run (hash : Octets → Octets) : (Octets → Octets) → Octets → Octets → List Batch → State → Type 0 where
+  opened : (index_of : Octets → Octets) (nonce policy : Octets) → Run hash index_of nonce policy [] (nothing nonce policy)
   -- a call that was refused, or that only reads
-  stayed : (index_of : List ℕ → List ℕ) (nonce policy : List ℕ) (batches : List Batch) (s later : State)
+  stayed : (index_of : Octets → Octets) (nonce policy : Octets) (batches : List Batch) (s later : State)
       → Run hash index_of nonce policy batches s → later ≡ s → Run hash index_of nonce policy batches later
   -- an index was supplied, and the registered names have those that they had
-  supplied : (index_of also : List ℕ → List ℕ) (nonce policy : List ℕ) (batches : List Batch) (s : State)
+  supplied : (index_of also : Octets → Octets) (nonce policy : Octets) (batches : List Batch) (s : State)
       → Run hash index_of nonce policy batches s → AgreeOn index_of also (latest_registry (history_of s))
       → Run hash also nonce policy batches s
-  committed : (index_of : List ℕ → List ℕ) (nonce policy : List ℕ) (batches : List Batch) (b : Batch)
+  committed : (index_of : Octets → Octets) (nonce policy : Octets) (batches : List Batch) (b : Batch)
       (s later : State) (depth workers published capacity : ℕ) → Run hash index_of nonce policy batches s
       → IsAccepted index_of (latest_registry (history_of s)) b.ops depth workers
       → MayInstall s (length s.epochs) b.t published capacity
       → history_of later ≡ history_of s ++ shown_with s b.new_nonce b.ops b.t ∷ [] → Grows s later
       → Run hash index_of nonce policy (batches ++ b ∷ []) later
   -- the update was prepared earlier, with any calls in between, and the names that it leaves have the indices that they had then
-  installed : (index_of then : List ℕ → List ℕ) (nonce policy : List ℕ) (batches : List Batch)
+  installed : (index_of then : Octets → Octets) (nonce policy : Octets) (batches : List Batch)
       (b : Batch) (earlier s later : State) (update : Prepared) (depth workers published capacity : ℕ)
       → Run hash index_of nonce policy batches s
       → IsPreparedOf hash then earlier b.new_nonce b.ops depth workers update

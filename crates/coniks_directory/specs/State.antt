@@ -2,9 +2,11 @@
 use Rattle.std.specs.Prelude.{◌≡◌, ◌==◌, ◌<◌, ◌≤◌, ℕ, List, [], ◌∷◌, length, map, take, slice_get, Option, Some, None}
 use Rattle.std.specs.List.{find}
 use Rattle.coniks_proof.specs.Entries.{IsIn, backed_by}
+use Rattle.coniks_proof.specs.Hashing.{hashing}
 use Rattle.coniks_proof.specs.Maps.{IsMap, SameEntries}
+use Rattle.coniks_proof.specs.Octets.{Octets}
 use Rattle.coniks_proof.specs.Registry.{Registered, Registry, overlaid, entries_of, AreWithin}
-use Rattle.coniks_tree.specs.Table.{Numbered, Shows, entry_of_record, registered_at, registered_by}
+use Rattle.coniks_tree.specs.Table.{Numbered, Shows, entry_of_record, registered_at, registered_by, Table, table}
 use Rattle.coniks_tree.specs.declared.table.Node.{Node}
 use Rattle.coniks_tree.specs.declared.table.Record.{Record}
 use Rattle.coniks_chain.specs.declared.entry.Entry.{Entry}
@@ -15,8 +17,8 @@ use Rattle.coniks_directory.specs.declared.state.DirectoryState.{DirectoryState}
 
 -- what a directory holds; the nonce is that of `open`
 pub record State : Type 0 where
-  pub nonce : List ℕ
-  pub policy : List ℕ
+  pub nonce : Octets
+  pub policy : Octets
   pub nodes : List Node
   pub records : List Record
   pub epochs : List Epoch
@@ -40,7 +42,7 @@ state_of h = record {
 }
 
 -- the state of a directory that was opened
-abbrev pub opened : List ℕ → List ℕ → State
+abbrev pub opened : Octets → Octets → State
 opened nonce policy = record { nonce = nonce; policy = policy; nodes = []; records = []; epochs = []; chain = [] }
 
 -- what a record binds
@@ -64,7 +66,7 @@ abbrev pub IsStored : List Record → Numbered → Type 0
 IsStored records e = (r : Record) × (slice_get records e.behind ≡ Some r) × (entry_of_record e.behind r ≡ e)
 
 -- the entries, with what their records bind behind them, are those of the registry
-pub record Mirrors (hash index_of : List ℕ → List ℕ) (records : List Record) (entries : List Numbered) (registry : Registry) : Type 0 where
+pub record Mirrors (hash index_of : Octets → Octets) (records : List Record) (entries : List Numbered) (registry : Registry) : Type 0 where
   pub stored : (e : Numbered) → IsIn e entries → IsStored records e
   pub indices : IsMap entries
   pub names : IsMap (entries_of hash index_of registry)
@@ -72,17 +74,16 @@ pub record Mirrors (hash index_of : List ℕ → List ℕ) (records : List Recor
   pub limits : AreWithin registry
 
 -- a root shows a registry
-pub record ShowsRegistry (hash index_of : List ℕ → List ℕ) (nonce : List ℕ)
-    (nodes : List Node) (records : List Record) (root : ℕ) (registry : Registry) : Type 0 where
+pub record ShowsRegistry (hash index_of : Octets → Octets) (nonce : Octets) (t : Table) (root : ℕ) (registry : Registry) : Type 0 where
   pub entries : List Numbered
-  pub shows : Shows hash nonce nodes records root [] entries
-  pub mirrors : Mirrors hash index_of records entries registry
+  pub shows : Shows (hashing hash nonce) t root [] entries
+  pub mirrors : Mirrors hash index_of t.records entries registry
 
 -- what is true of an epoch: its root shows its registry under its nonce
-pub record HoldsEpoch (hash index_of : List ℕ → List ℕ) (nodes : List Node) (records : List Record) (e : Epoch) : Type 0 where
-  pub known : e.root.0 < length nodes
-  pub counted : e.count ≤ length records
-  pub registry : ShowsRegistry hash index_of e.nonce.0 nodes records e.root.0 (registry_at records e.count)
+pub record HoldsEpoch (hash index_of : Octets → Octets) (t : Table) (e : Epoch) : Type 0 where
+  pub known : e.root.0 < length t.nodes
+  pub counted : e.count ≤ length t.records
+  pub registry : ShowsRegistry hash index_of e.nonce.0 t e.root.0 (registry_at t.records e.count)
 
 -- how many records there are after the last epoch
 abbrev pub last_count : List Epoch → ℕ
@@ -91,22 +92,22 @@ last_count (e ∷ []) = e.count
 last_count (e ∷ f ∷ es) = last_count (f ∷ es)
 
 -- what is true of what a directory holds
-pub record Whole (hash index_of : List ℕ → List ℕ) (s : State) : Type 0 where
-  pub held : (k : ℕ) (e : Epoch) → slice_get s.epochs k ≡ Some e → HoldsEpoch hash index_of s.nodes s.records e
+pub record Whole (hash index_of : Octets → Octets) (s : State) : Type 0 where
+  pub held : (k : ℕ) (e : Epoch) → slice_get s.epochs k ≡ Some e → HoldsEpoch hash index_of (table s.nodes s.records) e
   pub last : last_count s.epochs ≡ length s.records
   pub rising : AreRising 0 (numbers_of (history_of s))
   pub under : AreUnder 1 s.nonce (history_of s)
   pub chain : IsChainOf hash index_of s.policy (history_of s) s.chain
 
 -- the epoch of exactly this number, with the entry of that number
-pub record IsEpochAt (hash index_of : List ℕ → List ℕ) (s : State) (t : ℕ) (e : Epoch) (entry : Entry) : Type 0 where
-  pub holds : HoldsEpoch hash index_of s.nodes s.records e
+pub record IsEpochAt (hash index_of : Octets → Octets) (s : State) (t : ℕ) (e : Epoch) (entry : Entry) : Type 0 where
+  pub holds : HoldsEpoch hash index_of (table s.nodes s.records) e
   pub shown : shown_at (history_of s) t ≡ Some (shown_of s.records e)
   pub signed : find (λ (f : Entry). f.body.t == t) s.chain ≡ Some entry
   pub root : entry.body.root.0 ≡ root_at hash index_of (shown_of s.records e)
   pub nonce : entry.body.nonce.0 ≡ e.nonce.0
 
 -- the epoch of exactly this number and its entry, or none if there is no such epoch
-abbrev pub IsInstalled : (List ℕ → List ℕ) → (List ℕ → List ℕ) → State → ℕ → Option (Epoch × Entry) → Type 0
+abbrev pub IsInstalled : (Octets → Octets) → (Octets → Octets) → State → ℕ → Option (Epoch × Entry) → Type 0
 IsInstalled hash index_of s t None = shown_at (history_of s) t ≡ None
 IsInstalled hash index_of s t (Some it) = IsEpochAt hash index_of s t it.0 it.1

@@ -3,6 +3,7 @@ use Rattle.std.specs.Prelude.{◌≡◌, ◌≢◌, ℕ, List, [], ◌∷◌, Bo
 use Rattle.std.specs.List.{list_any}
 use Rattle.std.specs.Str.{bytes_eq}
 use Rattle.coniks_proof.specs.Batches.{fits}
+use Rattle.coniks_proof.specs.Octets.{Octets}
 use Rattle.coniks_proof.specs.Preimages.{zeros}
 use Rattle.coniks_proof.specs.Registry.{Registry, has_name}
 use Rattle.coniks_proof.specs.declared.values.TheConstants.{MAX_NAME}
@@ -13,31 +14,31 @@ use Rattle.coniks_directory.specs.declared.supplied.SupplyFault.{SupplyFault}
 use Rattle.coniks_directory.specs.declared.supplied.SupplyFault.TheVariants.{NameLength, OtherIndex, OutOfMemory}
 
 -- both give each name of the registry the same index
-abbrev pub AgreeOn : (List ℕ → List ℕ) → (List ℕ → List ℕ) → Registry → Type 0
-AgreeOn index_of also registry = (name : List ℕ) → has_name registry name ≡ true → index_of name ≡ also name
+abbrev pub AgreeOn : (Octets → Octets) → (Octets → Octets) → Registry → Type 0
+AgreeOn index_of also registry = (name : Octets) → has_name registry name ≡ true → index_of name ≡ also name
 
 -- the second gives the name this index, and each other name the index that the first gives it
-pub record IsSupplied (index_of : List ℕ → List ℕ) (name index : List ℕ) (also : List ℕ → List ℕ) : Type 0 where
+pub record IsSupplied (index_of : Octets → Octets) (name index : Octets) (also : Octets → Octets) : Type 0 where
   pub here : also name ≡ index
-  pub others : (other : List ℕ) → other ≢ name → also other ≡ index_of other
+  pub others : (other : Octets) → other ≢ name → also other ≡ index_of other
 
 -- the name has a name's length, and isn't registered with another index
-pub record MaySupply (index_of : List ℕ → List ℕ) (registry : Registry) (name index : List ℕ) : Type 0 where
+pub record MaySupply (index_of : Octets → Octets) (registry : Registry) (name index : Octets) : Type 0 where
   pub sized : fits MAX_NAME name ≡ true
   pub kept : has_name registry name ≡ true → index_of name ≡ index
 
 -- the name is registered with another index
-abbrev pub HasOtherIndex : (List ℕ → List ℕ) → Registry → List ℕ → List ℕ → Type 0
+abbrev pub HasOtherIndex : (Octets → Octets) → Registry → Octets → Octets → Type 0
 HasOtherIndex index_of registry name index = (has_name registry name ≡ true) × (index_of name ≢ index)
 
 -- why an index is refused: the first error that applies, in the order of the type
-abbrev pub IsSupplyFault : (List ℕ → List ℕ) → Registry → List ℕ → List ℕ → SupplyFault → Type 0
+abbrev pub IsSupplyFault : (Octets → Octets) → Registry → Octets → Octets → SupplyFault → Type 0
 IsSupplyFault index_of registry name index NameLength = fits MAX_NAME name ≡ false
 IsSupplyFault index_of registry name index OtherIndex = (fits MAX_NAME name ≡ true) × HasOtherIndex index_of registry name index
 IsSupplyFault index_of registry name index OutOfMemory = MaySupply index_of registry name index
 
 -- why a lookup of a name at this index is refused: the first error that applies, in the order of the type
-abbrev pub IsMissedAt : (List ℕ → List ℕ) → List Shown → Registry → ℕ → List ℕ → List ℕ → LookupAtFault → Type 0
+abbrev pub IsMissedAt : (Octets → Octets) → List Shown → Registry → ℕ → Octets → Octets → LookupAtFault → Type 0
 IsMissedAt index_of history registry t name index at.UnknownEpoch = shown_at history t ≡ None
 IsMissedAt index_of history registry t name index at.NameLength = (is_some (shown_at history t) ≡ true) × (fits MAX_NAME name ≡ false)
 IsMissedAt index_of history registry t name index at.OtherIndex = (is_some (shown_at history t) ≡ true)
@@ -47,13 +48,13 @@ IsMissedAt index_of history registry t name index at.OutOfMemory = (is_some (sho
 
 -- a name, and the index that was supplied for it
 abbrev pub Supplied : Type 0
-Supplied = List ℕ × List ℕ
+Supplied = Octets × Octets
 
 -- the index that was supplied for a name, or 32 zero bytes if none was
-abbrev pub supplied_index : List Supplied → List ℕ → List ℕ
+abbrev pub supplied_index : List Supplied → Octets → Octets
 supplied_index [] name = zeros
 supplied_index (e ∷ es) name = if bytes_eq name e.0 then e.1 else supplied_index es name
 
 -- an index was supplied for the name
-abbrev pub is_supplied : List Supplied → List ℕ → Bool
+abbrev pub is_supplied : List Supplied → Octets → Bool
 is_supplied supplied name = list_any (λ (e : Supplied). bytes_eq name e.0) supplied

@@ -5,6 +5,7 @@ use Rattle.std.specs.BTreeMap.{insert_entry}
 use Rattle.std.specs.Ordering.{nat_cmp}
 use Rattle.std.specs.Str.{bytes_eq}
 use Rattle.coniks_proof.specs.Batches.{Fault, Operation, bound_by, fault_of, first_fault, index_clash}
+use Rattle.coniks_proof.specs.Octets.{Octets}
 use Rattle.coniks_proof.specs.Registry.{Registered, Registry, has_name}
 use Rattle.coniks_proof.specs.declared.values.Index.{Index}
 use Rattle.coniks_proof.specs.declared.values.TheConstants.{MAX_OPERATIONS}
@@ -24,7 +25,7 @@ use Rattle.coniks_directory.specs.declared.update.Prepared.{Prepared}
 -- an operation, and the index of its name
 pub record Indexed : Type 0 where
   pub op : Operation
-  pub index : List ℕ
+  pub index : Octets
 
 -- operations, each with the index at its place
 abbrev pub indexed : List Op → List Index → List Indexed
@@ -41,21 +42,21 @@ abbrev pub named_in : List Indexed → List Supplied
 named_in batch = map (λ x. (x.op.name, x.index)) batch
 
 -- the index of a name among these, or the one that the function gives it
-abbrev pub given_index : List Supplied → (List ℕ → List ℕ) → List ℕ → List ℕ
+abbrev pub given_index : List Supplied → (Octets → Octets) → Octets → Octets
 given_index named index_of name = if is_supplied named name then supplied_index named name else index_of name
 
 -- the indices that a batch is checked by: a registered name keeps its index, and another name has the one that comes with it
-abbrev pub index_in : (List ℕ → List ℕ) → Registry → List Indexed → List ℕ → List ℕ
+abbrev pub index_in : (Octets → Octets) → Registry → List Indexed → Octets → Octets
 index_in index_of registry batch name = if has_name registry name then index_of name else given_index (named_in batch) index_of name
 
 -- of the names of operations, those that aren't registered, each with the index that comes first
 pub record IsFresh (registry : Registry) (fresh named : List Supplied) : Type 0 where
-  pub none : (name : List ℕ) → has_name registry name ≡ true → is_supplied fresh name ≡ false
-  pub names : (name : List ℕ) → has_name registry name ≡ false → is_supplied fresh name ≡ is_supplied named name
-  pub indices : (name : List ℕ) → has_name registry name ≡ false → supplied_index fresh name ≡ supplied_index named name
+  pub none : (name : Octets) → has_name registry name ≡ true → is_supplied fresh name ≡ false
+  pub names : (name : Octets) → has_name registry name ≡ false → is_supplied fresh name ≡ is_supplied named name
+  pub indices : (name : Octets) → has_name registry name ≡ false → supplied_index fresh name ≡ supplied_index named name
 
 -- the name of the operation is registered with another index
-abbrev pub has_other : (List ℕ → List ℕ) → Registry → Indexed → Bool
+abbrev pub has_other : (Octets → Octets) → Registry → Indexed → Bool
 has_other index_of registry x = has_name registry x.op.name && not (bytes_eq (index_of x.op.name) x.index)
 
 -- what may be wrong with an operation that comes with an index
@@ -76,9 +77,9 @@ placed_fault place (Some fault) later = Some (place, fault)
 placed_fault place None later = later
 
 -- the errors of operations with indices; a registered name has the index that the first function gives it
-module _ (index_of : List ℕ → List ℕ) (registry : Registry) where
+module _ (index_of : Octets → Octets) (registry : Registry) where
   -- the first operation with an error, from a place on, and its first error
-  abbrev pub supplied_fault_from : (List ℕ → List ℕ) → List Registered → ℕ → List Indexed → Option (ℕ × SuppliedFault)
+  abbrev pub supplied_fault_from : (Octets → Octets) → List Registered → ℕ → List Indexed → Option (ℕ × SuppliedFault)
   supplied_fault_from index earlier place [] = None
   supplied_fault_from index earlier place (x ∷ xs) =
       placed_fault place (or_other (has_other index_of registry x) (fault_of index registry earlier x.op))
@@ -115,7 +116,7 @@ supplied_fault_is (Batch OutOfMemory) = None
 supplied_fault_is (OtherIndex position) = Some (position, other_index)
 
 -- an error is the first of those of the operations and of another index at a place, or an allocation failed
-abbrev pub IsEarliest : (List ℕ → List ℕ) → Registry → List Operation → ℕ → SuppliedBatchFault → Type 0
+abbrev pub IsEarliest : (Octets → Octets) → Registry → List Operation → ℕ → SuppliedBatchFault → Type 0
 IsEarliest index_of registry ops place (Batch OutOfMemory) = Unit {0}
 IsEarliest index_of registry ops place (Batch Workers) = ⊥
 IsEarliest index_of registry ops place (Batch Depth) = ⊥
@@ -132,7 +133,7 @@ pub record IsWithin (batch : List Indexed) (depth workers : ℕ) : Type 0 where
   pub few : length batch ≤ MAX_OPERATIONS
 
 -- why such a batch isn't accepted: the first error that applies, in the order of the type, or an allocation failed
-abbrev pub IsSuppliedFault : (List ℕ → List ℕ) → Registry → List Indexed → ℕ → ℕ → SuppliedBatchFault → Type 0
+abbrev pub IsSuppliedFault : (Octets → Octets) → Registry → List Indexed → ℕ → ℕ → SuppliedBatchFault → Type 0
 IsSuppliedFault index_of registry batch depth workers (Batch Workers) =
     IsBatchFault index_of registry (operations_of batch) depth workers Workers
 IsSuppliedFault index_of registry batch depth workers (Batch Depth) =
@@ -146,7 +147,7 @@ IsSuppliedFault index_of registry batch depth workers (OtherIndex position) = Is
     × (supplied_fault index_of registry batch ≡ Some (position, other_index))
 
 -- the indices with this one for a name, in the order of the names, each name once
-abbrev pub put_index : List Supplied → List ℕ → List ℕ → List Supplied
+abbrev pub put_index : List Supplied → Octets → Octets → List Supplied
 put_index supplied name index = insert_entry (slice_cmp nat_cmp) supplied name index
 
 -- and with these, one after the other
@@ -162,17 +163,17 @@ abbrev pub indices_of : Prepared → List Supplied
 indices_of update = indices_in update.records.items
 
 -- the names of the operations, with their indices in the batch
-abbrev pub indices_by : (List ℕ → List ℕ) → List Operation → List Supplied
+abbrev pub indices_by : (Octets → Octets) → List Operation → List Supplied
 indices_by index_of ops = map (λ (op : Operation). (op.name, index_of op.name)) ops
 
 -- each of the names has the index that the function gives it
-abbrev pub AreOf : (List ℕ → List ℕ) → List Supplied → Type 0
+abbrev pub AreOf : (Octets → Octets) → List Supplied → Type 0
 AreOf index_of [] = Unit {0}
 AreOf index_of (x ∷ xs) = (x.1 ≡ index_of x.0) × AreOf index_of xs
 
 -- the update holds the indices of its names, and by a function that gives these, and each registered name its index, it was prepared from a
 -- directory in this state or an earlier one
-pub record IsSuppliedUpdate (hash index_of : List ℕ → List ℕ) (s : State) (p : Prepared) (index : List ℕ → List ℕ) : Type 0 where
+pub record IsSuppliedUpdate (hash index_of : Octets → Octets) (s : State) (p : Prepared) (index : Octets → Octets) : Type 0 where
   pub agree : AgreeOn index_of index (latest_registry (history_of s))
   pub update : IsUpdateOf hash index s p
   pub held : AreOf index (indices_of p)

@@ -1,12 +1,14 @@
 -- Updates that were prepared, and what an install of one leaves.
 use Rattle.std.specs.Prelude.{◌≡◌, ◌≢◌, ◌<◌, ◌≤◌, ◌+◌, ℕ, List, [], ◌++◌, length, Option, None}
 use Rattle.coniks_proof.specs.Batches.{Operation, after}
+use Rattle.coniks_proof.specs.Hashing.{hashing}
+use Rattle.coniks_proof.specs.Octets.{Octets}
 use Rattle.coniks_proof.specs.Registry.{Registry}
 use Rattle.coniks_chain.specs.Entries.{body_bytes}
 use Rattle.coniks_chain.specs.declared.entry.Body.{Body}
 use Rattle.coniks_chain.specs.declared.entry.Entry.{Entry}
 use Rattle.coniks_chain.specs.declared.entry.Signature.{Signature}
-use Rattle.coniks_tree.specs.Table.{Numbered, Extends}
+use Rattle.coniks_tree.specs.Table.{Numbered, Extends, table}
 use Rattle.coniks_tree.specs.Parts.{Stands, Fits, Placed}
 use Rattle.coniks_tree.specs.declared.table.Record.{Record}
 use Rattle.coniks_directory.specs.Batches.{IsAccepted, IsBatchFault}
@@ -40,7 +42,7 @@ abbrev pub shown_after : State → Prepared → ℕ → Shown
 shown_after s p t = record { t = t; version = p.version; nonce = p.nonce.0; registry = registry_after s p }
 
 -- the epoch that a commit of a batch makes under a number, with a new nonce or with the latest
-abbrev pub shown_with : State → Option (List ℕ) → List Operation → ℕ → Shown
+abbrev pub shown_with : State → Option Octets → List Operation → ℕ → Shown
 shown_with s new_nonce ops t = record {
   t = t;
   version = version_after new_nonce (latest_version 1 (history_of s));
@@ -49,20 +51,20 @@ shown_with s new_nonce ops t = record {
 }
 
 -- the update rotates the nonce to this one and has version 2, or it keeps the latest nonce and version
-pub record RotatesTo (s : State) (new_nonce : Option (List ℕ)) (p : Prepared) : Type 0 where
+pub record RotatesTo (s : State) (new_nonce : Option Octets) (p : Prepared) : Type 0 where
   pub version : p.version ≡ version_after new_nonce (latest_version 1 (history_of s))
   pub nonce : p.nonce.0 ≡ nonce_after new_nonce (latest_nonce s.nonce (history_of s))
 
 -- the update was prepared from a directory in this state
-pub record IsUpdate (hash index_of : List ℕ → List ℕ) (s : State) (p : Prepared) : Type 0 where
+pub record IsUpdate (hash index_of : Octets → Octets) (s : State) (p : Prepared) : Type 0 where
   pub base : p.base ≡ length s.epochs
   pub counted : last_count s.epochs ≡ length s.records
-  pub new_nonce : Option (List ℕ)
+  pub new_nonce : Option Octets
   pub rotates : RotatesTo s new_nonce p
   pub fits : Fits (length s.nodes) 0 p.part
   pub placed : Placed (records_after s p) p.part
   pub entries : List Numbered
-  pub stands : Stands hash p.nonce.0 s.nodes s.records p.part [] entries
+  pub stands : Stands (hashing hash p.nonce.0) (table s.nodes s.records) p.part [] entries
   pub mirrors : Mirrors hash index_of (records_after s p) entries (registry_after s p)
 
 -- the second state is a later one of the same directory
@@ -78,7 +80,7 @@ pub record Grows (s t : State) : Type 0 where
   pub still : more_epochs ≡ [] → more_records ≡ []
 
 -- the update was prepared from this directory, in this state or an earlier one
-pub record IsUpdateOf (hash index_of : List ℕ → List ℕ) (s : State) (p : Prepared) : Type 0 where
+pub record IsUpdateOf (hash index_of : Octets → Octets) (s : State) (p : Prepared) : Type 0 where
   pub earlier : State
   pub grows : Grows earlier s
   pub update : IsUpdate hash index_of earlier p
@@ -108,7 +110,7 @@ refusals OutOfMemory = 0
 refusals SignerRefused = 1
 
 -- what a refused install leaves of its signer: asked for this body it gave no signature, or it is as it was
-abbrev pub LeavesSigner : {S : Type 0} → (S → List ℕ → Option Signature → S → Type 0) → Body → S → S → InstallFault → Type 0
+abbrev pub LeavesSigner : {S : Type 0} → (S → Octets → Option Signature → S → Type 0) → Body → S → S → InstallFault → Type 0
 LeavesSigner signs body old new (Stale latest) = new ≡ old
 LeavesSigner signs body old new (EpochNotLater latest) = new ≡ old
 LeavesSigner signs body old new BoardFull = new ≡ old
@@ -116,7 +118,7 @@ LeavesSigner signs body old new OutOfMemory = new ≡ old
 LeavesSigner signs body old new SignerRefused = signs old (body_bytes body) None new
 
 -- why a batch isn't committed: it isn't accepted, or its update is refused, which is never stale
-abbrev pub IsCommitFault : (List ℕ → List ℕ) → State → List Operation → ℕ → ℕ → ℕ → ℕ → ℕ → CommitFault → Type 0
+abbrev pub IsCommitFault : (Octets → Octets) → State → List Operation → ℕ → ℕ → ℕ → ℕ → ℕ → CommitFault → Type 0
 IsCommitFault index_of s ops depth workers t published capacity (Batch fault) =
     IsBatchFault index_of (latest_registry (history_of s)) ops depth workers fault
 IsCommitFault index_of s ops depth workers t published capacity (Install fault) =
@@ -127,7 +129,7 @@ abbrev pub HasRefused : {S : Type 0} → (made refused : S → ℕ) → (last : 
 HasRefused made refused last old new times = (made new ≡ made old) × (refused new ≡ refused old + times) × (last new ≡ last old)
 
 -- what a refused commit leaves of its signer: a batch that isn't accepted leaves it as it was
-abbrev pub CommitLeavesSigner : {S : Type 0} → (S → List ℕ → Option Signature → S → Type 0) → Body → S → S → CommitFault → Type 0
+abbrev pub CommitLeavesSigner : {S : Type 0} → (S → Octets → Option Signature → S → Type 0) → Body → S → S → CommitFault → Type 0
 CommitLeavesSigner signs body old new (Batch fault) = new ≡ old
 CommitLeavesSigner signs body old new (Install fault) = LeavesSigner signs body old new fault
 

@@ -1,6 +1,7 @@
 //! Operations on the registry, and the errors of a batch.
 
-ghost use Rattle.std.specs.Prelude.{◌≤◌, List, ℕ, IfErr, OnOk, length};
+ghost use Rattle.std.specs.Prelude.{◌≤◌, IfErr, OnOk, length};
+ghost use Rattle.coniks_proof.specs.Octets.{Octets};
 ghost use Rattle.coniks_proof.specs.Registry.{Registry};
 ghost use Rattle.coniks_directory.specs.Batches.{AreWorkers, IsBatchFault, IsLimit, operations};
 
@@ -72,7 +73,7 @@ pub(crate) fn within_limits(ops: &[Op], depth: usize, workers: usize) -> Result<
     ensures depth { OnOk result (depth ≤ MAX_DEPTH) }
     ensures few { OnOk result (length ops.now ≤ MAX_OPERATIONS) }
     ensures refused { IfErr result
-        (λ fault. (index_of : List ℕ → List ℕ) (registry : Registry) → IsBatchFault index_of registry (operations ops.now) depth workers fault) }
+        (λ fault. (index_of : Octets → Octets) (registry : Registry) → IsBatchFault index_of registry (operations ops.now) depth workers fault) }
     ensures limit { IfErr result IsLimit }
 {
     if workers == 0 || workers > MAX_WORKERS {

@@ -1,7 +1,8 @@
 //! The changes of a checked batch.
 
-ghost use Rattle.std.specs.Prelude.{◌≡◌, ◌<◌, ◌+◌, ◌^◌, All, List, ℕ, IfOk, length};
+ghost use Rattle.std.specs.Prelude.{◌≡◌, ◌<◌, ◌+◌, ◌^◌, All, List, IfOk, length};
 ghost use Rattle.std.specs.BTreeMap.{values};
+ghost use Rattle.coniks_proof.specs.Octets.{Octets};
 ghost use Rattle.coniks_proof.specs.Registry.{Registered};
 ghost use Rattle.coniks_tree.specs.Parts.{entries_in, entry_of_change};
 ghost use Rattle.coniks_tree.specs.Table.{entry_of_record};
@@ -32,7 +33,7 @@ pub(crate) fn changes_of(
 ) -> Result<Vec<Change>, AllocError>
     requires numbered { All (λ n. n < length pending.now.records.items) (values pending.now.numbers) }
     requires fits { base + length pending.now.records.items < 2 ^ 64 }
-    ensures { IfOk result (λ changes. (hash index_of : List ℕ → List ℕ) (bound : List Registered)
+    ensures { IfOk result (λ changes. (hash index_of : Octets → Octets) (bound : List Registered)
         → ArePendingRecords hash index_of bound pending.now.records.items pending.now.numbers
         → AreChangesOf base pending.now.records.items (entries_in changes.items)) }
 {

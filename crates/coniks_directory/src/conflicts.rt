@@ -1,8 +1,10 @@
 //! The holder of an index, and the error of an operation there.
 
-ghost use Rattle.std.specs.Prelude.{◌≡◌, ◌<◌, List, ℕ, Bool, IfSome, None, length, option_map, true};
+ghost use Rattle.std.specs.Prelude.{◌≡◌, ◌<◌, List, Bool, IfSome, None, length, option_map, true};
 ghost use Rattle.coniks_proof.specs.Batches.{clashes, fault_of, fits, kind_fault};
+ghost use Rattle.coniks_proof.specs.Octets.{Octets};
 ghost use Rattle.coniks_proof.specs.Registry.{Registered, Registry, has_name};
+ghost use Rattle.coniks_tree.specs.Trees.{table_of};
 ghost use Rattle.coniks_directory.specs.Batches.{fault_is, op_kind, operation_of};
 ghost use Rattle.coniks_directory.specs.Holders.{HolderIs, ShowsLatest};
 
@@ -13,8 +15,8 @@ use coniks_tree::{Record, Root, Tree};
 /// Returns the record of the name that has an index under a root, or `None` if there is no root.
 pub(crate) fn holder_at<'a>(tree: &'a Tree, root: Option<Root>, index: &Index) -> Option<&'a Record>
     requires { IfSome root (λ r. r.0 < length tree.now.nodes.items) }
-    ensures { (hash index_of : List ℕ → List ℕ) (nonce : List ℕ) (registry : Registry)
-        → ShowsLatest hash index_of nonce tree.now.nodes.items tree.now.records.items root registry → HolderIs index_of registry index.now.0 result }
+    ensures { (hash index_of : Octets → Octets) (nonce : Octets) (registry : Registry)
+        → ShowsLatest hash index_of nonce (table_of tree.now) root registry → HolderIs index_of registry index.now.0 result }
 {
     let place = tree.find(root?, index)?;
     Some(tree.record(place))
@@ -22,7 +24,7 @@ pub(crate) fn holder_at<'a>(tree: &'a Tree, root: Option<Root>, index: &Index) -
 
 /// Returns whether the record at a name's index is that of the name.
 pub(crate) fn is_of(holder: Option<&Record>, name: &[u8]) -> bool
-    ensures { (index_of : List ℕ → List ℕ) (registry : Registry)
+    ensures { (index_of : Octets → Octets) (registry : Registry)
         → HolderIs index_of registry (index_of name.now) holder.entry → result ≡ has_name registry name.now }
 {
     match holder {
@@ -33,7 +35,7 @@ pub(crate) fn is_of(holder: Option<&Record>, name: &[u8]) -> bool
 
 /// Returns whether the record at the index of an operation's name is that of the name.
 fn is_named(holder: Option<&Record>, name: &Bytes) -> bool
-    ensures { (index_of : List ℕ → List ℕ) (registry : Registry)
+    ensures { (index_of : Octets → Octets) (registry : Registry)
         → HolderIs index_of registry (index_of name.now) holder.entry → result ≡ has_name registry name.now }
 {
     is_of(holder, name.as_slice())
@@ -41,7 +43,7 @@ fn is_named(holder: Option<&Record>, name: &Bytes) -> bool
 
 /// Returns whether the record at a name's index is that of another name.
 fn is_other(holder: Option<&Record>, name: &Bytes) -> bool
-    ensures { (index_of : List ℕ → List ℕ) (registry : Registry)
+    ensures { (index_of : Octets → Octets) (registry : Registry)
         → HolderIs index_of registry (index_of name.now) holder.entry → result ≡ clashes index_of registry name.now }
 {
     match holder {
@@ -71,7 +73,7 @@ pub(crate) fn op_fault(
 ) -> Option<OpFault>
     requires named { fits MAX_NAME op.now.name ≡ true }
     requires keyed { fits MAX_KEY op.now.key ≡ true }
-    ensures fault { (index_of : List ℕ → List ℕ) (registry : Registry) (before : List Registered)
+    ensures fault { (index_of : Octets → Octets) (registry : Registry) (before : List Registered)
         → HolderIs index_of registry (index_of op.now.name) present.entry → HolderIs index_of before (index_of op.now.name) earlier.entry
         → option_map fault_is result ≡ fault_of index_of registry before (operation_of op.now) }
     ensures free { result ≡ None → earlier.entry ≡ None }

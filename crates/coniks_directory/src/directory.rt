@@ -1,8 +1,9 @@
 //! The directory.
 
-ghost use Rattle.std.specs.Prelude.{◌≡◌, ◌≢◌, ◌<◌, ◌≤◌, ◌+◌, ◌-◌, ◌^◌, ◌++◌, ◌∷◌, [], List, ℕ, None, Some, IfErr, IfOk, OnErr, OnOk, length, option_map, true};
+ghost use Rattle.std.specs.Prelude.{◌≡◌, ◌≢◌, ◌<◌, ◌≤◌, ◌+◌, ◌-◌, ◌^◌, ◌++◌, ◌∷◌, [], None, Some, IfErr, IfOk, OnErr, OnOk, length, option_map, true};
 ghost use Rattle.coniks_chain.specs.Entries.{body_bytes};
 ghost use Rattle.coniks_proof.specs.Batches.{after};
+ghost use Rattle.coniks_proof.specs.Octets.{Octets};
 ghost use Rattle.coniks_proof.specs.Registry.{has_name};
 ghost use Rattle.coniks_tree.specs.Parts.{KeepsNone};
 ghost use Rattle.coniks_directory.specs.Batches.{IsAccepted, IsBatchFault, most_anew, most_nodes, operations};
@@ -217,9 +218,9 @@ impl<H: Hash32, X: IndexSource> Directory<H, X> {
     /// The update was prepared from the directory as it is. The publisher has published exactly the heads of the
     /// directory's chain.
     pub fn next_body(&self, update: &Prepared, t: u64, publisher: &Publisher) -> Body
-        requires update { (index : List ℕ → List ℕ) × IsUpdate (H.digest_of self.now.hash) index self.now.state update.now }
+        requires update { (index : Octets → Octets) × IsUpdate (H.digest_of self.now.hash) index self.now.state update.now }
         requires published { publisher.now.heads ≡ heads H.digest_of self.now }
-        ensures { (index : List ℕ → List ℕ) → AgreeOn (X.index_of self.now.index) index (registry self.now)
+        ensures { (index : Octets → Octets) → AgreeOn (X.index_of self.now.index) index (registry self.now)
             → IsUpdate (H.digest_of self.now.hash) index self.now.state update.now
             → result ≡ NextBodyBy H.digest_of self.now index (shown_after self.now.state update.now t) }
     {
@@ -279,7 +280,7 @@ impl<H: Hash32, X: IndexSource> Directory<H, X> {
         ensures asked { IfOk result (λ entry. S.signs signer.old (body_bytes entry.body) (Some entry.signature) signer.new) }
         ensures verdict { IfOk result (λ entry. S.verdict_of signer.new (body_bytes entry.body) entry.signature.0 ≡ true) }
         ensures good { HasGoodChain H.digest_of (S.verdict_of signer.old) self.old → HasGoodChain H.digest_of (S.verdict_of signer.new) self.new }
-        ensures verdicts_kept { (bytes signature : List ℕ) → S.verdict_of signer.new bytes signature ≡ S.verdict_of signer.old bytes signature }
+        ensures verdicts_kept { (bytes signature : Octets) → S.verdict_of signer.new bytes signature ≡ S.verdict_of signer.old bytes signature }
 
         // The heads on the board.
         ensures heads { publisher.new.heads ≡ heads H.digest_of self.new }
@@ -466,7 +467,7 @@ impl<H: Hash32 + Sync, X: IndexSource> Directory<H, X> {
         ensures asked { IfOk result (λ entry. S.signs signer.old (body_bytes entry.body) (Some entry.signature) signer.new) }
         ensures verdict { IfOk result (λ entry. S.verdict_of signer.new (body_bytes entry.body) entry.signature.0 ≡ true) }
         ensures good { HasGoodChain H.digest_of (S.verdict_of signer.old) self.old → HasGoodChain H.digest_of (S.verdict_of signer.new) self.new }
-        ensures verdicts_kept { (bytes signature : List ℕ) → S.verdict_of signer.new bytes signature ≡ S.verdict_of signer.old bytes signature }
+        ensures verdicts_kept { (bytes signature : Octets) → S.verdict_of signer.new bytes signature ≡ S.verdict_of signer.old bytes signature }
 
         // The heads on the board.
         ensures heads { publisher.new.heads ≡ heads H.digest_of self.new }
@@ -529,7 +530,7 @@ impl<H: Hash32 + Sync, X: IndexSource> Directory<H, X> {
         ensures asked { IfOk result (λ entry. S.signs signer.old (body_bytes entry.body) (Some entry.signature) signer.new) }
         ensures verdict { IfOk result (λ entry. S.verdict_of signer.new (body_bytes entry.body) entry.signature.0 ≡ true) }
         ensures good { HasGoodChain H.digest_of (S.verdict_of signer.old) self.old → HasGoodChain H.digest_of (S.verdict_of signer.new) self.new }
-        ensures verdicts_kept { (bytes signature : List ℕ) → S.verdict_of signer.new bytes signature ≡ S.verdict_of signer.old bytes signature }
+        ensures verdicts_kept { (bytes signature : Octets) → S.verdict_of signer.new bytes signature ≡ S.verdict_of signer.old bytes signature }
 
         // The heads on the board.
         ensures heads { publisher.new.heads ≡ heads H.digest_of self.new }

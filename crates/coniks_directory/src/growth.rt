@@ -1,7 +1,9 @@
 //! The root that an epoch's tree grows from, and the changes.
 
-ghost use Rattle.std.specs.Prelude.{◌≡◌, ◌++◌, ◌<◌, ◌≤◌, [], List, ℕ, IfOk, IfSome, None, OnOk, length};
+ghost use Rattle.std.specs.Prelude.{◌≡◌, ◌++◌, ◌<◌, ◌≤◌, [], List, IfOk, IfSome, None, OnOk, length};
 ghost use Rattle.coniks_proof.specs.Changes.{overwritten};
+ghost use Rattle.coniks_proof.specs.Hashing.{Hashing};
+ghost use Rattle.coniks_tree.specs.Trees.{table_of};
 ghost use Rattle.coniks_tree.specs.Entries.{Lists, in_order};
 ghost use Rattle.coniks_tree.specs.Parts.{AllPlaced, entries_in};
 ghost use Rattle.coniks_tree.specs.Table.{Extends, Numbered};
@@ -52,8 +54,8 @@ fn overlay(
 fn entries_under(alloc: Global, tree: &Tree, root: Option<Root>) -> Result<Vec<Change>, OutOfMemory>
     requires { IfSome root (λ r. r.0 < length tree.now.nodes.items) }
     ensures placed { IfOk result (λ entries. (all : List Record) → Extends tree.now.records.items all → AllPlaced all entries.items) }
-    ensures lists { IfOk result (λ listed. (hash : List ℕ → List ℕ) (nonce : List ℕ) (entries : List Numbered)
-        → IsOldMap hash nonce tree.now.nodes.items tree.now.records.items root entries → Lists listed.items entries) }
+    ensures lists { IfOk result (λ listed. (by : Hashing) (entries : List Numbered)
+        → IsOldMap by (table_of tree.now) root entries → Lists listed.items entries) }
 {
     match root {
         Some(root) => Ok(tree.entries(root)?),
@@ -72,7 +74,7 @@ pub(crate) fn growth_of(
     changes: Vec<Change>,
 ) -> Result<Growth, OutOfMemory>
     requires { IfSome root (λ r. r.0 < length tree.now.nodes.items) }
-    ensures { IfOk result (IsGrowth tree.now.nodes.items tree.now.records.items root is_anew changes.items) }
+    ensures { IfOk result (IsGrowth (table_of tree.now) root is_anew changes.items) }
 {
     if !is_anew {
         return Ok(Growth { root, changes });

@@ -1,6 +1,7 @@
 //! The steps of an install.
 
 ghost use Rattle.std.specs.Prelude.{◌≡◌, ◌≢◌, ◌<◌, ◌≤◌, ◌+◌, ◌-◌, ◌^◌, ◌++◌, ◌∷◌, [], List, ℕ, None, Some, IfErr, IfOk, OnOk, length, vec_len, vec_capacity, true};
+ghost use Rattle.coniks_proof.specs.Octets.{Octets};
 ghost use Rattle.coniks_chain.specs.Chain.{before_at, link_before};
 ghost use Rattle.coniks_chain.specs.Entries.{body_bytes};
 ghost use Rattle.coniks_chain.specs.declared.entry.Body.{Body};
@@ -49,7 +50,7 @@ pub(crate) fn may_install(
 /// Returns the link of the last entry, which the last published head contains, or 32 zero bytes if there is none.
 #[tactic(auto, using(crate::proofs::HeadLemmas::last_links))]
 pub(crate) fn last_link(publisher: &Publisher) -> Digest
-    ensures { (hash : List ℕ → List ℕ) (chain : List Entry) → publisher.now.heads ≡ heads_of hash chain
+    ensures { (hash : Octets → Octets) (chain : List Entry) → publisher.now.heads ≡ heads_of hash chain
         → result.0 ≡ link_before (before_at hash None chain (length chain)) }
 {
     match publisher.last() {
@@ -122,7 +123,7 @@ pub(crate) fn signed<H: Hash32, S: Sign>(
         (λ fault. (wanted : Body) → ((body : Body) → IsSigned (H.digest_of h.now) (state_of held.old) update.now t previous.0 body → body ≡ wanted)
         → LeavesSigner S.signs wanted signer.old signer.new fault) }
     ensures verdict { IfOk result (λ entry. S.verdict_of signer.new (body_bytes entry.body) entry.signature.0 ≡ true) }
-    ensures verdicts_kept { (bytes signature : List ℕ) → S.verdict_of signer.new bytes signature ≡ S.verdict_of signer.old bytes signature }
+    ensures verdicts_kept { (bytes signature : Octets) → S.verdict_of signer.new bytes signature ≡ S.verdict_of signer.old bytes signature }
     ensures refused { IfErr result
         (λ fault. (s : State) (base published capacity : ℕ) → MayInstall s base t published capacity → IsRefused s base t published capacity fault) }
     ensures unsigned { IfErr result

@@ -1,8 +1,10 @@
 //! Checks a batch on a registry, operation by operation.
 
-ghost use Rattle.std.specs.Prelude.{◌≡◌, ◌++◌, ◌∷◌, ◌<◌, [], List, ℕ, None, Ok, IfErr, IfOk, IfSome, OnOk, length, map, option_map};
+ghost use Rattle.std.specs.Prelude.{◌≡◌, ◌++◌, ◌∷◌, ◌<◌, [], List, None, Ok, IfErr, IfOk, IfSome, OnOk, length, map, option_map};
 ghost use Rattle.coniks_proof.specs.Batches.{bound_by, fault_of, first_fault};
+ghost use Rattle.coniks_proof.specs.Octets.{Octets};
 ghost use Rattle.coniks_proof.specs.Registry.{Registered, Registry};
+ghost use Rattle.coniks_tree.specs.Trees.{table_of};
 ghost use Rattle.coniks_directory.specs.Batches.{fault_is, operation_of, operations};
 ghost use Rattle.coniks_directory.specs.Holders.{ShowsLatest};
 ghost use Rattle.coniks_directory.specs.Judged.{ArePendingRecords, AreSealed, IsJudgedFault};
@@ -26,11 +28,11 @@ fn judge_one<X: IndexSource>(
     op: &Op,
 ) -> Result<Option<OpFault>, AllocError>
     requires { IfSome root (λ r. r.0 < length tree.now.nodes.items) }
-    ensures fault { IfOk result (λ fault. (hash : List ℕ → List ℕ) (nonce : List ℕ) (registry : Registry) (bound : List Registered)
-        → ShowsLatest hash (X.index_of source.now) nonce tree.now.nodes.items tree.now.records.items root registry
+    ensures fault { IfOk result (λ fault. (hash : Octets → Octets) (nonce : Octets) (registry : Registry) (bound : List Registered)
+        → ShowsLatest hash (X.index_of source.now) nonce (table_of tree.now) root registry
         → ArePendingRecords hash (X.index_of source.now) bound pending.old.records.items pending.old.numbers
         → option_map fault_is fault ≡ fault_of (X.index_of source.now) registry bound (operation_of op.now)) }
-    ensures pending { result ≡ Ok None → (hash : List ℕ → List ℕ) (bound : List Registered)
+    ensures pending { result ≡ Ok None → (hash : Octets → Octets) (bound : List Registered)
         → ArePendingRecords hash (X.index_of source.now) bound pending.old.records.items pending.old.numbers
         → ArePendingRecords hash (X.index_of source.now) (bound ++ bound_by (operation_of op.now) ∷ []) pending.new.records.items pending.new.numbers }
 {
@@ -65,11 +67,11 @@ pub(crate) fn judged<H: Hash32, X: IndexSource>(
     ensures pending { IfOk result (λ pending. ArePendingRecords (H.digest_of h.now)
         (X.index_of source.now) (map bound_by (operations ops.now)) pending.records.items pending.numbers) }
     ensures sealed { IfOk result (λ pending. AreSealed (H.digest_of h.now) pending.records.items) }
-    ensures faultless { OnOk result ((nonce : List ℕ) (registry : Registry)
-        → ShowsLatest (H.digest_of h.now) (X.index_of source.now) nonce tree.now.nodes.items tree.now.records.items root registry
+    ensures faultless { OnOk result ((nonce : Octets) (registry : Registry)
+        → ShowsLatest (H.digest_of h.now) (X.index_of source.now) nonce (table_of tree.now) root registry
         → first_fault (X.index_of source.now) registry (operations ops.now) ≡ None) }
-    ensures fault { IfErr result (λ fault. (nonce : List ℕ) (registry : Registry)
-        → ShowsLatest (H.digest_of h.now) (X.index_of source.now) nonce tree.now.nodes.items tree.now.records.items root registry
+    ensures fault { IfErr result (λ fault. (nonce : Octets) (registry : Registry)
+        → ShowsLatest (H.digest_of h.now) (X.index_of source.now) nonce (table_of tree.now) root registry
         → IsJudgedFault (X.index_of source.now) registry (operations ops.now) fault) }
 {
     let Ok(mut pending) = PendingRecords::new(alloc, ops.len()) else {

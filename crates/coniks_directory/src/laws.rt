@@ -12,6 +12,8 @@ ghost use Rattle.coniks_directory.specs.Updates.{Grows, IsUpdate, IsUpdateOf, ba
 ghost use Rattle.coniks_directory.specs.declared.update.Prepared.{Prepared};
 ghost use Rattle.coniks_proof.specs.Batches.{Operation};
 ghost use Rattle.coniks_proof.specs.Collisions.{Disagree};
+ghost use Rattle.coniks_proof.specs.Hashing.{Hashing};
+ghost use Rattle.coniks_proof.specs.Octets.{Octets};
 ghost use Rattle.coniks_proof.specs.Proofs.{Accepts};
 ghost use Rattle.coniks_proof.specs.declared.paths.Proof.{Proof};
 ghost use Rattle.coniks_proof.specs.declared.values.Head.{Head};
@@ -23,8 +25,8 @@ ghost use Rattle.coniks_shared.specs.Lists.{Begins, last_of};
 /// `Stale`.
 #[tactic(auto, using(crate::proofs::FreshLemmas::prepared_of, crate::proofs::FreshLemmas::stays))]
 pub fn updates_stay()
-    ensures prepared { (hash index_of : List ℕ → List ℕ) (s : State) (update : Prepared) → IsUpdate hash index_of s update → IsUpdateOf hash index_of s update }
-    ensures stays { (hash index_of : List ℕ → List ℕ) (s later : State) (update : Prepared)
+    ensures prepared { (hash index_of : Octets → Octets) (s : State) (update : Prepared) → IsUpdate hash index_of s update → IsUpdateOf hash index_of s update }
+    ensures stays { (hash index_of : Octets → Octets) (s later : State) (update : Prepared)
         → Grows s later → IsUpdateOf hash index_of s update → IsUpdateOf hash index_of later update }
 {}
 
@@ -34,10 +36,10 @@ pub fn updates_stay()
 /// leaves the same registry.
 #[tactic(auto, using(crate::proofs::FreshLemmas::fresh_history, crate::proofs::FreshLemmas::fresh_registry))]
 pub fn updates_that_are_not_stale()
-    ensures history { (hash index_of : List ℕ → List ℕ) (s later : State) (update : Prepared)
+    ensures history { (hash index_of : Octets → Octets) (s later : State) (update : Prepared)
         → IsUpdate hash index_of s update → Grows s later → base_of update ≡ length later.epochs
         → history_of later ≡ history_of s }
-    ensures registry { (hash index_of : List ℕ → List ℕ) (s later : State) (update : Prepared)
+    ensures registry { (hash index_of : Octets → Octets) (s later : State) (update : Prepared)
         → IsUpdate hash index_of s update → Grows s later → base_of update ≡ length later.epochs
         → registry_after later update ≡ registry_after s update }
 {}
@@ -53,7 +55,7 @@ pub fn directories_grow()
 ///
 /// The heads that it had seen are a prefix of those that it has seen since. These are a prefix of the heads of the chain.
 pub fn answers_are_no_older()
-    ensures { (hash index_of : List ℕ → List ℕ) (policy : List ℕ) (history : List Shown) (chain : List Entry) (had has : List Head) (latest answer : Head)
+    ensures { (hash index_of : Octets → Octets) (policy : Octets) (history : List Shown) (chain : List Entry) (had has : List Head) (latest answer : Head)
         → IsChainOf hash index_of policy history chain → AreRising 0 (numbers_of history)
         → Begins had has → Begins has (heads_of hash chain) → last_of had ≡ Some latest → last_of has ≡ Some answer → latest.epoch ≤ answer.epoch }
 {}
@@ -68,24 +70,24 @@ pub fn answers_are_no_older()
 /// Two proofs that are accepted for one root, nonce and index with different answers disagree. `coniks_proof::extract`
 /// then returns two different byte strings that have one hash.
 pub fn directory_theorem()
-    ensures epochs { (hash index_of : List ℕ → List ℕ) (nonce policy : List ℕ) (batches : List Batch) (s : State) → Run hash index_of nonce policy batches s
+    ensures epochs { (hash index_of : Octets → Octets) (nonce policy : Octets) (batches : List Batch) (s : State) → Run hash index_of nonce policy batches s
         → history_of s ≡ defined nonce batches }
-    ensures accepted { (hash index_of : List ℕ → List ℕ) (nonce policy : List ℕ) (batches : List Batch) (s : State) → Run hash index_of nonce policy batches s
+    ensures accepted { (hash index_of : Octets → Octets) (nonce policy : Octets) (batches : List Batch) (s : State) → Run hash index_of nonce policy batches s
         → AreAccepted index_of batches }
-    ensures entries { (hash index_of : List ℕ → List ℕ) (nonce policy : List ℕ) (batches : List Batch) (s : State) → Run hash index_of nonce policy batches s
+    ensures entries { (hash index_of : Octets → Octets) (nonce policy : Octets) (batches : List Batch) (s : State) → Run hash index_of nonce policy batches s
         → IsChainOf hash index_of s.policy (history_of s) s.chain → IsChainOf hash index_of policy (defined nonce batches) s.chain }
-    ensures roots { (hash index_of : List ℕ → List ℕ) (nonce policy : List ℕ) (batches : List Batch) (s : State) → Run hash index_of nonce policy batches s
-        → (t : ℕ) (root : Option (List ℕ)) → root ≡ option_map (root_at hash index_of) (shown_at (history_of s) t)
+    ensures roots { (hash index_of : Octets → Octets) (nonce policy : Octets) (batches : List Batch) (s : State) → Run hash index_of nonce policy batches s
+        → (t : ℕ) (root : Option Octets) → root ≡ option_map (root_at hash index_of) (shown_at (history_of s) t)
         → root ≡ option_map (root_at hash index_of) (shown_at (defined nonce batches) t) }
-    ensures paths { (hash index_of : List ℕ → List ℕ) (nonce policy : List ℕ) (batches : List Batch) (s : State) → Run hash index_of nonce policy batches s
-        → (t : ℕ) (name : List ℕ) (proof : Proof) → IsFound hash index_of (history_of s) t name proof
+    ensures paths { (hash index_of : Octets → Octets) (nonce policy : Octets) (batches : List Batch) (s : State) → Run hash index_of nonce policy batches s
+        → (t : ℕ) (name : Octets) (proof : Proof) → IsFound hash index_of (history_of s) t name proof
         → IsFound hash index_of (defined nonce batches) t name proof }
-    ensures lookups { (hash index_of : List ℕ → List ℕ) (nonce policy : List ℕ) (batches : List Batch) (s : State) → Run hash index_of nonce policy batches s
-        → (t : ℕ) (name : List ℕ) (proof : Proof) → IsAcceptedAt hash index_of (history_of s) t name proof
+    ensures lookups { (hash index_of : Octets → Octets) (nonce policy : Octets) (batches : List Batch) (s : State) → Run hash index_of nonce policy batches s
+        → (t : ℕ) (name : Octets) (proof : Proof) → IsAcceptedAt hash index_of (history_of s) t name proof
         → IsAcceptedAt hash index_of (defined nonce batches) t name proof }
-    ensures answers { (hash : List ℕ → List ℕ) (nonce root index name_a name_b : List ℕ) (a b : Proof) (x y : Option (List ℕ))
-        → Accepts hash nonce root index name_a a x
-        → Accepts hash nonce root index name_b b y → x ≢ y → Disagree hash nonce root index name_a a name_b b }
+    ensures answers { (by : Hashing) (root index name_a name_b : Octets) (a b : Proof) (x y : Option Octets)
+        → Accepts by root index name_a a x
+        → Accepts by root index name_b b y → x ≢ y → Disagree by root index name_a a name_b b }
 {}
 
 /// Proves that a directory's properties depend only on the indices of its registered names.
@@ -94,11 +96,11 @@ pub fn directory_theorem()
 /// indices. So the index of a name that is not registered can be supplied, and all that is installed is unchanged. An
 /// update remains one of the directory if the two functions agree on the registry that it leaves.
 pub fn indices_may_be_supplied()
-    ensures directories { (hash index_of also : List ℕ → List ℕ) (s : State)
+    ensures directories { (hash index_of also : Octets → Octets) (s : State)
         → AgreeOn index_of also (latest_registry (history_of s)) → Whole hash index_of s → Whole hash also s }
-    ensures updates { (hash index_of also : List ℕ → List ℕ) (s : State) (update : Prepared)
+    ensures updates { (hash index_of also : Octets → Octets) (s : State) (update : Prepared)
         → AgreeOn index_of also (registry_after s update) → IsUpdateOf hash index_of s update → IsUpdateOf hash also s update }
-    ensures prepared { (hash index_of also : List ℕ → List ℕ) (s : State) (new_nonce : Option (List ℕ))
+    ensures prepared { (hash index_of also : Octets → Octets) (s : State) (new_nonce : Option Octets)
         (ops : List Operation) (depth workers : ℕ) (update : Prepared) → AgreeOn index_of also (registry_after s update)
         → IsPreparedOf hash index_of s new_nonce ops depth workers update → IsPreparedOf hash also s new_nonce ops depth workers update }
 {}

@@ -1,7 +1,8 @@
 //! The lengths of names and keys.
 
-ghost use Rattle.std.specs.Prelude.{◌≡◌, List, ℕ, IfSome, None, Some, true};
+ghost use Rattle.std.specs.Prelude.{◌≡◌, List, IfSome, None, Some, true};
 ghost use Rattle.coniks_proof.specs.Batches.{fault_of, fits};
+ghost use Rattle.coniks_proof.specs.Octets.{Octets};
 ghost use Rattle.coniks_proof.specs.Registry.{IsLength, Registered, Registry};
 ghost use Rattle.coniks_directory.specs.Batches.{fault_is, operation_of};
 
@@ -26,7 +27,7 @@ pub(crate) fn is_name(bytes: &[u8]) -> bool
 
 /// Returns the error of an operation's lengths, the name's before the key's.
 pub(crate) fn length_fault(op: &Op) -> Option<OpFault>
-    ensures fault { IfSome result (λ fault. (index_of : List ℕ → List ℕ) (registry : Registry) (before : List Registered)
+    ensures fault { IfSome result (λ fault. (index_of : Octets → Octets) (registry : Registry) (before : List Registered)
         → fault_of index_of registry before (operation_of op.now) ≡ Some (fault_is fault)) }
     ensures named { result ≡ None → fits MAX_NAME op.now.name ≡ true }
     ensures keyed { result ≡ None → fits MAX_KEY op.now.key ≡ true }

@@ -1,7 +1,8 @@
 //! The checked operations of a batch: their records, found by index, and the commitments of these.
 
-ghost use Rattle.std.specs.Prelude.{◌≡◌, ◌++◌, ◌∷◌, [], List, ℕ, IfOk, MatchOption, None, OnOk, Some, map, slice_get};
+ghost use Rattle.std.specs.Prelude.{◌≡◌, ◌++◌, ◌∷◌, [], List, IfOk, MatchOption, None, OnOk, Some, map, slice_get};
 ghost use Rattle.coniks_proof.specs.Batches.{bound_by};
+ghost use Rattle.coniks_proof.specs.Octets.{Octets};
 ghost use Rattle.coniks_proof.specs.Registry.{AreWithin, IsFree, IsLength, Registered};
 ghost use Rattle.coniks_directory.specs.Batches.{operation_of};
 ghost use Rattle.coniks_directory.specs.Holders.{HolderIs};
@@ -28,7 +29,7 @@ pub(crate) struct PendingRecords {
 impl PendingRecords {
     /// Returns no operations, with room for this number of records.
     pub(crate) fn new(alloc: Global, operations: usize) -> Result<PendingRecords, AllocError>
-        ensures { IfOk result (λ pending. (hash index_of : List ℕ → List ℕ) → ArePendingRecords hash index_of [] pending.records.items pending.numbers) }
+        ensures { IfOk result (λ pending. (hash index_of : Octets → Octets) → ArePendingRecords hash index_of [] pending.records.items pending.numbers) }
     {
         Ok(PendingRecords {
             records: Vec::with_capacity(alloc, operations)?,
@@ -38,7 +39,7 @@ impl PendingRecords {
 
     /// Returns the record at an index, if one of the operations has it.
     pub(crate) fn holder(&self, index: &Index) -> Option<&Record>
-        ensures { (hash index_of : List ℕ → List ℕ) (bound : List Registered) → ArePendingRecords hash index_of bound self.now.records.items self.now.numbers
+        ensures { (hash index_of : Octets → Octets) (bound : List Registered) → ArePendingRecords hash index_of bound self.now.records.items self.now.numbers
             → HolderIs index_of bound index.now.0 result }
     {
         let number = self.numbers.get(&index.0)?;
@@ -47,7 +48,7 @@ impl PendingRecords {
 
     /// Adds the record of the next operation, whose index has none.
     pub(crate) fn add(&mut self, made: Record) -> Result<(), AllocError>
-        ensures { OnOk result ((hash index_of : List ℕ → List ℕ) (bound : List Registered)
+        ensures { OnOk result ((hash index_of : Octets → Octets) (bound : List Registered)
             → ArePendingRecords hash index_of bound self.old.records.items self.old.numbers
             → IsPendingRecord index_of made → IsFree index_of bound made.index.0
             → ArePendingRecords hash index_of (bound ++ registered_of made ∷ []) self.new.records.items self.new.numbers) }
@@ -63,7 +64,7 @@ impl PendingRecords {
     pub(crate) fn seal<H: Hash32>(&mut self, h: &H)
         requires { AreWithin (map registered_of self.old.records.items) }
         ensures sealed { AreSealed (H.digest_of h.now) self.new.records.items }
-        ensures pending { (hash index_of : List ℕ → List ℕ) (bound : List Registered)
+        ensures pending { (hash index_of : Octets → Octets) (bound : List Registered)
             → ArePendingRecords hash index_of bound self.old.records.items self.old.numbers
             → ArePendingRecords hash index_of bound self.new.records.items self.new.numbers }
     {
@@ -83,7 +84,7 @@ pub(crate) fn record_of(alloc: Global, index: Index, op: &Op) -> Result<Record, 
     requires name { IsLength MAX_NAME op.now.name }
     requires key { IsLength MAX_KEY op.now.key }
     ensures binds { IfOk result (λ r. registered_of r ≡ bound_by (operation_of op.now)) }
-    ensures drafted { IfOk result (λ r. (index_of : List ℕ → List ℕ) → index.0 ≡ index_of op.now.name → IsPendingRecord index_of r) }
+    ensures drafted { IfOk result (λ r. (index_of : Octets → Octets) → index.0 ≡ index_of op.now.name → IsPendingRecord index_of r) }
     ensures indexed { IfOk result (λ r. r.index.0 ≡ index.0) }
 {
     index.known();

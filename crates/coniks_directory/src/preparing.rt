@@ -1,9 +1,11 @@
 //! The update of a batch.
 
-ghost use Rattle.std.specs.Prelude.{◌≡◌, ◌<◌, ◌≤◌, ◌-◌, ◌^◌, All, IfErr, IfOk, IfSome, List, ℕ, None, OnOk, false, length, map};
+ghost use Rattle.std.specs.Prelude.{◌≡◌, ◌<◌, ◌≤◌, ◌-◌, ◌^◌, All, IfErr, IfOk, IfSome, List, None, OnOk, false, length, map};
 ghost use Rattle.std.specs.BTreeMap.{values};
 ghost use Rattle.coniks_proof.specs.Batches.{Operation, bound_by, first_fault};
+ghost use Rattle.coniks_proof.specs.Octets.{Octets};
 ghost use Rattle.coniks_proof.specs.Registry.{Registry};
+ghost use Rattle.coniks_tree.specs.Trees.{table_of};
 ghost use Rattle.coniks_tree.specs.Parts.{Fits, node_count};
 ghost use Rattle.coniks_directory.specs.Batches.{AreWorkers, operations};
 ghost use Rattle.coniks_directory.specs.Built.{IsBuilt, IsUpdateBy};
@@ -80,13 +82,13 @@ fn part_of<H: Hash32 + Sync, X: IndexSource, G: Gate + Sync, R: Threads + Sync>(
     requires root { IfSome root (λ r. r.0 < length origin.now.held.now.tree.nodes.items) }
     requires depth { build.now.depth ≤ MAX_DEPTH }
     requires workers { AreWorkers build.now.workers }
-    ensures { IfOk result (λ part. (index_of : List ℕ → List ℕ) (latest : List ℕ) (registry : Registry) (ops : List Operation)
+    ensures { IfOk result (λ part. (index_of : Octets → Octets) (latest : Octets) (registry : Registry) (ops : List Operation)
         → (is_anew ≡ false → latest ≡ nonce.now.0)
-        → ShowsLatest (H.digest_of origin.now.h.now) index_of latest origin.now.held.now.tree.nodes.items origin.now.held.now.tree.records.items root registry
+        → ShowsLatest (H.digest_of origin.now.h.now) index_of latest (table_of origin.now.held.now.tree) root registry
         → ArePendingRecords (H.digest_of origin.now.h.now) index_of (map bound_by ops) pending.now.records.items pending.now.numbers
         → AreSealed (H.digest_of origin.now.h.now) pending.now.records.items → first_fault index_of registry ops ≡ None
-        → IsBuilt (H.digest_of origin.now.h.now) index_of nonce.now.0 origin.now.held.now.tree.nodes.items
-        origin.now.held.now.tree.records.items root registry ops is_anew part pending.now.records.items) }
+        → IsBuilt (H.digest_of origin.now.h.now) index_of nonce.now.0
+        (table_of origin.now.held.now.tree) root registry ops is_anew part pending.now.records.items) }
 {
     let Origin { alloc, held, .. } = *origin;
     let changes = changes_of(alloc, held.tree.records(), pending)?;

@@ -1,6 +1,7 @@
 //! The commitments of a batch's records, four at a time, and the rest one by one.
 
-ghost use Rattle.std.specs.Prelude.{◌≡◌, ◌+◌, ◌*◌, ◌/◌, ◌<◌, ◌≤◌, List, ℕ, Some, length, map, slice_get};
+ghost use Rattle.std.specs.Prelude.{◌≡◌, ◌+◌, ◌*◌, ◌/◌, ◌<◌, ◌≤◌, List, Some, length, map, slice_get};
+ghost use Rattle.coniks_proof.specs.Octets.{Octets};
 ghost use Rattle.coniks_proof.specs.Preimages.{commitment_preimage};
 ghost use Rattle.coniks_proof.specs.Registry.{AreWithin, Registered};
 ghost use Rattle.coniks_directory.specs.Judged.{AreSealedTo, IsCommitmentAt, sealed_by};
@@ -42,7 +43,7 @@ fn commitment_at<H: Hash32>(h: &H, records: &[Record], place: usize) -> Digest
 fn put(records: &mut [Record], place: usize, commitment: Digest)
     requires { place < length records.old }
     ensures binds { map registered_of records.new ≡ map registered_of records.old }
-    ensures sealed { (hash : List ℕ → List ℕ) (all : List Record) → IsCommitmentAt hash records.old place commitment.0 → AreSealedTo hash all place records.old
+    ensures sealed { (hash : Octets → Octets) (all : List Record) → IsCommitmentAt hash records.old place commitment.0 → AreSealedTo hash all place records.old
         → AreSealedTo hash all (place + 1) records.new }
 {
     records[place].commitment = commitment;

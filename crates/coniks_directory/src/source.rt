@@ -1,6 +1,7 @@
 //! The source of the indices of names.
 
-ghost use Rattle.std.specs.Prelude.{◌≡◌, List, ℕ};
+ghost use Rattle.std.specs.Prelude.{◌≡◌};
+ghost use Rattle.coniks_proof.specs.Octets.{Octets};
 
 use coniks_proof::Index;
 
@@ -16,7 +17,7 @@ use coniks_proof::Index;
 /// `Monitor::new`. A directory has one source permanently, because names have other indices under another key.
 pub trait IndexSource {
     /// The index of a name.
-    ghost index_of: { Self → List ℕ → List ℕ };
+    ghost index_of: { Self → Octets → Octets };
 
     /// Returns the index of a name. A directory asks only for names of 1 to `MAX_NAME` bytes.
     fn index(&self, name: &[u8]) -> Index

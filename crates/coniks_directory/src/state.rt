@@ -1,6 +1,7 @@
 //! The state of a directory.
 
-ghost use Rattle.std.specs.Prelude.{◌≡◌, ◌-◌, List, ℕ, [], length, slice_get};
+ghost use Rattle.std.specs.Prelude.{◌≡◌, ◌-◌, [], length, slice_get};
+ghost use Rattle.coniks_proof.specs.Octets.{Octets};
 ghost use Rattle.coniks_directory.specs.History.{latest_epoch, latest_nonce, latest_version};
 ghost use Rattle.coniks_directory.specs.Holders.{IsLatestRoot};
 
@@ -61,7 +62,7 @@ impl DirectoryState {
 
     /// Returns the root of the latest epoch's tree, if there is one.
     pub(crate) fn latest_root(&self) -> Option<Root>
-        ensures { (hash index_of : List ℕ → List ℕ) → Whole hash index_of (state_of self.now) → IsLatestRoot hash index_of (state_of self.now) result }
+        ensures { (hash index_of : Octets → Octets) → Whole hash index_of (state_of self.now) → IsLatestRoot hash index_of (state_of self.now) result }
     {
         match self.last() {
             Some(epoch) => Some(epoch.root),
@@ -91,7 +92,7 @@ impl DirectoryState {
 
     /// Returns the epoch of exactly this number, with its entry.
     pub(crate) fn installed(&self, t: u64) -> Option<(Epoch, Entry)>
-        ensures { (hash index_of : List ℕ → List ℕ) → Whole hash index_of (state_of self.now) → IsInstalled hash index_of (state_of self.now) t result }
+        ensures { (hash index_of : Octets → Octets) → Whole hash index_of (state_of self.now) → IsInstalled hash index_of (state_of self.now) t result }
     {
         let (place, epoch) = Epoch::of_number(&self.epochs, t)?;
         Some((epoch, self.entry(place)?))

@@ -6,7 +6,7 @@ use Rattle.std.specs.Io.KnownBytes.{Keeps}
 use Rattle.coniks_lines.specs.Known.{Source, Sink, Takes, Appends, HasNoneLeft, next_count}
 use Rattle.coniks_lines.specs.Lines.{whole_after, rest_after, last_line, lines_of, whole_lines}
 use Rattle.coniks_lines.specs.Machine.{Answer, replies, state_after, all_accepted, output}
-use Rattle.coniks_lines.specs.Runs.{IsBeginning, WritesOn, count_after, ComesToEnd, CannotWrite, CannotRead, AnswersLine, AnswersWhole, AnswersAll, WritesPart, Stops, Because, StopsFor, AreRead, EndsWell, EndsBadly}
+use Rattle.coniks_lines.specs.Runs.{IsBeginning, WritesOn, count_after, ComesToEnd, CannotWrite, CannotRead, AnswersLine, AnswersWhole, AnswersAll, WritesPart, Stops, Because, StopsFor, AreRead, EndsWell, EndsBadly, Streams, streams}
 use Rattle.coniks_lines.specs.declared.fault.RunFault.{RunFault}
 use Rattle.coniks_lines.specs.declared.fault.RunFault.TheVariants.{Read, Write, OutOfMemory, NoBoard}
 use Rattle.coniks_lines.proofs.KnownLemmas.{Appends-then, taken_front, none_left-is}
@@ -176,7 +176,7 @@ module _ {S : Type 0} (answer : S → List ℕ → Answer S) where
 
   -- an error of the sink in the answer to a line
   pub stops_in_text : (t : S) (line bytes : List ℕ) (old new : Sink) (n : ℕ) (still : Source)
-      → bytes ≡ (answer t line).text ++ 10 ∷ [] → Appends old (take n bytes) new → new.flushes ≡ old.flushes → CannotWrite old new → StopsFor answer t (line ∷ []) still still old new Write
+      → bytes ≡ (answer t line).text ++ 10 ∷ [] → Appends old (take n bytes) new → new.flushes ≡ old.flushes → CannotWrite old new → StopsFor answer t (line ∷ []) (streams still still old new) Write
   stops_in_text t line bytes old new n still is wrote flushed why = (
     record {
       done = [];
@@ -194,7 +194,7 @@ module _ {S : Type 0} (answer : S → List ℕ → Answer S) where
   pub stops_at_flush : (t : S) (line bytes : List ℕ) (old mid new : Sink) (still : Source)
       → bytes ≡ (answer t line).text ++ 10 ∷ [] → Appends old bytes mid → mid.flushes ≡ old.flushes
       → WritesOn old mid → Keeps mid.written new.written → new.flushes ≡ mid.flushes → new.failed ≡ mid.failed + 1
-      → StopsFor answer t (line ∷ []) still still old new Write
+      → StopsFor answer t (line ∷ []) (streams still still old new) Write
   stops_at_flush t line bytes old mid new still is wrote before on kept flushed failed = (
     record {
       done = [];
@@ -209,7 +209,7 @@ module _ {S : Type 0} (answer : S → List ℕ → Answer S) where
   )
 
   -- want of memory before a line is answered
-  pub stops_before : (t : S) (line : List ℕ) (sink : Sink) (still : Source) → StopsFor answer t (line ∷ []) still still sink sink OutOfMemory
+  pub stops_before : (t : S) (line : List ℕ) (sink : Sink) (still : Source) → StopsFor answer t (line ∷ []) (streams still still sink sink) OutOfMemory
   unfolding Stops-between
   stops_before t line sink still = (Stops-between t [] (line ∷ []) (line ∷ []) sink sink refl (Appends-nil sink.written) refl, (refl, (WritesOn-none sink, refl)))
 
@@ -220,7 +220,7 @@ module _ {S : Type 0} (answer : S → List ℕ → Answer S) where
 
   -- what an error says, after other lines were answered, and with more lines after them
   because-then : (e : RunFault) (still : Source) (old mid new : Sink) (left left' : List (List ℕ)) (part : List ℕ)
-      → WritesOn old mid → Because e still still mid new left part → Because e still still old new left' part
+      → WritesOn old mid → Because e (streams still still mid new) left part → Because e (streams still still old new) left' part
   because-then Read still old mid new left left' part on h = absurd (not_still still h.0)
   because-then Write still old mid new left left' part on h = (refl, CannotWrite-then old mid new on h.1)
   because-then OutOfMemory still old mid new left left' part on h = (refl, (WritesOn-then old mid new on h.1.0, h.1.1))
@@ -228,7 +228,7 @@ module _ {S : Type 0} (answer : S → List ℕ → Answer S) where
 
   -- what an error says where the source went on before
   because-read : (e : RunFault) (from from' : Source) (old new : Sink) (left : List (List ℕ)) (part : List ℕ)
-      → from'.failed ≡ from.failed → Because e from from old new left part → Because e from from' old new left part
+      → from'.failed ≡ from.failed → Because e (streams from from old new) left part → Because e (streams from from' old new) left part
   because-read Read from from' old new left part on h = absurd (not_still from h.0)
   because-read Write from from' old new left part on h = (on, h.1)
   because-read OutOfMemory from from' old new left part on h = (on, h.1)
@@ -237,34 +237,35 @@ module _ {S : Type 0} (answer : S → List ℕ → Answer S) where
   -- an error among later lines, after the first ones were answered
   pub StopsFor-then : (s : S) (xs ys : List (List ℕ)) (still : Source) (old mid new : Sink) (e : RunFault) → WritesOn old mid
       → Appends old (replies answer s xs) mid → mid.flushes ≡ count_after old.flushes xs
-      → StopsFor answer (state_after answer s xs) ys still still mid new e → StopsFor answer s (xs ++ ys) still still old new e
+      → StopsFor answer (state_after answer s xs) ys (streams still still mid new) e → StopsFor answer s (xs ++ ys) (streams still still old new) e
   unfolding Stops-then
   StopsFor-then s xs ys still old mid new e on wrote flushed h =
       (Stops-then s xs ys old mid new wrote flushed h.0, because-then e still old mid new h.0.left h.0.left h.0.part on h.1)
 
   -- an error at the first of these lines
-  StopsFor-longer : (s : S) (xs ys : List (List ℕ)) (still : Source) (old new : Sink) (e : RunFault) → StopsFor answer s xs still still old new e → StopsFor answer s (xs ++ ys) still still old new e
+  StopsFor-longer : (s : S) (xs ys : List (List ℕ)) (still : Source) (old new : Sink) (e : RunFault) → StopsFor answer s xs (streams still still old new) e
+      → StopsFor answer s (xs ++ ys) (streams still still old new) e
   unfolding Stops-longer
   StopsFor-longer s xs ys still old new e h = (Stops-longer s xs ys old new h.0, because-then e still old old new h.0.left (h.0.left ++ ys) h.0.part (WritesOn-none old) h.1)
 
   -- an error at a line that ends in the chunk
   pub stops_at_line : {s t : S} {held line chunk front : List ℕ} (xs ys : List ℕ) (still : Source) (e : RunFault) {old mid new : Sink} {a : Bool}
-      → chunk ≡ front ++ (xs ++ 10 ∷ ys) → NoNewlineBefore xs (length xs) → AnswersWhole answer s held front old mid t line a → StopsFor answer t ((line ++ xs) ∷ []) still still mid new e
-      → StopsFor answer s (whole_after held chunk) still still old new e
+      → chunk ≡ front ++ (xs ++ 10 ∷ ys) → NoNewlineBefore xs (length xs) → AnswersWhole answer s held front old mid t line a → StopsFor answer t ((line ++ xs) ∷ []) (streams still still mid new) e
+      → StopsFor answer s (whole_after held chunk) (streams still still old new) e
   stops_at_line {s} {t} {held} {line} {chunk} {front} xs ys still e {old} {mid} {new} {a} parts none p h =
       let first = whole_after held front in
       let from = state_after answer s first in
       let it = (rest_after held front ++ xs) ∷ [] in
-      let at_line : StopsFor answer from it still still mid new e =
-      subst (λ (z : S). StopsFor answer z it still still mid new e) p.state_is (subst (λ (z : List ℕ). StopsFor answer t ((z ++ xs) ∷ []) still still mid new e) p.rest_is h) in
+      let at_line : StopsFor answer from it (streams still still mid new) e =
+      subst (λ (z : S). StopsFor answer z it (streams still still mid new) e) p.state_is (subst (λ (z : List ℕ). StopsFor answer t ((z ++ xs) ∷ []) (streams still still mid new) e) p.rest_is h) in
       let later = whole_after [] ys in
       let lines : first ++ (it ++ later) ≡ whole_after held chunk = sym (lines_around held front xs ys none) ∙ ap (whole_after held) (sym parts) in
-      subst (λ (ls : List (List ℕ)). StopsFor answer s ls still still old new e) lines
+      subst (λ (ls : List (List ℕ)). StopsFor answer s ls (streams still still old new) e) lines
       (StopsFor-then s first (it ++ later) still old mid new e p.writes_on p.written p.flushes_is (StopsFor-longer from it later still mid new e at_line))
 
   -- memory that was refused after the lines of a front
   pub stops_after : {s t : S} {held line front : List ℕ} (rest : List ℕ) {chunk : List ℕ} (still : Source) {old new : Sink} {a : Bool}
-      → front ++ rest ≡ chunk → AnswersWhole answer s held front old new t line a → StopsFor answer s (whole_after held chunk) still still old new OutOfMemory
+      → front ++ rest ≡ chunk → AnswersWhole answer s held front old new t line a → StopsFor answer s (whole_after held chunk) (streams still still old new) OutOfMemory
   unfolding Stops-between
   stops_after {s} {t} {held} {line} {front} rest {chunk} still {old} {new} {a} parts p = (
     Stops-between s (whole_after held front) (whole_after (rest_after held front) rest) (whole_after held chunk) old new
@@ -275,13 +276,13 @@ module _ {S : Type 0} (answer : S → List ℕ → Answer S) where
   -- an error in a later chunk
   pub ends_in_chunk : {s t : S} {line bytes : List ℕ} (chunk : List ℕ) {from from' : Source} {old mid new : Sink} {a : Bool} {e : RunFault}
       → Takes from (bytes ++ chunk) from' → from'.failed ≡ from.failed
-      → AnswersWhole answer s [] bytes old mid t line a → StopsFor answer t (whole_after line chunk) from from mid new e
-      → EndsBadly answer s from from' old new e
+      → AnswersWhole answer s [] bytes old mid t line a → StopsFor answer t (whole_after line chunk) (streams from from mid new) e
+      → EndsBadly answer s (streams from from' old new) e
   ends_in_chunk {s} {t} {line} {bytes} chunk {from} {from'} {old} {mid} {new} {a} {e} took on p h =
       let first = whole_after [] bytes in
       let later = whole_after (rest_after [] bytes) chunk in
-      let moved : StopsFor answer (state_after answer s first) later from from mid new e =
-      subst (λ (z : S). StopsFor answer z later from from mid new e) p.state_is (subst (λ (z : List ℕ). StopsFor answer t (whole_after z chunk) from from mid new e) p.rest_is h) in
+      let moved : StopsFor answer (state_after answer s first) later (streams from from mid new) e =
+      subst (λ (z : S). StopsFor answer z later (streams from from mid new) e) p.state_is (subst (λ (z : List ℕ). StopsFor answer t (whole_after z chunk) (streams from from mid new) e) p.rest_is h) in
       let all = StopsFor-then s first later from old mid new e p.writes_on p.written p.flushes_is moved in
       record {
         bytes = bytes ++ chunk;
@@ -298,11 +299,12 @@ module _ {S : Type 0} (answer : S → List ℕ → Answer S) where
   -- an error at the last line
   pub ends_at_last : {s t : S} {line bytes : List ℕ} {from from' : Source} {old mid new : Sink} {a : Bool} {e : RunFault}
       → line ≢ [] → Takes from bytes from' → from'.failed ≡ from.failed → ComesToEnd from from'
-      → AnswersWhole answer s [] bytes old mid t line a → StopsFor answer t (line ∷ []) from from mid new e
-      → EndsBadly answer s from from' old new e
+      → AnswersWhole answer s [] bytes old mid t line a → StopsFor answer t (line ∷ []) (streams from from mid new) e
+      → EndsBadly answer s (streams from from' old new) e
   ends_at_last {s} {t} {line} {bytes} {from} {from'} {old} {mid} {new} {a} {e} some took on ended p h =
       let first = whole_after [] bytes in
-      let moved : StopsFor answer (state_after answer s first) (line ∷ []) from from mid new e = subst (λ (z : S). StopsFor answer z (line ∷ []) from from mid new e) p.state_is h in
+      let moved : StopsFor answer (state_after answer s first) (line ∷ []) (streams from from mid new) e = subst
+      (λ (z : S). StopsFor answer z (line ∷ []) (streams from from mid new) e) p.state_is h in
       let all = StopsFor-then s first (line ∷ []) from old mid new e p.writes_on p.written p.flushes_is moved in
       record {
         bytes = bytes;
@@ -314,7 +316,7 @@ module _ {S : Type 0} (answer : S → List ℕ → Answer S) where
 
   -- reads that failed, or met no end, after the whole lines were answered
   pub ends_unread : {s t : S} {line bytes : List ℕ} {from from' : Source} {old new : Sink} {a : Bool}
-      → Takes from bytes from' → CannotRead from from' → AnswersWhole answer s [] bytes old new t line a → EndsBadly answer s from from' old new Read
+      → Takes from bytes from' → CannotRead from from' → AnswersWhole answer s [] bytes old new t line a → EndsBadly answer s (streams from from' old new) Read
   unfolding Stops-between
   ends_unread {s} {t} {line} {bytes} {from} {from'} {old} {new} {a} took why p = record {
     bytes = bytes;
@@ -325,7 +327,7 @@ module _ {S : Type 0} (answer : S → List ℕ → Answer S) where
   }
 
   -- want of memory before the first read
-  pub ends_unbegun : (s : S) (from : Source) (to : Sink) → EndsBadly answer s from from to to OutOfMemory
+  pub ends_unbegun : (s : S) (from : Source) (to : Sink) → EndsBadly answer s (streams from from to to) OutOfMemory
   unfolding Stops-between
   ends_unbegun s from to = record {
     bytes = [];
@@ -382,12 +384,12 @@ module _ {S : Type 0} (answer : S → List ℕ → Answer S) where
       (subst (λ (z : Sink). AnswersAll answer s bytes old z t a') (sym e_new) (subst (λ (z : Bool). AnswersAll answer s bytes old new t z) (sym e_a) p))
 
   -- all that was to be read was read
-  pub whole_input : {s t : S} {input : List ℕ} {from from' : Source} {to to' : Sink} {all : Bool}
-      → from.left ≡ Some input → EndsWell answer s from from' to to' t all → AnswersAll answer s input to to' t all
-  whole_input {s} {t} {input} {from} {from'} {to} {to'} {all} told h =
-      let took = taken_front input from from' h.bytes told h.read in
-      let same : h.bytes ≡ input = sym (took.1.1 ∙ ap (λ (r : List ℕ). h.bytes ++ r) (none_left-is took.0 from' took.1.0 h.at_end.none_left) ∙ append-nil h.bytes) in
-      subst (λ (bytes : List ℕ). AnswersAll answer s bytes to to' t all) same h.answers
+  pub whole_input : {s t : S} {input : List ℕ} {io : Streams} {all : Bool}
+      → io.from.left ≡ Some input → EndsWell answer s io t all → AnswersAll answer s input io.to io.to' t all
+  whole_input {s} {t} {input} {io} {all} told h =
+      let took = taken_front input io.from io.from' h.bytes told h.read in
+      let same : h.bytes ≡ input = sym (took.1.1 ∙ ap (λ (r : List ℕ). h.bytes ++ r) (none_left-is took.0 io.from' took.1.0 h.at_end.none_left) ∙ append-nil h.bytes) in
+      subst (λ (bytes : List ℕ). AnswersAll answer s bytes io.to io.to' t all) same h.answers
 
   -- what a beginning of bytes was written of begins longer bytes
   WritesPart-longer : (xs ys : List ℕ) (to to' : Sink) → WritesPart xs to to' → WritesPart (xs ++ ys) to to'
@@ -418,25 +420,25 @@ module _ {S : Type 0} (answer : S → List ℕ → Answer S) where
       }
 
   -- after an error what was written begins the output of the whole input
-  pub part_of_input : {s : S} {input : List ℕ} {from from' : Source} {to to' : Sink} {e : RunFault}
-      → from.left ≡ Some input → EndsBadly answer s from from' to to' e → WritesPart (output answer s input) to to'
-  part_of_input {s} {input} {from} {from'} {to} {to'} {e} told h =
-      let took = taken_front input from from' h.bytes told h.read in
-      subst (λ (bytes : List ℕ). WritesPart (output answer s bytes) to to') (sym took.1.1) (by_lines h.lines_are) where
-        wrote : WritesPart (replies answer s h.lines) to to'
-        wrote = Stops-part s h.lines to to' h.stops.0
+  pub part_of_input : {s : S} {input : List ℕ} {io : Streams} {e : RunFault}
+      → io.from.left ≡ Some input → EndsBadly answer s io e → WritesPart (output answer s input) io.to io.to'
+  part_of_input {s} {input} {io} {e} told h =
+      let took = taken_front input io.from io.from' h.bytes told h.read in
+      subst (λ (bytes : List ℕ). WritesPart (output answer s bytes) io.to io.to') (sym took.1.1) (by_lines h.lines_are) where
+        wrote : WritesPart (replies answer s h.lines) io.to io.to'
+        wrote = Stops-part s h.lines io.to io.to' h.stops.0
 
         rest : List ℕ
-        rest = (taken_front input from from' h.bytes told h.read).0
+        rest = (taken_front input io.from io.from' h.bytes told h.read).0
 
-        by_lines : AreRead from from' h.bytes h.lines → WritesPart (output answer s (h.bytes ++ rest)) to to'
+        by_lines : AreRead io.from io.from' h.bytes h.lines → WritesPart (output answer s (h.bytes ++ rest)) io.to io.to'
         by_lines (inl are) =
             let more = whole_after (rest_after [] h.bytes) rest ++ last_line (rest_after [] (h.bytes ++ rest)) in
             let lines : h.lines ++ more ≡ lines_of (h.bytes ++ rest) = ap (λ (ls : List (List ℕ)). ls ++ more) are ∙ lines_of-split h.bytes rest in
-            subst (λ (ls : List (List ℕ)). WritesPart (replies answer s ls) to to') lines
-            (subst (λ (r : List ℕ). WritesPart r to to') (sym (replies-append answer s h.lines more))
-            (WritesPart-longer (replies answer s h.lines) (replies answer (state_after answer s h.lines) more) to to' wrote))
+            subst (λ (ls : List (List ℕ)). WritesPart (replies answer s ls) io.to io.to') lines
+            (subst (λ (r : List ℕ). WritesPart r io.to io.to') (sym (replies-append answer s h.lines more))
+            (WritesPart-longer (replies answer s h.lines) (replies answer (state_after answer s h.lines) more) io.to io.to' wrote))
         by_lines (inr ended) =
-            let is = (taken_front input from from' h.bytes told h.read).1.0 in
-            let none : h.bytes ≡ h.bytes ++ rest = sym (ap (λ (r : List ℕ). h.bytes ++ r) (none_left-is rest from' is ended.0.none_left) ∙ append-nil h.bytes) in
-            subst (λ (bytes : List ℕ). WritesPart (output answer s bytes) to to') none (subst (λ (ls : List (List ℕ)). WritesPart (replies answer s ls) to to') ended.1 wrote)
+            let is = (taken_front input io.from io.from' h.bytes told h.read).1.0 in
+            let none : h.bytes ≡ h.bytes ++ rest = sym (ap (λ (r : List ℕ). h.bytes ++ r) (none_left-is rest io.from' is ended.0.none_left) ∙ append-nil h.bytes) in
+            subst (λ (bytes : List ℕ). WritesPart (output answer s bytes) io.to io.to') none (subst (λ (ls : List (List ℕ)). WritesPart (replies answer s ls) io.to io.to') ended.1 wrote)

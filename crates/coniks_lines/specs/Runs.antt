@@ -6,6 +6,17 @@ use Rattle.coniks_lines.specs.Machine.{Answer, replies, state_after, all_accepte
 use Rattle.coniks_lines.specs.declared.fault.RunFault.{RunFault}
 use Rattle.coniks_lines.specs.declared.fault.RunFault.TheVariants.{Read, Write, OutOfMemory, NoBoard}
 
+-- the two streams of a run, each before it and after it
+pub record Streams : Type 0 where
+  pub from : Source
+  pub from' : Source
+  pub to : Sink
+  pub to' : Sink
+
+-- the streams in these four states
+abbrev pub streams : Source → Source → Sink → Sink → Streams
+streams from from' to to' = record { from = from; from' = from'; to = to; to' = to' }
+
 -- xs begins ys
 pub record IsBeginning {X : Type 0} (xs ys : List X) : Type 0 where
   pub more : List X
@@ -81,50 +92,47 @@ pub record Stops {S : Type 0} (answer : S → List ℕ → Answer S) (start : S)
   pub flushes_is : new.flushes ≡ count_after old.flushes done
 
 -- what each error means for the streams, for the lines without a reply, and for the written part of the next reply
-abbrev pub Because : RunFault → Source → Source → Sink → Sink → List (List ℕ) → List ℕ → Type 0
-Because Read from from' to to' left part = CannotRead from from' × (WritesOn to to' × ((left ≡ []) × (part ≡ [])))
-Because Write from from' to to' left part = (from'.failed ≡ from.failed) × CannotWrite to to'
-Because OutOfMemory from from' to to' left part = (from'.failed ≡ from.failed) × (WritesOn to to' × (part ≡ []))
-Because NoBoard from from' to to' left part = ⊥
+abbrev pub Because : RunFault → Streams → List (List ℕ) → List ℕ → Type 0
+Because Read io left part = CannotRead io.from io.from' × (WritesOn io.to io.to' × ((left ≡ []) × (part ≡ [])))
+Because Write io left part = (io.from'.failed ≡ io.from.failed) × CannotWrite io.to io.to'
+Because OutOfMemory io left part = (io.from'.failed ≡ io.from.failed) × (WritesOn io.to io.to' × (part ≡ []))
+Because NoBoard io left part = ⊥
 
 -- an error stopped the run at these lines
-abbrev pub StopsFor : {S : Type 0} → (S → List ℕ → Answer S) → S → List (List ℕ) → Source → Source → Sink → Sink → RunFault → Type 0
-StopsFor answer start lines from from' to to' fault = (run : Stops answer start lines to to')
-    × Because fault from from' to to' run.left run.part
+abbrev pub StopsFor : {S : Type 0} → (S → List ℕ → Answer S) → S → List (List ℕ) → Streams → RunFault → Type 0
+StopsFor answer start lines io fault = (run : Stops answer start lines io.to io.to') × Because fault io run.left run.part
 
 -- a run that came to its source's end: each line that was read has its reply
-pub record EndsWell {S : Type 0} (answer : S → List ℕ → Answer S) (start : S)
-    (from from' : Source) (to to' : Sink) (state : S) (all : Bool) : Type 0 where
+pub record EndsWell {S : Type 0} (answer : S → List ℕ → Answer S) (start : S) (io : Streams) (state : S) (all : Bool) : Type 0 where
   pub bytes : List ℕ
-  pub read : Takes from bytes from'
-  pub at_end : ComesToEnd from from'
-  pub none_failed : from'.failed ≡ from.failed
-  pub answers : AnswersAll answer start bytes to to' state all
+  pub read : Takes io.from bytes io.from'
+  pub at_end : ComesToEnd io.from io.from'
+  pub none_failed : io.from'.failed ≡ io.from.failed
+  pub answers : AnswersAll answer start bytes io.to io.to' state all
 
 -- the lines of the bytes that were read: those that a newline ends, and at the source's end the last one too
 abbrev pub AreRead : Source → Source → List ℕ → List (List ℕ) → Type 0
 AreRead from from' bytes lines = (lines ≡ whole_lines bytes) ⊎ (ComesToEnd from from' × (lines ≡ lines_of bytes))
 
 -- a run that an error ended: the bytes that it read, their lines, and how far it came over these
-pub record EndsBadly {S : Type 0} (answer : S → List ℕ → Answer S) (start : S)
-    (from from' : Source) (to to' : Sink) (fault : RunFault) : Type 0 where
+pub record EndsBadly {S : Type 0} (answer : S → List ℕ → Answer S) (start : S) (io : Streams) (fault : RunFault) : Type 0 where
   pub bytes : List ℕ
   pub lines : List (List ℕ)
-  pub read : Takes from bytes from'
-  pub lines_are : AreRead from from' bytes lines
-  pub stops : StopsFor answer start lines from from' to to' fault
+  pub read : Takes io.from bytes io.from'
+  pub lines_are : AreRead io.from io.from' bytes lines
+  pub stops : StopsFor answer start lines io fault
 
--- what an error leaves of a run that wants a board: what `EndsBadly` says; without a board, nothing was read or written
-abbrev pub FailsWithBoard : {S : Type 0} → (S → List ℕ → Answer S) → S → Source → Source → Sink → Sink → RunFault → Type 0
-FailsWithBoard answer start from from' to to' NoBoard = (from' ≡ from) × (to' ≡ to)
-FailsWithBoard answer start from from' to to' fault = EndsBadly answer start from from' to to' fault
+-- the streams after an error of a run that needs a board: those of `EndsBadly`; without a board, nothing was read or written
+abbrev pub FailsWithBoard : {S : Type 0} → (S → List ℕ → Answer S) → S → Streams → RunFault → Type 0
+FailsWithBoard answer start io NoBoard = (io.from' ≡ io.from) × (io.to' ≡ io.to)
+FailsWithBoard answer start io fault = EndsBadly answer start io fault
 
--- how a run ends that a machine began in this state: well, or by an error of which `Fails` speaks. If the source's bytes are known,
--- each of them is answered if the run ends well, and else a beginning of their answers is written
+-- how a run from this state ends: well, or by an error for which `Fails` holds. If the source's bytes are known, the run has
+-- replied to all of them if it ends well, and has written a beginning of the replies if it does not
 pub record IsRunOf {S : Type 0} (answer : S → List ℕ → Answer S) (start : S)
-    (Fails : Source → Source → Sink → Sink → RunFault → Type 0)
-    (from from' : Source) (to to' : Sink) (result : Result Bool RunFault) : Type 0 where
-  pub ok : IfOk result (λ all. (state : S) × EndsWell answer start from from' to to' state all)
-  pub err : IfErr result (Fails from from' to to')
-  pub all_of : (input : List ℕ) → from.left ≡ Some input → IfOk result (λ all. (state : S) × AnswersAll answer start input to to' state all)
-  pub part_of : (input : List ℕ) → from.left ≡ Some input → OnErr result (WritesPart (output answer start input) to to')
+    (Fails : Streams → RunFault → Type 0) (io : Streams) (result : Result Bool RunFault) : Type 0 where
+  pub ok : IfOk result (λ all. (state : S) × EndsWell answer start io state all)
+  pub err : IfErr result (Fails io)
+  pub all_of : (input : List ℕ) → io.from.left ≡ Some input
+      → IfOk result (λ all. (state : S) × AnswersAll answer start input io.to io.to' state all)
+  pub part_of : (input : List ℕ) → io.from.left ≡ Some input → OnErr result (WritesPart (output answer start input) io.to io.to')

@@ -3,7 +3,7 @@ ghost use Rattle.std.specs.Prelude.{◌≡◌, ℕ, ◌+◌, ◌<◌, ◌^◌, �
 ghost use Rattle.coniks_lines.specs.Known.{Source, Appends};
 ghost use Rattle.coniks_lines.specs.Lines.{whole_after};
 ghost use Rattle.coniks_lines.specs.Machine.{Answer, output};
-ghost use Rattle.coniks_lines.specs.Runs.{WritesOn, CannotWrite, AnswersLine, AnswersWhole, AnswersAll, WritesPart, StopsFor, EndsWell, EndsBadly};
+ghost use Rattle.coniks_lines.specs.Runs.{WritesOn, CannotWrite, AnswersLine, AnswersWhole, AnswersAll, WritesPart, StopsFor, EndsWell, EndsBadly, streams};
 ghost use Rattle.coniks_lines.specs.declared.fault.RunFault.TheVariants.{Write};
 
 use crate::bytes::{ByteIn, ByteOut};
@@ -79,12 +79,10 @@ pub fn run_lines<M: LineMachine, R: ByteIn, W: ByteOut>(
     requires reads { (R.source reader.old).failed + 1 < 2 ^ 64 }
     requires writes { (W.sink writer.old).failed + 1 < 2 ^ 64 }
     ensures ok { IfOk result (EndsWell M.answer (M.state machine.old)
-        (R.source reader.old) (R.source reader.new)
-        (W.sink writer.old) (W.sink writer.new)
+        (streams (R.source reader.old) (R.source reader.new) (W.sink writer.old) (W.sink writer.new))
         (M.state machine.new)) }
     ensures err { IfErr result (EndsBadly M.answer (M.state machine.old)
-        (R.source reader.old) (R.source reader.new)
-        (W.sink writer.old) (W.sink writer.new)) }
+        (streams (R.source reader.old) (R.source reader.new) (W.sink writer.old) (W.sink writer.new))) }
 
     // If the reader's bytes are known: after Ok each of them is answered, and after an error a prefix of their answers
     // was written.
@@ -115,12 +113,10 @@ fn read_lines<M: LineMachine, R: ByteIn, W: ByteOut>(
     requires reads { (R.source reader.old).failed + 1 < 2 ^ 64 }
     requires writes { (W.sink writer.old).failed + 1 < 2 ^ 64 }
     ensures ok { IfOk result (EndsWell M.answer (M.state machine.old)
-        (R.source reader.old) (R.source reader.new)
-        (W.sink writer.old) (W.sink writer.new)
+        (streams (R.source reader.old) (R.source reader.new) (W.sink writer.old) (W.sink writer.new))
         (M.state machine.new)) }
     ensures err { IfErr result (EndsBadly M.answer (M.state machine.old)
-        (R.source reader.old) (R.source reader.new)
-        (W.sink writer.old) (W.sink writer.new)) }
+        (streams (R.source reader.old) (R.source reader.new) (W.sink writer.old) (W.sink writer.new))) }
 {
     let mut held = Vec::new(alloc);
     let mut out = Vec::new(alloc);
@@ -156,7 +152,7 @@ fn take_chunk<M: LineMachine, W: ByteOut>(
         (W.sink writer.old) (W.sink writer.new)
         (M.state machine.new) held.new.items) }
     ensures err { (still : Source) → IfErr result (StopsFor M.answer (M.state machine.old) (whole_after held.old.items chunk.now)
-        still still (W.sink writer.old) (W.sink writer.new)) }
+        (streams still still (W.sink writer.old) (W.sink writer.new))) }
 {
     let mut all = true;
     let mut start = 0;
@@ -188,7 +184,7 @@ fn end_line<M: LineMachine, W: ByteOut>(
         (M.state machine.new)) }
     ensures none_held { OnOk result (held.new.items ≡ []) }
     ensures err { (still : Source) → IfErr result (StopsFor M.answer (M.state machine.old) ((held.old.items ++ part.now) ∷ [])
-        still still (W.sink writer.old) (W.sink writer.new)) }
+        (streams still still (W.sink writer.old) (W.sink writer.new))) }
 {
     if held.is_empty() {
         return answer_line(machine, part, out, writer);
@@ -214,7 +210,7 @@ fn answer_line<M: LineMachine, W: ByteOut>(
         (W.sink writer.old) (W.sink writer.new)
         (M.state machine.new)) }
     ensures err { (still : Source) → IfErr result (StopsFor M.answer (M.state machine.old) (line.now ∷ [])
-        still still (W.sink writer.old) (W.sink writer.new)) }
+        (streams still still (W.sink writer.old) (W.sink writer.new))) }
 {
     out.clear();
     let Ok(accepted) = machine.step(line, out) else {

@@ -6,6 +6,7 @@ use Rattle.std.proofs.lemmas.Bool.{cases_lt}
 use Rattle.coniks_proof.specs.declared.values.TheConstants.{MAX_KEY, MAX_LEVEL, MAX_NAME}
 use Rattle.coniks_proof.specs.Bits.{first_bits}
 use Rattle.coniks_proof.specs.Faults.{EndHas, Has}
+use Rattle.coniks_proof.specs.Hashing.{Hashing}
 use Rattle.coniks_proof.specs.Proofs.{EndFits, Accepts, answer_of}
 use Rattle.coniks_proof.specs.declared.paths.Proof.{Proof}
 use Rattle.coniks_proof.specs.declared.paths.End.{End}
@@ -38,16 +39,16 @@ fits-no_fault index name level (Here here key o) NameLength fits has = has
 fits-no_fault index name level (Here here key o) RootMismatch fits has = has
 
 -- an accepted proof has no error
-pub accepts-no_fault : (hash : List ℕ → List ℕ) (nonce root index name : List ℕ) (proof : Proof) (answer : Option (List ℕ)) (fault : CheckFault)
-    → Accepts hash nonce root index name proof answer → Has hash nonce root index name proof fault → ⊥
-accepts-no_fault hash nonce root index name proof answer TooDeep ok has = let depth = ok.well_formed.depth in omega arith
-accepts-no_fault hash nonce root index name proof answer NameLength ok has = let given = ok.well_formed.name_given in
+pub accepts-no_fault : (by : Hashing) (root index name : List ℕ) (proof : Proof) (answer : Option (List ℕ)) (fault : CheckFault)
+    → Accepts by root index name proof answer → Has by root index name proof fault → ⊥
+accepts-no_fault by root index name proof answer TooDeep ok has = let depth = ok.well_formed.depth in omega arith
+accepts-no_fault by root index name proof answer NameLength ok has = let given = ok.well_formed.name_given in
     let fits = ok.well_formed.name_fits in elim has [ inl none ↦ omega arith | inr long ↦ omega arith ]
-accepts-no_fault hash nonce root index name proof answer RootMismatch ok has = has ok.root_met
-accepts-no_fault hash nonce root index name proof answer KeyLength ok has = fits-no_fault index name (length proof.siblings) proof.end KeyLength ok.well_formed.end_fits has
-accepts-no_fault hash nonce root index name proof answer WrongName ok has = fits-no_fault index name (length proof.siblings) proof.end WrongName ok.well_formed.end_fits has
-accepts-no_fault hash nonce root index name proof answer OtherIsSame ok has = fits-no_fault index name (length proof.siblings) proof.end OtherIsSame ok.well_formed.end_fits has
-accepts-no_fault hash nonce root index name proof answer OtherOffPath ok has = fits-no_fault index name (length proof.siblings) proof.end OtherOffPath ok.well_formed.end_fits has
+accepts-no_fault by root index name proof answer RootMismatch ok has = has ok.root_met
+accepts-no_fault by root index name proof answer KeyLength ok has = fits-no_fault index name (length proof.siblings) proof.end KeyLength ok.well_formed.end_fits has
+accepts-no_fault by root index name proof answer WrongName ok has = fits-no_fault index name (length proof.siblings) proof.end WrongName ok.well_formed.end_fits has
+accepts-no_fault by root index name proof answer OtherIsSame ok has = fits-no_fault index name (length proof.siblings) proof.end OtherIsSame ok.well_formed.end_fits has
+accepts-no_fault by root index name proof answer OtherOffPath ok has = fits-no_fault index name (length proof.siblings) proof.end OtherOffPath ok.well_formed.end_fits has
 
 -- ---- and where there is no error it is accepted
 
@@ -106,25 +107,25 @@ end_has_none index name level Empty = ((λ has. has), (λ has. has), λ has. has
 end_has_none index name level (Other other c) = ((λ has. has), (λ has. has), λ has. has)
 end_has_none index name level (Here here key o) = ((λ has. has), (λ has. has), λ has. has)
 
-end_none : (hash : List ℕ → List ℕ) (nonce root index name : List ℕ) (proof : Proof) → ((fault : CheckFault) → Has hash nonce root index name proof fault → ⊥)
+end_none : (by : Hashing) (root index name : List ℕ) (proof : Proof) → ((fault : CheckFault) → Has by root index name proof fault → ⊥)
     → (fault : CheckFault) → EndHas index name (length proof.siblings) proof.end fault → ⊥
-end_none hash nonce root index name proof none KeyLength has = none KeyLength has
-end_none hash nonce root index name proof none WrongName has = none WrongName has
-end_none hash nonce root index name proof none OtherIsSame has = none OtherIsSame has
-end_none hash nonce root index name proof none OtherOffPath has = none OtherOffPath has
-end_none hash nonce root index name proof none TooDeep has = (end_has_none index name (length proof.siblings) proof.end).0 has
-end_none hash nonce root index name proof none NameLength has = (end_has_none index name (length proof.siblings) proof.end).1 has
-end_none hash nonce root index name proof none RootMismatch has = (end_has_none index name (length proof.siblings) proof.end).2 has
+end_none by root index name proof none KeyLength has = none KeyLength has
+end_none by root index name proof none WrongName has = none WrongName has
+end_none by root index name proof none OtherIsSame has = none OtherIsSame has
+end_none by root index name proof none OtherOffPath has = none OtherOffPath has
+end_none by root index name proof none TooDeep has = (end_has_none index name (length proof.siblings) proof.end).0 has
+end_none by root index name proof none NameLength has = (end_has_none index name (length proof.siblings) proof.end).1 has
+end_none by root index name proof none RootMismatch has = (end_has_none index name (length proof.siblings) proof.end).2 has
 
 -- a proof with no error is accepted
-pub no_fault-accepts : (hash : List ℕ → List ℕ) (nonce root index name : List ℕ) (proof : Proof) → ((fault : CheckFault) → Has hash nonce root index name proof fault → ⊥)
-    → Accepts hash nonce root index name proof (answer_of proof.end)
-no_fault-accepts hash nonce root index name proof none = record {
+pub no_fault-accepts : (by : Hashing) (root index name : List ℕ) (proof : Proof) → ((fault : CheckFault) → Has by root index name proof fault → ⊥)
+    → Accepts by root index name proof (answer_of proof.end)
+no_fault-accepts by root index name proof none = record {
   well_formed = record {
     depth = at_most MAX_LEVEL (length proof.siblings) (none TooDeep);
     name_given = some_there (length name) (λ e. none NameLength (inl e));
     name_fits = at_most MAX_NAME (length name) (λ e. none NameLength (inr e));
-    end_fits = end_sound index name (length proof.siblings) proof.end (end_none hash nonce root index name proof none);
+    end_fits = end_sound index name (length proof.siblings) proof.end (end_none by root index name proof none);
   };
   root_met = stable _ root (none RootMismatch);
   answered = refl;

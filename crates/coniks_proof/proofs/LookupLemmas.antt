@@ -4,6 +4,7 @@ use Rattle.std.proofs.lemmas.Bool.{cases_lt}
 use Rattle.coniks_proof.specs.Bits.{bit_at, child, turns, first_bits}
 use Rattle.coniks_proof.specs.Entries.{Entry, IsIn, half}
 use Rattle.coniks_proof.specs.Changes.{AreApart}
+use Rattle.coniks_proof.specs.Hashing.{Hashing, hashing}
 use Rattle.coniks_proof.specs.Maps.{IsMap}
 use Rattle.coniks_proof.specs.Preimages.{empty_preimage, leaf_preimage, inner_preimage}
 use Rattle.coniks_proof.specs.Tree.{node}
@@ -85,43 +86,43 @@ alike-half k j b (e ∷ es) is alike =
     ]) refl
 
 -- what stands at the end of the way agrees with the index as far as the way goes
-pub end_of-alike : {B : Type 0} (hash : List ℕ → List ℕ) (nonce : List ℕ) (h : ℕ) (p : List Bool) (j : List ℕ) (es : List (Entry B))
+pub end_of-alike : {B : Type 0} (by : Hashing) (h : ℕ) (p : List Bool) (j : List ℕ) (es : List (Entry B))
     → length p + h ≡ 256 → AreApart (length p) es → BeginAlike (length p) (bit_at j) es
-    → BeginAlike (length p + length (siblings hash nonce p j es)) (bit_at j) (end_of p j es)
-end_of-alike hash nonce h p j [] full apart alike = rw (siblings-empty _ hash nonce p j, end_of-empty p j) tt
-end_of-alike hash nonce h p j (x ∷ []) full apart alike =
-    let same : length p ≡ length p + 0 = omega arith in rw (siblings-leaf hash nonce p j x, end_of-leaf p j x) (subst (λ k. BeginAlike k (bit_at j) (x ∷ [])) same alike)
-end_of-alike hash nonce zero p j (x ∷ y ∷ es) full apart alike =
+    → BeginAlike (length p + length (siblings by p j es)) (bit_at j) (end_of p j es)
+end_of-alike by h p j [] full apart alike = rw (siblings-empty _ by p j, end_of-empty p j) tt
+end_of-alike by h p j (x ∷ []) full apart alike =
+    let same : length p ≡ length p + 0 = omega arith in rw (siblings-leaf by p j x, end_of-leaf p j x) (subst (λ k. BeginAlike k (bit_at j) (x ∷ [])) same alike)
+end_of-alike by zero p j (x ∷ y ∷ es) full apart alike =
     let last : length p ≡ 256 = omega arith in
     let few = apart-last (x ∷ y ∷ es) (subst (λ k. AreApart k (x ∷ y ∷ es)) last apart) in absurd (omega (arith, few))
-end_of-alike hash nonce (suc h) p j (x ∷ y ∷ es) full apart alike =
+end_of-alike by (suc h) p j (x ∷ y ∷ es) full apart alike =
     let b = bit_at j (length p) in
     let deeper = length-child p b in
     let short : length p < 256 = omega arith in
     let many : 2 ≤ length (x ∷ y ∷ es) = omega arith in
-    let below = end_of-alike hash nonce h (child p b) j (half b (length p) (x ∷ y ∷ es)) (omega (arith, deeper))
+    let below = end_of-alike by h (child p b) j (half b (length p) (x ∷ y ∷ es)) (omega (arith, deeper))
     (subst (λ k. AreApart k (half b (length p) (x ∷ y ∷ es))) (sym deeper) (apart-halves b (length p) (x ∷ y ∷ es) short apart))
     (subst (λ k. BeginAlike k (bit_at j) (half b (length p) (x ∷ y ∷ es))) (sym deeper) (alike-half (length p) j b (x ∷ y ∷ es) refl alike)) in
-    let ss = siblings hash nonce (child p b) j (half b (length p) (x ∷ y ∷ es)) in
+    let ss = siblings by (child p b) j (half b (length p) (x ∷ y ∷ es)) in
     let longer : length (child p b) + length ss ≡ length p + suc (length ss) = omega (arith, deeper) in
-    rw (siblings-inner hash nonce p j (x ∷ y ∷ es) b refl short many, end_of-inner p j (x ∷ y ∷ es) b refl short many)
+    rw (siblings-inner by p j (x ∷ y ∷ es) b refl short many, end_of-inner p j (x ∷ y ∷ es) b refl short many)
     (subst (λ k. BeginAlike k (bit_at j) (end_of (child p b) j (half b (length p) (x ∷ y ∷ es)))) longer below)
 
 -- at most 256 siblings
-pub length-siblings : {B : Type 0} (hash : List ℕ → List ℕ) (nonce : List ℕ) (h : ℕ) (p : List Bool) (j : List ℕ) (es : List (Entry B))
-    → length p + h ≡ 256 → AreApart (length p) es → length (siblings hash nonce p j es) ≤ h
-length-siblings hash nonce h p j [] full apart = rw (siblings-empty _ hash nonce p j) (omega arith)
-length-siblings hash nonce h p j (x ∷ []) full apart = rw (siblings-leaf hash nonce p j x) (omega arith)
-length-siblings hash nonce zero p j (x ∷ y ∷ es) full apart =
+pub length-siblings : {B : Type 0} (by : Hashing) (h : ℕ) (p : List Bool) (j : List ℕ) (es : List (Entry B))
+    → length p + h ≡ 256 → AreApart (length p) es → length (siblings by p j es) ≤ h
+length-siblings by h p j [] full apart = rw (siblings-empty _ by p j) (omega arith)
+length-siblings by h p j (x ∷ []) full apart = rw (siblings-leaf by p j x) (omega arith)
+length-siblings by zero p j (x ∷ y ∷ es) full apart =
     let last : length p ≡ 256 = omega arith in
     let few = apart-last (x ∷ y ∷ es) (subst (λ k. AreApart k (x ∷ y ∷ es)) last apart) in absurd (omega (arith, few))
-length-siblings hash nonce (suc h) p j (x ∷ y ∷ es) full apart =
+length-siblings by (suc h) p j (x ∷ y ∷ es) full apart =
     let b = bit_at j (length p) in
     let deeper = length-child p b in
     let short : length p < 256 = omega arith in
-    let below = length-siblings hash nonce h (child p b) j (half b (length p) (x ∷ y ∷ es)) (omega (arith, deeper))
+    let below = length-siblings by h (child p b) j (half b (length p) (x ∷ y ∷ es)) (omega (arith, deeper))
     (subst (λ k. AreApart k (half b (length p) (x ∷ y ∷ es))) (sym deeper) (apart-halves b (length p) (x ∷ y ∷ es) short apart)) in
-    rw (siblings-inner hash nonce p j (x ∷ y ∷ es) b refl short (omega arith)) (omega (arith, below))
+    rw (siblings-inner by p j (x ∷ y ∷ es) b refl short (omega arith)) (omega (arith, below))
 
 -- ---- the climb over a proof's siblings
 
@@ -129,16 +130,16 @@ joined_if : (b : Bool) (s u : List ℕ) → joined b s u ≡ (if b then inner_pr
 joined_if true s u = refl
 joined_if false s u = refl
 
-pub preimage-climb : (hash : List ℕ → List ℕ) (nonce j : List ℕ) (level : ℕ) (ss : List Digest) (a : End)
-    → hash (preimage hash nonce j level ss a) ≡ climb hash j level (digests ss) (hash (end_preimage hash nonce j (level + length ss) a))
-preimage-climb hash nonce j level [] a = let same : level ≡ level + 0 = omega arith in ap (λ l. hash (end_preimage hash nonce j l a)) same
-preimage-climb hash nonce j level (s ∷ ss) a =
-    let ih = preimage-climb hash nonce j (level + 1) ss a in
+pub preimage-climb : (by : Hashing) (j : List ℕ) (level : ℕ) (ss : List Digest) (a : End)
+    → by.hash (preimage by j level ss a) ≡ climb by.hash j level (digests ss) (by.hash (end_preimage by j (level + length ss) a))
+preimage-climb by j level [] a = let same : level ≡ level + 0 = omega arith in ap (λ l. by.hash (end_preimage by j l a)) same
+preimage-climb by j level (s ∷ ss) a =
+    let ih = preimage-climb by j (level + 1) ss a in
     let deeper : level + 1 + length ss ≡ level + suc (length ss) = omega arith in
-    let below : hash (preimage hash nonce j (level + 1) ss a) ≡ climb hash j (suc level) (digests ss) (hash (end_preimage hash nonce j (level + suc (length ss)) a)) =
-    ih ∙ ap (λ l. climb hash j (level + 1) (digests ss) (hash (end_preimage hash nonce j l a))) deeper
-    ∙ ap (λ l. climb hash j l (digests ss) (hash (end_preimage hash nonce j (level + suc (length ss)) a))) (add-one level) in
-    ap hash (ap (joined (bit_at j level) s.0) below ∙ joined_if (bit_at j level) s.0 _)
+    let below : by.hash (preimage by j (level + 1) ss a) ≡ climb by.hash j (suc level) (digests ss) (by.hash (end_preimage by j (level + suc (length ss)) a)) =
+    ih ∙ ap (λ l. climb by.hash j (level + 1) (digests ss) (by.hash (end_preimage by j l a))) deeper
+    ∙ ap (λ l. climb by.hash j l (digests ss) (by.hash (end_preimage by j (level + suc (length ss)) a))) (add-one level) in
+    ap by.hash (ap (joined (bit_at j level) s.0) below ∙ joined_if (bit_at j level) s.0 _)
 
 onwards-first_bits : (j : List ℕ) (k n : ℕ) → onwards (first_bits j k) j n ≡ first_bits j (k + n)
 unfolding first_bits
@@ -165,12 +166,12 @@ at_end hash index_of registry j e map is = in_entries hash index_of e registry (
 -- the hash of the path's end is the node's
 end_node : (hash index_of : List ℕ → List ℕ) (nonce j : List ℕ) (registry : Registry) (n : ℕ) (a : End)
     → IsMap (entries_of hash index_of registry) → EndIs j (end_of [] j (entries_of hash index_of registry)) a
-    → node hash nonce (onwards [] j n) (end_of [] j (entries_of hash index_of registry)) ≡ hash (end_preimage hash nonce j n a)
-end_node hash index_of nonce j registry n Empty map is = ap (node hash nonce (onwards [] j n)) is ∙
-    node-empty _ hash nonce (onwards [] j n) ∙ ap (λ p. hash (empty_preimage nonce p)) (onwards_root j n)
+    → node (hashing hash nonce) (onwards [] j n) (end_of [] j (entries_of hash index_of registry)) ≡ hash (end_preimage (hashing hash nonce) j n a)
+end_node hash index_of nonce j registry n Empty map is = ap (node (hashing hash nonce) (onwards [] j n)) is ∙
+    node-empty _ (hashing hash nonce) (onwards [] j n) ∙ ap (λ p. hash (empty_preimage nonce p)) (onwards_root j n)
 end_node hash index_of nonce j registry n (Other other c) map is =
     let size : length (onwards [] j n) ≡ n = ap length (onwards_root j n) ∙ length-first_bits j n in
-    ap (node hash nonce (onwards [] j n)) is.1.1 ∙ node-leaf hash nonce (onwards [] j n) (record { index = other.0; commitment = c.0; behind = is.1.0 })
+    ap (node (hashing hash nonce) (onwards [] j n)) is.1.1 ∙ node-leaf (hashing hash nonce) (onwards [] j n) (record { index = other.0; commitment = c.0; behind = is.1.0 })
     ∙ ap (λ l. hash (leaf_preimage nonce other.0 l c.0)) size
 end_node hash index_of nonce j registry n (Here name key o) map is =
     let size : length (onwards [] j n) ≡ n = ap length (onwards_root j n) ∙ length-first_bits j n in
@@ -178,39 +179,39 @@ end_node hash index_of nonce j registry n (Here name key o) map is =
     let e : Entry Registered = record { index = j; commitment = is.0; behind = b } in
     let own : entry_of hash index_of b ≡ e = (at_end hash index_of registry j e map is.1).0 in
     let sealed : is.0 ≡ commitment_to hash b = ap (λ (x : Entry Registered). x.commitment) (sym own) in
-    ap (node hash nonce (onwards [] j n)) is.1 ∙ node-leaf hash nonce (onwards [] j n) e
+    ap (node (hashing hash nonce) (onwards [] j n)) is.1 ∙ node-leaf (hashing hash nonce) (onwards [] j n) e
     ∙ ap (λ l. hash (leaf_preimage nonce j l is.0)) size ∙ ap (λ c. hash (leaf_preimage nonce j n c)) sealed
 
 -- the path carries the root up
 pub path_root : (hash index_of : List ℕ → List ℕ) (nonce : List ℕ) (registry : Registry) (j : List ℕ) (proof : Proof)
-    → IsMap (entries_of hash index_of registry) → IsPath hash nonce (entries_of hash index_of registry) j proof
-    → hash (preimage hash nonce j 0 proof.siblings proof.end) ≡ root_of hash index_of nonce registry
+    → IsMap (entries_of hash index_of registry) → IsPath (hashing hash nonce) (entries_of hash index_of registry) j proof
+    → hash (preimage (hashing hash nonce) j 0 proof.siblings proof.end) ≡ root_of hash index_of nonce registry
 path_root hash index_of nonce registry j proof map path =
     let es = entries_of hash index_of registry in
-    let ss = siblings hash nonce [] j es in
+    let ss = siblings (hashing hash nonce) [] j es in
     let size : 0 + length proof.siblings ≡ length ss = zero-add _ ∙ sym (length-digests proof.siblings) ∙ ap length path.siblings_are in
-    preimage-climb hash nonce j 0 proof.siblings proof.end
-    ∙ ap (λ l. climb hash j 0 (digests proof.siblings) (hash (end_preimage hash nonce j l proof.end))) size
-    ∙ ap (λ ds. climb hash j 0 ds (hash (end_preimage hash nonce j (length ss) proof.end))) path.siblings_are
+    preimage-climb (hashing hash nonce) j 0 proof.siblings proof.end
+    ∙ ap (λ l. climb hash j 0 (digests proof.siblings) (hash (end_preimage (hashing hash nonce) j l proof.end))) size
+    ∙ ap (λ ds. climb hash j 0 ds (hash (end_preimage (hashing hash nonce) j (length ss) proof.end))) path.siblings_are
     ∙ ap (climb hash j 0 ss) (sym (end_node hash index_of nonce j registry (length ss) proof.end map path.end_is))
-    ∙ climbs hash nonce 256 [] j es refl (IsMap-apart es map)
+    ∙ climbs (hashing hash nonce) 256 [] j es refl (IsMap-apart es map)
 
 pub path_depth : (hash index_of : List ℕ → List ℕ) (nonce : List ℕ) (registry : Registry) (j : List ℕ) (proof : Proof)
-    → IsMap (entries_of hash index_of registry) → IsPath hash nonce (entries_of hash index_of registry) j proof
-    → length proof.siblings ≡ length (siblings hash nonce [] j (entries_of hash index_of registry)) × (length proof.siblings ≤ 256)
+    → IsMap (entries_of hash index_of registry) → IsPath (hashing hash nonce) (entries_of hash index_of registry) j proof
+    → length proof.siblings ≡ length (siblings (hashing hash nonce) [] j (entries_of hash index_of registry)) × (length proof.siblings ≤ 256)
 path_depth hash index_of nonce registry j proof map path =
     let es = entries_of hash index_of registry in
-    let size : length proof.siblings ≡ length (siblings hash nonce [] j es) = sym (length-digests proof.siblings) ∙ ap length path.siblings_are in
-    let few = length-siblings hash nonce 256 [] j es refl (IsMap-apart es map) in
+    let size : length proof.siblings ≡ length (siblings (hashing hash nonce) [] j es) = sym (length-digests proof.siblings) ∙ ap length path.siblings_are in
+    let few = length-siblings (hashing hash nonce) 256 [] j es refl (IsMap-apart es map) in
     (size, omega (arith, few, size))
 
 -- the bits of the other index, as far as the path goes
-other_on_path : {B : Type 0} (hash : List ℕ → List ℕ) (nonce : List ℕ) (es : List (Entry B)) (j : List ℕ) (n : ℕ) (e : Entry B) → IsMap es
-    → n ≡ length (siblings hash nonce [] j es) → end_of [] j es ≡ e ∷ [] → first_bits e.index n ≡ first_bits j n
-other_on_path {B} hash nonce es j n e map size found =
-    let alike = end_of-alike hash nonce 256 [] j es refl (IsMap-apart es map) (none_yet es) in
-    let there : BeginAlike (0 + length (siblings hash nonce [] j es)) (bit_at j) (e ∷ []) =
-    subst (BeginAlike (0 + length (siblings hash nonce [] j es)) (bit_at j)) found alike in
+other_on_path : {B : Type 0} (by : Hashing) (es : List (Entry B)) (j : List ℕ) (n : ℕ) (e : Entry B) → IsMap es
+    → n ≡ length (siblings by [] j es) → end_of [] j es ≡ e ∷ [] → first_bits e.index n ≡ first_bits j n
+other_on_path {B} by es j n e map size found =
+    let alike = end_of-alike by 256 [] j es refl (IsMap-apart es map) (none_yet es) in
+    let there : BeginAlike (0 + length (siblings by [] j es)) (bit_at j) (e ∷ []) =
+    subst (BeginAlike (0 + length (siblings by [] j es)) (bit_at j)) found alike in
     first_bits-same e.index j n (λ k below. there.0 k (omega (arith, size)))
   where
     none_yet : (xs : List (Entry B)) → BeginAlike 0 (bit_at j) xs
@@ -234,7 +235,7 @@ record SaysOf (name : List ℕ) (index : List ℕ) (level : ℕ) (a : End) (key 
   said : answer_of a ≡ key
 
 says : (hash index_of : List ℕ → List ℕ) (nonce : List ℕ) (registry : Registry) (name : List ℕ) (n : ℕ) (a : End) (found : Option Registered)
-    → IsMap (entries_of hash index_of registry) → AreWithin registry → n ≡ length (siblings hash nonce [] (index_of name) (entries_of hash index_of registry))
+    → IsMap (entries_of hash index_of registry) → AreWithin registry → n ≡ length (siblings (hashing hash nonce) [] (index_of name) (entries_of hash index_of registry))
     → (has_name registry name ≡ false → IsFree index_of registry (index_of name))
     → bound_to registry name ≡ found → EndIs (index_of name) (end_of [] (index_of name) (entries_of hash index_of registry)) a
     → SaysOf name (index_of name) n a (key_of registry name)
@@ -242,7 +243,7 @@ says hash index_of nonce registry name n Empty None map all size alone found is 
 says hash index_of nonce registry name n Empty (Some b) map all size alone found is =
     absurd (one_differs (entry_of hash index_of b) (sym (stands_there hash index_of registry name b map found) ∙ is))
 says hash index_of nonce registry name n (Other other c) None map all size alone found is = record {
-  fits = (is.0, other_on_path hash nonce (entries_of hash index_of registry) (index_of name) n (record { index = other.0; commitment = c.0; behind = is.1.0 }) map size is.1.1);
+  fits = (is.0, other_on_path (hashing hash nonce) (entries_of hash index_of registry) (index_of name) n (record { index = other.0; commitment = c.0; behind = is.1.0 }) map size is.1.1);
   said = rw found refl;
 }
 says hash index_of nonce registry name n (Other other c) (Some b) map all size alone found is =
@@ -267,9 +268,10 @@ says hash index_of nonce registry name n (Here held key o) (Some x) map all size
 -- the path to a name's index is accepted with exactly what the name is bound to; of a name that is bound to nothing no registered
 -- name may have the index
 pub path_accepted : (hash index_of : List ℕ → List ℕ) (nonce root : List ℕ) (registry : Registry) (name : List ℕ) (proof : Proof)
-    → IsMap (entries_of hash index_of registry) → AreWithin registry → root ≡ root_of hash index_of nonce registry → IsPath hash nonce (entries_of hash index_of registry) (index_of name) proof
+    → IsMap (entries_of hash index_of registry) → AreWithin registry → root ≡ root_of hash index_of nonce registry
+    → IsPath (hashing hash nonce) (entries_of hash index_of registry) (index_of name) proof
     → (has_name registry name ≡ false → IsFree index_of registry (index_of name)) → IsLength 255 name
-    → Accepts hash nonce root (index_of name) name proof (key_of registry name)
+    → Accepts (hashing hash nonce) root (index_of name) name proof (key_of registry name)
 path_accepted hash index_of nonce root registry name proof map all root-is path alone fits =
     let deep = path_depth hash index_of nonce registry (index_of name) proof map path in
     let end = says hash index_of nonce registry name (length proof.siblings) proof.end (bound_to registry name) map all deep.0 alone refl path.end_is in

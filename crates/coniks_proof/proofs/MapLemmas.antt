@@ -11,6 +11,7 @@ use Rattle.coniks_proof.specs.Bits.{bit_at, turns, child}
 use Rattle.coniks_proof.specs.Entries.{Entry, IsIn, half}
 use Rattle.coniks_proof.specs.Maps.{IsIndex, IsNew, IsMap, SameEntries}
 use Rattle.coniks_proof.specs.Changes.{ApartWithin, AreApart}
+use Rattle.coniks_proof.specs.Hashing.{Hashing}
 use Rattle.coniks_proof.specs.Preimages.{inner_preimage}
 use Rattle.coniks_proof.specs.Tree.{node_below, node}
 use Rattle.coniks_proof.specs.Paths.{siblings_below, siblings, end_below, end_of}
@@ -207,52 +208,52 @@ same_as_one {B} e (f ∷ g ∷ fs) map same =
 two_not_one : {B : Type 0} (e f g : Entry B) (es : List (Entry B)) → (let xs : List (Entry B) = e ∷ f ∷ es in xs ≡ g ∷ []) → ⊥
 two_not_one e f g es same = let long = ap length same in omega arith
 
-node_below-same : {B : Type 0} (hash : List ℕ → List ℕ) (nonce : List ℕ) (h : ℕ) (p : List Bool) (es fs : List (Entry B))
-    → IsMap es → IsMap fs → SameEntries es fs → node_below hash nonce h p es ≡ node_below hash nonce h p fs
+node_below-same : {B : Type 0} (by : Hashing) (h : ℕ) (p : List Bool) (es fs : List (Entry B))
+    → IsMap es → IsMap fs → SameEntries es fs → node_below by h p es ≡ node_below by h p fs
 unfolding node_below
-node_below-same hash nonce h p [] fs me mf same = ap (node_below hash nonce h p) (sym (same_as_none fs same))
-node_below-same hash nonce h p (e ∷ []) fs me mf same = ap (node_below hash nonce h p) (sym (same_as_one e fs mf same))
-node_below-same hash nonce h p (e ∷ d ∷ es) [] me mf same = absurd (same.there e (inl refl))
-node_below-same hash nonce h p (e ∷ d ∷ es) (f ∷ []) me mf same = absurd (two_not_one e d f es (same_as_one f (e ∷ d ∷ es) me (SameEntries-sym (e ∷ d ∷ es) (f ∷ []) same)))
-node_below-same hash nonce zero p (e ∷ d ∷ es) (f ∷ g ∷ fs) me mf same = refl
-node_below-same hash nonce (suc h) p (e ∷ d ∷ es) (f ∷ g ∷ fs) me mf same =
-    let at : (b : Bool) → node_below hash nonce h (child p b) (half b (length p) (e ∷ d ∷ es)) ≡ node_below hash nonce h (child p b) (half b (length p) (f ∷ g ∷ fs)) =
-    λ b. node_below-same hash nonce h (child p b) (half b (length p) (e ∷ d ∷ es)) (half b (length p) (f ∷ g ∷ fs))
+node_below-same by h p [] fs me mf same = ap (node_below by h p) (sym (same_as_none fs same))
+node_below-same by h p (e ∷ []) fs me mf same = ap (node_below by h p) (sym (same_as_one e fs mf same))
+node_below-same by h p (e ∷ d ∷ es) [] me mf same = absurd (same.there e (inl refl))
+node_below-same by h p (e ∷ d ∷ es) (f ∷ []) me mf same = absurd (two_not_one e d f es (same_as_one f (e ∷ d ∷ es) me (SameEntries-sym (e ∷ d ∷ es) (f ∷ []) same)))
+node_below-same by zero p (e ∷ d ∷ es) (f ∷ g ∷ fs) me mf same = refl
+node_below-same by (suc h) p (e ∷ d ∷ es) (f ∷ g ∷ fs) me mf same =
+    let at : (b : Bool) → node_below by h (child p b) (half b (length p) (e ∷ d ∷ es)) ≡ node_below by h (child p b) (half b (length p) (f ∷ g ∷ fs)) =
+    λ b. node_below-same by h (child p b) (half b (length p) (e ∷ d ∷ es)) (half b (length p) (f ∷ g ∷ fs))
     (IsMap-filter (λ x. turns b (length p) x.index) (e ∷ d ∷ es) me) (IsMap-filter (λ x. turns b (length p) x.index) (f ∷ g ∷ fs) mf)
     (SameEntries-filter (λ x. turns b (length p) x.index) (e ∷ d ∷ es) (f ∷ g ∷ fs) same) in
-    ap (λ x. hash (inner_preimage x (node_below hash nonce h (child p true) (half true (length p) (e ∷ d ∷ es))))) (at false)
-    ∙ ap (λ x. hash (inner_preimage (node_below hash nonce h (child p false) (half false (length p) (f ∷ g ∷ fs))) x)) (at true)
+    ap (λ x. by.hash (inner_preimage x (node_below by h (child p true) (half true (length p) (e ∷ d ∷ es))))) (at false)
+    ∙ ap (λ x. by.hash (inner_preimage (node_below by h (child p false) (half false (length p) (f ∷ g ∷ fs))) x)) (at true)
 
 -- a node depends on the entries under its prefix, and not on their order
-pub node-same : {B : Type 0} (hash : List ℕ → List ℕ) (nonce : List ℕ) (p : List Bool) (es fs : List (Entry B)) → IsMap es → IsMap fs → SameEntries es fs → node hash nonce p es ≡ node hash nonce p fs
+pub node-same : {B : Type 0} (by : Hashing) (p : List Bool) (es fs : List (Entry B)) → IsMap es → IsMap fs → SameEntries es fs → node by p es ≡ node by p fs
 unfolding node
-node-same hash nonce p es fs me mf same = node_below-same hash nonce (256 - length p) p es fs me mf same
+node-same by p es fs me mf same = node_below-same by (256 - length p) p es fs me mf same
 
-siblings_below-same : {B : Type 0} (hash : List ℕ → List ℕ) (nonce : List ℕ) (h : ℕ) (p : List Bool) (j : List ℕ) (es fs : List (Entry B)) → IsMap es → IsMap fs → SameEntries es fs
-    → siblings_below hash nonce h p j es ≡ siblings_below hash nonce h p j fs
+siblings_below-same : {B : Type 0} (by : Hashing) (h : ℕ) (p : List Bool) (j : List ℕ) (es fs : List (Entry B)) → IsMap es → IsMap fs → SameEntries es fs
+    → siblings_below by h p j es ≡ siblings_below by h p j fs
 unfolding siblings_below
-siblings_below-same hash nonce h p j [] fs me mf same = ap (siblings_below hash nonce h p j) (sym (same_as_none fs same))
-siblings_below-same hash nonce h p j (e ∷ []) fs me mf same = ap (siblings_below hash nonce h p j) (sym (same_as_one e fs mf same))
-siblings_below-same hash nonce h p j (e ∷ d ∷ es) [] me mf same = absurd (same.there e (inl refl))
-siblings_below-same hash nonce h p j (e ∷ d ∷ es) (f ∷ []) me mf same = absurd (two_not_one e d f es (same_as_one f (e ∷ d ∷ es) me (SameEntries-sym (e ∷ d ∷ es) (f ∷ []) same)))
-siblings_below-same hash nonce zero p j (e ∷ d ∷ es) (f ∷ g ∷ fs) me mf same = refl
-siblings_below-same hash nonce (suc h) p j (e ∷ d ∷ es) (f ∷ g ∷ fs) me mf same =
+siblings_below-same by h p j [] fs me mf same = ap (siblings_below by h p j) (sym (same_as_none fs same))
+siblings_below-same by h p j (e ∷ []) fs me mf same = ap (siblings_below by h p j) (sym (same_as_one e fs mf same))
+siblings_below-same by h p j (e ∷ d ∷ es) [] me mf same = absurd (same.there e (inl refl))
+siblings_below-same by h p j (e ∷ d ∷ es) (f ∷ []) me mf same = absurd (two_not_one e d f es (same_as_one f (e ∷ d ∷ es) me (SameEntries-sym (e ∷ d ∷ es) (f ∷ []) same)))
+siblings_below-same by zero p j (e ∷ d ∷ es) (f ∷ g ∷ fs) me mf same = refl
+siblings_below-same by (suc h) p j (e ∷ d ∷ es) (f ∷ g ∷ fs) me mf same =
     let b = bit_at j (length p) in
     let c = not b in
-    let beside = node-same hash nonce (child p c) (half c (length p) (e ∷ d ∷ es)) (half c (length p) (f ∷ g ∷ fs))
+    let beside = node-same by (child p c) (half c (length p) (e ∷ d ∷ es)) (half c (length p) (f ∷ g ∷ fs))
     (IsMap-filter (λ x. turns c (length p) x.index) (e ∷ d ∷ es) me) (IsMap-filter (λ x. turns c (length p) x.index) (f ∷ g ∷ fs) mf)
     (SameEntries-filter (λ x. turns c (length p) x.index) (e ∷ d ∷ es) (f ∷ g ∷ fs) same) in
-    let below = siblings_below-same hash nonce h (child p b) j (half b (length p) (e ∷ d ∷ es)) (half b (length p) (f ∷ g ∷ fs))
+    let below = siblings_below-same by h (child p b) j (half b (length p) (e ∷ d ∷ es)) (half b (length p) (f ∷ g ∷ fs))
     (IsMap-filter (λ x. turns b (length p) x.index) (e ∷ d ∷ es) me) (IsMap-filter (λ x. turns b (length p) x.index) (f ∷ g ∷ fs) mf)
     (SameEntries-filter (λ x. turns b (length p) x.index) (e ∷ d ∷ es) (f ∷ g ∷ fs) same) in
-    ap (λ x. x ∷ siblings_below hash nonce h (child p b) j (half b (length p) (e ∷ d ∷ es))) beside
-    ∙ ap (λ xs. node hash nonce (child p c) (half c (length p) (f ∷ g ∷ fs)) ∷ xs) below
+    ap (λ x. x ∷ siblings_below by h (child p b) j (half b (length p) (e ∷ d ∷ es))) beside
+    ∙ ap (λ xs. node by (child p c) (half c (length p) (f ∷ g ∷ fs)) ∷ xs) below
 
 -- so do the siblings of a path
-pub siblings-same : {B : Type 0} (hash : List ℕ → List ℕ) (nonce : List ℕ) (p : List Bool) (j : List ℕ) (es fs : List (Entry B))
-    → IsMap es → IsMap fs → SameEntries es fs → siblings hash nonce p j es ≡ siblings hash nonce p j fs
+pub siblings-same : {B : Type 0} (by : Hashing) (p : List Bool) (j : List ℕ) (es fs : List (Entry B))
+    → IsMap es → IsMap fs → SameEntries es fs → siblings by p j es ≡ siblings by p j fs
 unfolding siblings
-siblings-same hash nonce p j es fs me mf same = siblings_below-same hash nonce (256 - length p) p j es fs me mf same
+siblings-same by p j es fs me mf same = siblings_below-same by (256 - length p) p j es fs me mf same
 
 end_below-same : {B : Type 0} (h : ℕ) (p : List Bool) (j : List ℕ) (es fs : List (Entry B)) → IsMap es → IsMap fs → SameEntries es fs → end_below h p j es ≡ end_below h p j fs
 unfolding end_below

@@ -4,6 +4,7 @@ use Rattle.std.specs.List.{slice_get}
 use Rattle.coniks_proof.specs.Bits.{bit_at, child, first_bits}
 use Rattle.coniks_proof.specs.Entries.{Entry, half, under}
 use Rattle.coniks_proof.specs.Changes.{AreApart}
+use Rattle.coniks_proof.specs.Hashing.{Hashing}
 use Rattle.coniks_proof.specs.Maps.{IsMap}
 use Rattle.coniks_proof.specs.Tree.{node}
 use Rattle.coniks_proof.specs.Paths.{siblings, end_of}
@@ -13,10 +14,10 @@ use Rattle.coniks_proof.proofs.ChangeLemmas.{apart-halves, apart-last}
 use Rattle.coniks_proof.proofs.MapLemmas.{IsMap-apart}
 use Rattle.coniks_proof.proofs.NodeLemmas.{siblings-empty, siblings-leaf, siblings-inner, end_of-empty, end_of-leaf, end_of-inner}
 
-module _ {B : Type 0} (hash : List ℕ → List ℕ) (nonce index : List ℕ) (entries : List (Entry B)) where
+module _ {B : Type 0} (by : Hashing) (index : List ℕ) (entries : List (Entry B)) where
   -- the node beside a prefix that goes on with the bit of this level
   abbrev pub beside : List Bool → ℕ → Option (List ℕ)
-  beside p l = Some (node hash nonce (child p (not (bit_at index l))) (under (child p (not (bit_at index l))) entries))
+  beside p l = Some (node by (child p (not (bit_at index l))) (under (child p (not (bit_at index l))) entries))
 
   -- from level n on the path has these siblings and this end
   pub record IsWay (n : ℕ) (ss : List (List ℕ)) (end : List (Entry B)) : Type 0 where
@@ -64,15 +65,15 @@ module _ {B : Type 0} (hash : List ℕ → List ℕ) (nonce index : List ℕ) (e
   next_bits n p is_p at = ap (λ q. child q (bit_at index (length p))) is_p ∙ ap (λ k. child (first_bits index n) (bit_at index k)) at
 
   first_side : (n : ℕ) (p : List Bool) (es : List (Entry B)) → p ≡ first_bits index n → length p ≡ n → es ≡ under p entries
-      → Some (node hash nonce (child p (not (bit_at index (length p)))) (half (not (bit_at index (length p))) (length p) es)) ≡ beside (first_bits index n) n
+      → Some (node by (child p (not (bit_at index (length p)))) (half (not (bit_at index (length p))) (length p) es)) ≡ beside (first_bits index n) n
   first_side n p es is_p at is_es =
       let c = not (bit_at index (length p)) in
       let other : half c (length p) es ≡ under (child p c) entries = ap (half c (length p)) is_es ∙ sym (under-child p c entries) in
-      ap (λ fs. Some (node hash nonce (child p c) fs)) other ∙ ap (λ q. beside q (length p)) is_p ∙ ap (λ k. beside (first_bits index n) k) at
+      ap (λ fs. Some (node by (child p c) fs)) other ∙ ap (λ q. beside q (length p)) is_p ∙ ap (λ k. beside (first_bits index n) k) at
 
-  way : (h n : ℕ) (p : List Bool) (es : List (Entry B)) → n + h ≡ 256 → p ≡ first_bits index n → es ≡ under p entries → AreApart n es → IsWay n (siblings hash nonce p index es) (end_of p index es)
-  way h n p [] full is_p is_es apart = rw (siblings-empty B hash nonce p index, end_of-empty {B = B} p index) (stops n p [] is_p is_es (omega arith))
-  way h n p (x ∷ []) full is_p is_es apart = rw (siblings-leaf hash nonce p index x, end_of-leaf p index x) (stops n p (x ∷ []) is_p is_es (omega arith))
+  way : (h n : ℕ) (p : List Bool) (es : List (Entry B)) → n + h ≡ 256 → p ≡ first_bits index n → es ≡ under p entries → AreApart n es → IsWay n (siblings by p index es) (end_of p index es)
+  way h n p [] full is_p is_es apart = rw (siblings-empty B by p index, end_of-empty {B = B} p index) (stops n p [] is_p is_es (omega arith))
+  way h n p (x ∷ []) full is_p is_es apart = rw (siblings-leaf by p index x, end_of-leaf p index x) (stops n p (x ∷ []) is_p is_es (omega arith))
   way zero n p (x ∷ y ∷ es) full is_p is_es apart =
       let last : n ≡ 256 = omega arith in
       let few = apart-last (x ∷ y ∷ es) (subst (λ k. AreApart k (x ∷ y ∷ es)) last apart) in absurd (omega (arith, few))
@@ -86,12 +87,12 @@ module _ {B : Type 0} (hash : List ℕ → List ℕ) (nonce index : List ℕ) (e
       let next_apart : AreApart (suc n) (half b (length p) (x ∷ y ∷ es)) = subst (λ k. AreApart (suc k) (half b (length p) (x ∷ y ∷ es))) at
       (apart-halves b (length p) (x ∷ y ∷ es) short (subst (λ k. AreApart k (x ∷ y ∷ es)) (sym at) apart)) in
       let rest = way h (suc n) (child p b) (half b (length p) (x ∷ y ∷ es)) (omega arith) (next_bits n p is_p at) next_es next_apart in
-      rw (siblings-inner hash nonce p index (x ∷ y ∷ es) b refl short many, end_of-inner p index (x ∷ y ∷ es) b refl short many)
+      rw (siblings-inner by p index (x ∷ y ∷ es) b refl short many, end_of-inner p index (x ∷ y ∷ es) b refl short many)
       (above n _ _ _ more (first_side n p (x ∷ y ∷ es) is_p at is_es) rest)
 
   no_bits : [] ≡ first_bits index 0
   unfolding first_bits
   no_bits = refl
 
-  pub path_is : IsMap entries → IsWay 0 (siblings hash nonce [] index entries) (end_of [] index entries)
+  pub path_is : IsMap entries → IsWay 0 (siblings by [] index entries) (end_of [] index entries)
   path_is map = way 256 0 [] entries refl no_bits refl (IsMap-apart entries map)

@@ -6,6 +6,7 @@ use Rattle.std.specs.List.{IsSplitAt}
 use Rattle.std.proofs.Math.Seq.{drop-append_seam}
 use Rattle.std.proofs.lemmas.Nat.{be_bytes_2, be_bytes_4, from_be_bytes-to_be_bytes_2, from_be_bytes-to_be_bytes_4}
 use Rattle.std.proofs.lemmas.List.{length-append, length-drop, length-map, length-take-le, take-append-drop, take_more}
+use Rattle.coniks_proof.specs.Hashing.{Hashing}
 use Rattle.coniks_proof.proofs.PreimageLemmas.{be2_same, commitment_same, split_same}
 use Rattle.coniks_proof.specs.ProofRefs.{digest_of}
 use Rattle.coniks_proof.specs.Proofs.{Accepts, EndFits}
@@ -479,7 +480,7 @@ room_at index name level (Other other commitment) short fits = (omega arith, ome
 room_at index name level (Here here key opening) short fits = (omega (arith, ap length fits.0, short), omega (arith, fits.2))
 
 -- an accepted proof's lengths have room
-pub accepted-room : (hash : List ℕ → List ℕ) (nonce root index name : List ℕ) (proof : Proof) (answer : Option (List ℕ)) → Accepts hash nonce root index name proof answer → HasRoom proof
-accepted-room hash nonce root index name proof answer ok =
+pub accepted-room : (by : Hashing) (root index name : List ℕ) (proof : Proof) (answer : Option (List ℕ)) → Accepts by root index name proof answer → HasRoom proof
+accepted-room by root index name proof answer ok =
     let room = room_at index name (length proof.siblings) proof.end (omega (arith, ok.well_formed.name_fits)) ok.well_formed.end_fits in
     record { few = omega (arith, ok.well_formed.depth); name = room.0; key = room.1 }

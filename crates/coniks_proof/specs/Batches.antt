@@ -4,6 +4,7 @@ use Rattle.std.specs.Prelude.{◌≡◌, ℕ, ◌+◌, List, [], ◌∷◌, ◌+
 use Rattle.std.specs.List.{list_any}
 use Rattle.std.specs.Str.{bytes_eq}
 use Rattle.coniks_proof.specs.Entries.{IsIn}
+use Rattle.coniks_proof.specs.Octets.{Octets}
 use Rattle.coniks_proof.specs.Registry.{Registered, Registry, has_name, overlaid, AreWithin, HaveOwnIndices}
 
 -- registers a name that is absent, or changes the key of one that is present
@@ -13,9 +14,9 @@ pub data Kind : Type 0 where
 
 pub record Operation : Type 0 where
   pub kind : Kind
-  pub name : List ℕ
-  pub key : List ℕ
-  pub opening : List ℕ
+  pub name : Octets
+  pub key : Octets
+  pub opening : Octets
 
 -- what an operation binds
 abbrev pub bound_by : Operation → Registered
@@ -35,11 +36,11 @@ pub data Fault : Type 0 where
   index_clash : Fault
 
 -- from 1 to `most` bytes
-abbrev pub fits : ℕ → List ℕ → Bool
+abbrev pub fits : ℕ → Octets → Bool
 fits most bytes = nat_lt 0 (length bytes) && nat_le (length bytes) most
 
 -- another name among these has the name's index
-abbrev pub clashes : (List ℕ → List ℕ) → List Registered → List ℕ → Bool
+abbrev pub clashes : (Octets → Octets) → List Registered → Octets → Bool
 clashes index_of bound name = list_any (λ b. bytes_eq (index_of b.name) (index_of name) && not (bytes_eq b.name name)) bound
 
 -- the error of an operation of a kind, on a name that is present or not
@@ -55,7 +56,7 @@ or_else (Some fault) other = Some fault
 or_else None other = other
 
 -- the first error that applies to an operation, after earlier operations of its batch bound these
-abbrev pub fault_of : (List ℕ → List ℕ) → Registry → List Registered → Operation → Option Fault
+abbrev pub fault_of : (Octets → Octets) → Registry → List Registered → Operation → Option Fault
 fault_of index_of registry earlier op =
     if not (fits MAX_NAME op.name) then Some name_length
     else (if not (fits MAX_KEY op.key) then Some key_length
@@ -69,13 +70,13 @@ placed place (Some fault) later = Some (place, fault)
 placed place None later = later
 
 -- the first operation with an error, from a place on, and its first error
-abbrev pub fault_from : (List ℕ → List ℕ) → Registry → List Registered → ℕ → List Operation → Option (ℕ × Fault)
+abbrev pub fault_from : (Octets → Octets) → Registry → List Registered → ℕ → List Operation → Option (ℕ × Fault)
 fault_from index_of registry earlier place [] = None
 fault_from index_of registry earlier place (op ∷ ops) =
     placed place (fault_of index_of registry earlier op) (fault_from index_of registry (earlier ++ bound_by op ∷ []) (place + 1) ops)
 
 -- the first operation of a batch with an error, and its first error
-abbrev pub first_fault : (List ℕ → List ℕ) → Registry → List Operation → Option (ℕ × Fault)
+abbrev pub first_fault : (Octets → Octets) → Registry → List Operation → Option (ℕ × Fault)
 first_fault index_of registry ops = fault_from index_of registry [] 0 ops
 
 -- no name occurs twice
@@ -90,7 +91,7 @@ Suits change present = present ≡ true
 
 -- the batch may follow the registry: names and keys are within their limits, no name occurs twice, each registered name is
 -- absent and each changed one present, and no two names of registry and batch have one index
-pub record MayFollow (index_of : List ℕ → List ℕ) (registry : Registry) (ops : List Operation) : Type 0 where
+pub record MayFollow (index_of : Octets → Octets) (registry : Registry) (ops : List Operation) : Type 0 where
   pub within : AreWithin (map bound_by ops)
   pub once : AreOnce (map bound_by ops)
   pub kinds : (op : Operation) → IsIn op ops → Suits op.kind (has_name registry op.name)

@@ -4,9 +4,10 @@ use Rattle.std.specs.List.{list_any}
 use Rattle.std.specs.Str.{bytes_eq}
 use Rattle.coniks_proof.specs.Entries.{Entry, half}
 use Rattle.coniks_proof.specs.Maps.{IsIndex}
+use Rattle.coniks_proof.specs.Octets.{Octets}
 
 -- an entry has this index
-abbrev pub has_index : {B : Type 0} → List (Entry B) → List ℕ → Bool
+abbrev pub has_index : {B : Type 0} → List (Entry B) → Octets → Bool
 has_index entries index = list_any (λ e. bytes_eq e.index index) entries
 
 -- the map with these changes: what they say, and the other entries as they were
@@ -35,14 +36,14 @@ unfoldable pub AreInOrder : {B : Type 0} → ℕ → List (Entry B) → Type 0
 AreInOrder level entries = InOrderWithin (256 - level) level entries
 
 -- x is before y: at the first byte that differs, x has the smaller one
-pub record IsBefore (x y : List ℕ) : Type 0 where
+pub record IsBefore (x y : Octets) : Type 0 where
   pub place : ℕ
   pub within : place < 32
   pub same : (q : ℕ) → q < place → slice_index x q ≡ slice_index y q
   pub smaller : slice_index x place < slice_index y place
 
 -- each of the entries comes after the index
-abbrev pub AllAfter : {B : Type 0} → List ℕ → List (Entry B) → Type 0
+abbrev pub AllAfter : {B : Type 0} → Octets → List (Entry B) → Type 0
 AllAfter index [] = Unit {0}
 AllAfter index (e ∷ es) = IsBefore index e.index × AllAfter index es
 

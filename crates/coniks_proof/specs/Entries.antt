@@ -1,11 +1,12 @@
 -- Finite maps from indices, as lists of entries with distinct indices. The order is of no account.
 use Rattle.std.specs.Prelude.{◌≡◌, ◌⊎◌, ℕ, suc, List, [], ◌∷◌, Bool, filter}
 use Rattle.coniks_proof.specs.Bits.{turns}
+use Rattle.coniks_proof.specs.Octets.{Octets}
 
 -- an index, its commitment, and what is committed to, which no hash of a node reads
 pub record Entry (B : Type 0) : Type 0 where
-  pub index : List ℕ
-  pub commitment : List ℕ
+  pub index : Octets
+  pub commitment : Octets
   pub behind : B
 
 -- the entry with something else behind it

@@ -1,4 +1,6 @@
 pub mod Bits
+pub mod Octets
+pub mod Hashing
 pub mod Preimages
 pub mod Messages
 pub mod Entries

@@ -1,14 +1,15 @@
 -- A list of entries as a finite map: indices of 32 bytes, each once. The order is of no account.
 use Rattle.std.specs.Prelude.{◌≡◌, ◌≢◌, ◌<◌, ℕ, List, [], ◌∷◌, length, slice_index}
 use Rattle.coniks_proof.specs.Entries.{Entry, IsIn}
+use Rattle.coniks_proof.specs.Octets.{Octets}
 
 -- 32 bytes
-pub record IsIndex (index : List ℕ) : Type 0 where
+pub record IsIndex (index : Octets) : Type 0 where
   pub size : length index ≡ 32
   pub range : (q : ℕ) → q < 32 → slice_index index q < 256
 
 -- none of the entries has this index
-abbrev pub IsNew : {B : Type 0} → List ℕ → List (Entry B) → Type 0
+abbrev pub IsNew : {B : Type 0} → Octets → List (Entry B) → Type 0
 IsNew index [] = Unit {0}
 IsNew index (e ∷ es) = (index ≢ e.index) × IsNew index es
 

@@ -4,6 +4,8 @@ use Rattle.std.specs.Prelude.{◌≡◌, ◌≤◌, ℕ, ◌+◌, List, length, 
 use Rattle.coniks_proof.specs.Preimages.{commitment_preimage}
 use Rattle.coniks_proof.specs.Proofs.{preimage}
 use Rattle.coniks_proof.specs.Collisions.{Parts, sealed}
+use Rattle.coniks_proof.specs.Hashing.{Hashing}
+use Rattle.coniks_proof.specs.Octets.{Octets}
 use Rattle.coniks_proof.specs.declared.values.Digest.{Digest}
 use Rattle.coniks_proof.specs.declared.paths.End.{End}
 use Rattle.coniks_proof.specs.declared.paths.End.TheVariants.{Empty, Other, Here}
@@ -11,11 +13,11 @@ use Rattle.coniks_proof.specs.declared.meeting.Place.{Place}
 use Rattle.coniks_proof.specs.declared.meeting.Place.TheVariants.{Level, Commitments}
 
 -- the two ways part at this place
-abbrev pub PartsAt : (List ℕ → List ℕ) → List ℕ → List ℕ → ℕ → List Digest → End → List Digest → End → Place → Type 0
-PartsAt hash nonce index level siblings_a a siblings_b b (Level l ss ts) =
-    Parts hash nonce index level siblings_a a siblings_b b (preimage hash nonce index l ss.now a) (preimage hash nonce index l ts.now b)
-PartsAt hash nonce index level siblings_a a siblings_b b Commitments =
-    Parts hash nonce index level siblings_a a siblings_b b (sealed a) (sealed b)
+abbrev pub PartsAt : Hashing → Octets → ℕ → List Digest → End → List Digest → End → Place → Type 0
+PartsAt by index level siblings_a a siblings_b b (Level l ss ts) =
+    Parts by index level siblings_a a siblings_b b (preimage by index l ss.now a) (preimage by index l ts.now b)
+PartsAt by index level siblings_a a siblings_b b Commitments =
+    Parts by index level siblings_a a siblings_b b (sealed a) (sealed b)
 
 -- the place is at most 256 levels deep
 abbrev pub PlaceFits : Place → Type 0
@@ -23,7 +25,7 @@ PlaceFits (Level l ss ts) = (l + length ss.now ≤ MAX_LEVEL) × (l + length ts.
 PlaceFits Commitments = Unit {0}
 
 -- the commitment of an end with a name and key
-abbrev pub CommitmentIs : (List ℕ → List ℕ) → End → Option Digest → Type 0
+abbrev pub CommitmentIs : (Octets → Octets) → End → Option Digest → Type 0
 CommitmentIs hash Empty found = found ≡ None
 CommitmentIs hash (Other other commitment) found = found ≡ None
 CommitmentIs hash (Here name key opening) found = MatchOption found ⊥ (λ d. d.0 ≡ hash (commitment_preimage opening.0 name key))

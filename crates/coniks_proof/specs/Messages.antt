@@ -1,11 +1,12 @@
 -- What is hashed for a node, kept until it is hashed.
-use Rattle.std.specs.Prelude.{ℕ, List, ◌∷◌, ◌++◌}
+use Rattle.std.specs.Prelude.{◌∷◌, ◌++◌}
+use Rattle.coniks_proof.specs.Octets.{Octets}
 use Rattle.coniks_proof.specs.Preimages.{packed, inner_preimage}
 use Rattle.coniks_proof.specs.declared.messages.Message.{Message}
 use Rattle.coniks_proof.specs.declared.messages.Message.TheVariants.{Empty, Leaf, Inner}
 
 -- the byte list of a message under a nonce
-abbrev pub preimage_of : List ℕ → Message → List ℕ
+abbrev pub preimage_of : Octets → Message → Octets
 preimage_of nonce (Empty prefix level) = 0x45 ∷ nonce ++ packed prefix 32 ++ level
 preimage_of nonce (Leaf index level commitment) = 0x4C ∷ nonce ++ index.0 ++ level ++ commitment.0
 preimage_of nonce (Inner left right) = inner_preimage left.0 right.0

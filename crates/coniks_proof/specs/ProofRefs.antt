@@ -1,5 +1,6 @@
 -- What a borrowed proof represents.
-use Rattle.std.specs.Prelude.{ℕ, List, map}
+use Rattle.std.specs.Prelude.{List, map}
+use Rattle.coniks_proof.specs.Octets.{Octets}
 use Rattle.coniks_proof.specs.declared.values.Digest.{Digest}
 use Rattle.coniks_proof.specs.declared.paths.End.{End}
 use Rattle.coniks_proof.specs.declared.paths.End.TheVariants.{Empty, Other, Here}
@@ -9,7 +10,7 @@ use Rattle.coniks_proof.specs.declared.proof_ref.EndRef.{EndRef}
 use Rattle.coniks_proof.specs.declared.proof_ref.EndRef.TheVariants.{Empty as EmptyThere, Other as OtherThere, Here as HereThere}
 
 -- a digest of these bytes
-abbrev pub digest_of : List ℕ → Digest
+abbrev pub digest_of : Octets → Digest
 digest_of bytes = record { 0 = bytes }
 
 -- the siblings, from the root down

@@ -1,6 +1,7 @@
 -- The bytes of a proof, and what is wrong with bytes that are no proof's. Numbers have their high byte first.
 use Rattle.std.specs.Prelude.{◌≡◌, ◌<◌, ◌≤◌, ◌⊎◌, ℕ, ◌+◌, ◌*◌, ◌^◌, List, [], ◌∷◌, ◌++◌, length, take, drop, slice_index, flat_map}
 use Rattle.std.specs.Int.{w16, w32, to_be_bytes, from_be_bytes}
+use Rattle.coniks_proof.specs.Octets.{Octets}
 use Rattle.coniks_proof.specs.declared.values.Digest.{Digest}
 use Rattle.coniks_proof.specs.declared.paths.Proof.{Proof}
 use Rattle.coniks_proof.specs.declared.paths.End.{End}
@@ -17,17 +18,17 @@ kind_of (Other index commitment) = 1
 kind_of (Here name key opening) = 2
 
 -- the siblings, from the root down
-abbrev pub sibling_bytes : List Digest → List ℕ
+abbrev pub sibling_bytes : List Digest → Octets
 sibling_bytes siblings = flat_map (λ d. d.0) siblings
 
 -- what follows the siblings
-abbrev pub end_bytes : End → List ℕ
+abbrev pub end_bytes : End → Octets
 end_bytes Empty = []
 end_bytes (Other index commitment) = index.0 ++ commitment.0
 end_bytes (Here name key opening) = opening.0 ++ to_be_bytes w16 (length name) ++ name ++ to_be_bytes w32 (length key) ++ key
 
 -- the bytes of a proof: the kind of its end, the number of its siblings, the siblings, and the end
-abbrev pub wire_form : Proof → List ℕ
+abbrev pub wire_form : Proof → Octets
 wire_form proof = kind_of proof.end ∷ to_be_bytes w16 (length proof.siblings) ++ sibling_bytes proof.siblings ++ end_bytes proof.end
 
 -- each has 32 bytes
@@ -48,7 +49,7 @@ pub record IsWritable (proof : Proof) : Type 0 where
   pub end : IsWritableEnd proof.end
 
 -- the bytes are the wire form of the proof
-pub record IsWire (bytes : List ℕ) (proof : Proof) : Type 0 where
+pub record IsWire (bytes : Octets) (proof : Proof) : Type 0 where
   pub writable : IsWritable proof
   pub same : bytes ≡ wire_form proof
 
@@ -89,29 +90,29 @@ order CutInKey = 8
 order BytesFollow = 9
 
 -- the number of siblings that the bytes give
-abbrev pub count_in : List ℕ → ℕ
+abbrev pub count_in : Octets → ℕ
 count_in bytes = from_be_bytes w16 (take 2 (drop 1 bytes))
 
 -- what follows the siblings that the bytes give
-abbrev pub end_in : List ℕ → List ℕ
+abbrev pub end_in : Octets → Octets
 end_in bytes = drop (count_in bytes * 32) (drop 2 (drop 1 bytes))
 
 -- the length that two bytes give, and four
-abbrev pub short_length : List ℕ → ℕ
+abbrev pub short_length : Octets → ℕ
 short_length bytes = from_be_bytes w16 (take 2 bytes)
 
-abbrev pub long_length : List ℕ → ℕ
+abbrev pub long_length : Octets → ℕ
 long_length bytes = from_be_bytes w32 (take 4 bytes)
 
 -- what follows a name that has its length before it, and a key
-abbrev pub after_name : List ℕ → List ℕ
+abbrev pub after_name : Octets → Octets
 after_name bytes = drop (short_length bytes) (drop 2 bytes)
 
-abbrev pub after_key : List ℕ → List ℕ
+abbrev pub after_key : Octets → Octets
 after_key bytes = drop (long_length bytes) (drop 4 bytes)
 
 -- what is wrong with the bytes up to the end
-abbrev pub FrontHas : List ℕ → WireFault → Type 0
+abbrev pub FrontHas : Octets → WireFault → Type 0
 FrontHas bytes NoBytes = length bytes ≡ 0
 FrontHas bytes UnknownKind = 2 < slice_index bytes 0
 FrontHas bytes CutInCount = length (drop 1 bytes) < 2
@@ -119,7 +120,7 @@ FrontHas bytes CutInSiblings = length (drop 2 (drop 1 bytes)) < count_in bytes *
 FrontHas bytes _ = ⊥
 
 -- what is wrong with the bytes from the end on, at an end of this kind
-abbrev pub EndHas : ℕ → List ℕ → WireFault → Type 0
+abbrev pub EndHas : ℕ → Octets → WireFault → Type 0
 EndHas kind bytes CutInOther = (kind ≡ 1) × (length bytes < 64)
 EndHas kind bytes CutInOpening = (kind ≡ 2) × (length bytes < 32)
 EndHas kind bytes CutInName = (kind ≡ 2) × (length (drop 32 bytes) < 2 + short_length (drop 32 bytes))
@@ -130,7 +131,7 @@ EndHas kind bytes BytesFollow =
 EndHas kind bytes _ = ⊥
 
 -- the bytes have this error
-abbrev pub WireHas : List ℕ → WireFault → Type 0
+abbrev pub WireHas : Octets → WireFault → Type 0
 WireHas bytes NoBytes = FrontHas bytes NoBytes
 WireHas bytes UnknownKind = FrontHas bytes UnknownKind
 WireHas bytes CutInCount = FrontHas bytes CutInCount
@@ -147,14 +148,14 @@ pub record IsFirstFault (has : WireFault → Type 0) (fault : WireFault) : Type 
   pub first : (other : WireFault) → order other < order fault → has other → ⊥
 
 -- the bytes begin with this kind and these siblings, and this follows
-pub record IsFront (bytes : List ℕ) (kind : ℕ) (siblings : List Digest) (rest : List ℕ) : Type 0 where
+pub record IsFront (bytes : Octets) (kind : ℕ) (siblings : List Digest) (rest : Octets) : Type 0 where
   pub known : kind < 3
   pub few : length siblings < 2 ^ 16
   pub sized : AreSized siblings
   pub same : bytes ≡ kind ∷ to_be_bytes w16 (length siblings) ++ sibling_bytes siblings ++ rest
 
 -- the bytes begin with this end, of this kind, and this follows
-pub record IsEndOf (bytes : List ℕ) (kind : ℕ) (end : End) (rest : List ℕ) : Type 0 where
+pub record IsEndOf (bytes : Octets) (kind : ℕ) (end : End) (rest : Octets) : Type 0 where
   pub kind_is : kind ≡ kind_of end
   pub writable : IsWritableEnd end
   pub same : bytes ≡ end_bytes end ++ rest

@@ -13,9 +13,9 @@ pub struct Bytes {
 }
 
 impl Model for Bytes {
-    ghost use Rattle.std.specs.Prelude.{List, ℕ};
+    ghost use Rattle.coniks_proof.specs.Octets.{Octets};
 
-    ghost Value = { List ℕ };
+    ghost Value = { Octets };
 
     ghost view = { λ b. b.bytes.items };
 }

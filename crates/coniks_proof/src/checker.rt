@@ -1,9 +1,11 @@
 //! The checker of proofs.
 
-ghost use Rattle.std.specs.Prelude.{◌≡◌, ◌≤◌, ◌↔◌, List, ℕ, Option, IsTrue, IfOk, IfErr, IsOkAnd, MatchOption};
+ghost use Rattle.std.specs.Prelude.{◌≡◌, ◌≤◌, ◌↔◌, Option, IsTrue, IfOk, IfErr, IsOkAnd, MatchOption};
 ghost use Rattle.coniks_proof.specs.Bits.{first_bits};
 ghost use Rattle.coniks_proof.specs.ProofRefs.{owned};
 ghost use Rattle.coniks_proof.specs.Faults.{EndHas, Has, IsFirst};
+ghost use Rattle.coniks_proof.specs.Hashing.{Hashing, hashing};
+ghost use Rattle.coniks_proof.specs.Octets.{Octets};
 ghost use Rattle.coniks_proof.specs.Proofs.{Accepts, EndFits, IsWellFormed, answer_of, said};
 
 use crate::bits::bit;
@@ -84,7 +86,7 @@ fn end_fault(index: &Index, name: &[u8], level: usize, end: &EndRef<'_>) -> Opti
 /// Returns the error that a proof has before any hash is computed, if any.
 fn early_fault(index: &Index, name: &[u8], proof: &ProofRef<'_>) -> Option<CheckFault>
     ensures { MatchOption result (IsWellFormed index.now.0 name.now proof.now)
-        (λ fault. (hash : List ℕ → List ℕ) (nonce root : List ℕ) → IsFirst (Has hash nonce root index.now.0 name.now proof.now) fault) }
+        (λ fault. (by : Hashing) (root : Octets) → IsFirst (Has by root index.now.0 name.now proof.now) fault) }
 {
     let level = proof.siblings().len();
     if level > MAX_LEVEL {
@@ -134,10 +136,10 @@ pub fn check_ref<'a, H: Hash32>(
     name: &[u8],
     proof: &ProofRef<'a>,
 ) -> Result<Answer<'a>, CheckFault>
-    ensures accepted { IfOk result (λ answer. Accepts (H.digest_of h.now) nonce.now.0 root.now.0 index.now.0 name.now proof.now (said answer)) }
-    ensures exact { (answer : Option (List ℕ)) → Accepts (H.digest_of h.now) nonce.now.0 root.now.0 index.now.0 name.now proof.now answer
+    ensures accepted { IfOk result (λ answer. Accepts (hashing (H.digest_of h.now) nonce.now.0) root.now.0 index.now.0 name.now proof.now (said answer)) }
+    ensures exact { (answer : Option Octets) → Accepts (hashing (H.digest_of h.now) nonce.now.0) root.now.0 index.now.0 name.now proof.now answer
         → IsOkAnd result (λ given. said given ≡ answer) }
-    ensures refused { IfErr result (λ fault. IsFirst (Has (H.digest_of h.now) nonce.now.0 root.now.0 index.now.0 name.now proof.now) fault) }
+    ensures refused { IfErr result (λ fault. IsFirst (Has (hashing (H.digest_of h.now) nonce.now.0) root.now.0 index.now.0 name.now proof.now) fault) }
 {
     if let Some(fault) = early_fault(index, name, proof) {
         return Err(fault);
@@ -164,10 +166,10 @@ pub fn check<'a, H: Hash32>(
     name: &[u8],
     proof: &'a Proof,
 ) -> Result<Answer<'a>, CheckFault>
-    ensures accepted { IfOk result (λ answer. Accepts (H.digest_of h.now) nonce.now.0 root.now.0 index.now.0 name.now proof.now (said answer)) }
-    ensures exact { (answer : Option (List ℕ)) → Accepts (H.digest_of h.now) nonce.now.0 root.now.0 index.now.0 name.now proof.now answer
+    ensures accepted { IfOk result (λ answer. Accepts (hashing (H.digest_of h.now) nonce.now.0) root.now.0 index.now.0 name.now proof.now (said answer)) }
+    ensures exact { (answer : Option Octets) → Accepts (hashing (H.digest_of h.now) nonce.now.0) root.now.0 index.now.0 name.now proof.now answer
         → IsOkAnd result (λ given. said given ≡ answer) }
-    ensures refused { IfErr result (λ fault. IsFirst (Has (H.digest_of h.now) nonce.now.0 root.now.0 index.now.0 name.now proof.now) fault) }
+    ensures refused { IfErr result (λ fault. IsFirst (Has (hashing (H.digest_of h.now) nonce.now.0) root.now.0 index.now.0 name.now proof.now) fault) }
 {
     check_ref(h, nonce, root, index, name, &proof.borrowed())
 }

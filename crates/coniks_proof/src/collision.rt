@@ -2,6 +2,7 @@
 
 ghost use Rattle.std.specs.Prelude.{◌≡◌, ◌↔◌, IsTrue, IfOk, IsOk, MatchOption};
 ghost use Rattle.coniks_proof.specs.Collisions.{Disagree, FirstDiffer, IsCollision, hashed};
+ghost use Rattle.coniks_proof.specs.Hashing.{hashing};
 ghost use Rattle.coniks_proof.specs.Proofs.{said};
 
 use crate::bytes::Bytes;
@@ -50,13 +51,16 @@ pub fn extract<H: Hash32>(
     second: (&[u8], &Proof),
 ) -> Result<Option<Collision>, OutOfMemory>
     ensures exact { IfOk result (λ found. MatchOption found
-        (¬ Disagree (H.digest_of h.now) nonce.now.0 root.now.0 index.now.0 first.entry.0.now first.entry.1.now second.entry.0.now second.entry.1.now)
-        (λ c. Disagree (H.digest_of h.now) nonce.now.0 root.now.0 index.now.0 first.entry.0.now first.entry.1.now second.entry.0.now second.entry.1.now)) }
+        (¬ Disagree (hashing (H.digest_of h.now) nonce.now.0) root.now.0 index.now.0
+        first.entry.0.now first.entry.1.now second.entry.0.now second.entry.1.now)
+        (λ c. Disagree (hashing (H.digest_of h.now) nonce.now.0) root.now.0 index.now.0
+        first.entry.0.now first.entry.1.now second.entry.0.now second.entry.1.now)) }
     ensures collision { IfOk result (λ found. MatchOption found Unit (λ c. IsCollision (H.digest_of h.now) c.x c.y)) }
     ensures place { IfOk result (λ found. MatchOption found Unit (λ c. FirstDiffer
-        (hashed (H.digest_of h.now) nonce.now.0 index.now.0 0 first.entry.1.now.siblings first.entry.1.now.end)
-        (hashed (H.digest_of h.now) nonce.now.0 index.now.0 0 second.entry.1.now.siblings second.entry.1.now.end) c.x c.y)) }
-    ensures calm { ¬ Disagree (H.digest_of h.now) nonce.now.0 root.now.0 index.now.0 first.entry.0.now first.entry.1.now second.entry.0.now second.entry.1.now
+        (hashed (hashing (H.digest_of h.now) nonce.now.0) index.now.0 0 first.entry.1.now.siblings first.entry.1.now.end)
+        (hashed (hashing (H.digest_of h.now) nonce.now.0) index.now.0 0 second.entry.1.now.siblings second.entry.1.now.end) c.x c.y)) }
+    ensures calm { ¬ Disagree (hashing (H.digest_of h.now) nonce.now.0) root.now.0 index.now.0
+        first.entry.0.now first.entry.1.now second.entry.0.now second.entry.1.now
         → IsOk result }
 {
     let (name_a, a) = first;

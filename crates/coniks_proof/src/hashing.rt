@@ -1,6 +1,7 @@
 //! Hashes of 32 bytes, and the four hash calls of the tree.
 
-ghost use Rattle.std.specs.Prelude.{◌≡◌, ◌++◌, ◌<◌, ◌≤◌, List, ℕ, length, flat_map, IfSome};
+ghost use Rattle.std.specs.Prelude.{◌≡◌, ◌++◌, ◌<◌, ◌≤◌, length, flat_map, IfSome};
+ghost use Rattle.coniks_proof.specs.Octets.{Octets};
 ghost use Rattle.coniks_proof.specs.Preimages.{empty_preimage, inner_preimage, leaf_preimage, commitment_preimage};
 ghost use Rattle.sha2.specs.Sha256.{sha256};
 
@@ -13,7 +14,7 @@ use std::marker::Model;
 /// A hash of 32 bytes. It is a function of the message, however the message is split into pieces.
 pub trait Hash32 {
     /// The hash of a message.
-    ghost digest_of: { Self → List ℕ → List ℕ };
+    ghost digest_of: { Self → Octets → Octets };
 
     /// Returns the hash of the pieces, taken as one message.
     fn hash(&self, pieces: &[&[u8]]) -> Digest
@@ -154,9 +155,10 @@ pub struct CommitmentPreimage<'a> {
 }
 
 impl<'a> Model for CommitmentPreimage<'a> {
-    ghost use Rattle.std.specs.Prelude.{List, ℕ, ◌∷◌, ◌++◌};
+    ghost use Rattle.std.specs.Prelude.{◌∷◌, ◌++◌};
+    ghost use Rattle.coniks_proof.specs.Octets.{Octets};
 
-    ghost Value = { List ℕ };
+    ghost Value = { Octets };
 
     ghost view = { λ p. 0x43 ∷ p.opening.now.0 ++ p.name_length ++ p.name.now ++ p.key_length ++ p.key.now };
 }

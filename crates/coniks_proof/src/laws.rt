@@ -8,7 +8,9 @@ ghost use Rattle.coniks_proof.specs.Entries.{Entry, IsIn, backed_by, under};
 ghost use Rattle.coniks_proof.specs.Maps.{IsIndex, IsMap, SameEntries};
 ghost use Rattle.coniks_proof.specs.Preimages.{packed};
 ghost use Rattle.coniks_proof.specs.Faults.{Has};
+ghost use Rattle.coniks_proof.specs.Hashing.{Hashing, hashing};
 ghost use Rattle.coniks_proof.specs.Limits.{deepest_level, longest_key, longest_name, most_operations};
+ghost use Rattle.coniks_proof.specs.Octets.{Octets};
 ghost use Rattle.coniks_proof.specs.Proofs.{Accepts, answer_of};
 ghost use Rattle.coniks_proof.specs.declared.checker.CheckFault.{CheckFault};
 ghost use Rattle.coniks_proof.specs.Registry.{AreWithin, HaveOwnIndices, IsFree, IsLength, Registry, entries_of, has_name, key_of, root_of};
@@ -35,22 +37,22 @@ pub fn limits()
 /// The answer is exactly the key that the name is bound to, or absence if it is bound to none. For absence the premise is
 /// that no registered name has the name's index.
 pub fn path_is_accepted<H: Hash32>(h: &H, nonce: &Nonce, root: &Digest, name: &[u8], proof: &Proof)
-    ensures { (index_of : List ℕ → List ℕ) (registry : Registry) → IsMap (entries_of (H.digest_of h.now) index_of registry) → AreWithin registry
+    ensures { (index_of : Octets → Octets) (registry : Registry) → IsMap (entries_of (H.digest_of h.now) index_of registry) → AreWithin registry
         → root.now.0 ≡ root_of (H.digest_of h.now) index_of nonce.now.0 registry
-        → IsPath (H.digest_of h.now) nonce.now.0 (entries_of (H.digest_of h.now) index_of registry) (index_of name.now) proof.now
+        → IsPath (hashing (H.digest_of h.now) nonce.now.0) (entries_of (H.digest_of h.now) index_of registry) (index_of name.now) proof.now
         → (has_name registry name.now ≡ false → IsFree index_of registry (index_of name.now))
         → IsLength MAX_NAME name.now
-        → Accepts (H.digest_of h.now) nonce.now.0 root.now.0 (index_of name.now) name.now proof.now (key_of registry name.now) }
+        → Accepts (hashing (H.digest_of h.now) nonce.now.0) root.now.0 (index_of name.now) name.now proof.now (key_of registry name.now) }
 {}
 
 /// Proves that a node, its path's siblings and its path's end do not depend on the order of the entries.
 pub fn order_is_of_no_account<T>()
-    ensures node { (hash : List ℕ → List ℕ) (nonce : List ℕ) (prefix : List Bool) (es fs : List (Entry T)) → IsMap es → IsMap fs → SameEntries es fs
-        → node hash nonce prefix es ≡ node hash nonce prefix fs }
-    ensures siblings { (hash : List ℕ → List ℕ) (nonce : List ℕ) (prefix : List Bool) (index : List ℕ) (es fs : List (Entry T))
+    ensures node { (by : Hashing) (prefix : List Bool) (es fs : List (Entry T)) → IsMap es → IsMap fs → SameEntries es fs
+        → node by prefix es ≡ node by prefix fs }
+    ensures siblings { (by : Hashing) (prefix : List Bool) (index : Octets) (es fs : List (Entry T))
         → IsMap es → IsMap fs → SameEntries es fs
-        → siblings hash nonce prefix index es ≡ siblings hash nonce prefix index fs }
-    ensures end { (prefix : List Bool) (index : List ℕ) (es fs : List (Entry T)) → IsMap es → IsMap fs → SameEntries es fs
+        → siblings by prefix index es ≡ siblings by prefix index fs }
+    ensures end { (prefix : List Bool) (index : Octets) (es fs : List (Entry T)) → IsMap es → IsMap fs → SameEntries es fs
         → end_of prefix index es ≡ end_of prefix index fs }
 {}
 
@@ -58,11 +60,11 @@ pub fn order_is_of_no_account<T>()
 ///
 /// If the data behind the commitments is mapped, the end of a path is mapped in the same way.
 pub fn what_stands_behind_is_of_no_account<T, U>()
-    ensures node { (f : T → U) (hash : List ℕ → List ℕ) (nonce : List ℕ) (prefix : List Bool) (entries : List (Entry T))
-        → node hash nonce prefix (map (backed_by f) entries) ≡ node hash nonce prefix entries }
-    ensures siblings { (f : T → U) (hash : List ℕ → List ℕ) (nonce : List ℕ) (prefix : List Bool) (index : List ℕ) (entries : List (Entry T))
-        → siblings hash nonce prefix index (map (backed_by f) entries) ≡ siblings hash nonce prefix index entries }
-    ensures end { (f : T → U) (prefix : List Bool) (index : List ℕ) (entries : List (Entry T))
+    ensures node { (f : T → U) (by : Hashing) (prefix : List Bool) (entries : List (Entry T))
+        → node by prefix (map (backed_by f) entries) ≡ node by prefix entries }
+    ensures siblings { (f : T → U) (by : Hashing) (prefix : List Bool) (index : Octets) (entries : List (Entry T))
+        → siblings by prefix index (map (backed_by f) entries) ≡ siblings by prefix index entries }
+    ensures end { (f : T → U) (prefix : List Bool) (index : Octets) (entries : List (Entry T))
         → end_of prefix index (map (backed_by f) entries) ≡ map (backed_by f) (end_of prefix index entries) }
 {}
 
@@ -75,8 +77,8 @@ pub fn no_fault_is_accepted<H: Hash32>(
     name: &[u8],
     proof: &Proof,
 )
-    ensures { ((fault : CheckFault) → Has (H.digest_of h.now) nonce.now.0 root.now.0 index.now.0 name.now proof.now fault → ⊥)
-        ↔ (Accepts (H.digest_of h.now) nonce.now.0 root.now.0 index.now.0 name.now proof.now (answer_of proof.now.end)) }
+    ensures { ((fault : CheckFault) → Has (hashing (H.digest_of h.now) nonce.now.0) root.now.0 index.now.0 name.now proof.now fault → ⊥)
+        ↔ (Accepts (hashing (H.digest_of h.now) nonce.now.0) root.now.0 index.now.0 name.now proof.now (answer_of proof.now.end)) }
 {}
 
 /// Proves that a batch has no error on a registry if and only if it can follow the registry.
@@ -84,12 +86,12 @@ pub fn no_fault_is_accepted<H: Hash32>(
 /// The premise is that no two names of the registry have one index. That holds again for the registry that the batch
 /// leaves, and it holds for the empty one.
 pub fn faultless_batches()
-    ensures exactly { (index_of : List ℕ → List ℕ) (registry : Registry) (ops : List Operation) → HaveOwnIndices index_of registry
+    ensures exactly { (index_of : Octets → Octets) (registry : Registry) (ops : List Operation) → HaveOwnIndices index_of registry
         → ((first_fault index_of registry ops ≡ None) ↔ MayFollow index_of registry ops) }
-    ensures after { (index_of : List ℕ → List ℕ) (registry : Registry) (ops : List Operation)
+    ensures after { (index_of : Octets → Octets) (registry : Registry) (ops : List Operation)
         → MayFollow index_of registry ops → HaveOwnIndices index_of (after registry ops) }
-    ensures first { (index_of : List ℕ → List ℕ) → HaveOwnIndices index_of [] }
-    ensures maps { (hash index_of : List ℕ → List ℕ) (registry : Registry) → IsMap (entries_of hash index_of registry) → HaveOwnIndices index_of registry }
+    ensures first { (index_of : Octets → Octets) → HaveOwnIndices index_of [] }
+    ensures maps { (hash index_of : Octets → Octets) (registry : Registry) → IsMap (entries_of hash index_of registry) → HaveOwnIndices index_of registry }
 {}
 
 /// Proves the preconditions of a tree from the properties of its entries.
@@ -116,9 +118,9 @@ pub fn overwritten_maps<T>()
 
 /// Proves that the way to an index ends with the entry at the index, if the map has one.
 pub fn ends<T>()
-    ensures present { (index : List ℕ) (entries : List (Entry T)) (e : Entry T)
+    ensures present { (index : Octets) (entries : List (Entry T)) (e : Entry T)
         → IsMap entries → IsIn e entries → e.index ≡ index → end_of [] index entries ≡ e ∷ [] }
-    ensures found { (index : List ℕ) (entries : List (Entry T)) (e : Entry T) → IsMap entries → end_of [] index entries ≡ e ∷ [] → IsIn e entries }
+    ensures found { (index : Octets) (entries : List (Entry T)) (e : Entry T) → IsMap entries → end_of [] index entries ≡ e ∷ [] → IsIn e entries }
 {}
 
 /// Proves where the path to an index over a map ends, and what its siblings are.
@@ -127,16 +129,16 @@ pub fn ends<T>()
 /// one. Its sibling at each level is the node of the other side, over the entries under the prefix with its last bit
 /// flipped.
 pub fn paths<T>()
-    ensures ends { (hash : List ℕ → List ℕ) (nonce index : List ℕ) (entries : List (Entry T)) → IsMap entries
-        → end_of [] index entries ≡ under (first_bits index (length (siblings hash nonce [] index entries))) entries }
-    ensures few { (hash : List ℕ → List ℕ) (nonce index : List ℕ) (entries : List (Entry T)) → IsMap entries
-        → length (under (first_bits index (length (siblings hash nonce [] index entries))) entries) ≤ 1 }
-    ensures least { (hash : List ℕ → List ℕ) (nonce index : List ℕ) (entries : List (Entry T)) → IsMap entries
-        → (level : ℕ) → level < length (siblings hash nonce [] index entries) → 2 ≤ length (under (first_bits index level) entries) }
-    ensures siblings { (hash : List ℕ → List ℕ) (nonce index : List ℕ) (entries : List (Entry T)) → IsMap entries
-        → (level : ℕ) → level < length (siblings hash nonce [] index entries)
+    ensures ends { (by : Hashing) (index : Octets) (entries : List (Entry T)) → IsMap entries
+        → end_of [] index entries ≡ under (first_bits index (length (siblings by [] index entries))) entries }
+    ensures few { (by : Hashing) (index : Octets) (entries : List (Entry T)) → IsMap entries
+        → length (under (first_bits index (length (siblings by [] index entries))) entries) ≤ 1 }
+    ensures least { (by : Hashing) (index : Octets) (entries : List (Entry T)) → IsMap entries
+        → (level : ℕ) → level < length (siblings by [] index entries) → 2 ≤ length (under (first_bits index level) entries) }
+    ensures siblings { (by : Hashing) (index : Octets) (entries : List (Entry T)) → IsMap entries
+        → (level : ℕ) → level < length (siblings by [] index entries)
         → let other_side = child (first_bits index level) (not (bit_at index level)) in
-        slice_get (siblings hash nonce [] index entries) level ≡ Some (node hash nonce other_side (under other_side entries)) }
+        slice_get (siblings by [] index entries) level ≡ Some (node by other_side (under other_side entries)) }
 {}
 
 /// Proves that a prefix is hashed as 32 bytes. Their bits are those of the prefix, followed by zeros.
@@ -150,9 +152,8 @@ pub fn digits()
 /// Bytes are the wire form of at most one proof, and a proof has at most one wire form. The wire form of a proof has no
 /// error. Each accepted proof has a wire form.
 pub fn wire_forms()
-    ensures one_proof { (bytes : List ℕ) (p q : Whole) → IsWire bytes p → IsWire bytes q → p ≡ q }
-    ensures one_form { (bytes others : List ℕ) (p : Whole) → IsWire bytes p → IsWire others p → bytes ≡ others }
-    ensures no_fault { (bytes : List ℕ) (p : Whole) (fault : WireFault) → IsWire bytes p → WireHas bytes fault → ⊥ }
-    ensures room { (hash : List ℕ → List ℕ) (nonce root index name : List ℕ) (p : Whole) (answer : Option (List ℕ))
-        → Accepts hash nonce root index name p answer → HasRoom p }
+    ensures one_proof { (bytes : Octets) (p q : Whole) → IsWire bytes p → IsWire bytes q → p ≡ q }
+    ensures one_form { (bytes others : Octets) (p : Whole) → IsWire bytes p → IsWire others p → bytes ≡ others }
+    ensures no_fault { (bytes : Octets) (p : Whole) (fault : WireFault) → IsWire bytes p → WireHas bytes fault → ⊥ }
+    ensures room { (by : Hashing) (root index name : Octets) (p : Whole) (answer : Option Octets) → Accepts by root index name p answer → HasRoom p }
 {}

@@ -2,6 +2,7 @@
 
 ghost use Rattle.std.specs.Prelude.{◌≡◌, ◌≢◌, ◌+◌, ◌≤◌, ◌↔◌, ◌⊎◌, length, IsTrue, IfOk};
 ghost use Rattle.coniks_proof.specs.Collisions.{IsSized, KeepsOff, Parts};
+ghost use Rattle.coniks_proof.specs.Hashing.{hashing};
 ghost use Rattle.coniks_proof.specs.Meetings.{CommitmentIs, PartsAt, PlaceFits};
 ghost use Rattle.coniks_proof.specs.Proofs.{LengthsFit, answer_of, end_preimage, preimage};
 
@@ -83,8 +84,8 @@ fn same_ends<H: Hash32>(
     requires off_a { KeepsOff index.now.0 end_a.now }
     requires off_b { KeepsOff index.now.0 end_b.now }
     requires answers { answer_of end_a.now ≢ answer_of end_b.now }
-    ensures { IsTrue result ↔ (end_preimage (H.digest_of h.now) nonce.now.0 index.now.0 level
-        end_a.now ≡ end_preimage (H.digest_of h.now) nonce.now.0 index.now.0 level end_b.now) }
+    ensures { IsTrue result ↔ (end_preimage (hashing (H.digest_of h.now) nonce.now.0) index.now.0 level
+        end_a.now ≡ end_preimage (hashing (H.digest_of h.now) nonce.now.0) index.now.0 level end_b.now) }
 {
     in_range(&index.0);
     sized(end_a);
@@ -122,7 +123,8 @@ fn end_place<'a, H: Hash32>(
     requires answers { answer_of a.end.now ≢ answer_of b.end.now }
     requires ends { (length a.siblings.now ≡ 0) ⊎ (length b.siblings.now ≡ 0) }
     ensures fits { PlaceFits result }
-    ensures place { PartsAt (H.digest_of h.now) nonce.now.0 index.now.0 level a.entry.siblings.now a.entry.end.now b.entry.siblings.now b.entry.end.now result }
+    ensures place { PartsAt (hashing (H.digest_of h.now) nonce.now.0) index.now.0 level
+        a.entry.siblings.now a.entry.end.now b.entry.siblings.now b.entry.end.now result }
 {
     in_range(&index.0);
     sized(a.end);
@@ -161,10 +163,10 @@ fn ending<'a, H: Hash32>(
     requires off_b { KeepsOff index.now.0 b.end.now }
     requires answers { answer_of a.end.now ≢ answer_of b.end.now }
     requires ends { (length a.siblings.now ≡ 0) ⊎ (length b.siblings.now ≡ 0) }
-    ensures a { result.a.0 ≡ H.digest_of h.now (preimage (H.digest_of h.now) nonce.now.0 index.now.0 level a.entry.siblings.now a.entry.end.now) }
-    ensures b { result.b.0 ≡ H.digest_of h.now (preimage (H.digest_of h.now) nonce.now.0 index.now.0 level b.entry.siblings.now b.entry.end.now) }
+    ensures a { result.a.0 ≡ H.digest_of h.now (preimage (hashing (H.digest_of h.now) nonce.now.0) index.now.0 level a.entry.siblings.now a.entry.end.now) }
+    ensures b { result.b.0 ≡ H.digest_of h.now (preimage (hashing (H.digest_of h.now) nonce.now.0) index.now.0 level b.entry.siblings.now b.entry.end.now) }
     ensures fits { PlaceFits result.place }
-    ensures place { PartsAt (H.digest_of h.now) nonce.now.0 index.now.0 level
+    ensures place { PartsAt (hashing (H.digest_of h.now) nonce.now.0) index.now.0 level
         a.entry.siblings.now a.entry.end.now b.entry.siblings.now b.entry.end.now result.place }
 {
     let siblings_a = Siblings::Listed(a.siblings);
@@ -192,10 +194,10 @@ fn meet<'a, H: Hash32>(
     requires off_a { KeepsOff index.now.0 a.end.now }
     requires off_b { KeepsOff index.now.0 b.end.now }
     requires answers { answer_of a.end.now ≢ answer_of b.end.now }
-    ensures a { result.a.0 ≡ H.digest_of h.now (preimage (H.digest_of h.now) nonce.now.0 index.now.0 level a.entry.siblings.now a.entry.end.now) }
-    ensures b { result.b.0 ≡ H.digest_of h.now (preimage (H.digest_of h.now) nonce.now.0 index.now.0 level b.entry.siblings.now b.entry.end.now) }
+    ensures a { result.a.0 ≡ H.digest_of h.now (preimage (hashing (H.digest_of h.now) nonce.now.0) index.now.0 level a.entry.siblings.now a.entry.end.now) }
+    ensures b { result.b.0 ≡ H.digest_of h.now (preimage (hashing (H.digest_of h.now) nonce.now.0) index.now.0 level b.entry.siblings.now b.entry.end.now) }
     ensures fits { PlaceFits result.place }
-    ensures place { PartsAt (H.digest_of h.now) nonce.now.0 index.now.0 level
+    ensures place { PartsAt (hashing (H.digest_of h.now) nonce.now.0) index.now.0 level
         a.entry.siblings.now a.entry.end.now b.entry.siblings.now b.entry.end.now result.place }
 {
     let Some((first_a, rest_a)) = a.siblings.split_first() else {
@@ -252,7 +254,7 @@ pub(crate) fn parted<H: Hash32>(
     requires off_a { KeepsOff index.now.0 a.end.now }
     requires off_b { KeepsOff index.now.0 b.end.now }
     requires answers { answer_of a.end.now ≢ answer_of b.end.now }
-    ensures { IfOk result (λ found. Parts (H.digest_of h.now) nonce.now.0 index.now.0 0
+    ensures { IfOk result (λ found. Parts (hashing (H.digest_of h.now) nonce.now.0) index.now.0 0
         a.entry.siblings.now a.entry.end.now b.entry.siblings.now b.entry.end.now found.0 found.1) }
 {
     match meet(h, nonce, index, 0, a, b).place {

@@ -1,7 +1,8 @@
 //! Messages that are hashed for nodes, four at a time.
 
-ghost use Rattle.std.specs.Prelude.{◌≡◌, ◌++◌, ◌≤◌, List, ℕ, flat_map, length, map, IfOk, OnOk};
+ghost use Rattle.std.specs.Prelude.{◌≡◌, ◌++◌, ◌≤◌, flat_map, length, map, IfOk, OnOk};
 ghost use Rattle.coniks_proof.specs.Messages.{preimage_of};
+ghost use Rattle.coniks_proof.specs.Octets.{Octets};
 ghost use Rattle.coniks_proof.specs.Preimages.{empty_preimage, leaf_preimage};
 
 use crate::bits::Prefix;
@@ -38,7 +39,7 @@ impl Message {
 
 /// Returns the message of an empty node.
 pub fn empty_message(prefix: Prefix) -> Message
-    ensures { (nonce : List ℕ) → preimage_of nonce result ≡ empty_preimage nonce prefix }
+    ensures { (nonce : Octets) → preimage_of nonce result ≡ empty_preimage nonce prefix }
 {
     let level = (prefix.len() as u16).to_be_bytes();
     Message::Empty(prefix, level)
@@ -47,7 +48,7 @@ pub fn empty_message(prefix: Prefix) -> Message
 /// Returns the message of a leaf, at a level of at most 256.
 pub fn leaf_message(index: &Index, level: usize, commitment: &Digest) -> Message
     requires { level ≤ MAX_LEVEL }
-    ensures { (nonce : List ℕ) → preimage_of nonce result ≡ leaf_preimage nonce index.now.0 level commitment.now.0 }
+    ensures { (nonce : Octets) → preimage_of nonce result ≡ leaf_preimage nonce index.now.0 level commitment.now.0 }
 {
     Message::Leaf(*index, (level as u16).to_be_bytes(), *commitment)
 }

@@ -2,6 +2,7 @@
 
 ghost use Rattle.std.specs.Prelude.{◌≡◌, ◌+◌, ◌<◌, ◌≤◌, length};
 ghost use Rattle.coniks_proof.specs.Bits.{bit_at};
+ghost use Rattle.coniks_proof.specs.Hashing.{hashing};
 ghost use Rattle.coniks_proof.specs.ProofRefs.{listed, owned};
 ghost use Rattle.coniks_proof.specs.Proofs.{LengthsFit, end_preimage, joined, preimage};
 
@@ -56,7 +57,7 @@ fn end_hash<H: Hash32>(
 ) -> Digest
     requires level { level ≤ MAX_LEVEL }
     requires fits { LengthsFit (owned end.now) }
-    ensures { result.0 ≡ H.digest_of h.now (end_preimage (H.digest_of h.now) nonce.now.0 index.now.0 level (owned end.now)) }
+    ensures { result.0 ≡ H.digest_of h.now (end_preimage (hashing (H.digest_of h.now) nonce.now.0) index.now.0 level (owned end.now)) }
 {
     match end {
         EndRef::Empty => empty_hash(h, nonce, &Prefix::of(index, level)),
@@ -100,7 +101,7 @@ pub(crate) fn carried<H: Hash32>(
 ) -> Digest
     requires deep { level + length (listed siblings.now) ≤ MAX_LEVEL }
     requires fits { LengthsFit (owned end.now) }
-    ensures { result.0 ≡ H.digest_of h.now (preimage (H.digest_of h.now) nonce.now.0 index.now.0 level (listed siblings.now) (owned end.now)) }
+    ensures { result.0 ≡ H.digest_of h.now (preimage (hashing (H.digest_of h.now) nonce.now.0) index.now.0 level (listed siblings.now) (owned end.now)) }
 {
     let mut place = siblings.len();
     let mut hash = end_hash(h, nonce, index, level + place, end);

@@ -2,6 +2,7 @@
 
 ghost use Rattle.std.specs.Prelude.{◌≡◌, ◌++◌, ◌≤◌, ◌+◌, flat_map, length, IfOk};
 ghost use Rattle.coniks_proof.specs.Collisions.{sealed};
+ghost use Rattle.coniks_proof.specs.Hashing.{hashing};
 ghost use Rattle.coniks_proof.specs.Preimages.{commitment_preimage, empty_preimage, leaf_preimage};
 ghost use Rattle.coniks_proof.specs.Proofs.{LengthsFit, end_preimage, joined, preimage};
 
@@ -110,7 +111,7 @@ fn end_bytes<H: Hash32>(
 ) -> Result<Bytes, AllocError>
     requires level { level ≤ MAX_LEVEL }
     requires fits { LengthsFit end.now }
-    ensures { IfOk result (λ bytes. bytes ≡ end_preimage (H.digest_of h.now) nonce.now.0 index.now.0 level end.now) }
+    ensures { IfOk result (λ bytes. bytes ≡ end_preimage (hashing (H.digest_of h.now) nonce.now.0) index.now.0 level end.now) }
 {
     match end {
         End::Empty => empty_bytes(alloc, nonce, &Prefix::of(index, level)),
@@ -136,7 +137,7 @@ pub(crate) fn level_bytes<H: Hash32>(
 ) -> Result<Bytes, AllocError>
     requires deep { level + length way.siblings.now ≤ MAX_LEVEL }
     requires fits { LengthsFit way.end.now }
-    ensures { IfOk result (λ bytes. bytes ≡ preimage (H.digest_of h.now) nonce.now.0 index.now.0 level way.entry.siblings.now way.entry.end.now) }
+    ensures { IfOk result (λ bytes. bytes ≡ preimage (hashing (H.digest_of h.now) nonce.now.0) index.now.0 level way.entry.siblings.now way.entry.end.now) }
 {
     match way.siblings.split_first() {
         None => end_bytes(alloc, h, nonce, index, level, way.end),

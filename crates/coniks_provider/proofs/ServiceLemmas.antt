@@ -7,6 +7,7 @@ use Rattle.std.proofs.lemmas.Bool.Decides.{nat_tests}
 use Rattle.std.proofs.lemmas.List.{length-map}
 use Rattle.std.proofs.lemmas.Slice.Eq.{bytes_eq-Decides}
 use Rattle.coniks_proof.specs.Batches.{after, fits}
+use Rattle.coniks_proof.specs.Hashing.{hashing}
 use Rattle.coniks_proof.specs.Registry.{entries_of, has_name}
 use Rattle.coniks_proof.specs.Sha256.{sha256}
 use Rattle.coniks_proof.specs.declared.paths.Proof.{Proof}
@@ -149,7 +150,7 @@ module _ (o : ProviderDirectory) (epoch : ℕ) (name index : List ℕ) where
       → looked_up entry index name (path_of proof) ≡ provider_lookup_with (Some o) epoch name index
   found_is entry proof at own found =
       let here = index_here o name index in
-      let path = path_is sha256 found.shown.nonce (entries_of sha256 (index_with o name index) found.shown.registry) (index_with o name index name) proof found.path in
+      let path = path_is (hashing sha256 found.shown.nonce) (entries_of sha256 (index_with o name index) found.shown.registry) (index_with o name index name) proof found.path in
       let is : path_of proof ≡ path_to sha256 (index_with o name index) found.shown.nonce found.shown.registry index =
       path ∙ ap (λ (x : List ℕ). path_to sha256 (index_with o name index) found.shown.nonce found.shown.registry x) here in
       rw (found.installed, found.sized, own, at, is) refl

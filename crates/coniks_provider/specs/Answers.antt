@@ -1,6 +1,7 @@
 -- What is printed for a line.
-use Rattle.std.specs.Prelude.{ℕ, List, codes, Bool, true, false}
+use Rattle.std.specs.Prelude.{ℕ, codes, Bool, true, false}
 use Rattle.std.specs.String.{string_bytes}
+use Rattle.coniks_proof.specs.Octets.{Octets}
 use Rattle.serde_json.specs.Data.{Data, string, number, unsigned, object, member, no_members}
 use Rattle.coniks_chain.specs.Entries.{body_bytes, entry_bytes}
 use Rattle.coniks_chain.specs.declared.entry.Body.{Body}
@@ -21,11 +22,11 @@ pub data ProviderOutcome : Type 0 where
   -- an update was prepared: the body to sign, and how many nodes the epoch adds
   prepared : (body : Body) (nodes : ℕ) → ProviderOutcome
   -- the pending update was installed: the entry that it added to the chain, and the entry's link
-  installed : (entry : Entry) (link : List ℕ) → ProviderOutcome
+  installed : (entry : Entry) (link : Octets) → ProviderOutcome
   -- a lookup found the path to the name's index in the tree of the epoch with this entry
-  looked_up : (entry : Entry) (index name : List ℕ) (path : Path) → ProviderOutcome
+  looked_up : (entry : Entry) (index name : Octets) (path : Path) → ProviderOutcome
   -- the latest epoch, its entry's link, and how many names and nodes there are
-  at_latest : (epoch : ℕ) (link : List ℕ) (names nodes : ℕ) → ProviderOutcome
+  at_latest : (epoch : ℕ) (link : Octets) (names nodes : ℕ) → ProviderOutcome
   -- the line isn't a JSON object
   not_json : ProviderOutcome
   -- the line has no known command
@@ -79,7 +80,7 @@ provider_outcome_of reply.NameLength = bad_name_length
 provider_outcome_of reply.BadIndex = bad_index
 
 -- the name of the error of an operation that comes with an index
-abbrev pub supplied_fault_name : SuppliedFault → List ℕ
+abbrev pub supplied_fault_name : SuppliedFault → Octets
 supplied_fault_name (of_operation fault) = fault_name fault
 supplied_fault_name other_index = codes "OtherIndex"
 
@@ -94,7 +95,7 @@ prepared_data body nodes =
     (member (codes "root") (digits body.root.0) no_members)))))
 
 -- {"entry":DIGITS,"epoch":NUM,"link":DIGITS,"ok":"install","root":DIGITS}
-abbrev pub provider_installed_data : Entry → List ℕ → Data
+abbrev pub provider_installed_data : Entry → Octets → Data
 provider_installed_data entry link =
     object
     (member (codes "entry") (digits (entry_bytes entry))
@@ -104,7 +105,7 @@ provider_installed_data entry link =
     (member (codes "root") (digits entry.body.root.0) no_members)))))
 
 -- {"epoch":NUM,"link":DIGITS,"names":NUM,"nodes":NUM,"ok":"latest"}
-abbrev pub latest_data : ℕ → List ℕ → ℕ → ℕ → Data
+abbrev pub latest_data : ℕ → Octets → ℕ → ℕ → Data
 latest_data epoch link names nodes =
     object
     (member (codes "epoch") (number (unsigned epoch))

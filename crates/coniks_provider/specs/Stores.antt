@@ -1,9 +1,10 @@
 -- What a store holds, as a state, and what is true of it.
-use Rattle.std.specs.Prelude.{◌≡◌, ◌<◌, ◌≤◌, ℕ, List, [], length, IfSome, Option, Some, None, option_map}
+use Rattle.std.specs.Prelude.{◌≡◌, ◌<◌, ◌≤◌, List, [], length, IfSome, Option, Some, None, option_map}
+use Rattle.coniks_proof.specs.Octets.{Octets}
 use Rattle.coniks_proof.specs.Sha256.{sha256}
 use Rattle.coniks_chain.specs.Chain.{before_at}
 use Rattle.coniks_directory.specs.Chain.{body_of, heads_of}
-use Rattle.coniks_directory.specs.History.{latest_epoch, latest_registry}
+use Rattle.coniks_directory.specs.History.{latest_epoch}
 use Rattle.coniks_directory.specs.State.{View, history_of}
 use Rattle.coniks_directory.specs.Supplied.{Supplied, supplied_index}
 use Rattle.coniks_directory.specs.Batches.{fault_is}
@@ -59,7 +60,7 @@ provider_state_of (Some s) = Some (provided_of s)
 
 -- the update can be installed, under the number that its body has
 pub record IsPending {H : Type 0} (d : Held H) (p : Update) : Type 0 where
-  pub index : List ℕ → List ℕ
+  pub index : Octets → Octets
   pub supplied : IsSuppliedUpdate sha256 (supplied_index d.index) d.state p.update index
   pub fresh : base_of p.update ≡ length d.state.epochs
   pub later : latest_epoch (history_of d.state) < p.body.t

@@ -6,6 +6,7 @@ use Rattle.serde_json.specs.Data.{Data, Items}
 use Rattle.coniks_lines.specs.Machine.{Answer}
 use Rattle.coniks_proof.specs.Sha256.{sha256}
 use Rattle.coniks_proof.specs.Batches.{fits}
+use Rattle.coniks_proof.specs.Octets.{Octets}
 use Rattle.coniks_proof.specs.Registry.{has_name}
 use Rattle.coniks_proof.specs.declared.values.TheConstants.{MAX_NAME, MAX_OPERATIONS}
 use Rattle.coniks_chain.specs.Chain.{before_at, link_before}
@@ -36,8 +37,8 @@ pub record Pending : Type 0 where
 -- a directory that was opened: its nonce and policy, the registered names with their indices, its history with its chain, how many nodes
 -- its tree has, and the update that is pending, if one is
 pub record ProviderDirectory : Type 0 where
-  pub nonce : List ℕ
-  pub policy : List ℕ
+  pub nonce : Octets
+  pub policy : Octets
   pub indices : List Supplied
   pub history : List Shown
   pub chain : List Entry
@@ -55,16 +56,16 @@ ProviderTurn = Turn ProviderOutcome ProviderState
 -- ---- open
 
 -- a directory with no epochs
-abbrev pub nothing_yet : List ℕ → List ℕ → ProviderDirectory
+abbrev pub nothing_yet : Octets → Octets → ProviderDirectory
 nothing_yet nonce policy = record { nonce = nonce; policy = policy; indices = []; history = []; chain = []; nodes = 0; pending = None }
 
 -- a directory is opened once
-abbrev pub provider_open_with : ProviderState → List ℕ → List ℕ → ProviderTurn
+abbrev pub provider_open_with : ProviderState → Octets → Octets → ProviderTurn
 provider_open_with None nonce policy = record { outcome = opened; state = Some (nothing_yet nonce policy) }
 provider_open_with (Some o) nonce policy = refused (Some o) already_open
 
 -- `open`, by its members in the order of reading
-abbrev pub provider_open_turn : ProviderState → Option (List ℕ) → Option (List ℕ) → ProviderTurn
+abbrev pub provider_open_turn : ProviderState → Option Octets → Option Octets → ProviderTurn
 provider_open_turn s None _ = refused s (bad_member Nonce)
 provider_open_turn s (Some nonce) None = refused s (bad_member Policy)
 provider_open_turn s (Some nonce) (Some policy) = provider_open_with s nonce policy
@@ -74,7 +75,7 @@ provider_open_turn s (Some nonce) (Some policy) = provider_open_with s nonce pol
 -- a batch: its epoch, the nonce under which the tree is rehashed, if any, and its operations with the indices of their names
 pub record BatchLine : Type 0 where
   pub epoch : ℕ
-  pub new_nonce : Option (List ℕ)
+  pub new_nonce : Option Octets
   pub ops : List Indexed
 
 -- the epoch that a batch makes after the latest one, or after `open`
@@ -84,7 +85,7 @@ epoch_next o b =
     (record { t = b.epoch; new_nonce = b.new_nonce; ops = operations_of b.ops })
 
 -- the indices that a batch is checked by
-abbrev pub index_for : ProviderDirectory → BatchLine → List ℕ → List ℕ
+abbrev pub index_for : ProviderDirectory → BatchLine → Octets → Octets
 index_for o b = index_in (supplied_index o.indices) (latest_registry o.history) b.ops
 
 -- the update of a batch
@@ -130,12 +131,12 @@ prepare_with None b = refused None not_open
 prepare_with (Some o) b = prepare_on o b (provider_refusal o b)
 
 -- the operations were read, or one was not
-abbrev pub batch_read_turn : ProviderState → ℕ → Option (List ℕ) → Result (List Indexed) ℕ → ProviderTurn
+abbrev pub batch_read_turn : ProviderState → ℕ → Option Octets → Result (List Indexed) ℕ → ProviderTurn
 batch_read_turn s epoch new_nonce (Err place) = refused s (bad_operation place)
 batch_read_turn s epoch new_nonce (Ok ops) = prepare_with s (record { epoch = epoch; new_nonce = new_nonce; ops = ops })
 
 -- `prepare`, by its members in the order of reading; the nonce may be missing
-abbrev pub prepare_turn : ProviderState → Option ℕ → Option (Option (List ℕ)) → Option Items → ProviderTurn
+abbrev pub prepare_turn : ProviderState → Option ℕ → Option (Option Octets) → Option Items → ProviderTurn
 prepare_turn s None new_nonce items = refused s (bad_member Epoch)
 prepare_turn s (Some epoch) None items = refused s (bad_member Nonce)
 prepare_turn s (Some epoch) (Some new_nonce) None = refused s (bad_member Ops)
@@ -144,7 +145,7 @@ prepare_turn s (Some epoch) (Some new_nonce) (Some items) = batch_read_turn s ep
 -- ---- install
 
 -- what the directory holds once an update is installed with a signature
-abbrev pub installed_with : ProviderDirectory → Pending → List ℕ → ProviderDirectory
+abbrev pub installed_with : ProviderDirectory → Pending → Octets → ProviderDirectory
 installed_with o p signature = record o {
   indices = put_indices o.indices p.indices;
   history = o.history ++ p.shown ∷ [];
@@ -154,7 +155,7 @@ installed_with o p signature = record o {
 }
 
 -- the pending update is installed
-abbrev pub install_on : ProviderDirectory → List ℕ → Option Pending → ProviderTurn
+abbrev pub install_on : ProviderDirectory → Octets → Option Pending → ProviderTurn
 install_on o signature None = refused (Some o) not_prepared
 install_on o signature (Some p) = record {
   outcome = installed (signed p.body (record { 0 = signature })) (sha256 (link_preimage (signed p.body (record { 0 = signature }))));
@@ -162,12 +163,12 @@ install_on o signature (Some p) = record {
 }
 
 -- a signature that was read
-abbrev pub install_with : ProviderState → List ℕ → ProviderTurn
+abbrev pub install_with : ProviderState → Octets → ProviderTurn
 install_with None signature = refused None not_open
 install_with (Some o) signature = install_on o signature o.pending
 
 -- `install`, by its member
-abbrev pub install_turn : ProviderState → Option (List ℕ) → ProviderTurn
+abbrev pub install_turn : ProviderState → Option Octets → ProviderTurn
 install_turn s None = refused s (bad_member Signature)
 install_turn s (Some signature) = install_with s signature
 
@@ -178,21 +179,21 @@ abbrev pub chain_entry_at : ProviderDirectory → ℕ → Option Entry
 chain_entry_at o number = find (λ (e : Entry). e.body.t == number) o.chain
 
 -- the name is registered with another index
-abbrev pub has_other_index : ProviderDirectory → List ℕ → List ℕ → Bool
+abbrev pub has_other_index : ProviderDirectory → Octets → Octets → Bool
 has_other_index o name index = has_name (latest_registry o.history) name && not (bytes_eq (supplied_index o.indices name) index)
 
 -- the indices of the registered names, with this one for a name
-abbrev pub index_with : ProviderDirectory → List ℕ → List ℕ → List ℕ → List ℕ
+abbrev pub index_with : ProviderDirectory → Octets → Octets → Octets → Octets
 index_with o name index = supplied_index ((name, index) ∷ o.indices)
 
 -- the entry of an epoch, with the path to an index in its tree
-abbrev pub found_at : ProviderDirectory → List ℕ → List ℕ → Shown → Option Entry → ProviderOutcome
+abbrev pub found_at : ProviderDirectory → Octets → Octets → Shown → Option Entry → ProviderOutcome
 found_at o name index shown None = unknown_epoch
 found_at o name index shown (Some entry) = looked_up entry index name
     (path_to sha256 (index_with o name index) shown.nonce shown.registry index)
 
 -- the outcome of a lookup of a name at an index, at an epoch that shows this
-abbrev pub provider_lookup_at : ProviderDirectory → ℕ → List ℕ → List ℕ → Option Shown → ProviderOutcome
+abbrev pub provider_lookup_at : ProviderDirectory → ℕ → Octets → Octets → Option Shown → ProviderOutcome
 provider_lookup_at o number name index None = unknown_epoch
 provider_lookup_at o number name index (Some shown) =
     if fits MAX_NAME name
@@ -200,12 +201,12 @@ provider_lookup_at o number name index (Some shown) =
     else bad_name_length
 
 -- a lookup that was read
-abbrev pub provider_lookup_with : ProviderState → ℕ → List ℕ → List ℕ → ProviderOutcome
+abbrev pub provider_lookup_with : ProviderState → ℕ → Octets → Octets → ProviderOutcome
 provider_lookup_with None number name index = not_open
 provider_lookup_with (Some o) number name index = provider_lookup_at o number name index (shown_at o.history number)
 
 -- `lookup`, by its members in the order of reading
-abbrev pub provider_lookup_outcome : ProviderState → Option ℕ → Option (List ℕ) → Option (List ℕ) → ProviderOutcome
+abbrev pub provider_lookup_outcome : ProviderState → Option ℕ → Option Octets → Option Octets → ProviderOutcome
 provider_lookup_outcome s None name index = bad_member Epoch
 provider_lookup_outcome s (Some epoch) None index = bad_member Name
 provider_lookup_outcome s (Some epoch) (Some name) None = bad_member Index
@@ -226,7 +227,7 @@ abbrev pub reads : ProviderState → ProviderOutcome → ProviderTurn
 reads s outcome = record { outcome = outcome; state = s }
 
 -- an object, by its command
-abbrev pub provider_command_turn : ProviderState → Data → Option (List ℕ) → ProviderTurn
+abbrev pub provider_command_turn : ProviderState → Data → Option Octets → ProviderTurn
 provider_command_turn s d None = refused s no_command
 provider_command_turn s d (Some name) =
     if bytes_eq name (codes "open") then provider_open_turn s (digits_in 32 (codes "nonce") d) (digits_in 32 (codes "policy") d)
@@ -239,9 +240,9 @@ provider_command_turn s d (Some name) =
     else refused s no_command))))
 
 -- what comes of a line
-abbrev pub provider_turn : ProviderState → List ℕ → ProviderTurn
+abbrev pub provider_turn : ProviderState → Octets → ProviderTurn
 provider_turn s line = option_map_or (λ d. provider_command_turn s d (text_in (codes "cmd") d)) (object_in line) (refused s not_json)
 
 -- the reply to a line
-abbrev pub provider_answer : ProviderState → List ℕ → Answer ProviderState
+abbrev pub provider_answer : ProviderState → Octets → Answer ProviderState
 provider_answer s line = answer_by provider_reply_data is_accepted_line (provider_turn s line)

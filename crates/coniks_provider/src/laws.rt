@@ -1,6 +1,7 @@
 //! Lemmas about the answers of `provider`, each the contract of a function that only reads.
 
-ghost use Rattle.std.specs.Prelude.{◌≡◌, List, None, Some, ℕ, false, length};
+ghost use Rattle.std.specs.Prelude.{◌≡◌, List, None, Some, false, length};
+ghost use Rattle.coniks_proof.specs.Octets.{Octets};
 ghost use Rattle.coniks_directory.specs.History.{latest_registry};
 ghost use Rattle.coniks_lines.specs.Machine.{state_after};
 ghost use Rattle.coniks_provider.specs.Limits.{most_provider_epochs};
@@ -15,13 +16,13 @@ pub fn limits()
 
 /// Proves that a refused line leaves the directory unchanged, the pending update included.
 pub fn refused_line_changes_no_directory()
-    ensures { (s : ProviderState) (line : List ℕ) → (provider_answer s line).accepted ≡ false → (provider_answer s line).state ≡ s }
+    ensures { (s : ProviderState) (line : Octets) → (provider_answer s line).accepted ≡ false → (provider_answer s line).state ≡ s }
 {}
 
 /// Proves that after any lines as many names have an index as are registered.
 ///
 /// So `names` of `latest` is the number of registered names.
 pub fn latest_counts_the_registered_names()
-    ensures { (lines : List (List ℕ)) (o : ProviderDirectory)
+    ensures { (lines : List Octets) (o : ProviderDirectory)
         → state_after provider_answer None lines ≡ Some o → length o.indices ≡ length (latest_registry o.history) }
 {}

@@ -10,6 +10,7 @@ use Rattle.coniks_proof.specs.Bits.{first_bits}
 use Rattle.coniks_proof.specs.Proofs.{Accepts, answer_of, preimage}
 use Rattle.coniks_proof.proofs.Lemmas.{accepts-no_fault, no_fault-accepts}
 use Rattle.coniks_proof.specs.Faults.{EndHas, Has, IsFirst, number}
+use Rattle.coniks_proof.specs.Hashing.{Hashing}
 use Rattle.coniks_proof.specs.declared.paths.Proof.{Proof}
 use Rattle.coniks_proof.specs.declared.paths.End.{End}
 use Rattle.coniks_proof.specs.declared.paths.End.TheVariants.{Other, Here}
@@ -63,50 +64,50 @@ in_order = (refl, (refl, (refl, (refl, (refl, (refl, (refl, tt)))))))
 numbered : (fault : CheckFault) → number fault ≡ 1 + (number fault - 1)
 numbered fault = number-at number check_faults 1 (number fault - 1) fault in_order (at_place fault)
 
-module _ (hash : List ℕ → List ℕ) (nonce root index name : List ℕ) (proof : Proof) where
+module _ (by : Hashing) (root index name : List ℕ) (proof : Proof) where
   -- the test of a proof tells whether it has the error
-  decides : (fault : CheckFault) → Decides (has hash nonce root index name proof fault) (Has hash nonce root index name proof fault)
+  decides : (fault : CheckFault) → Decides (has by root index name proof fault) (Has by root index name proof fault)
   decides TooDeep = Decides-ltb 256 (length proof.siblings)
   decides NameLength = Decides-or _ _ (Decides-eqb (length name) 0) (Decides-ltb 255 (length name))
-  decides RootMismatch = Decides-not _ (bytes_eq-Decides (hash (preimage hash nonce index 0 proof.siblings proof.end)) root)
+  decides RootMismatch = Decides-not _ (bytes_eq-Decides (by.hash (preimage by index 0 proof.siblings proof.end)) root)
   decides KeyLength = end-decides index name (length proof.siblings) proof.end KeyLength
   decides WrongName = end-decides index name (length proof.siblings) proof.end WrongName
   decides OtherIsSame = end-decides index name (length proof.siblings) proof.end OtherIsSame
   decides OtherOffPath = end-decides index name (length proof.siblings) proof.end OtherOffPath
 
-  off : (fault : CheckFault) → ¬ Has hash nonce root index name proof fault → has hash nonce root index name proof fault ≡ false
+  off : (fault : CheckFault) → ¬ Has by root index name proof fault → has by root index name proof fault ≡ false
   off fault none = false_from_ne_true _ (λ on. none ((decides fault).0 on))
 
-  absent : (fault : CheckFault) → has hash nonce root index name proof fault ≡ false → ¬ Has hash nonce root index name proof fault
+  absent : (fault : CheckFault) → has by root index name proof fault ≡ false → ¬ Has by root index name proof fault
   absent fault none there = false≢true (sym none ∙ (decides fault).1 there)
 
   -- no error
-  pub none-none : ((fault : CheckFault) → ¬ Has hash nonce root index name proof fault) → check_fault hash nonce root index name proof ≡ None
+  pub none-none : ((fault : CheckFault) → ¬ Has by root index name proof fault) → check_fault by root index name proof ≡ None
   unfolding check_fault
-  none-none none = none-found (has hash nonce root index name proof) check_faults (λ k fault less at. off fault (none fault))
+  none-none none = none-found (has by root index name proof) check_faults (λ k fault less at. off fault (none fault))
 
   -- an accepted proof has no error
-  pub accepts-none : (answer : Option (List ℕ)) → Accepts hash nonce root index name proof answer → check_fault hash nonce root index name proof ≡ None
-  accepts-none answer ok = none-none (λ fault has. accepts-no_fault hash nonce root index name proof answer fault ok has)
+  pub accepts-none : (answer : Option (List ℕ)) → Accepts by root index name proof answer → check_fault by root index name proof ≡ None
+  accepts-none answer ok = none-none (λ fault has. accepts-no_fault by root index name proof answer fault ok has)
 
   -- a proof with no error is accepted
-  pub none-accepts : check_fault hash nonce root index name proof ≡ None → Accepts hash nonce root index name proof (answer_of proof.end)
+  pub none-accepts : check_fault by root index name proof ≡ None → Accepts by root index name proof (answer_of proof.end)
   unfolding check_fault
   none-accepts none =
-      let all = found-none (has hash nonce root index name proof) check_faults none in
-      no_fault-accepts hash nonce root index name proof (λ fault.
+      let all = found-none (has by root index name proof) check_faults none in
+      no_fault-accepts by root index name proof (λ fault.
       absent fault (all (number fault - 1) fault (slice_get_within check_faults (number fault - 1) fault (at_place fault)) (at_place fault)))
 
   -- the error that is returned is the first
-  pub first-some : (fault : CheckFault) → IsFirst (Has hash nonce root index name proof) fault → check_fault hash nonce root index name proof ≡ Some fault
+  pub first-some : (fault : CheckFault) → IsFirst (Has by root index name proof) fault → check_fault by root index name proof ≡ Some fault
   unfolding check_fault
   first-some fault is =
-      first-found (has hash nonce root index name proof) check_faults (number fault - 1) fault (at_place fault) ((decides fault).1 is.there)
+      first-found (has by root index name proof) check_faults (number fault - 1) fault (at_place fault) ((decides fault).1 is.there)
       (λ k other less at. let other_is = number-at number check_faults 1 k other in_order at in let fault_is = numbered fault in off other (is.first other (omega arith)))
 
-  pub some-first : (fault : CheckFault) → check_fault hash nonce root index name proof ≡ Some fault → IsFirst (Has hash nonce root index name proof) fault
+  pub some-first : (fault : CheckFault) → check_fault by root index name proof ≡ Some fault → IsFirst (Has by root index name proof) fault
   unfolding check_fault
   some-first fault some =
-      let found = found-first (has hash nonce root index name proof) check_faults fault some in
+      let found = found-first (has by root index name proof) check_faults fault some in
       let fault_is = number-at number check_faults 1 found.place fault in_order found.at in
       record { there = (decides fault).0 found.passes; first = λ other less. let other_is = numbered other in absent other (found.earlier (number other - 1) other (omega arith) (at_place other)) }

@@ -10,6 +10,7 @@ use Rattle.coniks_directory.specs.Lookups.{IsFound, IsMissed}
 use Rattle.coniks_directory.specs.declared.lookup.LookupFault.{LookupFault}
 use Rattle.coniks_directory.specs.declared.lookup.LookupFault.TheVariants.{NameLength, UnknownEpoch}
 use Rattle.coniks_proof.specs.Batches.{fits}
+use Rattle.coniks_proof.specs.Hashing.{hashing}
 use Rattle.coniks_proof.specs.Registry.{entries_of}
 use Rattle.coniks_proof.specs.Sha256.{sha256}
 use Rattle.coniks_proof.specs.declared.paths.Proof.{Proof}
@@ -91,7 +92,7 @@ module _ (o : ScriptDirectory) (epoch : ℕ) (name bytes : List ℕ) (same : byt
     pub found_there : (entry : Entry) (text index : List ℕ) → Some entry ≡ entry_at chain epoch → text ≡ name
         → index ≡ demo_index o.key name → looked_up entry index text (path_of proof) ≡ lookup_with (Some o) epoch name
     found_there entry text index at text_is index_is =
-        let path = path_is sha256 found.shown.nonce (entries_of sha256 (demo_index o.key) found.shown.registry) (demo_index o.key bytes) proof found.path in
+        let path = path_is (hashing sha256 found.shown.nonce) (entries_of sha256 (demo_index o.key) found.shown.registry) (demo_index o.key bytes) proof found.path in
         ap (λ (t : List ℕ). looked_up entry index t (path_of proof)) text_is
         ∙ ap (λ (i : List ℕ). looked_up entry i name (path_of proof)) index_is
         ∙ ap (λ (p : Path). looked_up entry (demo_index o.key name) name p)

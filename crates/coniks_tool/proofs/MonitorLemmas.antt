@@ -3,6 +3,7 @@ use Rattle.std.proofs.Common.{◌≡◌, Bool, true, false, Option, Some, None, 
 use Rattle.std.specs.Prelude.{is_some}
 use Rattle.std.proofs.lemmas.Option.{same_Some}
 use Rattle.std.proofs.lemmas.Bool.{false≢true}
+use Rattle.coniks_proof.specs.Hashing.{hashing}
 use Rattle.coniks_proof.specs.Sha256.{sha256}
 use Rattle.coniks_proof.specs.Proofs.{answer_of}
 use Rattle.coniks_proof.specs.declared.paths.Proof.{Proof}
@@ -42,7 +43,7 @@ module _ (s : MonitorState) (entry : Entry) (proof : Proof) where
       → step_turn s entry proof ≡ record { outcome = watched entry.body.t (seen_of s.expected (answer_of proof.end)); state = record s { before = Some (before_of sha256 entry) } }
   sound-step sound =
       ap (audited_turn s entry proof) (follows-none (is_seal s.key) s.before entry sound.follows)
-      ∙ ap (checked_turn s entry proof) (accepts-none sha256 entry.body.nonce.0 entry.body.root.0 s.index s.name proof (answer_of proof.end) sound.accepted)
+      ∙ ap (checked_turn s entry proof) (accepts-none (hashing sha256 entry.body.nonce.0) entry.body.root.0 s.index s.name proof (answer_of proof.end) sound.accepted)
 
   -- another one is refused by its first error
   pub refused-step : (fault : MonitorFault) → IsFirstStepFault sha256 (is_seal s.key) s.before s.name s.index entry proof fault
@@ -50,7 +51,7 @@ module _ (s : MonitorState) (entry : Entry) (proof : Proof) where
   refused-step (Audit fault) is = ap (audited_turn s entry proof) (first-some (is_seal s.key) s.before entry fault is)
   refused-step (Check fault) is =
       ap (audited_turn s entry proof) (follows-none (is_seal s.key) s.before entry is.0)
-      ∙ ap (checked_turn s entry proof) (first-check sha256 entry.body.nonce.0 entry.body.root.0 s.index s.name proof fault is.1)
+      ∙ ap (checked_turn s entry proof) (first-check (hashing sha256 entry.body.nonce.0) entry.body.root.0 s.index s.name proof fault is.1)
 
   abbrev Sound : Type 0
   Sound = IsSoundStep sha256 (is_seal s.key) s.before s.name s.index entry proof (answer_of proof.end)
@@ -62,11 +63,11 @@ module _ (s : MonitorState) (entry : Entry) (proof : Proof) where
   of_entry = audit_fault (is_seal s.key) s.before entry
 
   abbrev of_proof : Option CheckFault
-  of_proof = check_fault sha256 entry.body.nonce.0 entry.body.root.0 s.index s.name proof
+  of_proof = check_fault (hashing sha256 entry.body.nonce.0) entry.body.root.0 s.index s.name proof
 
   checked_sound : (f : Option CheckFault) → of_proof ≡ f → Follows (is_seal s.key) s.before entry → is_watched (checked_turn s entry proof f).outcome ≡ true → Sound
   checked_sound (Some fault) is follows on = absurd (false≢true on)
-  checked_sound None is follows on = record { follows = follows; accepted = none-accepts sha256 entry.body.nonce.0 entry.body.root.0 s.index s.name proof is }
+  checked_sound None is follows on = record { follows = follows; accepted = none-accepts (hashing sha256 entry.body.nonce.0) entry.body.root.0 s.index s.name proof is }
 
   audited_sound : (f : Option AuditFault) → of_entry ≡ f → is_watched (audited_turn s entry proof f).outcome ≡ true → Sound
   audited_sound (Some fault) is on = absurd (false≢true on)
@@ -81,7 +82,7 @@ module _ (s : MonitorState) (entry : Entry) (proof : Proof) where
 
   checked_first : (fault : MonitorFault) (f : Option CheckFault) → of_proof ≡ f → Follows (is_seal s.key) s.before entry → fault_in (checked_turn s entry proof f).outcome ≡ Some fault → First fault
   checked_first fault (Some found) is follows some =
-      subst First (same_Some (Check found) fault some) (follows, check-first sha256 entry.body.nonce.0 entry.body.root.0 s.index s.name proof found is)
+      subst First (same_Some (Check found) fault some) (follows, check-first (hashing sha256 entry.body.nonce.0) entry.body.root.0 s.index s.name proof found is)
   checked_first fault None is follows some = absurd (false≢true (ap is_some some))
 
   audited_first : (fault : MonitorFault) (f : Option AuditFault) → of_entry ≡ f → fault_in (audited_turn s entry proof f).outcome ≡ Some fault → First fault

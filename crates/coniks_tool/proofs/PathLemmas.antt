@@ -3,6 +3,7 @@ use Rattle.std.proofs.Common.{◌≡◌, ◌≢◌, ℕ, List, [], true, false, 
 use Rattle.std.specs.Str.{bytes_eq}
 use Rattle.std.proofs.lemmas.Slice.Eq.{bytes_eq-Decides}
 use Rattle.coniks_proof.specs.Entries.{Entry}
+use Rattle.coniks_proof.specs.Hashing.{Hashing}
 use Rattle.coniks_proof.specs.Paths.{siblings, end_of, EndIs, IsPath}
 use Rattle.coniks_proof.specs.Registry.{Registered}
 use Rattle.coniks_proof.specs.declared.paths.Proof.{Proof}
@@ -28,8 +29,7 @@ end_is_shown index es (Here name key opening) is =
     ap (λ b. if b then its_entry name key opening.0 else other_entry index is.0) (sym on) ∙ ap (end_at index) (sym is.1)
 
 -- a proof that is the path to an index shows that path
-pub path_is : (hash : List ℕ → List ℕ) (nonce : List ℕ) (es : List (Entry Registered)) (index : List ℕ) (proof : Proof)
-    → IsPath hash nonce es index proof → path_of proof ≡ path_among hash nonce es index
-path_is hash nonce es index proof p =
+pub path_is : (by : Hashing) (es : List (Entry Registered)) (index : List ℕ) (proof : Proof) → IsPath by es index proof → path_of proof ≡ path_among by es index
+path_is by es index proof p =
     ap (λ (ss : List (List ℕ)). record { siblings = ss; end = end_shown proof.end }) p.siblings_are
-    ∙ ap (λ (e : PathEnd). record { siblings = siblings hash nonce [] index es; end = e }) (end_is_shown index (end_of [] index es) proof.end p.end_is)
+    ∙ ap (λ (e : PathEnd). record { siblings = siblings by [] index es; end = e }) (end_is_shown index (end_of [] index es) proof.end p.end_is)

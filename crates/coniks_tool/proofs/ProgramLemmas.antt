@@ -9,7 +9,8 @@ use Rattle.clap.specs.declared.error.Error.{Error}
 use Rattle.clap.specs.declared.error.kind.ErrorKind.{ErrorKind}
 use Rattle.coniks_lines.specs.declared.fault.RunFault.{RunFault}
 use Rattle.coniks_lines.specs.declared.fault.RunFault.TheVariants.{Read, Write, OutOfMemory as RunOutOfMemory, NoBoard}
-use Rattle.coniks_lines.specs.Known.{Source, Sink}
+use Rattle.coniks_lines.specs.Known.{Sink}
+use Rattle.coniks_lines.specs.Runs.{Streams}
 use Rattle.coniks_tool.specs.Choice.{Choice, run, check, audit, monitor, chosen, key_in, lacks_key, lacks_expectation}
 use Rattle.coniks_tool.specs.Expectations.{expectation_in}
 use Rattle.coniks_tool.specs.Keydir.{keydir}
@@ -56,20 +57,20 @@ none_there None expected value is none = false≢true none
 none_there (Some key) expected value is none = there expected value is none
 
 -- a choice whose key is bad doesn't run
-runs-key : (choice : Option Choice) (from from' : Source) (to to' : Sink) (all : Bool) → Runs choice from from' to to' all → lacks_key choice ≡ true → ⊥
-runs-key None from from' to to' all ran bad = ran
-runs-key (Some (run workers depth)) from from' to to' all ran bad = false≢true bad
-runs-key (Some check) from from' to to' all ran bad = false≢true bad
-runs-key (Some (audit text)) from from' to to' all ran bad = there (key_in text) ran.key ran.key_is bad
-runs-key (Some (monitor text name expect)) from from' to to' all ran bad = there (key_in text) ran.key ran.key_is bad
+runs-key : (choice : Option Choice) (io : Streams) (all : Bool) → Runs choice io all → lacks_key choice ≡ true → ⊥
+runs-key None io all ran bad = ran
+runs-key (Some (run workers depth)) io all ran bad = false≢true bad
+runs-key (Some check) io all ran bad = false≢true bad
+runs-key (Some (audit text)) io all ran bad = there (key_in text) ran.key ran.key_is bad
+runs-key (Some (monitor text name expect)) io all ran bad = there (key_in text) ran.key ran.key_is bad
 
 -- nor one whose expectation is bad
-runs-expectation : (choice : Option Choice) (from from' : Source) (to to' : Sink) (all : Bool) → Runs choice from from' to to' all → lacks_expectation choice ≡ true → ⊥
-runs-expectation None from from' to to' all ran bad = ran
-runs-expectation (Some (run workers depth)) from from' to to' all ran bad = false≢true bad
-runs-expectation (Some check) from from' to to' all ran bad = false≢true bad
-runs-expectation (Some (audit text)) from from' to to' all ran bad = false≢true bad
-runs-expectation (Some (monitor text name expect)) from from' to to' all ran bad = none_there (key_in text) (expectation_in expect) ran.expected ran.expected_is bad
+runs-expectation : (choice : Option Choice) (io : Streams) (all : Bool) → Runs choice io all → lacks_expectation choice ≡ true → ⊥
+runs-expectation None io all ran bad = ran
+runs-expectation (Some (run workers depth)) io all ran bad = false≢true bad
+runs-expectation (Some check) io all ran bad = false≢true bad
+runs-expectation (Some (audit text)) io all ran bad = false≢true bad
+runs-expectation (Some (monitor text name expect)) io all ran bad = none_there (key_in text) (expectation_in expect) ran.expected ran.expected_is bad
 
 -- an error has a kind, so there are kinds
 no_kind : (kinds : Kinds) (kind : ErrorKind) → kinds ≡ [] → IsAmong kind kinds → ⊥
@@ -117,33 +118,33 @@ both-at_3 F G (Ok ending) fails stops = tt
 both-at_3 F G (Err fault) fails stops = (fails, stops)
 
 -- what is never for want of a board
-fails_so : (wanted : Type 0) (from from' : Source) (to to' : Sink) (fault : RunFault) → Fails ⊥ from from' to to' fault → Fails wanted from from' to to' fault
-fails_so wanted from from' to to' Read fails = fails
-fails_so wanted from from' to to' Write fails = fails
-fails_so wanted from from' to to' RunOutOfMemory fails = fails
-fails_so wanted from from' to to' NoBoard fails = absurd fails.0
+fails_so : (wanted : Type 0) (io : Streams) (fault : RunFault) → Fails ⊥ io fault → Fails wanted io fault
+fails_so wanted io Read fails = fails
+fails_so wanted io Write fails = fails
+fails_so wanted io RunOutOfMemory fails = fails
+fails_so wanted io NoBoard fails = absurd fails.0
 
-pub fails_with_no_board : (wanted : Type 0) (from from' : Source) (to to' : Sink) (outcome : Result Ending RunFault)
-    → IfErr outcome (Fails ⊥ from from' to to') → IfErr outcome (Fails wanted from from' to to')
-fails_with_no_board wanted from from' to to' outcome fails = IfErr-weaker outcome (Fails ⊥ from from' to to') (Fails wanted from from' to to') (fails_so wanted from from' to to') fails
+pub fails_with_no_board : (wanted : Type 0) (io : Streams) (outcome : Result Ending RunFault)
+    → IfErr outcome (Fails ⊥ io) → IfErr outcome (Fails wanted io)
+fails_with_no_board wanted io outcome fails = IfErr-weaker outcome (Fails ⊥ io) (Fails wanted io) (fails_so wanted io) fails
 
-module _ (words : List (List ℕ)) (from from' : Source) (to to' : Sink) where
+module _ (words : List (List ℕ)) (io : Streams) where
   -- the ending of the run that the words choose is one for the words
   ends_for : (choice : Choice) (ending : Ending) → fault_of keydir words ≡ [] → chosen (subcommand_of keydir words) ≡ Some choice
-      → EndsBy (Some choice) from from' to to' ending → EndsFor words from from' to to' ending
-  ends_for choice (Done true) none is ends = inl (record { faultless = none; runs = subst (λ c. Runs c from from' to to' true) (sym is) ends })
-  ends_for choice (Done false) none is ends = record { faultless = none; runs = subst (λ c. Runs c from from' to to' false) (sym is) ends }
+      → EndsBy (Some choice) io ending → EndsFor words io ending
+  ends_for choice (Done true) none is ends = inl (record { faultless = none; runs = subst (λ c. Runs c io true) (sym is) ends })
+  ends_for choice (Done false) none is ends = record { faultless = none; runs = subst (λ c. Runs c io false) (sym is) ends }
   ends_for choice (Refused text) none is ends = absurd ends
   ends_for choice BadKey none is ends = record { faultless = none; no_key = ap lacks_key is ∙ ends }
   ends_for choice BadExpectation none is ends = record { faultless = none; no_expectation = ap lacks_expectation is ∙ ends }
 
   pub run-ends_for : (choice : Choice) (outcome : Result Ending RunFault) → fault_of keydir words ≡ [] → chosen (subcommand_of keydir words) ≡ Some choice
-      → IfOk outcome (EndsBy (Some choice) from from' to to') → IfOk outcome (EndsFor words from from' to to')
+      → IfOk outcome (EndsBy (Some choice) io) → IfOk outcome (EndsFor words io)
   run-ends_for choice (Ok ending) none is ends = ends_for choice ending none is ends
   run-ends_for choice (Err fault) none is ends = tt
 
   -- it isn't a refusal of the words
-  pub run-isnt_refused : (P : Type 0) (choice : Option Choice) (outcome : Result Ending RunFault) → IfOk outcome (EndsBy choice from from' to to') → IfOk outcome (λ ending. IfRefused ending P)
+  pub run-isnt_refused : (P : Type 0) (choice : Option Choice) (outcome : Result Ending RunFault) → IfOk outcome (EndsBy choice io) → IfOk outcome (λ ending. IfRefused ending P)
   run-isnt_refused P choice (Ok (Done all)) ends = tt
   run-isnt_refused P choice (Ok (Refused text)) ends = absurd ends
   run-isnt_refused P choice (Ok BadKey) ends = tt
@@ -152,7 +153,7 @@ module _ (words : List (List ℕ)) (from from' : Source) (to to' : Sink) where
 
   -- an error of `clap` that is explained is an ending for the words
   pub explained-ends_for : (kind : ErrorKind) (outcome : Result Ending RunFault) → IsAmong kind (fault_of keydir words) → IfOk outcome (IsExplained kind)
-      → IfOk outcome (λ ending. IfDone ending (IsShown from from' to to')) → IfOk outcome (EndsFor words from from' to to')
+      → IfOk outcome (λ ending. IfDone ending (IsShown io)) → IfOk outcome (EndsFor words io)
   explained-ends_for kind (Ok (Done true)) among is shown = inr ((kind, (among, is)), shown)
   explained-ends_for kind (Ok (Done false)) among is shown = absurd is
   explained-ends_for kind (Ok (Refused text)) among is shown = (kind, (among, is))
@@ -162,21 +163,21 @@ module _ (words : List (List ℕ)) (from from' : Source) (to to' : Sink) where
 
   -- an error of the run that the words choose, or of help
   pub run-stops_at : (choice : Choice) (outcome : Result Ending RunFault) → fault_of keydir words ≡ [] → chosen (subcommand_of keydir words) ≡ Some choice
-      → IfErr outcome (λ fault. BreaksOff (Some choice) from from' to to' fault ⊎ NeverBegins from from' to to' fault) → IfErr outcome (StopsAt words from from' to to')
-  run-stops_at choice outcome none is stops = IfErr-weaker outcome _ (StopsAt words from from' to to') (λ fault here. elim here [
-    | inl breaks ↦ inl (record { faultless = none; breaks = subst (λ c. BreaksOff c from from' to to' fault) (sym is) breaks })
+      → IfErr outcome (λ fault. BreaksOff (Some choice) io fault ⊎ NeverBegins io fault) → IfErr outcome (StopsAt words io)
+  run-stops_at choice outcome none is stops = IfErr-weaker outcome _ (StopsAt words io) (λ fault here. elim here [
+    | inl breaks ↦ inl (record { faultless = none; breaks = subst (λ c. BreaksOff c io fault) (sym is) breaks })
     | inr never ↦ inr (inr never)
   ]) stops
 
   pub explained-stops_at : (kind : ErrorKind) (outcome : Result Ending RunFault) → IsAmong kind (fault_of keydir words)
-      → IfErr outcome (λ fault. ((is_asked_for kind ≡ true) × IsCutOff from from' to to' fault) ⊎ NeverBegins from from' to to' fault) → IfErr outcome (StopsAt words from from' to to')
-  explained-stops_at kind outcome among stops = IfErr-weaker outcome _ (StopsAt words from from' to to') (λ fault here. elim here [
+      → IfErr outcome (λ fault. ((is_asked_for kind ≡ true) × IsCutOff io fault) ⊎ NeverBegins io fault) → IfErr outcome (StopsAt words io)
+  explained-stops_at kind outcome among stops = IfErr-weaker outcome _ (StopsAt words io) (λ fault here. elim here [
     | inl cut ↦ inr (inl ((kind, (among, cut.0)), cut.1))
     | inr never ↦ inr (inr never)
   ]) stops
 
-  pub done-at_0 : (outcome : Result Ending RunFault) → IfOk outcome (EndsFor words from from' to to') → status_of outcome ≡ 0
-      → RunsFor words from from' to to' true ⊎ (AsksForHelp (fault_of keydir words) × IsShown from from' to to')
+  pub done-at_0 : (outcome : Result Ending RunFault) → IfOk outcome (EndsFor words io) → status_of outcome ≡ 0
+      → RunsFor words io true ⊎ (AsksForHelp (fault_of keydir words) × IsShown io)
   done-at_0 (Ok (Done true)) ends is = ends
   done-at_0 (Ok (Done false)) ends is = absurd (omega (arith, is))
   done-at_0 (Ok (Refused text)) ends is = absurd (omega (arith, is))
@@ -184,7 +185,7 @@ module _ (words : List (List ℕ)) (from from' : Source) (to to' : Sink) where
   done-at_0 (Ok BadExpectation) ends is = absurd (omega (arith, is))
   done-at_0 (Err fault) ends is = absurd (omega (arith, is))
 
-  pub ran-at_1 : (outcome : Result Ending RunFault) → IfOk outcome (EndsFor words from from' to to') → status_of outcome ≡ 1 → RunsFor words from from' to to' false
+  pub ran-at_1 : (outcome : Result Ending RunFault) → IfOk outcome (EndsFor words io) → status_of outcome ≡ 1 → RunsFor words io false
   ran-at_1 (Ok (Done true)) ends is = absurd (omega (arith, is))
   ran-at_1 (Ok (Done false)) ends is = ends
   ran-at_1 (Ok (Refused text)) ends is = absurd (omega (arith, is))
@@ -192,7 +193,7 @@ module _ (words : List (List ℕ)) (from from' : Source) (to to' : Sink) where
   ran-at_1 (Ok BadExpectation) ends is = absurd (omega (arith, is))
   ran-at_1 (Err fault) ends is = absurd (omega (arith, is))
 
-  pub refused-at_2 : (outcome : Result Ending RunFault) → IfOk outcome (EndsFor words from from' to to')
+  pub refused-at_2 : (outcome : Result Ending RunFault) → IfOk outcome (EndsFor words io)
       → status_of outcome ≡ 2 → HasMistake (fault_of keydir words) ⊎ HasBadKey words ⊎ HasBadExpectation words
   refused-at_2 (Ok (Done true)) ends is = absurd (omega (arith, is))
   refused-at_2 (Ok (Done false)) ends is = absurd (omega (arith, is))
@@ -201,7 +202,7 @@ module _ (words : List (List ℕ)) (from from' : Source) (to to' : Sink) where
   refused-at_2 (Ok BadExpectation) ends is = inr (inr ends)
   refused-at_2 (Err fault) ends is = absurd (omega (arith, is))
 
-  pub taken-at_2 : (outcome : Result Ending RunFault) → IfOk outcome (EndsFor words from from' to to')
+  pub taken-at_2 : (outcome : Result Ending RunFault) → IfOk outcome (EndsFor words io)
       → IfOk outcome (λ ending. IfRefused ending (takes keydir words ≢ true)) → takes keydir words ≡ true → status_of outcome ≡ 2 → HasBadKey words ⊎ HasBadExpectation words
   taken-at_2 (Ok (Done true)) ends refused taken is = absurd (omega (arith, is))
   taken-at_2 (Ok (Done false)) ends refused taken is = absurd (omega (arith, is))
@@ -211,15 +212,15 @@ module _ (words : List (List ℕ)) (from from' : Source) (to to' : Sink) where
   taken-at_2 (Err fault) ends refused taken is = absurd (omega (arith, is))
 
   -- at 2 the words choose no run
-  pub none-at_2 : (outcome : Result Ending RunFault) → IfOk outcome (EndsFor words from from' to to') → status_of outcome ≡ 2 → ChooseNoRun words
+  pub none-at_2 : (outcome : Result Ending RunFault) → IfOk outcome (EndsFor words io) → status_of outcome ≡ 2 → ChooseNoRun words
   none-at_2 outcome ends is = elim (refused-at_2 outcome ends is) [
     | inl mistake ↦ inl (λ none. no_kind (fault_of keydir words) mistake.0 none mistake.1.0)
     | inr bad ↦ inr bad
   ]
 
   -- and nothing was written
-  pub unwritten-at_2 : (outcome : Result Ending RunFault) → IfOk outcome (EndsFor words from from' to to')
-      → IfOk outcome (λ ending. IfRefused ending (to' ≡ to)) → (HasBadText words → to' ≡ to) → status_of outcome ≡ 2 → to' ≡ to
+  pub unwritten-at_2 : (outcome : Result Ending RunFault) → IfOk outcome (EndsFor words io)
+      → IfOk outcome (λ ending. IfRefused ending (io.to' ≡ io.to)) → (HasBadText words → io.to' ≡ io.to) → status_of outcome ≡ 2 → io.to' ≡ io.to
   unwritten-at_2 (Ok (Done true)) ends refused bad is = absurd (omega (arith, is))
   unwritten-at_2 (Ok (Done false)) ends refused bad is = absurd (omega (arith, is))
   unwritten-at_2 (Ok (Refused text)) ends refused bad is = refused
@@ -228,8 +229,8 @@ module _ (words : List (List ℕ)) (from from' : Source) (to to' : Sink) where
   unwritten-at_2 (Err fault) ends refused bad is = absurd (omega (arith, is))
 
   -- neither a run nor help comes of faultless words whose choice doesn't run
-  idle-from_2 : (outcome : Result Ending RunFault) → IfOk outcome (EndsFor words from from' to to') → fault_of keydir words ≡ []
-      → ((all : Bool) → Runs (chosen (subcommand_of keydir words)) from from' to to' all → ⊥) → 2 ≤ status_of outcome
+  idle-from_2 : (outcome : Result Ending RunFault) → IfOk outcome (EndsFor words io) → fault_of keydir words ≡ []
+      → ((all : Bool) → Runs (chosen (subcommand_of keydir words)) io all → ⊥) → 2 ≤ status_of outcome
   idle-from_2 (Ok (Done true)) (inl ran) faultless idle = absurd (idle true ran.runs)
   idle-from_2 (Ok (Done true)) (inr asks) faultless idle = absurd (no_kind (fault_of keydir words) asks.0.0 faultless asks.0.1.0)
   idle-from_2 (Ok (Done false)) ran faultless idle = absurd (idle false ran.runs)
@@ -238,14 +239,14 @@ module _ (words : List (List ℕ)) (from from' : Source) (to to' : Sink) where
   idle-from_2 (Ok BadExpectation) ends faultless idle = omega arith
   idle-from_2 (Err fault) ends faultless idle = omega arith
 
-  pub bad_key-from_2 : (outcome : Result Ending RunFault) → IfOk outcome (EndsFor words from from' to to') → HasBadKey words → 2 ≤ status_of outcome
-  bad_key-from_2 outcome ends bad = idle-from_2 outcome ends bad.faultless (λ all ran. runs-key (chosen (subcommand_of keydir words)) from from' to to' all ran bad.no_key)
+  pub bad_key-from_2 : (outcome : Result Ending RunFault) → IfOk outcome (EndsFor words io) → HasBadKey words → 2 ≤ status_of outcome
+  bad_key-from_2 outcome ends bad = idle-from_2 outcome ends bad.faultless (λ all ran. runs-key (chosen (subcommand_of keydir words)) io all ran bad.no_key)
 
-  pub bad_expectation-from_2 : (outcome : Result Ending RunFault) → IfOk outcome (EndsFor words from from' to to') → HasBadExpectation words → 2 ≤ status_of outcome
-  bad_expectation-from_2 outcome ends bad = idle-from_2 outcome ends bad.faultless (λ all ran. runs-expectation (chosen (subcommand_of keydir words)) from from' to to' all ran bad.no_expectation)
+  pub bad_expectation-from_2 : (outcome : Result Ending RunFault) → IfOk outcome (EndsFor words io) → HasBadExpectation words → 2 ≤ status_of outcome
+  bad_expectation-from_2 outcome ends bad = idle-from_2 outcome ends bad.faultless (λ all ran. runs-expectation (chosen (subcommand_of keydir words)) io all ran bad.no_expectation)
 
   -- a bad key is told as one
-  pub bad_key-at_2 : (outcome : Result Ending RunFault) (old new : Sink) → IfOk outcome (EndsFor words from from' to to')
+  pub bad_key-at_2 : (outcome : Result Ending RunFault) (old new : Sink) → IfOk outcome (EndsFor words io)
       → TellsIf (told_of outcome) old new → HasBadKey words → status_of outcome ≡ 2 → Tells old bad_key_line new
   bad_key-at_2 (Ok (Done true)) old new ends told bad is = absurd (omega (arith, is))
   bad_key-at_2 (Ok (Done false)) old new ends told bad is = absurd (omega (arith, is))
@@ -255,7 +256,7 @@ module _ (words : List (List ℕ)) (from from' : Source) (to to' : Sink) where
   bad_key-at_2 (Err fault) old new ends told bad is = absurd (omega (arith, is))
 
   -- and a bad expectation as one
-  pub bad_expectation-at_2 : (outcome : Result Ending RunFault) (old new : Sink) → IfOk outcome (EndsFor words from from' to to')
+  pub bad_expectation-at_2 : (outcome : Result Ending RunFault) (old new : Sink) → IfOk outcome (EndsFor words io)
       → TellsIf (told_of outcome) old new → HasBadExpectation words → status_of outcome ≡ 2 → Tells old bad_expectation_line new
   bad_expectation-at_2 (Ok (Done true)) old new ends told bad is = absurd (omega (arith, is))
   bad_expectation-at_2 (Ok (Done false)) old new ends told bad is = absurd (omega (arith, is))

@@ -7,6 +7,7 @@ use Rattle.std.proofs.lemmas.Bool.{false≢true}
 use Rattle.serde_json.specs.Data.{Data, Items}
 use Rattle.coniks_proof.specs.Sha256.{sha256}
 use Rattle.coniks_proof.specs.Batches.{Operation}
+use Rattle.coniks_proof.specs.Hashing.{hashing}
 use Rattle.coniks_proof.specs.declared.paths.Proof.{Proof}
 use Rattle.coniks_proof.specs.declared.checker.CheckFault.{CheckFault}
 use Rattle.coniks_chain.specs.declared.auditor.AuditFault.{AuditFault}
@@ -121,7 +122,7 @@ checked-keeps s entry proof None = inr (inr (entry.body.t, (seen_of s.expected (
 
 audited-keeps : (s : MonitorState) (entry : Entry) (proof : Proof) (fault : Option AuditFault) → KeepsMonitor s (audited_turn s entry proof fault)
 audited-keeps s entry proof (Some fault) = inl refl
-audited-keeps s entry proof None = checked-keeps s entry proof (check_fault sha256 entry.body.nonce.0 entry.body.root.0 s.index s.name proof)
+audited-keeps s entry proof None = checked-keeps s entry proof (check_fault (hashing sha256 entry.body.nonce.0) entry.body.root.0 s.index s.name proof)
 
 watch-keeps : (s : MonitorState) (entry : Option Entry) (proof : Option Proof) → KeepsMonitor s (watch_turn s entry proof)
 watch-keeps s None proof = inl refl

@@ -1,6 +1,7 @@
 -- What `audit` replies to a line.
-use Rattle.std.specs.Prelude.{ℕ, List, Option, Some, None}
+use Rattle.std.specs.Prelude.{Option, Some, None}
 use Rattle.std.specs.Option.{option_map_or}
+use Rattle.coniks_proof.specs.Octets.{Octets}
 use Rattle.coniks_lines.specs.Machine.{Answer}
 use Rattle.coniks_proof.specs.Sha256.{sha256}
 use Rattle.coniks_chain.specs.declared.entry.Entry.{Entry}
@@ -17,11 +18,11 @@ use Rattle.coniks_tool.specs.Turns.{Turn, refused, answer_by}
 
 -- the key of the seal, and what the next entry is compared with
 pub record AuditState : Type 0 where
-  pub key : List ℕ
+  pub key : Octets
   pub before : Option AuditorState
 
 -- no entry was accepted yet
-abbrev pub none_audited : List ℕ → AuditState
+abbrev pub none_audited : Octets → AuditState
 none_audited key = record { key = key; before = None }
 
 -- what comes of a line, and the state after it
@@ -42,9 +43,9 @@ entry_turn s None = refused s no_entry
 entry_turn s (Some entry) = judged_turn s entry (audit_fault (is_seal s.key) s.before entry)
 
 -- what comes of a line
-abbrev pub audit_turn : AuditState → List ℕ → AuditTurn
+abbrev pub audit_turn : AuditState → Octets → AuditTurn
 audit_turn s line = option_map_or (λ d. entry_turn s (entry_in d)) (object_in line) (refused s not_json)
 
 -- the reply to a line
-abbrev pub audit_answer : AuditState → List ℕ → Answer AuditState
+abbrev pub audit_answer : AuditState → Octets → Answer AuditState
 audit_answer s line = answer_by audit_data is_audited (audit_turn s line)

@@ -1,5 +1,6 @@
 -- Lines that hold a good chain.
-use Rattle.std.specs.Prelude.{◌≡◌, ℕ, List, [], ◌∷◌, ◌++◌, map, Bool, true, false, Option, Some, None}
+use Rattle.std.specs.Prelude.{◌≡◌, List, [], ◌∷◌, ◌++◌, map, Bool, true, false, Option, Some, None}
+use Rattle.coniks_proof.specs.Octets.{Octets}
 use Rattle.coniks_proof.specs.Sha256.{sha256}
 use Rattle.coniks_chain.specs.declared.entry.Entry.{Entry}
 use Rattle.coniks_chain.specs.Chain.{GoodChain}
@@ -8,7 +9,7 @@ use Rattle.coniks_tool.specs.EntryLines.{entry_on}
 use Rattle.coniks_tool.specs.Audit.{AuditState, audit_answer}
 
 -- each line holds an entry, and the entries are a good chain under the seal of the key
-pub record HoldsGoodChain (key : List ℕ) (lines : List (List ℕ)) : Type 0 where
+pub record HoldsGoodChain (key : Octets) (lines : List Octets) : Type 0 where
   pub entries : List Entry
   pub held : map entry_on lines ≡ map Some entries
   pub good : GoodChain sha256 (is_seal key) entries
@@ -20,7 +21,7 @@ if_accepted true None = []
 if_accepted false _ = []
 
 -- the entries of the lines that are accepted, one line after another
-abbrev pub accepted_entries : AuditState → List (List ℕ) → List Entry
+abbrev pub accepted_entries : AuditState → List Octets → List Entry
 accepted_entries s [] = []
 accepted_entries s (line ∷ lines) = if_accepted (audit_answer s line).accepted
     (entry_on line) ++ accepted_entries (audit_answer s line).state lines

@@ -1,7 +1,8 @@
 -- The first error of an entry, computed.
-use Rattle.std.specs.Prelude.{ℕ, List, ◌==◌, ◌||◌, Bool, true, Option, is_some, nat_lt, not, find}
+use Rattle.std.specs.Prelude.{◌==◌, ◌||◌, Bool, true, Option, is_some, nat_lt, not, find}
 use Rattle.std.specs.Option.{option_map_or}
 use Rattle.std.specs.Str.{bytes_eq}
+use Rattle.coniks_proof.specs.Octets.{Octets}
 use Rattle.coniks_chain.specs.declared.entry.Entry.{Entry}
 use Rattle.coniks_chain.specs.declared.auditor.AuditorState.{AuditorState}
 use Rattle.coniks_chain.specs.declared.auditor.AuditFault.{AuditFault}
@@ -10,7 +11,7 @@ use Rattle.coniks_chain.specs.Chain.{epoch_before, link_before, faults}
 use Rattle.coniks_chain.specs.Entries.{body_bytes}
 
 -- whether an entry does not have this error
-abbrev pub meets : (List ℕ → List ℕ → Bool) → Option AuditorState → Entry → AuditFault → Bool
+abbrev pub meets : (Octets → Octets → Bool) → Option AuditorState → Entry → AuditFault → Bool
 meets verdict before entry Version = entry.body.version == 1 || entry.body.version == 2
 meets verdict before entry VersionBack = option_map_or (λ b. not (nat_lt entry.body.version b.version)) before true
 meets verdict before entry FirstEpoch = is_some before || nat_lt 0 entry.body.t
@@ -22,5 +23,5 @@ meets verdict before entry NonceChanged = option_map_or
 meets verdict before entry Verdict = verdict (body_bytes entry.body) entry.signature.0
 
 -- the first error of an entry after what is before it
-abbrev pub audit_fault : (List ℕ → List ℕ → Bool) → Option AuditorState → Entry → Option AuditFault
+abbrev pub audit_fault : (Octets → Octets → Bool) → Option AuditorState → Entry → Option AuditFault
 audit_fault verdict before entry = find (λ fault. not (meets verdict before entry fault)) faults

@@ -1,5 +1,6 @@
 -- What `audit` prints for a line.
-use Rattle.std.specs.Prelude.{ℕ, List, codes, Bool, true, false}
+use Rattle.std.specs.Prelude.{ℕ, codes, Bool, true, false}
+use Rattle.coniks_proof.specs.Octets.{Octets}
 use Rattle.serde_json.specs.Data.{Data, string, number, unsigned, object, member, no_members}
 use Rattle.coniks_chain.specs.declared.auditor.AuditFault.{AuditFault}
 use Rattle.coniks_chain.specs.declared.auditor.AuditFault.TheVariants.{Version, VersionBack, FirstEpoch, NotLater, PreviousEpoch, PreviousLink, NonceChanged, Verdict}
@@ -11,7 +12,7 @@ use Rattle.coniks_tool.specs.declared.audit.reply.AuditReply.TheVariants as repl
 -- what comes of a line
 pub data AuditOutcome : Type 0 where
   -- the entry follows: its epoch and its link
-  audited : (epoch : ℕ) (link : List ℕ) → AuditOutcome
+  audited : (epoch : ℕ) (link : Octets) → AuditOutcome
   -- the line isn't a JSON object
   not_json : AuditOutcome
   -- the member `entry` is missing, of another kind or of a wrong text
@@ -27,7 +28,7 @@ audit_outcome reply.NoEntry = no_entry
 audit_outcome (reply.AtFault fault) = at_fault fault
 
 -- the name of an error
-abbrev pub audit_fault_name : AuditFault → List ℕ
+abbrev pub audit_fault_name : AuditFault → Octets
 audit_fault_name Version = codes "Version"
 audit_fault_name VersionBack = codes "VersionBack"
 audit_fault_name FirstEpoch = codes "FirstEpoch"
@@ -38,7 +39,7 @@ audit_fault_name NonceChanged = codes "NonceChanged"
 audit_fault_name Verdict = codes "Verdict"
 
 -- {"epoch":NUM,"link":DIGITS,"ok":"audit"}
-abbrev pub audited_data : ℕ → List ℕ → Data
+abbrev pub audited_data : ℕ → Octets → Data
 audited_data epoch link =
     object
     (member (codes "epoch") (number (unsigned epoch))

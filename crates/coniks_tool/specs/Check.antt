@@ -1,6 +1,8 @@
 -- What `check` replies to a line.
-use Rattle.std.specs.Prelude.{ℕ, List, codes, Option, Some, None, Result, Ok, Err}
+use Rattle.std.specs.Prelude.{codes, Option, Some, None, Result, Ok, Err}
 use Rattle.std.specs.Option.{option_map_or}
+use Rattle.coniks_proof.specs.Hashing.{hashing}
+use Rattle.coniks_proof.specs.Octets.{Octets}
 use Rattle.serde_json.specs.Data.{Data}
 use Rattle.coniks_lines.specs.Machine.{Answer}
 use Rattle.coniks_proof.specs.Sha256.{sha256}
@@ -18,10 +20,10 @@ use Rattle.coniks_tool.specs.declared.lines.printing.Member.TheVariants.{Index, 
 
 -- what a checker is asked: whether a proof is accepted for a name and its index, under a root and a nonce
 pub record Asked : Type 0 where
-  pub index : List ℕ
-  pub name : List ℕ
-  pub nonce : List ℕ
-  pub root : List ℕ
+  pub index : Octets
+  pub name : Octets
+  pub nonce : Octets
+  pub root : Octets
   pub proof : ProofOf
 
 -- a question, without the forms that the code gives to texts and digests
@@ -56,16 +58,16 @@ judged q None = answered (answer_of q.proof.end)
 -- a question, if there is one
 abbrev pub question_outcome : Result Asked Member → CheckOutcome
 question_outcome (Err m) = no_member m
-question_outcome (Ok q) = judged q (check_fault sha256 q.nonce q.root q.index q.name q.proof)
+question_outcome (Ok q) = judged q (check_fault (hashing sha256 q.nonce) q.root q.index q.name q.proof)
 
 -- no reply depends on the lines before
 pub data Stateless : Type 0 where
   stateless : Stateless
 
 -- what comes of a line
-abbrev pub check_turn : Stateless → List ℕ → Turn CheckOutcome Stateless
+abbrev pub check_turn : Stateless → Octets → Turn CheckOutcome Stateless
 check_turn s line = record { outcome = option_map_or (λ d. question_outcome (asked_in d)) (object_in line) not_json; state = s }
 
 -- the reply to a line
-abbrev pub check_answer : Stateless → List ℕ → Answer Stateless
+abbrev pub check_answer : Stateless → Octets → Answer Stateless
 check_answer s line = answer_by check_data is_answered (check_turn s line)

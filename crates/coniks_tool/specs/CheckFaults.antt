@@ -2,6 +2,8 @@
 use Rattle.std.specs.Prelude.{ℕ, List, [], ◌∷◌, length, ◌==◌, ◌||◌, Bool, true, false, not, nat_lt, Option, find, if◌then◌else◌}
 use Rattle.std.specs.Str.{bytes_eq}
 use Rattle.coniks_proof.specs.Bits.{first_bits}
+use Rattle.coniks_proof.specs.Hashing.{Hashing}
+use Rattle.coniks_proof.specs.Octets.{Octets}
 use Rattle.coniks_proof.specs.Proofs.{preimage}
 use Rattle.coniks_proof.specs.declared.values.TheConstants.{MAX_KEY, MAX_LEVEL, MAX_NAME}
 use Rattle.coniks_proof.specs.declared.paths.Proof.{Proof}
@@ -23,7 +25,7 @@ abbrev pub is_off : ℕ → ℕ → Bool
 is_off limit n = n == 0 || nat_lt limit n
 
 -- whether an end has an error, at a level
-abbrev pub end_has : List ℕ → List ℕ → ℕ → End → CheckFault → Bool
+abbrev pub end_has : Octets → Octets → ℕ → End → CheckFault → Bool
 end_has index name level (Here here key opening) KeyLength = is_off MAX_KEY (length key)
 end_has index name level (Here here key opening) WrongName = not (bytes_eq here name)
 end_has index name level (Other other commitment) OtherIsSame = bytes_eq other.0 index
@@ -31,16 +33,16 @@ end_has index name level (Other other commitment) OtherOffPath = not (same_bits 
 end_has index name level _ _ = false
 
 -- whether a proof has an error
-abbrev pub has : (List ℕ → List ℕ) → List ℕ → List ℕ → List ℕ → List ℕ → Proof → CheckFault → Bool
-has hash nonce root index name proof TooDeep = nat_lt MAX_LEVEL (length proof.siblings)
-has hash nonce root index name proof NameLength = is_off MAX_NAME (length name)
-has hash nonce root index name proof RootMismatch = not (bytes_eq (hash (preimage hash nonce index 0 proof.siblings proof.end)) root)
-has hash nonce root index name proof fault = end_has index name (length proof.siblings) proof.end fault
+abbrev pub has : Hashing → Octets → Octets → Octets → Proof → CheckFault → Bool
+has by root index name proof TooDeep = nat_lt MAX_LEVEL (length proof.siblings)
+has by root index name proof NameLength = is_off MAX_NAME (length name)
+has by root index name proof RootMismatch = not (bytes_eq (by.hash (preimage by index 0 proof.siblings proof.end)) root)
+has by root index name proof fault = end_has index name (length proof.siblings) proof.end fault
 
 -- the errors in the order in which they are checked
 abbrev pub check_faults : List CheckFault
 check_faults = TooDeep ∷ NameLength ∷ KeyLength ∷ WrongName ∷ OtherIsSame ∷ OtherOffPath ∷ RootMismatch ∷ []
 
 -- the first error of a proof
-unfoldable pub check_fault : (List ℕ → List ℕ) → List ℕ → List ℕ → List ℕ → List ℕ → Proof → Option CheckFault
-check_fault hash nonce root index name proof = find (has hash nonce root index name proof) check_faults
+unfoldable pub check_fault : Hashing → Octets → Octets → Octets → Proof → Option CheckFault
+check_fault by root index name proof = find (has by root index name proof) check_faults

@@ -1,5 +1,6 @@
 -- What `check` prints for a line.
-use Rattle.std.specs.Prelude.{ℕ, List, codes, Bool, true, false, Option, Some, None}
+use Rattle.std.specs.Prelude.{codes, Bool, true, false, Option, Some, None}
+use Rattle.coniks_proof.specs.Octets.{Octets}
 use Rattle.serde_json.specs.Data.{Data, string, object, member, no_members}
 use Rattle.base64.specs.GeneralPurpose.{encode_of}
 use Rattle.base64.specs.Engines.{standard}
@@ -14,7 +15,7 @@ use Rattle.coniks_tool.specs.declared.check.reply.CheckReply.TheVariants as repl
 -- what comes of a line
 pub data CheckOutcome : Type 0 where
   -- the proof is accepted: the name's key, or none
-  answered : (answer : Option (List ℕ)) → CheckOutcome
+  answered : (answer : Option Octets) → CheckOutcome
   -- the line isn't a JSON object
   not_json : CheckOutcome
   -- a member is missing, of another kind or of a wrong text
@@ -30,7 +31,7 @@ check_outcome (reply.NoMember m) = no_member m
 check_outcome (reply.AtFault fault) = at_fault fault
 
 -- the name of an error
-abbrev pub check_fault_name : CheckFault → List ℕ
+abbrev pub check_fault_name : CheckFault → Octets
 check_fault_name TooDeep = codes "TooDeep"
 check_fault_name NameLength = codes "NameLength"
 check_fault_name KeyLength = codes "KeyLength"
@@ -40,7 +41,7 @@ check_fault_name OtherOffPath = codes "OtherOffPath"
 check_fault_name RootMismatch = codes "RootMismatch"
 
 -- {"answer":"key","key":BASE64,"ok":"check"}
-abbrev pub key_data : List ℕ → Data
+abbrev pub key_data : Octets → Data
 key_data key =
     object
     (member (codes "answer") (string (codes "key"))
@@ -55,7 +56,7 @@ absent_data =
     (member (codes "ok") (string (codes "check")) no_members))
 
 -- the object of an answer
-abbrev pub answer_data : Option (List ℕ) → Data
+abbrev pub answer_data : Option Octets → Data
 answer_data (Some key) = key_data key
 answer_data None = absent_data
 

@@ -3,6 +3,7 @@ use Rattle.std.specs.Prelude.{◌≡◌, ◌⊎◌, ◌≤◌, List, [], ℕ, co
 use Rattle.std.specs.Option.{option_map_or}
 use Rattle.std.specs.Result.{result_ok}
 use Rattle.std.specs.Str.{bytes_eq}
+use Rattle.coniks_proof.specs.Octets.{Octets}
 use Rattle.clap.specs.Walk.{byte_or_zero}
 use Rattle.clap.specs.Words.{Row, Kinds, IsAmong, first_of, kind_of}
 use Rattle.coniks_directory.specs.Batches.{AreWorkers}
@@ -18,8 +19,8 @@ use Rattle.coniks_tool.specs.declared.cli.choice.WordsFault.TheVariants.{Clap, O
 pub data Choice : Type 0 where
   run : (workers depth : ℕ) → Choice
   check : Choice
-  audit : (key : List ℕ) → Choice
-  monitor : (key name : List ℕ) (expect : Option (List ℕ)) → Choice
+  audit : (key : Octets) → Choice
+  monitor : (key name : Octets) (expect : Option Octets) → Choice
 
 -- the settings, without the places of their texts
 abbrev pub choice_of : Settings → Choice
@@ -29,11 +30,11 @@ choice_of (Audit key) = audit key.now
 choice_of (Monitor key name expect) = monitor key.now name.now (option_map (λ text. text.now) expect)
 
 -- the text of an option, empty if it has none
-abbrev pub text_of : List ℕ → List Row → List ℕ
+abbrev pub text_of : Octets → List Row → Octets
 text_of name rows = unwrap_or (first_of name rows) []
 
 -- the number of an option, or this if it has none
-abbrev pub number_of : List ℕ → ℕ → List Row → ℕ
+abbrev pub number_of : Octets → ℕ → List Row → ℕ
 number_of name missing rows = option_map_or byte_or_zero (first_of name rows) missing
 
 -- the workers and the depth that the options ask for
@@ -53,7 +54,7 @@ IsWithinLimits (Run workers depth) = AreWorkers workers × (depth ≤ MAX_DEPTH)
 IsWithinLimits _ = Unit {0}
 
 -- what a subcommand chooses, by its name and the options that were found; there are four
-abbrev pub choice_by : List ℕ → List Row → Option Choice
+abbrev pub choice_by : Octets → List Row → Option Choice
 choice_by name rows =
     if bytes_eq name (codes "run") then Some (run (workers_of rows) (depth_of rows))
     else (if bytes_eq name (codes "check") then Some check
@@ -63,11 +64,11 @@ choice_by name rows =
     else None)))
 
 -- what the subcommand in the arguments chooses
-abbrev pub chosen : Option (List ℕ × List Row) → Option Choice
+abbrev pub chosen : Option (Octets × List Row) → Option Choice
 chosen = option_and_then (λ met. choice_by met.0 met.1)
 
 -- the bytes of a key, in 64 hexadecimal digits of either case
-abbrev pub key_in : List ℕ → Option (List ℕ)
+abbrev pub key_in : Octets → Option Octets
 key_in text = result_ok (decode_sized text 32)
 
 -- a key is asked for, and its text isn't one

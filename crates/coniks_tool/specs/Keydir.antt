@@ -1,5 +1,6 @@
 -- The command line of the program, as `clap`'s definitions see it.
-use Rattle.std.specs.Prelude.{◌≡◌, ℕ, ℤ, List, Bool, codes, pos, false, true, [], ◌∷◌, Some}
+use Rattle.std.specs.Prelude.{◌≡◌, ℤ, Bool, codes, pos, false, true, [], ◌∷◌, Some}
+use Rattle.coniks_proof.specs.Octets.{Octets}
 use Rattle.clap.specs.Words.{App, Rule, app_of, new_app, new_rule, rule_of, with_rule, with_subcommand}
 use Rattle.clap.specs.Simple.{on_top}
 use Rattle.clap.specs.declared.builder.arg.Arg.{Arg}
@@ -8,7 +9,7 @@ use Rattle.clap.specs.declared.builder.command.Command.TheViews.{out-Command as 
 use Rattle.clap.specs.declared.builder.value_parser.ValueParser.TheVariants as parser
 
 -- an option with this name, the range of its number, and its default
-abbrev pub number_rule : List ℕ → List ℕ → ℤ → ℤ → Rule
+abbrev pub number_rule : Octets → Octets → ℤ → ℤ → Rule
 number_rule name missing least most = record (new_rule name) {
   long = Some name;
   value_names = 1;
@@ -17,7 +18,7 @@ number_rule name missing least most = record (new_rule name) {
 }
 
 -- an option of this name, a text, and whether it is required
-abbrev pub text_rule : List ℕ → Bool → Rule
+abbrev pub text_rule : Octets → Bool → Rule
 text_rule name required = record (new_rule name) {
   long = Some name;
   value_names = 1;

@@ -1,7 +1,9 @@
 -- What `monitor` replies to a line.
-use Rattle.std.specs.Prelude.{ℕ, List, codes, Bool, false, Option, Some, None, if◌then◌else◌}
+use Rattle.std.specs.Prelude.{codes, Bool, false, Option, Some, None, if◌then◌else◌}
 use Rattle.std.specs.Option.{option_map_or}
 use Rattle.std.specs.Str.{bytes_eq}
+use Rattle.coniks_proof.specs.Hashing.{hashing}
+use Rattle.coniks_proof.specs.Octets.{Octets}
 use Rattle.serde_json.specs.Data.{Data}
 use Rattle.coniks_lines.specs.Machine.{Answer}
 use Rattle.coniks_proof.specs.Sha256.{sha256}
@@ -29,18 +31,18 @@ use Rattle.coniks_tool.specs.declared.lines.printing.Member.TheVariants.{Key, Pr
 
 -- the key of the seal, the name and its index, what the next entry is compared with, and the key that is expected, if one is
 pub record MonitorState : Type 0 where
-  pub key : List ℕ
-  pub name : List ℕ
-  pub index : List ℕ
+  pub key : Octets
+  pub name : Octets
+  pub index : Octets
   pub before : Option AuditorState
-  pub expected : Option (List ℕ)
+  pub expected : Option Octets
 
 -- no entry was accepted yet, and the index is that of the name
-abbrev pub none_watched : List ℕ → List ℕ → Option (List ℕ) → MonitorState
+abbrev pub none_watched : Octets → Octets → Option Octets → MonitorState
 none_watched key name expected = record { key = key; name = name; index = demo_index key name; before = None; expected = expected }
 
 -- what a monitor of the chain keeps, under the key of its seal
-abbrev pub watching : {H : Type 0} → List ℕ → Watched H → MonitorState
+abbrev pub watching : {H : Type 0} → Octets → Watched H → MonitorState
 watching key w = record { key = key; name = w.name; index = w.index; before = w.before; expected = w.expected }
 
 -- what comes of a line, and the state after it
@@ -59,7 +61,8 @@ checked_turn s entry proof None =
 -- an entry with this first error is refused and the state stays; under one with none the proof is checked, for the name at its index
 abbrev pub audited_turn : MonitorState → EntryOf → ProofOf → Option AuditFault → MonitorTurn
 audited_turn s entry proof (Some fault) = refused s (at_fault (Audit fault))
-audited_turn s entry proof None = checked_turn s entry proof (check_fault sha256 entry.body.nonce.0 entry.body.root.0 s.index s.name proof)
+audited_turn s entry proof None =
+    checked_turn s entry proof (check_fault (hashing sha256 entry.body.nonce.0) entry.body.root.0 s.index s.name proof)
 
 -- an entry with its proof
 abbrev pub step_turn : MonitorState → EntryOf → ProofOf → MonitorTurn
@@ -72,12 +75,12 @@ watch_turn s (Some entry) None = refused s (no_member Proof)
 watch_turn s (Some entry) (Some proof) = step_turn s entry proof
 
 -- a line that sets the expectation
-abbrev pub expect_turn : MonitorState → Option (Option (List ℕ)) → MonitorTurn
+abbrev pub expect_turn : MonitorState → Option (Option Octets) → MonitorTurn
 expect_turn s None = refused s (no_member Key)
 expect_turn s (Some expected) = record { outcome = expecting; state = record s { expected = expected } }
 
 -- the line sets the expectation
-abbrev pub is_expect : Option (List ℕ) → Bool
+abbrev pub is_expect : Option Octets → Bool
 is_expect command = option_map_or (λ text. bytes_eq text (codes "expect")) command false
 
 -- an object
@@ -85,9 +88,9 @@ abbrev pub object_turn : MonitorState → Data → MonitorTurn
 object_turn s d = if is_expect (text_in (codes "cmd") d) then expect_turn s (expected_in d) else watch_turn s (entry_in d) (proof_in d)
 
 -- what comes of a line
-abbrev pub monitor_turn : MonitorState → List ℕ → MonitorTurn
+abbrev pub monitor_turn : MonitorState → Octets → MonitorTurn
 monitor_turn s line = option_map_or (object_turn s) (object_in line) (refused s not_json)
 
 -- the reply to a line
-abbrev pub monitor_answer : MonitorState → List ℕ → Answer MonitorState
+abbrev pub monitor_answer : MonitorState → Octets → Answer MonitorState
 monitor_answer s line = answer_by monitor_data is_as_expected (monitor_turn s line)

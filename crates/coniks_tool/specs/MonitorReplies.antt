@@ -1,5 +1,6 @@
 -- What `monitor` prints for a line.
-use Rattle.std.specs.Prelude.{ℕ, List, codes, Bool, true, false}
+use Rattle.std.specs.Prelude.{ℕ, codes, Bool, true, false}
+use Rattle.coniks_proof.specs.Octets.{Octets}
 use Rattle.serde_json.specs.Data.{Data, string, number, unsigned, object, member, no_members}
 use Rattle.coniks_chain.specs.Seen.{is_same}
 use Rattle.coniks_chain.specs.declared.seen.Seen.{Seen}
@@ -35,18 +36,18 @@ monitor_outcome (reply.NoMember m) = no_member m
 monitor_outcome (reply.AtFault fault) = at_fault fault
 
 -- the name of what was seen
-abbrev pub seen_name : Seen → List ℕ
+abbrev pub seen_name : Seen → Octets
 seen_name Same = codes "same"
 seen_name Changed = codes "changed"
 seen_name Absent = codes "absent"
 
 -- the name of an error
-abbrev pub monitor_fault_name : MonitorFault → List ℕ
+abbrev pub monitor_fault_name : MonitorFault → Octets
 monitor_fault_name (Audit fault) = audit_fault_name fault
 monitor_fault_name (Check fault) = check_fault_name fault
 
 -- {"epoch":NUM,"ok":"monitor","seen":NAME}
-abbrev pub watched_data : ℕ → List ℕ → Data
+abbrev pub watched_data : ℕ → Octets → Data
 watched_data epoch seen =
     object
     (member (codes "epoch") (number (unsigned epoch))

@@ -4,12 +4,13 @@ use Rattle.std.specs.Str.{bytes_eq}
 use Rattle.std.specs.declared.alloc.Global.{Global}
 use Rattle.serde_json.specs.Data.{Data, Items, no_items, item}
 use Rattle.coniks_proof.specs.Batches.{Kind, register, change, Operation}
+use Rattle.coniks_proof.specs.Octets.{Octets}
 use Rattle.coniks_directory.specs.Batches.{operation_of}
 use Rattle.coniks_directory.specs.declared.batch.Op.{Op}
 use Rattle.coniks_tool.specs.Members.{given, text_in, digits_in, base64_in}
 
 -- the kind that a text names
-abbrev pub kind_named : List ℕ → Option Kind
+abbrev pub kind_named : Octets → Option Kind
 kind_named text = if bytes_eq text (codes "register") then Some register else (if bytes_eq text (codes "change") then Some change else None)
 
 -- the kind of an element

@@ -1,7 +1,9 @@
 -- The path that a lookup returns, in byte lists.
-use Rattle.std.specs.Prelude.{ℕ, List, [], ◌∷◌, if◌then◌else◌}
+use Rattle.std.specs.Prelude.{List, [], ◌∷◌, if◌then◌else◌}
 use Rattle.std.specs.Str.{bytes_eq}
 use Rattle.coniks_proof.specs.Entries.{Entry}
+use Rattle.coniks_proof.specs.Hashing.{Hashing, hashing}
+use Rattle.coniks_proof.specs.Octets.{Octets}
 use Rattle.coniks_proof.specs.Paths.{siblings, end_of, digests}
 use Rattle.coniks_proof.specs.Registry.{Registered, Registry, entries_of}
 use Rattle.coniks_proof.specs.declared.paths.Proof.{Proof}
@@ -13,31 +15,31 @@ pub data PathEnd : Type 0 where
   -- at no entry
   no_entry : PathEnd
   -- at the entry of another index
-  other_entry : (index commitment : List ℕ) → PathEnd
+  other_entry : (index commitment : Octets) → PathEnd
   -- at the entry of the index, whose binding is this
-  its_entry : (name key opening : List ℕ) → PathEnd
+  its_entry : (name key opening : Octets) → PathEnd
 
 -- the siblings of the path to an index, from the root down, and its end
 pub record Path : Type 0 where
-  pub siblings : List (List ℕ)
+  pub siblings : List Octets
   pub end : PathEnd
 
 -- the entries at the end of the path to an index
-abbrev pub end_at : List ℕ → List (Entry Registered) → PathEnd
+abbrev pub end_at : Octets → List (Entry Registered) → PathEnd
 end_at index [] = no_entry
 end_at index (e ∷ es) =
     if bytes_eq e.index index then its_entry e.behind.name e.behind.key e.behind.opening else other_entry e.index e.commitment
 
 -- the path to an index in the tree over these entries
-abbrev pub path_among : (List ℕ → List ℕ) → List ℕ → List (Entry Registered) → List ℕ → Path
-path_among hash nonce entries index = record {
-  siblings = siblings hash nonce [] index entries;
+abbrev pub path_among : Hashing → List (Entry Registered) → Octets → Path
+path_among by entries index = record {
+  siblings = siblings by [] index entries;
   end = end_at index (end_of [] index entries);
 }
 
 -- the path to an index in the tree of a registry
-abbrev pub path_to : (List ℕ → List ℕ) → (List ℕ → List ℕ) → List ℕ → Registry → List ℕ → Path
-path_to hash index_of nonce registry index = path_among hash nonce (entries_of hash index_of registry) index
+abbrev pub path_to : (Octets → Octets) → (Octets → Octets) → Octets → Registry → Octets → Path
+path_to hash index_of nonce registry index = path_among (hashing hash nonce) (entries_of hash index_of registry) index
 
 -- an end, without the forms that the code gives to numbers and digests
 abbrev pub end_shown : End → PathEnd

@@ -1,7 +1,8 @@
 -- The proof that a line holds.
-use Rattle.std.specs.Prelude.{ℕ, List, [], ◌∷◌, codes, Option, Some, None, option_map, option_and_then, if◌then◌else◌}
+use Rattle.std.specs.Prelude.{List, [], ◌∷◌, codes, Option, Some, None, option_map, option_and_then, if◌then◌else◌}
 use Rattle.std.specs.Result.{result_ok}
 use Rattle.std.specs.Str.{bytes_eq}
+use Rattle.coniks_proof.specs.Octets.{Octets}
 use Rattle.serde_json.specs.Data.{Data, Items, no_items, item}
 use Rattle.serde_json.specs.Find.{get, as_str}
 use Rattle.hex.specs.Hex.{decode_sized}
@@ -40,7 +41,7 @@ here_in d =
     Some (Here name key (record { 0 = opening })))))
 
 -- the end of this kind, by the members of that kind alone
-abbrev pub end_of_kind : Data → List ℕ → Option End
+abbrev pub end_of_kind : Data → Octets → Option End
 end_of_kind d kind =
     if bytes_eq kind (codes "empty") then Some Empty
     else (if bytes_eq kind (codes "other") then other_in d

@@ -1,6 +1,7 @@
 -- How a path is printed.
-use Rattle.std.specs.Prelude.{ℕ, List, codes, map}
+use Rattle.std.specs.Prelude.{codes, map}
 use Rattle.std.specs.Str.Lossy.{utf8_lossy}
+use Rattle.coniks_proof.specs.Octets.{Octets}
 use Rattle.serde_json.specs.Data.{Data, string, array, object, member, no_members}
 use Rattle.serde_json.specs.View.{items_of}
 use Rattle.hex.specs.Hex.{encode_lower}
@@ -9,7 +10,7 @@ use Rattle.base64.specs.Engines.{standard}
 use Rattle.coniks_tool.specs.Paths.{PathEnd, no_entry, other_entry, its_entry, Path}
 
 -- bytes in lower case hexadecimal digits
-abbrev pub digits : List ℕ → Data
+abbrev pub digits : Octets → Data
 digits bytes = string (encode_lower bytes)
 
 -- {"kind":"empty"}, {"commitment":DIGITS,"index":DIGITS,"kind":"other"} or {"key":BASE64,"kind":"here","name":TEXT,"opening":DIGITS};

@@ -1,6 +1,7 @@
 -- Why a batch is refused.
 use Rattle.std.specs.Prelude.{◌≡◌, ℕ, List, length, nat_lt, nat_le, Option, Some, None, if◌then◌else◌}
 use Rattle.coniks_proof.specs.Batches.{Operation, Fault, first_fault}
+use Rattle.coniks_proof.specs.Octets.{Octets}
 use Rattle.coniks_proof.specs.declared.values.TheConstants.{MAX_OPERATIONS}
 use Rattle.coniks_directory.specs.Batches.{fault_is}
 use Rattle.coniks_directory.specs.History.{Shown, latest_epoch, latest_registry}
@@ -33,8 +34,8 @@ abbrev pub refusal_from : List Shown → ℕ → Option (ℕ × Fault) → Optio
 refusal_from history epoch (Some found) = Some (at found.0 found.1)
 refusal_from history epoch None = number_refusal history epoch
 
--- why the history refuses a batch under a number; `of` gives each name its index
-abbrev pub refusal : (List ℕ → List ℕ) → List Shown → ℕ → List Operation → Option Refusal
+-- why the history refuses a batch under a number; `index_of` gives each name its index
+abbrev pub refusal : (Octets → Octets) → List Shown → ℕ → List Operation → Option Refusal
 refusal index_of history epoch ops =
     if nat_le (length ops) MAX_OPERATIONS
     then refusal_from history epoch (first_fault index_of (latest_registry history) ops)

@@ -1,8 +1,9 @@
 -- What is printed for a line.
-use Rattle.std.specs.Prelude.{ℕ, List, codes, Bool, true, false}
+use Rattle.std.specs.Prelude.{ℕ, codes, Bool, true, false}
 use Rattle.std.specs.String.{string_bytes}
 use Rattle.serde_json.specs.Data.{Data, string, number, unsigned, object, member, no_members}
 use Rattle.coniks_proof.specs.Batches.{Fault, name_length, key_length, name_twice, name_taken, name_unknown, index_clash}
+use Rattle.coniks_proof.specs.Octets.{Octets}
 use Rattle.coniks_chain.specs.declared.entry.Entry.{Entry}
 use Rattle.coniks_directory.specs.Batches.{fault_is}
 use Rattle.coniks_chain.specs.Entries.{entry_bytes}
@@ -18,9 +19,9 @@ pub data Outcome : Type 0 where
   -- the registry is open
   opened : Outcome
   -- a batch was installed: the entry that it added to the chain, and the entry's link
-  installed : (entry : Entry) (link : List ℕ) → Outcome
+  installed : (entry : Entry) (link : Octets) → Outcome
   -- a lookup returned the path to the name's index in the tree of the epoch with this entry
-  looked_up : (entry : Entry) (index name : List ℕ) (path : Path) → Outcome
+  looked_up : (entry : Entry) (index name : Octets) (path : Path) → Outcome
   -- the line isn't a JSON object
   not_json : Outcome
   -- the line has no known command
@@ -65,7 +66,7 @@ outcome_of reply.UnknownEpoch = unknown_epoch
 outcome_of reply.NameLength = bad_name_length
 
 -- a member's name
-abbrev pub member_name : Member → List ℕ
+abbrev pub member_name : Member → Octets
 member_name named.Key = codes "key"
 member_name named.Nonce = codes "nonce"
 member_name named.Policy = codes "policy"
@@ -79,7 +80,7 @@ member_name named.Entry = codes "entry"
 member_name named.Signature = codes "signature"
 
 -- the name of an operation's error
-abbrev pub fault_name : Fault → List ℕ
+abbrev pub fault_name : Fault → Octets
 fault_name name_length = codes "NameLength"
 fault_name key_length = codes "KeyLength"
 fault_name name_twice = codes "NameTwice"
@@ -88,18 +89,18 @@ fault_name name_unknown = codes "NameUnknown"
 fault_name index_clash = codes "IndexClash"
 
 -- {"fault":NAME}
-abbrev pub fault_data : List ℕ → Data
+abbrev pub fault_data : Octets → Data
 fault_data name = object (member (codes "fault") (string name) no_members)
 
 -- {"fault":NAME,"position":NUM}
-abbrev pub placed_fault_data : List ℕ → ℕ → Data
+abbrev pub placed_fault_data : Octets → ℕ → Data
 placed_fault_data name place =
     object
     (member (codes "fault") (string name)
     (member (codes "position") (number (unsigned place)) no_members))
 
 -- {"fault":"Member","member":NAME}
-abbrev pub bad_member_data : List ℕ → Data
+abbrev pub bad_member_data : Octets → Data
 bad_member_data name =
     object
     (member (codes "fault") (string (codes "Member"))
@@ -125,7 +126,7 @@ abbrev pub opened_data : Data
 opened_data = object (member (codes "ok") (string (codes "open")) no_members)
 
 -- {"entry":DIGITS,"epoch":NUM,"link":DIGITS,"ok":"batch","root":DIGITS}
-abbrev pub installed_data : Entry → List ℕ → Data
+abbrev pub installed_data : Entry → Octets → Data
 installed_data entry link =
     object
     (member (codes "entry") (digits (entry_bytes entry))
@@ -135,7 +136,7 @@ installed_data entry link =
     (member (codes "root") (digits entry.body.root.0) no_members)))))
 
 -- {"entry":DIGITS,"epoch":NUM,"index":DIGITS,"name":TEXT,"nonce":DIGITS,"ok":"lookup","proof":PROOF,"root":DIGITS}
-abbrev pub looked_up_data : Entry → List ℕ → List ℕ → Path → Data
+abbrev pub looked_up_data : Entry → Octets → Octets → Path → Data
 looked_up_data entry index name path =
     object
     (member (codes "entry") (digits (entry_bytes entry))

@@ -6,6 +6,7 @@ use Rattle.serde_json.specs.Data.{Data, Items}
 use Rattle.coniks_lines.specs.Machine.{Answer}
 use Rattle.coniks_proof.specs.Sha256.{sha256}
 use Rattle.coniks_proof.specs.Batches.{Operation, fits}
+use Rattle.coniks_proof.specs.Octets.{Octets}
 use Rattle.coniks_proof.specs.declared.values.TheConstants.{MAX_NAME}
 use Rattle.coniks_chain.specs.Entries.{link_preimage}
 use Rattle.coniks_chain.specs.declared.entry.Entry.{Entry}
@@ -23,9 +24,9 @@ use Rattle.coniks_tool.specs.declared.lines.printing.Member.TheVariants.{Key, No
 
 -- a directory that was opened: its key, nonce and policy, and its history
 pub record ScriptDirectory : Type 0 where
-  pub key : List ℕ
-  pub nonce : List ℕ
-  pub policy : List ℕ
+  pub key : Octets
+  pub nonce : Octets
+  pub policy : Octets
   pub history : List Shown
 
 -- nothing, before a line opens a directory
@@ -37,13 +38,13 @@ abbrev pub ScriptTurn : Type 0
 ScriptTurn = Turn Outcome ScriptState
 
 -- a directory is opened once
-abbrev pub open_with : ScriptState → List ℕ → List ℕ → List ℕ → ScriptTurn
+abbrev pub open_with : ScriptState → Octets → Octets → Octets → ScriptTurn
 open_with None key nonce policy =
     record { outcome = opened; state = Some (record { key = key; nonce = nonce; policy = policy; history = [] }) }
 open_with (Some o) key nonce policy = refused (Some o) already_open
 
 -- `open`, by its members in the order of reading
-abbrev pub open_turn : ScriptState → Option (List ℕ) → Option (List ℕ) → Option (List ℕ) → ScriptTurn
+abbrev pub open_turn : ScriptState → Option Octets → Option Octets → Option Octets → ScriptTurn
 open_turn s None _ _ = refused s (bad_member Key)
 open_turn s (Some key) None _ = refused s (bad_member Nonce)
 open_turn s (Some key) (Some nonce) None = refused s (bad_member Policy)
@@ -87,12 +88,12 @@ batch_with None batch = refused None not_open
 batch_with (Some o) batch = batch_on o batch (refusal (demo_index o.key) o.history batch.t batch.ops)
 
 -- the operations were read, or one was not
-abbrev pub batch_read : ScriptState → ℕ → Option (List ℕ) → Result (List Operation) ℕ → ScriptTurn
+abbrev pub batch_read : ScriptState → ℕ → Option Octets → Result (List Operation) ℕ → ScriptTurn
 batch_read s epoch new_nonce (Err place) = refused s (bad_operation place)
 batch_read s epoch new_nonce (Ok ops) = batch_with s (record { t = epoch; new_nonce = new_nonce; ops = ops })
 
 -- `batch`, by its members in the order of reading; the nonce may be missing
-abbrev pub batch_turn : ScriptState → Option ℕ → Option (Option (List ℕ)) → Option Items → ScriptTurn
+abbrev pub batch_turn : ScriptState → Option ℕ → Option (Option Octets) → Option Items → ScriptTurn
 batch_turn s None new_nonce items = refused s (bad_member Epoch)
 batch_turn s (Some epoch) None items = refused s (bad_member Nonce)
 batch_turn s (Some epoch) (Some new_nonce) None = refused s (bad_member Ops)
@@ -112,29 +113,29 @@ abbrev pub epoch_at : List Chained → ℕ → Option Chained
 epoch_at epochs number = find (λ (e : Chained). e.shown.t == number) epochs
 
 -- the outcome of a lookup at an epoch: its entry, with the path to the name's index in its tree
-abbrev pub lookup_at : (List ℕ → List ℕ) → List ℕ → Option Chained → Outcome
+abbrev pub lookup_at : (Octets → Octets) → Octets → Option Chained → Outcome
 lookup_at index_of name None = unknown_epoch
 lookup_at index_of name (Some e) =
     if fits MAX_NAME name then looked_up e.entry (index_of name) name
     (path_to sha256 index_of e.shown.nonce e.shown.registry (index_of name)) else bad_name_length
 
 -- a lookup that was read
-abbrev pub lookup_with : ScriptState → ℕ → List ℕ → Outcome
+abbrev pub lookup_with : ScriptState → ℕ → Octets → Outcome
 lookup_with None number name = not_open
 lookup_with (Some o) number name = lookup_at (demo_index o.key) name (epoch_at (epochs_of o) number)
 
 -- `lookup`, by its members in the order of reading
-abbrev pub lookup_outcome : ScriptState → Option ℕ → Option (List ℕ) → Outcome
+abbrev pub lookup_outcome : ScriptState → Option ℕ → Option Octets → Outcome
 lookup_outcome s None name = bad_member Epoch
 lookup_outcome s (Some epoch) None = bad_member Name
 lookup_outcome s (Some epoch) (Some name) = lookup_with s epoch name
 
 -- a lookup leaves the state as it is
-abbrev pub lookup_turn : ScriptState → Option ℕ → Option (List ℕ) → ScriptTurn
+abbrev pub lookup_turn : ScriptState → Option ℕ → Option Octets → ScriptTurn
 lookup_turn s epoch name = record { outcome = lookup_outcome s epoch name; state = s }
 
 -- an object, by its command
-abbrev pub command_turn : ScriptState → Data → Option (List ℕ) → ScriptTurn
+abbrev pub command_turn : ScriptState → Data → Option Octets → ScriptTurn
 command_turn s d None = refused s no_command
 command_turn s d (Some name) =
     if bytes_eq name (codes "open") then open_turn s (digits_in 32 (codes "key") d)
@@ -145,9 +146,9 @@ command_turn s d (Some name) =
     else refused s no_command))
 
 -- what comes of a line
-abbrev pub turn : ScriptState → List ℕ → ScriptTurn
+abbrev pub turn : ScriptState → Octets → ScriptTurn
 turn s line = option_map_or (λ d. command_turn s d (text_in (codes "cmd") d)) (object_in line) (refused s not_json)
 
 -- the reply to a line
-abbrev pub script_answer : ScriptState → List ℕ → Answer ScriptState
+abbrev pub script_answer : ScriptState → Octets → Answer ScriptState
 script_answer s line = answer_by reply_data is_accepted (turn s line)

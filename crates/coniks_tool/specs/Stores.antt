@@ -1,5 +1,6 @@
 -- What a store holds, as a state, and what is true of it.
-use Rattle.std.specs.Prelude.{◌≡◌, ◌≤◌, ℕ, List, [], length, Option, Some, None}
+use Rattle.std.specs.Prelude.{◌≡◌, ◌≤◌, [], length, Option, Some, None}
+use Rattle.coniks_proof.specs.Octets.{Octets}
 use Rattle.coniks_proof.specs.Sha256.{sha256}
 use Rattle.coniks_chain.specs.Chain.{GoodChain}
 use Rattle.coniks_directory.specs.Chain.{heads_of}
@@ -15,7 +16,7 @@ use Rattle.coniks_tool.specs.Limits.{most_epochs}
 use Rattle.coniks_tool.specs.declared.run.store.Service.{Service}
 
 -- a directory of a key, in this state
-abbrev pub opened_by : List ℕ → Directory → ScriptDirectory
+abbrev pub opened_by : Octets → Directory → ScriptDirectory
 opened_by key s = record { key = key; nonce = s.nonce; policy = s.policy; history = history_of s }
 
 -- a batch that was read, without the form that the code gives to operations
@@ -37,7 +38,7 @@ script_state_of (Some s) = Some (opened_of s)
 -- the signer has the key of the directory's index source and made exactly the chain's entries, which are a good chain, and the heads
 -- of the chain are those that are published
 pub record IsServed (published : BoardEnd) (s : Service) : Type 0 where
-  pub verdicts : (bytes signature : List ℕ) → is_seal s.signer.key bytes signature ≡ is_seal s.directory.index bytes signature
+  pub verdicts : (bytes signature : Octets) → is_seal s.signer.key bytes signature ≡ is_seal s.directory.index bytes signature
   pub good : GoodChain sha256 (is_seal s.signer.key) s.directory.state.chain
   pub made : s.signer.made ≡ length s.directory.state.chain
   pub heads : published.heads ≡ heads_of sha256 s.directory.state.chain

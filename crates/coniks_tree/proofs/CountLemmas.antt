@@ -6,13 +6,12 @@ use Rattle.std.proofs.lemmas.Bool.Decides.{nat_tests}
 use Rattle.coniks_proof.specs.Bits.{child}
 use Rattle.coniks_proof.specs.Changes.{overwritten}
 use Rattle.coniks_proof.specs.Entries.{half}
+use Rattle.coniks_proof.specs.Hashing.{Hashing}
 use Rattle.coniks_proof.proofs.Lemmas.{length-halves, overwritten-nothing}
-use Rattle.coniks_tree.specs.Table.{Numbered}
+use Rattle.coniks_tree.specs.Table.{Numbered, Table}
 use Rattle.coniks_tree.specs.Counts.{joined_count, new_nodes, new_unchanged, new_within}
 use Rattle.coniks_tree.specs.Parts.{Stands, is_made, node_count, weight_of}
 use Rattle.coniks_tree.proofs.PartLemmas.{join_many}
-use Rattle.coniks_tree.specs.declared.table.Node.{Node}
-use Rattle.coniks_tree.specs.declared.table.Record.{Record}
 use Rattle.coniks_tree.specs.declared.part.Part.{Part, Nothing, Entry, Kept, Made'}
 
 -- a part of at most one entry takes one node
@@ -33,19 +32,19 @@ unchanged-many (e ∷ []) many = absurd (omega arith)
 unchanged-many (e ∷ f ∷ es) many = refl
 
 -- below the root a part that nothing changes takes a node where it has at most one entry
-unchanged-count : (hash : List ℕ → List ℕ) (nonce : List ℕ) (nodes : List Node) (records : List Record) (part : Part) (p : List Bool) (es : List Numbered) → is_made part ≡ false → 0 < length p
-    → Stands hash nonce nodes records part p es → node_count part ≡ new_unchanged es
-unchanged-count hash nonce nodes records Nothing p es old below s = sym (unchanged-few es (omega (arith, ap length s)))
-unchanged-count hash nonce nodes records (Entry c) p es old below s = sym (unchanged-few es (omega (arith, ap length s)))
-unchanged-count hash nonce nodes records (Kept root) p es old below s = sym (unchanged-many es (s.1 below))
-unchanged-count hash nonce nodes records (Made' ptr d lh rh count l r) p es old below s = cc
+unchanged-count : (by : Hashing) (t : Table) (part : Part) (p : List Bool) (es : List Numbered) → is_made part ≡ false → 0 < length p
+    → Stands by t part p es → node_count part ≡ new_unchanged es
+unchanged-count by t Nothing p es old below s = sym (unchanged-few es (omega (arith, ap length s)))
+unchanged-count by t (Entry c) p es old below s = sym (unchanged-few es (omega (arith, ap length s)))
+unchanged-count by t (Kept root) p es old below s = sym (unchanged-many es (s.1 below))
+unchanged-count by t (Made' ptr d lh rh count l r) p es old below s = cc
 
-pub new-unchanged : (hash : List ℕ → List ℕ) (nonce : List ℕ) (nodes : List Node) (records : List Record) (part : Part) (p : List Bool) (level : ℕ) (es cs : List Numbered)
+pub new-unchanged : (by : Hashing) (t : Table) (part : Part) (p : List Bool) (level : ℕ) (es cs : List Numbered)
     → cs ≡ [] → is_made part ≡ false → 0 < length p
-    → Stands hash nonce nodes records part p es → node_count part ≡ new_nodes level es cs
+    → Stands by t part p es → node_count part ≡ new_nodes level es cs
 unfolding new_nodes new_within
-new-unchanged hash nonce nodes records part p level es cs none old below s =
-    unchanged-count hash nonce nodes records part p es old below s ∙ ap (new_within (256 - level) level es) (sym none)
+new-unchanged by t part p level es cs none old below s =
+    unchanged-count by t part p es old below s ∙ ap (new_within (256 - level) level es) (sym none)
 
 one-within : (height level : ℕ) (es cs : List Numbered) → length (overwritten es cs) ≤ 1 → new_within height level es cs ≡ 1
 unfolding new_within
@@ -74,12 +73,12 @@ new-many level es cs short some many =
     ∙ ap (λ h. new_within h (suc level) (half false level es) (half false level cs) + new_within h (suc level) (half true level es) (half true level cs) + 1) below
 
 -- a part of at most one entry has as many as its weight
-light-Stands : (hash : List ℕ → List ℕ) (nonce : List ℕ) (nodes : List Node) (records : List Record) (part : Part) (p : List Bool) (es : List Numbered)
-    → weight_of part ≤ 1 → Stands hash nonce nodes records part p es → length es ≡ weight_of part
-light-Stands hash nonce nodes records Nothing p es light s = ap length s
-light-Stands hash nonce nodes records (Entry c) p es light s = ap length s
-light-Stands hash nonce nodes records (Kept root) p es light s = absurd (omega arith)
-light-Stands hash nonce nodes records (Made' ptr d lh rh count l r) p es light s = absurd (omega arith)
+light-Stands : (by : Hashing) (t : Table) (part : Part) (p : List Bool) (es : List Numbered)
+    → weight_of part ≤ 1 → Stands by t part p es → length es ≡ weight_of part
+light-Stands by t Nothing p es light s = ap length s
+light-Stands by t (Entry c) p es light s = ap length s
+light-Stands by t (Kept root) p es light s = absurd (omega arith)
+light-Stands by t (Made' ptr d lh rh count l r) p es light s = absurd (omega arith)
 
 pub joined-light : (left right : Part) → weight_of left + weight_of right < 2 → joined_count left right ≡ 1
 joined-light left right light = let yes : nat_lt (weight_of left + weight_of right) 2 ≡ true = grind (arith, nat_tests, light) in rw yes refl
@@ -88,27 +87,27 @@ pub joined-heavy : (left right : Part) → 2 ≤ weight_of left + weight_of righ
 joined-heavy left right heavy = let no : nat_lt (weight_of left + weight_of right) 2 ≡ false = grind (arith, nat_tests, heavy) in rw no refl
 
 -- two sides with their new nodes, as the part above with its own
-pub new_joined : (hash : List ℕ → List ℕ) (nonce : List ℕ) (nodes : List Node) (records : List Record) (left right : Part) (n : ℕ) (p : List Bool) (es cs : List Numbered)
+pub new_joined : (by : Hashing) (t : Table) (left right : Part) (n : ℕ) (p : List Bool) (es cs : List Numbered)
     → length p < 256 → 0 < length cs
     → node_count left ≡ new_nodes (suc (length p)) (half false (length p) es) (half false (length p) cs)
     → node_count right ≡ new_nodes (suc (length p)) (half true (length p) es) (half true (length p) cs)
-    → Stands hash nonce nodes records left (child p false) (half false (length p) (overwritten es cs))
-    → Stands hash nonce nodes records right (child p true) (half true (length p) (overwritten es cs))
+    → Stands by t left (child p false) (half false (length p) (overwritten es cs))
+    → Stands by t right (child p true) (half true (length p) (overwritten es cs))
     → n ≡ joined_count left right → n ≡ new_nodes (length p) es cs
-new_joined hash nonce nodes records left right n p es cs short some on-left on-right sl sr n-is = elim (cases_lt (weight_of left + weight_of right) 2) [
+new_joined by t left right n p es cs short some on-left on-right sl sr n-is = elim (cases_lt (weight_of left + weight_of right) 2) [
   | inl light ↦
       let few : length (overwritten es cs) ≤ 1 =
       omega (
         arith,
         light,
         length-halves (length p) (overwritten es cs),
-        light-Stands hash nonce nodes records left
+        light-Stands by t left
             (child p false) _ (omega arith) sl,
-        light-Stands hash nonce nodes records right (child p true) _ (omega arith) sr,
+        light-Stands by t right (child p true) _ (omega arith) sr,
       ) in
       n-is ∙ joined-light left right light ∙ sym (new-one (length p) es cs few)
   | inr heavy ↦
-      let many : 2 ≤ length (overwritten es cs) = join_many hash nonce nodes records left right p (overwritten es cs) heavy sl sr in
+      let many : 2 ≤ length (overwritten es cs) = join_many by t left right p (overwritten es cs) heavy sl sr in
       n-is ∙ joined-heavy left right heavy ∙ ap (λ k. k + node_count right + 1) on-left ∙ ap (λ k. new_nodes (suc (length p)) (half false (length p) es) (half false (length p) cs) + k + 1) on-right
       ∙ sym (new-many (length p) es cs short some many)
 ]

@@ -8,16 +8,16 @@ use Rattle.coniks_proof.specs.Bits.{bit_at, child, turns}
 use Rattle.coniks_proof.specs.Entries.{IsIn, half}
 use Rattle.coniks_proof.specs.Maps.{IsMap}
 use Rattle.coniks_proof.specs.Changes.{ApartWithin, AreApart, AreInOrder, InOrderWithin, overwritten}
+use Rattle.coniks_proof.specs.Hashing.{Hashing}
 use Rattle.coniks_proof.proofs.Lemmas.{IsIn-append, IsIn-append_left, IsIn-append_right, IsIn-filter, IsMap-append, IsMap-filter, SameEntries-sym, of_filter, passes}
 use Rattle.coniks_proof.proofs.Lemmas.{all_left, all_right, filters_swap, length-halves, overwritten-empty}
 use Rattle.coniks_proof.specs.declared.values.Digest.{Digest}
 use Rattle.coniks_tree.specs.Entries.{AreStored, Lists, entries_at, entry_at, in_order, in_order_within}
 use Rattle.coniks_tree.specs.Parts.{Stands, entries_in, entry_of_change}
 use Rattle.coniks_tree.proofs.PushLemmas.{Stands-same}
-use Rattle.coniks_tree.specs.Table.{Numbered, Shows, shows_empty, shows_leaf, shows_inner, entry_of_record}
+use Rattle.coniks_tree.specs.Table.{Numbered, Shows, shows_empty, shows_leaf, shows_inner, entry_of_record, Table}
 use Rattle.coniks_tree.specs.declared.part.Change.{Change}
 use Rattle.coniks_tree.specs.declared.part.Part.{Part}
-use Rattle.coniks_tree.specs.declared.table.Node.{Node}
 use Rattle.coniks_tree.specs.declared.table.Node.TheVariants.{Empty, Leaf, Inner}
 use Rattle.coniks_tree.specs.declared.table.Record.{Record}
 use Rattle.coniks_tree.specs.declared.table.RecordNo.{RecordNo}
@@ -69,40 +69,40 @@ in_order-inner k es short =
 -- ---- the list of what a node shows
 
 -- what an interior node shows lies under its two nodes
-pub record ShowsBelow (hash : List ℕ → List ℕ) (nonce : List ℕ) (nodes : List Node) (records : List Record) (l r : ℕ) (p : List Bool) (es : List Numbered) : Type 0 where
+pub record ShowsBelow (by : Hashing) (t : Table) (l r : ℕ) (p : List Bool) (es : List Numbered) : Type 0 where
   pub short : length p < 256
-  pub left : Shows hash nonce nodes records l (child p false) (half false (length p) es)
-  pub right : Shows hash nonce nodes records r (child p true) (half true (length p) es)
+  pub left : Shows by t l (child p false) (half false (length p) es)
+  pub right : Shows by t r (child p true) (half true (length p) es)
 
-pub Shows-below : (hash : List ℕ → List ℕ) (nonce : List ℕ) (nodes : List Node) (records : List Record) (n l r : ℕ) (p : List Bool) (es : List Numbered) (d : Digest)
-    → slice_get nodes n ≡ Some (Inner l r d) → Shows hash nonce nodes records n p es → ShowsBelow hash nonce nodes records l r p es
-Shows-below hash nonce nodes records _ l r _ _ d here (shows_empty n p es d' at none is) = cc
-Shows-below hash nonce nodes records _ l r _ _ d here (shows_leaf n p es d' place rec at stored one is) = cc
-Shows-below hash nonce nodes records _ l r _ _ d here (shows_inner n p es d' l' r' at short many is left right) =
+pub Shows-below : (by : Hashing) (t : Table) (n l r : ℕ) (p : List Bool) (es : List Numbered) (d : Digest)
+    → slice_get t.nodes n ≡ Some (Inner l r d) → Shows by t n p es → ShowsBelow by t l r p es
+Shows-below by t _ l r _ _ d here (shows_empty n p es d' at none is) = cc
+Shows-below by t _ l r _ _ d here (shows_leaf n p es d' place rec at stored one is) = cc
+Shows-below by t _ l r _ _ d here (shows_inner n p es d' l' r' at short many is left right) =
     let l-is : l' ≡ l = cc in
     let r-is : r' ≡ r = cc in
     record {
       short = short;
-      left = subst (λ k. Shows hash nonce nodes records k (child p false) (half false (length p) es)) l-is left;
-      right = subst (λ k. Shows hash nonce nodes records k (child p true) (half true (length p) es)) r-is right;
+      left = subst (λ k. Shows by t k (child p false) (half false (length p) es)) l-is left;
+      right = subst (λ k. Shows by t k (child p true) (half true (length p) es)) r-is right;
     }
 
 -- an empty node shows nothing
-pub Shows-none : (hash : List ℕ → List ℕ) (nonce : List ℕ) (nodes : List Node) (records : List Record) (n : ℕ) (p : List Bool) (es : List Numbered) (d : Digest)
-    → slice_get nodes n ≡ Some (Empty d) → Shows hash nonce nodes records n p es → es ≡ []
-Shows-none hash nonce nodes records _ _ _ d here (shows_empty n p es d' at none is) = none
-Shows-none hash nonce nodes records _ _ _ d here (shows_leaf n p es d' place rec at stored one is) = cc
-Shows-none hash nonce nodes records _ _ _ d here (shows_inner n p es d' l r at short many is left right) = cc
+pub Shows-none : (by : Hashing) (t : Table) (n : ℕ) (p : List Bool) (es : List Numbered) (d : Digest)
+    → slice_get t.nodes n ≡ Some (Empty d) → Shows by t n p es → es ≡ []
+Shows-none by t _ _ _ d here (shows_empty n p es d' at none is) = none
+Shows-none by t _ _ _ d here (shows_leaf n p es d' place rec at stored one is) = cc
+Shows-none by t _ _ _ d here (shows_inner n p es d' l r at short many is left right) = cc
 
 -- a leaf shows the entry of its record
-pub Shows-one : (hash : List ℕ → List ℕ) (nonce : List ℕ) (nodes : List Node) (records : List Record) (n : ℕ) (p : List Bool) (es : List Numbered) (place : RecordNo) (d : Digest)
-    → slice_get nodes n ≡ Some (Leaf place d) → Shows hash nonce nodes records n p es → (length es ≤ 1) × (es ≡ entry_at place.0 (slice_get records place.0))
-Shows-one hash nonce nodes records _ _ _ place d here (shows_empty n p es d' at none is) = cc
-Shows-one hash nonce nodes records _ _ _ place d here (shows_inner n p es d' l r at short many is left right) = cc
-Shows-one hash nonce nodes records _ _ _ place d here (shows_leaf n p es d' place' r at stored one is) =
+pub Shows-one : (by : Hashing) (t : Table) (n : ℕ) (p : List Bool) (es : List Numbered) (place : RecordNo) (d : Digest)
+    → slice_get t.nodes n ≡ Some (Leaf place d) → Shows by t n p es → (length es ≤ 1) × (es ≡ entry_at place.0 (slice_get t.records place.0))
+Shows-one by t _ _ _ place d here (shows_empty n p es d' at none is) = cc
+Shows-one by t _ _ _ place d here (shows_inner n p es d' l r at short many is left right) = cc
+Shows-one by t _ _ _ place d here (shows_leaf n p es d' place' r at stored one is) =
     let same : place' ≡ place = cc in (
       omega (arith, ap length one),
-      one ∙ ap (entry_at place'.0) (sym stored) ∙ ap (λ (q : RecordNo). entry_at q.0 (slice_get records q.0)) same,
+      one ∙ ap (entry_at place'.0) (sym stored) ∙ ap (λ (q : RecordNo). entry_at q.0 (slice_get t.records q.0)) same,
     )
 
 -- ---- the places
@@ -273,8 +273,8 @@ unfolding AreApart AreInOrder
 Lists-apart changes es lists = subst (AreApart 0) (sym (overwritten-empty (entries_in changes))) (ordered-apart 256 0 (entries_in changes) lists.order)
 
 -- what stands for the changes alone stands for the map
-pub Lists-stands : (hash : List ℕ → List ℕ) (nonce : List ℕ) (nodes : List Node) (records : List Record) (part : Part) (changes : List Change) (es : List Numbered)
-    → IsMap es → Lists changes es → Stands hash nonce nodes records part [] (overwritten [] (entries_in changes)) → Stands hash nonce nodes records part [] es
-Lists-stands hash nonce nodes records part changes es map lists s =
-    Stands-same hash nonce nodes records part [] (entries_in changes) es (lists.once map) map (SameEntries-sym es (entries_in changes) lists.same)
-    (subst (Stands hash nonce nodes records part []) (overwritten-empty (entries_in changes)) s)
+pub Lists-stands : (by : Hashing) (t : Table) (part : Part) (changes : List Change) (es : List Numbered)
+    → IsMap es → Lists changes es → Stands by t part [] (overwritten [] (entries_in changes)) → Stands by t part [] es
+Lists-stands by t part changes es map lists s =
+    Stands-same by t part [] (entries_in changes) es (lists.once map) map (SameEntries-sym es (entries_in changes) lists.same)
+    (subst (Stands by t part []) (overwritten-empty (entries_in changes)) s)

@@ -2,7 +2,9 @@
 use Rattle.std.proofs.Common.{◌≡◌, ℕ, ◌+◌, ◌≤◌, List, [], ◌∷◌, ◌++◌, length, map, Bool, true, false, refl, sym, ap, subst, ◌∙◌, arith, append_assoc}
 use Rattle.std.proofs.lemmas.List.{append-nil, length-append, length-map, map-append}
 use Rattle.coniks_proof.specs.Bits.{child}
+use Rattle.coniks_proof.specs.Hashing.{Hashing}
 use Rattle.coniks_proof.specs.Preimages.{empty_preimage, leaf_preimage}
+use Rattle.coniks_tree.specs.Table.{table}
 use Rattle.coniks_proof.specs.declared.values.Digest.{Digest}
 use Rattle.coniks_tree.specs.Joins.{AllHalved, AllJoined, IsHalved, IsHashAt, IsJoined, PairFits, PairsFit, asked_at, asked_of, inner_of}
 use Rattle.coniks_tree.proofs.PartLemmas.{hash_nothing, hash_entry}
@@ -16,22 +18,22 @@ same_front : {X : Type 0} (x y : X) (xs ys : List X) → x ∷ xs ≡ y ∷ ys �
 same_front x y xs ys same = (cc, cc)
 
 -- an empty side takes the first of the hashes
-pub side_nothing : (hash : List ℕ → List ℕ) (nonce : List ℕ) (nodes : List Node) (part : Part) (p : List Bool) (rest : List (List ℕ)) (old new : List Digest) (d : Digest)
-    → part ≡ Nothing → old ≡ d ∷ new → map (λ x. x.0) old ≡ map hash (asked_at nonce p part ++ rest)
-    → IsHashAt hash nonce nodes p part d × (map (λ x. x.0) new ≡ map hash rest)
-side_nothing hash nonce nodes part p rest old new d is old-is asked =
-    let first = same_front d.0 (hash (empty_preimage nonce p)) (map (λ x. x.0) new) (map hash rest)
-    (sym (ap (map (λ x. x.0)) old-is) ∙ asked ∙ ap (λ q. map hash (asked_at nonce p q ++ rest)) is) in
-    (λ records es s. hash_nothing hash nonce nodes records part p es d.0 is first.0 s, first.1)
+pub side_nothing : (by : Hashing) (nodes : List Node) (part : Part) (p : List Bool) (rest : List (List ℕ)) (old new : List Digest) (d : Digest)
+    → part ≡ Nothing → old ≡ d ∷ new → map (λ x. x.0) old ≡ map by.hash (asked_at by.nonce p part ++ rest)
+    → IsHashAt by nodes p part d × (map (λ x. x.0) new ≡ map by.hash rest)
+side_nothing by nodes part p rest old new d is old-is asked =
+    let first = same_front d.0 (by.hash (empty_preimage by.nonce p)) (map (λ x. x.0) new) (map by.hash rest)
+    (sym (ap (map (λ x. x.0)) old-is) ∙ asked ∙ ap (λ q. map by.hash (asked_at by.nonce p q ++ rest)) is) in
+    (λ records es s. hash_nothing by (table nodes records) part p es d.0 is first.0 s, first.1)
 
 -- a leaf takes the first of the hashes
-pub side_entry : (hash : List ℕ → List ℕ) (nonce : List ℕ) (nodes : List Node) (part : Part) (p : List Bool) (rest : List (List ℕ)) (old new : List Digest) (d : Digest) (c : Change)
-    → part ≡ Entry c → old ≡ d ∷ new → map (λ x. x.0) old ≡ map hash (asked_at nonce p part ++ rest)
-    → IsHashAt hash nonce nodes p part d × (map (λ x. x.0) new ≡ map hash rest)
-side_entry hash nonce nodes part p rest old new d c is old-is asked =
-    let first = same_front d.0 (hash (leaf_preimage nonce c.index.0 (length p) c.commitment.0)) (map (λ x. x.0) new) (map hash rest)
-    (sym (ap (map (λ x. x.0)) old-is) ∙ asked ∙ ap (λ q. map hash (asked_at nonce p q ++ rest)) is) in
-    (λ records es s. hash_entry hash nonce nodes records part p es d.0 c (length p) is refl first.0 s, first.1)
+pub side_entry : (by : Hashing) (nodes : List Node) (part : Part) (p : List Bool) (rest : List (List ℕ)) (old new : List Digest) (d : Digest) (c : Change)
+    → part ≡ Entry c → old ≡ d ∷ new → map (λ x. x.0) old ≡ map by.hash (asked_at by.nonce p part ++ rest)
+    → IsHashAt by nodes p part d × (map (λ x. x.0) new ≡ map by.hash rest)
+side_entry by nodes part p rest old new d c is old-is asked =
+    let first = same_front d.0 (by.hash (leaf_preimage by.nonce c.index.0 (length p) c.commitment.0)) (map (λ x. x.0) new) (map by.hash rest)
+    (sym (ap (map (λ x. x.0)) old-is) ∙ asked ∙ ap (λ q. map by.hash (asked_at by.nonce p q ++ rest)) is) in
+    (λ records es s. hash_entry by (table nodes records) part p es d.0 c (length p) is refl first.0 s, first.1)
 
 -- how many are asked for doesn't depend on nonce or prefix
 pub asked_at-length : (nonce : List ℕ) (p : List Bool) (part : Part) → length (asked_at nonce p part) ≡ length (asked_at [] [] part)
@@ -58,10 +60,10 @@ asked_of-length nonce (pair ∷ pairs) =
 
 -- ---- the pairs get their hashes
 
-pub AllHalved-push : (digest_of : List ℕ → List ℕ) (nonce : List ℕ) (nodes : List Node) (hs : List Halved) (h : Halved) → AllHalved digest_of nonce nodes hs → IsHalved digest_of nonce nodes h
-    → AllHalved digest_of nonce nodes (hs ++ h ∷ [])
-AllHalved-push digest_of nonce nodes [] h all one = (one, tt)
-AllHalved-push digest_of nonce nodes (x ∷ hs) h all one = (all.0, AllHalved-push digest_of nonce nodes hs h all.1 one)
+pub AllHalved-push : (by : Hashing) (nodes : List Node) (hs : List Halved) (h : Halved) → AllHalved by nodes hs → IsHalved by nodes h
+    → AllHalved by nodes (hs ++ h ∷ [])
+AllHalved-push by nodes [] h all one = (one, tt)
+AllHalved-push by nodes (x ∷ hs) h all one = (all.0, AllHalved-push by nodes hs h all.1 one)
 
 -- what is asked for the sides of pairs: for those of the first, and of the others
 asked-parted : (before rest : List Pair) (pair : Pair) → before ≡ pair ∷ rest
@@ -97,34 +99,34 @@ same-more all before rest pair hs new h is new-is h-is whole =
 -- ---- the pairs are joined
 
 -- what is left of the pairs, their nodes' hashes, and the parts that are made
-pub record Closing (digest_of : List ℕ → List ℕ) (nonce : List ℕ) (nodes : List Node) (all : List Pair) (hs : List Halved) (hashes : List Digest) (parts : List Part) : Type 0 where
+pub record Closing (by : Hashing) (nodes : List Node) (all : List Pair) (hs : List Halved) (hashes : List Digest) (parts : List Part) : Type 0 where
   pub fits : PairsFit (length nodes) (map (λ h. h.pair) hs)
-  pub halved : AllHalved digest_of nonce nodes hs
-  pub hashed : map (λ d. d.0) hashes ≡ map (λ h. digest_of (inner_of h)) hs
-  pub so_far : (more : List Part) → AllJoined digest_of nonce nodes (map (λ h. h.pair) hs) more → AllJoined digest_of nonce nodes all (parts ++ more)
+  pub halved : AllHalved by nodes hs
+  pub hashed : map (λ d. d.0) hashes ≡ map (λ h. by.hash (inner_of h)) hs
+  pub so_far : (more : List Part) → AllJoined by nodes (map (λ h. h.pair) hs) more → AllJoined by nodes all (parts ++ more)
 
-pub Closing-step : (digest_of : List ℕ → List ℕ) (nonce : List ℕ) (nodes : List Node) (all : List Pair) (hs rest : List Halved) (h : Halved) (hashes others : List Digest) (hash : Digest)
+pub Closing-step : (by : Hashing) (nodes : List Node) (all : List Pair) (hs rest : List Halved) (h : Halved) (hashes others : List Digest) (hash : Digest)
     (parts new : List Part) (part : Part)
     → hs ≡ h ∷ rest → hashes ≡ hash ∷ others → new ≡ parts ++ part ∷ []
-    → (PairFits (length nodes) h.pair → IsHalved digest_of nonce nodes h → hash.0 ≡ digest_of (inner_of h) → IsJoined digest_of nonce nodes h.pair.prefix h.pair.left h.pair.right part)
-    → Closing digest_of nonce nodes all hs hashes parts → Closing digest_of nonce nodes all rest others new
-Closing-step digest_of nonce nodes all hs rest h hashes others hash parts new part is hashes-is new-is joined before =
+    → (PairFits (length nodes) h.pair → IsHalved by nodes h → hash.0 ≡ by.hash (inner_of h) → IsJoined by nodes h.pair.prefix h.pair.left h.pair.right part)
+    → Closing by nodes all hs hashes parts → Closing by nodes all rest others new
+Closing-step by nodes all hs rest h hashes others hash parts new part is hashes-is new-is joined before =
     let fits = subst (λ xs. PairsFit (length nodes) (map (λ (x : Halved). x.pair) xs)) is before.fits in
-    let halved = subst (AllHalved digest_of nonce nodes) is before.halved in
-    let front = same_front hash.0 (digest_of (inner_of h)) (map (λ (d : Digest). d.0) others) (map (λ (x : Halved). digest_of (inner_of x)) rest)
-    (sym (ap (map (λ (d : Digest). d.0)) hashes-is) ∙ before.hashed ∙ ap (map (λ (x : Halved). digest_of (inner_of x))) is) in
+    let halved = subst (AllHalved by nodes) is before.halved in
+    let front = same_front hash.0 (by.hash (inner_of h)) (map (λ (d : Digest). d.0) others) (map (λ (x : Halved). by.hash (inner_of x)) rest)
+    (sym (ap (map (λ (d : Digest). d.0)) hashes-is) ∙ before.hashed ∙ ap (map (λ (x : Halved). by.hash (inner_of x))) is) in
     record {
       fits = fits.1;
       halved = halved.1;
       hashed = front.1;
-      so_far = λ more js. subst (AllJoined digest_of nonce nodes all) (sym (ap (λ xs. xs ++ more) new-is ∙ append_assoc parts (part ∷ []) more))
-          (before.so_far (part ∷ more) (subst (λ xs. AllJoined digest_of nonce nodes (map (λ (x : Halved). x.pair) xs) (part ∷ more)) (sym is) (joined fits.0 halved.0 front.0, js)));
+      so_far = λ more js. subst (AllJoined by nodes all) (sym (ap (λ xs. xs ++ more) new-is ∙ append_assoc parts (part ∷ []) more))
+          (before.so_far (part ∷ more) (subst (λ xs. AllJoined by nodes (map (λ (x : Halved). x.pair) xs) (part ∷ more)) (sym is) (joined fits.0 halved.0 front.0, js)));
     }
 
-pub Closing-end : (digest_of : List ℕ → List ℕ) (nonce : List ℕ) (nodes : List Node) (all : List Pair) (hs : List Halved) (hashes : List Digest) (parts : List Part)
-    → hs ≡ [] → Closing digest_of nonce nodes all hs hashes parts → AllJoined digest_of nonce nodes all parts
-Closing-end digest_of nonce nodes all hs hashes parts is closing =
-    subst (AllJoined digest_of nonce nodes all) (append-nil parts) (closing.so_far [] (subst (λ xs. AllJoined digest_of nonce nodes (map (λ (x : Halved). x.pair) xs) []) (sym is) tt))
+pub Closing-end : (by : Hashing) (nodes : List Node) (all : List Pair) (hs : List Halved) (hashes : List Digest) (parts : List Part)
+    → hs ≡ [] → Closing by nodes all hs hashes parts → AllJoined by nodes all parts
+Closing-end by nodes all hs hashes parts is closing =
+    subst (AllJoined by nodes all) (append-nil parts) (closing.so_far [] (subst (λ xs. AllJoined by nodes (map (λ (x : Halved). x.pair) xs) []) (sym is) tt))
 
 -- ---- the hashes of what is asked for
 

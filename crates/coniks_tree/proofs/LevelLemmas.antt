@@ -5,14 +5,14 @@ use Rattle.std.proofs.lemmas.List.{append-nil, length-map}
 use Rattle.coniks_proof.specs.Bits.{child}
 use Rattle.coniks_proof.specs.Entries.{half}
 use Rattle.coniks_proof.specs.Changes.{overwritten, AreApart, AreInOrder}
+use Rattle.coniks_proof.specs.Hashing.{Hashing}
 use Rattle.coniks_proof.proofs.Lemmas.{length-child, overwritten-nothing}
-use Rattle.coniks_tree.specs.Table.{Extends, Numbered}
+use Rattle.coniks_tree.specs.Table.{Extends, Numbered, Table}
 use Rattle.coniks_tree.specs.Parts.{Stands, Fits, KeepsNone, Placed, AllPlaced, node_count, is_made, entries_in, entry_of_change}
 use Rattle.coniks_tree.specs.Joins.{AllJoined, IsJoined, PairsFit}
 use Rattle.coniks_tree.specs.Levels.{AllDivide, AllDivided, AllGrown, AllOpen, Divides, IsDivided, IsGrown, SideGrows, filled, left_by, side_from}
 use Rattle.coniks_tree.proofs.CountLemmas.{new-one, new-unchanged, new_joined}
 use Rattle.coniks_tree.proofs.PartLemmas.{count-unmade, count_sum, grown_side, new_side}
-use Rattle.coniks_tree.specs.declared.table.Node.{Node}
 use Rattle.coniks_tree.specs.declared.table.Record.{Record}
 use Rattle.coniks_tree.specs.declared.part.Change.{Change}
 use Rattle.coniks_tree.specs.declared.part.Part.{Part, Entry}
@@ -32,48 +32,47 @@ level-short n level [] some all = absurd (omega arith)
 level-short n level (g ∷ gs) some all = all.0.short
 
 -- the parts of two lists, one after the other
-pub record IsSplit (digest_of : List ℕ → List ℕ) (nonce : List ℕ) (nodes : List Node) (records : List Record) (gs hs : List Growing) (parts : List Part) : Type 0 where
+pub record IsSplit (by : Hashing) (t : Table) (gs hs : List Growing) (parts : List Part) : Type 0 where
   pub front : List Part
   pub back : List Part
   pub is : parts ≡ front ++ back
-  pub first : AllGrown digest_of nonce nodes records gs front
-  pub second : AllGrown digest_of nonce nodes records hs back
+  pub first : AllGrown by t gs front
+  pub second : AllGrown by t hs back
 
-pub AllGrown-split : (digest_of : List ℕ → List ℕ) (nonce : List ℕ) (nodes : List Node) (records : List Record) (gs hs : List Growing) (parts : List Part)
-    → AllGrown digest_of nonce nodes records (gs ++ hs) parts → IsSplit digest_of nonce nodes records gs hs parts
-AllGrown-split digest_of nonce nodes records [] hs parts all = record { front = []; back = parts; is = refl; first = tt; second = all }
-AllGrown-split digest_of nonce nodes records (g ∷ gs) hs [] all = absurd all
-AllGrown-split digest_of nonce nodes records (g ∷ gs) hs (part ∷ parts) all =
-    let rest = AllGrown-split digest_of nonce nodes records gs hs parts all.1 in
+pub AllGrown-split : (by : Hashing) (t : Table) (gs hs : List Growing) (parts : List Part) → AllGrown by t (gs ++ hs) parts → IsSplit by t gs hs parts
+AllGrown-split by t [] hs parts all = record { front = []; back = parts; is = refl; first = tt; second = all }
+AllGrown-split by t (g ∷ gs) hs [] all = absurd all
+AllGrown-split by t (g ∷ gs) hs (part ∷ parts) all =
+    let rest = AllGrown-split by t gs hs parts all.1 in
     record { front = part ∷ rest.front; back = rest.back; is = ap (λ xs. part ∷ xs) rest.is; first = (all.0, rest.first); second = rest.second }
 
-AllGrown-none : (digest_of : List ℕ → List ℕ) (nonce : List ℕ) (nodes : List Node) (records : List Record) (parts : List Part) → AllGrown digest_of nonce nodes records [] parts → parts ≡ []
-AllGrown-none digest_of nonce nodes records [] all = refl
-AllGrown-none digest_of nonce nodes records (part ∷ parts) all = absurd all
+AllGrown-none : (by : Hashing) (t : Table) (parts : List Part) → AllGrown by t [] parts → parts ≡ []
+AllGrown-none by t [] all = refl
+AllGrown-none by t (part ∷ parts) all = absurd all
 
 -- ---- a side
 
 -- without changes a part stays
-pub grown-same : (digest_of : List ℕ → List ℕ) (nonce : List ℕ) (nodes : List Node) (records : List Record) (p : List Bool) (part : Part) (cs : List Change)
-    → cs ≡ [] → Fits (length nodes) (length p) part → IsGrown digest_of nonce nodes records p part cs part
-grown-same digest_of nonce nodes records p part cs none fits = record {
+pub grown-same : (by : Hashing) (t : Table) (p : List Bool) (part : Part) (cs : List Change)
+    → cs ≡ [] → Fits (length t.nodes) (length p) part → IsGrown by t p part cs part
+grown-same by t p part cs none fits = record {
   fits = fits;
   placed = λ all more placed each. placed;
   count = λ old. omega (arith, count-unmade part old);
   new = λ old below entries ordered apart s.
-      new-unchanged digest_of nonce nodes records part p (length p) entries (entries_in cs) (ap entries_in none) old (omega (arith, below, ap length none)) s;
+      new-unchanged by t part p (length p) entries (entries_in cs) (ap entries_in none) old (omega (arith, below, ap length none)) s;
   keeps = λ none. none;
   stands = λ entries ordered apart s.
-      subst (Stands digest_of nonce nodes records part p) (sym (ap (λ xs. overwritten entries (entries_in xs)) none ∙ overwritten-nothing entries)) s;
+      subst (Stands by t part p) (sym (ap (λ xs. overwritten entries (entries_in xs)) none ∙ overwritten-nothing entries)) s;
 }
 
 -- a change that leaves one entry
-pub grown-one : (digest_of : List ℕ → List ℕ) (nonce : List ℕ) (nodes : List Node) (records : List Record) (p : List Bool) (part : Part) (cs : List Change) (c : Change) (level : ℕ)
+pub grown-one : (by : Hashing) (t : Table) (p : List Bool) (part : Part) (cs : List Change) (c : Change) (level : ℕ)
     → level ≡ length p → length p ≤ 256 → ((all : List Record) → AllPlaced all cs → Placed all (Entry c))
-    → ((entries : List Numbered) → AreApart level (overwritten entries (entries_in cs)) → Stands digest_of nonce nodes records part p entries
+    → ((entries : List Numbered) → AreApart level (overwritten entries (entries_in cs)) → Stands by t part p entries
     → overwritten entries (entries_in cs) ≡ entry_of_change c ∷ [])
-    → IsGrown digest_of nonce nodes records p part cs (Entry c)
-grown-one digest_of nonce nodes records p part cs c level at short placed one = record {
+    → IsGrown by t p part cs (Entry c)
+grown-one by t p part cs c level at short placed one = record {
   fits = short;
   placed = λ all more old each. placed all each;
   count = λ old. omega arith;
@@ -85,22 +84,22 @@ grown-one digest_of nonce nodes records p part cs c level at short placed one = 
 }
 
 -- a side that is done
-pub side_done : (digest_of : List ℕ → List ℕ) (nonce : List ℕ) (nodes : List Node) (records : List Record) (p : List Bool) (part : Part) (cs : List Change) (done : Part)
-    → IsGrown digest_of nonce nodes records p part cs done → SideGrows digest_of nonce nodes records p part cs (Some done) []
-side_done digest_of nonce nodes records p part cs done grown = λ below rest all. (grown, ap (λ xs. xs ++ rest) (AllGrown-none digest_of nonce nodes records below all))
+pub side_done : (by : Hashing) (t : Table) (p : List Bool) (part : Part) (cs : List Change) (done : Part)
+    → IsGrown by t p part cs done → SideGrows by t p part cs (Some done) []
+side_done by t p part cs done grown = λ below rest all. (grown, ap (λ xs. xs ++ rest) (AllGrown-none by t below all))
 
 -- ---- a part with its two sides
 
 -- a part and its changes, cut in two
-pub record IsCut (digest_of : List ℕ → List ℕ) (nonce : List ℕ) (nodes : List Node) (records : List Record) (p : List Bool) (part : Part) (cs : List Change) (l r : Part) (csl csr : List Change) :
+pub record IsCut (by : Hashing) (t : Table) (p : List Bool) (part : Part) (cs : List Change) (l r : Part) (csl csr : List Change) :
     Type 0 where
   pub short : length p < 256
   pub some : 0 < length cs
   pub unmade : is_made part ≡ false → (is_made l ≡ false) × (is_made r ≡ false)
-  pub placed : (all : List Record) → Extends records all → Placed all part → Placed all l × Placed all r
+  pub placed : (all : List Record) → Extends t.records all → Placed all part → Placed all l × Placed all r
   pub keeps : KeepsNone part → KeepsNone l × KeepsNone r
-  pub stands : (entries : List Numbered) → Stands digest_of nonce nodes records part p entries
-      → Stands digest_of nonce nodes records l (child p false) (half false (length p) entries) × Stands digest_of nonce nodes records r (child p true) (half true (length p) entries)
+  pub stands : (entries : List Numbered) → Stands by t part p entries
+      → Stands by t l (child p false) (half false (length p) entries) × Stands by t r (child p true) (half true (length p) entries)
   pub all_changes : length csl + length csr ≡ length cs
   pub each : (all : List Record) → AllPlaced all cs → AllPlaced all csl × AllPlaced all csr
   pub on_left : AreInOrder (length p) (entries_in cs) → entries_in csl ≡ half false (length p) (entries_in cs)
@@ -117,14 +116,14 @@ grown-count p l r all a b joined short all-is some ha hb join =
     (count_sum (255 - length p) l r a b joined (grown-height p false l a ha) (grown-height p true r b hb) join (omega arith)))
 
 -- the two sides, grown, are those of the part that grows
-pub divided : (digest_of : List ℕ → List ℕ) (nonce : List ℕ) (nodes : List Node) (records : List Record)
+pub divided : (by : Hashing) (t : Table)
     → (p : List Bool) (part : Part) (cs : List Change) (l r : Part) (csl csr : List Change) (l' r' : Part)
-    → IsCut digest_of nonce nodes records p part cs l r csl csr
-    → IsGrown digest_of nonce nodes records (child p false) l csl l' → IsGrown digest_of nonce nodes records (child p true) r csr r' → IsDivided digest_of nonce nodes records p part cs l' r'
-divided digest_of nonce nodes records p part cs l r csl csr l' r' cut left right = record {
+    → IsCut by t p part cs l r csl csr
+    → IsGrown by t (child p false) l csl l' → IsGrown by t (child p true) r csr r' → IsDivided by t p part cs l' r'
+divided by t p part cs l r csl csr l' r' cut left right = record {
   short = cut.short;
-  left_fits = subst (λ k. Fits (length nodes) k l') (omega (arith, length-child p false)) left.fits;
-  right_fits = subst (λ k. Fits (length nodes) k r') (omega (arith, length-child p true)) right.fits;
+  left_fits = subst (λ k. Fits (length t.nodes) k l') (omega (arith, length-child p false)) left.fits;
+  right_fits = subst (λ k. Fits (length t.nodes) k r') (omega (arith, length-child p true)) right.fits;
   joined = λ whole j. record {
     fits = j.fits;
     placed = λ all more placed each.
@@ -139,98 +138,97 @@ divided digest_of nonce nodes records p part cs l r csl csr l' r' cut left right
         let both = cut.stands entries s in
         let left_side = length-child p false in
         let right_side = length-child p true in
-        new_joined digest_of nonce nodes records l' r' (node_count whole) p entries (entries_in cs) cut.short (omega (arith, cut.some, length-map cs entry_of_change))
-        (new_side digest_of nonce nodes records l (node_count l') false p (child p false) entries (entries_in cs) (entries_in csl) refl cut.short
+        new_joined by t l' r' (node_count whole) p entries (entries_in cs) cut.short (omega (arith, cut.some, length-map cs entry_of_change))
+        (new_side by t l (node_count l') false p (child p false) entries (entries_in cs) (entries_in csl) refl cut.short
         (cut.on_left ordered) ordered apart (left.new unmade.0 (omega (arith, left_side)) (half false (length p) entries)) both.0)
-        (new_side digest_of nonce nodes records r (node_count r') true p (child p true) entries (entries_in cs) (entries_in csr) refl cut.short
+        (new_side by t r (node_count r') true p (child p true) entries (entries_in cs) (entries_in csr) refl cut.short
         (cut.on_right ordered) ordered apart (right.new unmade.1 (omega (arith, right_side)) (half true (length p) entries)) both.1)
-        (grown_side digest_of nonce nodes records l l' false p (child p false) entries (entries_in cs) (entries_in csl) refl cut.short
+        (grown_side by t l l' false p (child p false) entries (entries_in cs) (entries_in csl) refl cut.short
         (cut.on_left ordered) ordered apart (left.stands (half false (length p) entries)) both.0)
-        (grown_side digest_of nonce nodes records r r' true p (child p true) entries (entries_in cs) (entries_in csr) refl cut.short
+        (grown_side by t r r' true p (child p true) entries (entries_in cs) (entries_in csr) refl cut.short
         (cut.on_right ordered) ordered apart (right.stands (half true (length p) entries)) both.1)
         j.new;
     keeps = λ none. let both = cut.keeps none in j.keeps (left.keeps both.0) (right.keeps both.1);
     stands = λ entries ordered apart s.
         let both = cut.stands entries s in
-        j.stands records (overwritten entries (entries_in cs))
-        (grown_side digest_of nonce nodes records l l' false p (child p false) entries (entries_in cs) (entries_in csl) refl cut.short
+        j.stands t.records (overwritten entries (entries_in cs))
+        (grown_side by t l l' false p (child p false) entries (entries_in cs) (entries_in csl) refl cut.short
         (cut.on_left ordered) ordered apart (left.stands (half false (length p) entries)) both.0)
-        (grown_side digest_of nonce nodes records r r' true p (child p true) entries (entries_in cs) (entries_in csr) refl cut.short
+        (grown_side by t r r' true p (child p true) entries (entries_in cs) (entries_in csr) refl cut.short
         (cut.on_right ordered) ordered apart (right.stands (half true (length p) entries)) both.1);
   };
 }
 
-pub divides : (digest_of : List ℕ → List ℕ) (nonce : List ℕ) (nodes : List Node) (records : List Record) (p : List Bool) (part : Part) (cs : List Change) (l r : Part) (csl csr : List Change)
+pub divides : (by : Hashing) (t : Table) (p : List Bool) (part : Part) (cs : List Change) (l r : Part) (csl csr : List Change)
     (left right : Option Part) (on_left on_right : List Growing)
-    → IsCut digest_of nonce nodes records p part cs l r csl csr
-    → SideGrows digest_of nonce nodes records (child p false) l csl left on_left → SideGrows digest_of nonce nodes records (child p true) r csr right on_right
-    → Divides digest_of nonce nodes records p part cs left right (on_left ++ on_right)
-divides digest_of nonce nodes records p part cs l r csl csr left right on_left on_right cut grows-left grows-right = λ below rest all.
-    let s = AllGrown-split digest_of nonce nodes records on_left on_right below all in
+    → IsCut by t p part cs l r csl csr
+    → SideGrows by t (child p false) l csl left on_left → SideGrows by t (child p true) r csr right on_right
+    → Divides by t p part cs left right (on_left ++ on_right)
+divides by t p part cs l r csl csr left right on_left on_right cut grows-left grows-right = λ below rest all.
+    let s = AllGrown-split by t on_left on_right below all in
     let first = grows-left s.front (s.back ++ rest) s.first in
     let second = grows-right s.back rest s.second in
     let whole : s.front ++ (s.back ++ rest) ≡ below ++ rest = sym (ap (λ xs. xs ++ rest) s.is ∙ append_assoc s.front s.back rest) in
-    subst (λ xs. IsDivided digest_of nonce nodes records p part cs (side_from left xs) (side_from right (left_by left xs)) × (left_by right (left_by left xs) ≡ rest)) whole
-    (subst (λ xs. IsDivided digest_of nonce nodes records p part cs (side_from left (s.front ++ (s.back ++ rest))) (side_from right xs) × (left_by right xs ≡ rest)) (sym first.1)
-    (divided digest_of nonce nodes records p part cs l r csl csr _ _ cut first.0 second.0, second.1))
+    subst (λ xs. IsDivided by t p part cs (side_from left xs) (side_from right (left_by left xs)) × (left_by right (left_by left xs) ≡ rest)) whole
+    (subst (λ xs. IsDivided by t p part cs (side_from left (s.front ++ (s.back ++ rest))) (side_from right xs) × (left_by right xs ≡ rest)) (sym first.1)
+    (divided by t p part cs l r csl csr _ _ cut first.0 second.0, second.1))
 
 -- ---- a level
 
 -- one more of the parts that grow is opened
-pub AllDivide-step : (digest_of : List ℕ → List ℕ) (nonce : List ℕ) (nodes : List Node) (records : List Record) (before gs : List Growing) (g : Growing) (o : Opened) (os : List Opened)
+pub AllDivide-step : (by : Hashing) (t : Table) (before gs : List Growing) (g : Growing) (o : Opened) (os : List Opened)
     (more next : List Growing)
-    → before ≡ g ∷ gs → g.prefix ≡ o.prefix → Divides digest_of nonce nodes records g.prefix g.part g.changes.now o.left o.right more
-    → AllDivide digest_of nonce nodes records gs os next → AllDivide digest_of nonce nodes records before (o ∷ os) (more ++ next)
-AllDivide-step digest_of nonce nodes records before gs g o os more next is same one others = λ below all.
-    let s = AllGrown-split digest_of nonce nodes records more next below all in
+    → before ≡ g ∷ gs → g.prefix ≡ o.prefix → Divides by t g.prefix g.part g.changes.now o.left o.right more
+    → AllDivide by t gs os next → AllDivide by t before (o ∷ os) (more ++ next)
+AllDivide-step by t before gs g o os more next is same one others = λ below all.
+    let s = AllGrown-split by t more next below all in
     let here = one s.front s.back s.first in
     let whole : s.front ++ s.back ≡ below = sym s.is in
-    let filled-rest : AllDivided digest_of nonce nodes records gs (filled os (left_by o.right (left_by o.left (s.front ++ s.back)))) =
-    subst (λ xs. AllDivided digest_of nonce nodes records gs (filled os xs)) (sym here.1) (others s.back s.second) in
-    subst (λ hs. AllDivided digest_of nonce nodes records hs (filled (o ∷ os) below)) (sym is)
-    (subst (λ xs. AllDivided digest_of nonce nodes records (g ∷ gs) (filled (o ∷ os) xs)) whole (same, here.0, filled-rest))
+    let filled-rest : AllDivided by t gs (filled os (left_by o.right (left_by o.left (s.front ++ s.back)))) =
+    subst (λ xs. AllDivided by t gs (filled os xs)) (sym here.1) (others s.back s.second) in
+    subst (λ hs. AllDivided by t hs (filled (o ∷ os) below)) (sym is)
+    (subst (λ xs. AllDivided by t (g ∷ gs) (filled (o ∷ os) xs)) whole (same, here.0, filled-rest))
 
 -- the pairs fit
-pub divided-fit : (digest_of : List ℕ → List ℕ) (nonce : List ℕ) (nodes : List Node) (records : List Record) (gs : List Growing) (pairs : List Pair) → AllDivided digest_of nonce nodes records gs pairs
-    → PairsFit (length nodes) pairs
-divided-fit digest_of nonce nodes records [] [] all = tt
-divided-fit digest_of nonce nodes records [] (pair ∷ pairs) all = absurd all
-divided-fit digest_of nonce nodes records (g ∷ gs) [] all = absurd all
-divided-fit digest_of nonce nodes records (g ∷ gs) (pair ∷ pairs) all =
+pub divided-fit : (by : Hashing) (t : Table) (gs : List Growing) (pairs : List Pair) → AllDivided by t gs pairs → PairsFit (length t.nodes) pairs
+divided-fit by t [] [] all = tt
+divided-fit by t [] (pair ∷ pairs) all = absurd all
+divided-fit by t (g ∷ gs) [] all = absurd all
+divided-fit by t (g ∷ gs) (pair ∷ pairs) all =
     let at = ap length all.0 in (
       record {
         short = subst (λ k. k < 256) at all.1.short;
-        left = subst (λ k. Fits (length nodes) (k + 1) pair.left) at all.1.left_fits;
-        right = subst (λ k. Fits (length nodes) (k + 1) pair.right) at all.1.right_fits;
+        left = subst (λ k. Fits (length t.nodes) (k + 1) pair.left) at all.1.left_fits;
+        right = subst (λ k. Fits (length t.nodes) (k + 1) pair.right) at all.1.right_fits;
       },
-      divided-fit digest_of nonce nodes records gs pairs all.2,
+      divided-fit by t gs pairs all.2,
     )
 
 -- the joined pairs are what grows
-pub joined-grown : (digest_of : List ℕ → List ℕ) (nonce : List ℕ) (nodes : List Node) (records : List Record) (gs : List Growing) (pairs : List Pair) (parts : List Part)
-    → AllDivided digest_of nonce nodes records gs pairs → AllJoined digest_of nonce nodes pairs parts → AllGrown digest_of nonce nodes records gs parts
-joined-grown digest_of nonce nodes records [] [] [] all js = tt
-joined-grown digest_of nonce nodes records [] [] (part ∷ parts) all js = absurd js
-joined-grown digest_of nonce nodes records [] (pair ∷ pairs) parts all js = absurd all
-joined-grown digest_of nonce nodes records (g ∷ gs) [] parts all js = absurd all
-joined-grown digest_of nonce nodes records (g ∷ gs) (pair ∷ pairs) [] all js = absurd js
-joined-grown digest_of nonce nodes records (g ∷ gs) (pair ∷ pairs) (part ∷ parts) all js =
-    (all.1.joined part (subst (λ q. IsJoined digest_of nonce nodes q pair.left pair.right part) (sym all.0) js.0), joined-grown digest_of nonce nodes records gs pairs parts all.2 js.1)
+pub joined-grown : (by : Hashing) (t : Table) (gs : List Growing) (pairs : List Pair) (parts : List Part)
+    → AllDivided by t gs pairs → AllJoined by t.nodes pairs parts → AllGrown by t gs parts
+joined-grown by t [] [] [] all js = tt
+joined-grown by t [] [] (part ∷ parts) all js = absurd js
+joined-grown by t [] (pair ∷ pairs) parts all js = absurd all
+joined-grown by t (g ∷ gs) [] parts all js = absurd all
+joined-grown by t (g ∷ gs) (pair ∷ pairs) [] all js = absurd js
+joined-grown by t (g ∷ gs) (pair ∷ pairs) (part ∷ parts) all js =
+    (all.1.joined part (subst (λ q. IsJoined by t.nodes q pair.left pair.right part) (sym all.0) js.0), joined-grown by t gs pairs parts all.2 js.1)
 
 -- all of the parts that grow are opened
-pub AllDivide-end : (digest_of : List ℕ → List ℕ) (nonce : List ℕ) (nodes : List Node) (records : List Record) (all gs : List Growing) (os : List Opened) (next : List Growing)
-    → gs ≡ [] → (AllDivide digest_of nonce nodes records gs [] [] → AllDivide digest_of nonce nodes records all (os ++ []) (next ++ [])) → AllDivide digest_of nonce nodes records all os next
-AllDivide-end digest_of nonce nodes records all gs os next none closing =
-    let nothing : AllDivide digest_of nonce nodes records gs [] [] = λ below grown. subst (λ xs. AllDivided digest_of nonce nodes records xs []) (sym none) tt in
-    subst (λ xs. AllDivide digest_of nonce nodes records all xs next) (append-nil os) (subst (AllDivide digest_of nonce nodes records all (os ++ [])) (append-nil next) (closing nothing))
+pub AllDivide-end : (by : Hashing) (t : Table) (all gs : List Growing) (os : List Opened) (next : List Growing)
+    → gs ≡ [] → (AllDivide by t gs [] [] → AllDivide by t all (os ++ []) (next ++ [])) → AllDivide by t all os next
+AllDivide-end by t all gs os next none closing =
+    let nothing : AllDivide by t gs [] [] = λ below grown. subst (λ xs. AllDivided by t xs []) (sym none) tt in
+    subst (λ xs. AllDivide by t all xs next) (append-nil os) (subst (AllDivide by t all (os ++ [])) (append-nil next) (closing nothing))
 
 -- the two sides of one part, where nothing else grows below
-pub divided_by : (digest_of : List ℕ → List ℕ) (nonce : List ℕ) (nodes : List Node) (records : List Record) (p : List Bool) (part : Part) (cs : List Change) (left right : Option Part)
+pub divided_by : (by : Hashing) (t : Table) (p : List Bool) (part : Part) (cs : List Change) (left right : Option Part)
     (none more next : List Growing) (below after : List Part) (l r : Part)
-    → none ≡ [] → next ≡ none ++ more → Divides digest_of nonce nodes records p part cs left right more → AllGrown digest_of nonce nodes records next below
-    → l ≡ side_from left below → after ≡ left_by left below → r ≡ side_from right after → IsDivided digest_of nonce nodes records p part cs l r
-divided_by digest_of nonce nodes records p part cs left right none more next below after l r none-is next-is divides grown l-is after-is r-is =
-    let all = subst (λ gs. AllGrown digest_of nonce nodes records gs below) (next-is ∙ ap (λ gs. gs ++ more) none-is) grown in
-    let both = subst (λ xs. IsDivided digest_of nonce nodes records p part cs (side_from left xs) (side_from right (left_by left xs))) (append-nil below) (divides below [] all).0 in
-    subst (λ x. IsDivided digest_of nonce nodes records p part cs x r) (sym l-is)
-    (subst (IsDivided digest_of nonce nodes records p part cs (side_from left below)) (sym (r-is ∙ ap (side_from right) after-is)) both)
+    → none ≡ [] → next ≡ none ++ more → Divides by t p part cs left right more → AllGrown by t next below
+    → l ≡ side_from left below → after ≡ left_by left below → r ≡ side_from right after → IsDivided by t p part cs l r
+divided_by by t p part cs left right none more next below after l r none-is next-is divides grown l-is after-is r-is =
+    let all = subst (λ gs. AllGrown by t gs below) (next-is ∙ ap (λ gs. gs ++ more) none-is) grown in
+    let both = subst (λ xs. IsDivided by t p part cs (side_from left xs) (side_from right (left_by left xs))) (append-nil below) (divides below [] all).0 in
+    subst (λ x. IsDivided by t p part cs x r) (sym l-is)
+    (subst (IsDivided by t p part cs (side_from left below)) (sym (r-is ∙ ap (side_from right) after-is)) both)

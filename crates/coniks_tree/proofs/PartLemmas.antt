@@ -11,7 +11,8 @@ use Rattle.std.proofs.Math.Seq.{take-append_seam, drop-append_seam}
 use Rattle.std.proofs.lemmas.List.{nil_from_length, take_more}
 use Rattle.std.proofs.lemmas.Option.{slice_get_within, get_or_from_slice_get}
 use Rattle.coniks_proof.specs.Changes.{overwritten, AreInOrder, AreApart}
-use Rattle.coniks_tree.specs.Table.{Numbered, hash_of_node}
+use Rattle.coniks_proof.specs.Hashing.{Hashing}
+use Rattle.coniks_tree.specs.Table.{Numbered, hash_of_node, Table}
 use Rattle.coniks_tree.specs.Parts.{Stands, Fits, node_count, entry_of_change, weight_of, entries_in, is_made, Placed, AllPlaced}
 use Rattle.coniks_tree.specs.Counts.{new_nodes}
 use Rattle.coniks_tree.proofs.TableLemmas.{Shows-hash}
@@ -21,70 +22,70 @@ use Rattle.coniks_tree.specs.declared.table.Record.{Record}
 use Rattle.coniks_tree.specs.declared.part.Change.{Change}
 use Rattle.coniks_tree.specs.declared.part.Part.{Part, Nothing, Entry, Kept, Made'}
 
--- the tree that parts speak of: hash, nonce, nodes and records
-pub hash_nothing : (hash : List ℕ → List ℕ) (nonce : List ℕ) (nodes : List Node) (records : List Record) (part : Part) (p : List Bool) (es : List Numbered) (x : List ℕ)
-    → part ≡ Nothing → x ≡ hash (empty_preimage nonce p) → Stands hash nonce nodes records part p es → x ≡ node hash nonce p es
-hash_nothing hash nonce nodes records part p es x is x-is s =
-    let none : es ≡ [] = subst (λ q. Stands hash nonce nodes records q p es) is s in
-    x-is ∙ sym (node-empty ℕ hash nonce p) ∙ ap (node hash nonce p) (sym none)
+-- the hash of a part is that of its node: of a part without entries, of one entry, and of a node of the tree
+pub hash_nothing : (by : Hashing) (t : Table) (part : Part) (p : List Bool) (es : List Numbered) (x : List ℕ)
+    → part ≡ Nothing → x ≡ by.hash (empty_preimage by.nonce p) → Stands by t part p es → x ≡ node by p es
+hash_nothing by t part p es x is x-is s =
+    let none : es ≡ [] = subst (λ q. Stands by t q p es) is s in
+    x-is ∙ sym (node-empty ℕ by p) ∙ ap (node by p) (sym none)
 
-pub hash_entry : (hash : List ℕ → List ℕ) (nonce : List ℕ) (nodes : List Node) (records : List Record) (part : Part) (p : List Bool) (es : List Numbered) (x : List ℕ) (c : Change) (level : ℕ)
-    → part ≡ Entry c → level ≡ length p → x ≡ hash (leaf_preimage nonce c.index.0 level c.commitment.0) → Stands hash nonce nodes records part p es → x ≡ node hash nonce p es
-hash_entry hash nonce nodes records part p es x c level is level-is x-is s =
-    let one : es ≡ entry_of_change c ∷ [] = subst (λ q. Stands hash nonce nodes records q p es) is s in
-    x-is ∙ ap (λ l. hash (leaf_preimage nonce c.index.0 l c.commitment.0)) level-is ∙ sym (node-leaf hash nonce p (entry_of_change c)) ∙ ap (node hash nonce p) (sym one)
+pub hash_entry : (by : Hashing) (t : Table) (part : Part) (p : List Bool) (es : List Numbered) (x : List ℕ) (c : Change) (level : ℕ)
+    → part ≡ Entry c → level ≡ length p → x ≡ by.hash (leaf_preimage by.nonce c.index.0 level c.commitment.0) → Stands by t part p es → x ≡ node by p es
+hash_entry by t part p es x c level is level-is x-is s =
+    let one : es ≡ entry_of_change c ∷ [] = subst (λ q. Stands by t q p es) is s in
+    x-is ∙ ap (λ l. by.hash (leaf_preimage by.nonce c.index.0 l c.commitment.0)) level-is ∙ sym (node-leaf by p (entry_of_change c)) ∙ ap (node by p) (sym one)
 
-pub hash_kept : (hash : List ℕ → List ℕ) (nonce : List ℕ) (nodes : List Node) (records : List Record) (part : Part) (p : List Bool) (es : List Numbered) (root : Root) (v : Node)
-    → part ≡ Kept root → slice_get nodes root.0 ≡ Some v → Stands hash nonce nodes records part p es → (hash_of_node v).0 ≡ node hash nonce p es
-hash_kept hash nonce nodes records part p es root v is at s =
-    Shows-hash hash nonce nodes records root.0 p es v (subst (λ q. Stands hash nonce nodes records q p es) is s).0 at
+pub hash_kept : (by : Hashing) (t : Table) (part : Part) (p : List Bool) (es : List Numbered) (root : Root) (v : Node)
+    → part ≡ Kept root → slice_get t.nodes root.0 ≡ Some v → Stands by t part p es → (hash_of_node v).0 ≡ node by p es
+hash_kept by t part p es root v is at s =
+    Shows-hash by t root.0 p es v (subst (λ q. Stands by t q p es) is s).0 at
 
 -- the hash of a node over two nodes
-pub hash_made : (hash : List ℕ → List ℕ) (nonce : List ℕ) (p q r : List Bool) (es : List Numbered) (d x y : List ℕ)
-    → length p < 256 → 2 ≤ length es → q ≡ child p false → r ≡ child p true → d ≡ hash (inner_preimage x y)
-    → x ≡ node hash nonce q (half false (length p) es) → y ≡ node hash nonce r (half true (length p) es) → d ≡ node hash nonce p es
-hash_made hash nonce p q r es d x y short many q-is r-is d-is x-is y-is =
-    let inner = node-inner hash nonce p es short many in
-    let x-at : x ≡ node hash nonce (child p false) (half false (length p) es) = x-is ∙ ap (λ z. node hash nonce z (half false (length p) es)) q-is in
-    let y-at : y ≡ node hash nonce (child p true) (half true (length p) es) = y-is ∙ ap (λ z. node hash nonce z (half true (length p) es)) r-is in
-    d-is ∙ ap (λ z. hash (inner_preimage z y)) x-at ∙ ap (λ z. hash (inner_preimage (node hash nonce (child p false) (half false (length p) es)) z)) y-at ∙ sym inner
+pub hash_made : (by : Hashing) (p q r : List Bool) (es : List Numbered) (d x y : List ℕ)
+    → length p < 256 → 2 ≤ length es → q ≡ child p false → r ≡ child p true → d ≡ by.hash (inner_preimage x y)
+    → x ≡ node by q (half false (length p) es) → y ≡ node by r (half true (length p) es) → d ≡ node by p es
+hash_made by p q r es d x y short many q-is r-is d-is x-is y-is =
+    let inner = node-inner by p es short many in
+    let x-at : x ≡ node by (child p false) (half false (length p) es) = x-is ∙ ap (λ z. node by z (half false (length p) es)) q-is in
+    let y-at : y ≡ node by (child p true) (half true (length p) es) = y-is ∙ ap (λ z. node by z (half true (length p) es)) r-is in
+    d-is ∙ ap (λ z. by.hash (inner_preimage z y)) x-at ∙ ap (λ z. by.hash (inner_preimage (node by (child p false) (half false (length p) es)) z)) y-at ∙ sym inner
 
 -- a part below the root has at least as many entries as its weight
-pub weight-Stands : (hash : List ℕ → List ℕ) (nonce : List ℕ) (nodes : List Node) (records : List Record) (part : Part) (p : List Bool) (b : Bool) (es : List Numbered)
-    → Stands hash nonce nodes records part (child p b) es → weight_of part ≤ length es
-weight-Stands hash nonce nodes records Nothing p b es s = omega arith
-weight-Stands hash nonce nodes records (Entry c) p b es s = omega (arith, ap length s)
-weight-Stands hash nonce nodes records (Kept root) p b es s = s.1 (omega (arith, length-child p b))
-weight-Stands hash nonce nodes records (Made' ptr d lh rh count left right) p b es s = s.many
+pub weight-Stands : (by : Hashing) (t : Table) (part : Part) (p : List Bool) (b : Bool) (es : List Numbered)
+    → Stands by t part (child p b) es → weight_of part ≤ length es
+weight-Stands by t Nothing p b es s = omega arith
+weight-Stands by t (Entry c) p b es s = omega (arith, ap length s)
+weight-Stands by t (Kept root) p b es s = s.1 (omega (arith, length-child p b))
+weight-Stands by t (Made' ptr d lh rh count left right) p b es s = s.many
 
-pub join_many : (hash : List ℕ → List ℕ) (nonce : List ℕ) (nodes : List Node) (records : List Record) (left right : Part) (p : List Bool) (es : List Numbered) → 2 ≤ weight_of left + weight_of right
-    → Stands hash nonce nodes records left (child p false) (half false (length p) es) → Stands hash nonce nodes records right (child p true) (half true (length p) es) → 2 ≤ length es
-join_many hash nonce nodes records left right p es heavy sl sr =
-    omega (arith, length-halves (length p) es, weight-Stands hash nonce nodes records left p false _ sl, weight-Stands hash nonce nodes records right p true _ sr)
+pub join_many : (by : Hashing) (t : Table) (left right : Part) (p : List Bool) (es : List Numbered) → 2 ≤ weight_of left + weight_of right
+    → Stands by t left (child p false) (half false (length p) es) → Stands by t right (child p true) (half true (length p) es) → 2 ≤ length es
+join_many by t left right p es heavy sl sr =
+    omega (arith, length-halves (length p) es, weight-Stands by t left p false _ sl, weight-Stands by t right p true _ sr)
 
-pub join_left : (hash : List ℕ → List ℕ) (nonce : List ℕ) (nodes : List Node) (records : List Record) (left right : Part) (p : List Bool) (es : List Numbered)
+pub join_left : (by : Hashing) (t : Table) (left right : Part) (p : List Bool) (es : List Numbered)
     → weight_of left ≡ 1 → weight_of right ≡ 0
-    → Stands hash nonce nodes records left (child p false) (half false (length p) es)
-    → Stands hash nonce nodes records right (child p true) (half true (length p) es) → Stands hash nonce nodes records left p es
-join_left hash nonce nodes records (Entry c) Nothing p es one none sl sr = sym (all_left (length p) es sr) ∙ sl
-join_left hash nonce nodes records Nothing right p es one none sl sr = absurd (omega arith)
-join_left hash nonce nodes records (Kept root) right p es one none sl sr = absurd (omega arith)
-join_left hash nonce nodes records (Made' ptr d lh rh count l r) right p es one none sl sr = absurd (omega arith)
-join_left hash nonce nodes records (Entry c) (Entry c') p es one none sl sr = absurd (omega arith)
-join_left hash nonce nodes records (Entry c) (Kept root) p es one none sl sr = absurd (omega arith)
-join_left hash nonce nodes records (Entry c) (Made' ptr d lh rh count l r) p es one none sl sr = absurd (omega arith)
+    → Stands by t left (child p false) (half false (length p) es)
+    → Stands by t right (child p true) (half true (length p) es) → Stands by t left p es
+join_left by t (Entry c) Nothing p es one none sl sr = sym (all_left (length p) es sr) ∙ sl
+join_left by t Nothing right p es one none sl sr = absurd (omega arith)
+join_left by t (Kept root) right p es one none sl sr = absurd (omega arith)
+join_left by t (Made' ptr d lh rh count l r) right p es one none sl sr = absurd (omega arith)
+join_left by t (Entry c) (Entry c') p es one none sl sr = absurd (omega arith)
+join_left by t (Entry c) (Kept root) p es one none sl sr = absurd (omega arith)
+join_left by t (Entry c) (Made' ptr d lh rh count l r) p es one none sl sr = absurd (omega arith)
 
-pub join_right : (hash : List ℕ → List ℕ) (nonce : List ℕ) (nodes : List Node) (records : List Record) (left right : Part) (p : List Bool) (es : List Numbered)
+pub join_right : (by : Hashing) (t : Table) (left right : Part) (p : List Bool) (es : List Numbered)
     → weight_of left ≡ 0 → weight_of right ≤ 1
-    → Stands hash nonce nodes records left (child p false) (half false (length p) es)
-    → Stands hash nonce nodes records right (child p true) (half true (length p) es) → Stands hash nonce nodes records right p es
-join_right hash nonce nodes records Nothing Nothing p es none few sl sr = sym (all_right (length p) es sl) ∙ sr
-join_right hash nonce nodes records Nothing (Entry c) p es none few sl sr = sym (all_right (length p) es sl) ∙ sr
-join_right hash nonce nodes records Nothing (Kept root) p es none few sl sr = absurd (omega arith)
-join_right hash nonce nodes records Nothing (Made' ptr d lh rh count l r) p es none few sl sr = absurd (omega arith)
-join_right hash nonce nodes records (Entry c) right p es none few sl sr = absurd (omega arith)
-join_right hash nonce nodes records (Kept root) right p es none few sl sr = absurd (omega arith)
-join_right hash nonce nodes records (Made' ptr d lh rh count l r) right p es none few sl sr = absurd (omega arith)
+    → Stands by t left (child p false) (half false (length p) es)
+    → Stands by t right (child p true) (half true (length p) es) → Stands by t right p es
+join_right by t Nothing Nothing p es none few sl sr = sym (all_right (length p) es sl) ∙ sr
+join_right by t Nothing (Entry c) p es none few sl sr = sym (all_right (length p) es sl) ∙ sr
+join_right by t Nothing (Kept root) p es none few sl sr = absurd (omega arith)
+join_right by t Nothing (Made' ptr d lh rh count l r) p es none few sl sr = absurd (omega arith)
+join_right by t (Entry c) right p es none few sl sr = absurd (omega arith)
+join_right by t (Kept root) right p es none few sl sr = absurd (omega arith)
+join_right by t (Made' ptr d lh rh count l r) right p es none few sl sr = absurd (omega arith)
 
 -- a part of no more than one entry fits above
 pub Fits-above : (n level : ℕ) (part : Part) → level < 256 → weight_of part ≤ 1 → Fits n level part
@@ -94,17 +95,17 @@ Fits-above n level (Kept root) short few = absurd (omega arith)
 Fits-above n level (Made' ptr d lh rh count l r) short few = absurd (omega arith)
 
 -- a change that leaves no other entry
-pub replaced-Nothing : (hash : List ℕ → List ℕ) (nonce : List ℕ) (nodes : List Node) (records : List Record) (part : Part) (p : List Bool) (es : List Numbered) (new : Numbered)
-    → part ≡ Nothing → Stands hash nonce nodes records part p es → overwritten es (new ∷ []) ≡ new ∷ []
-replaced-Nothing hash nonce nodes records part p es new is s =
-    let none : es ≡ [] = subst (λ q. Stands hash nonce nodes records q p es) is s in
+pub replaced-Nothing : (by : Hashing) (t : Table) (part : Part) (p : List Bool) (es : List Numbered) (new : Numbered)
+    → part ≡ Nothing → Stands by t part p es → overwritten es (new ∷ []) ≡ new ∷ []
+replaced-Nothing by t part p es new is s =
+    let none : es ≡ [] = subst (λ q. Stands by t q p es) is s in
     ap (λ xs. overwritten xs (new ∷ [])) none ∙ overwritten-empty (new ∷ [])
 
-pub replaced-Entry : (hash : List ℕ → List ℕ) (nonce : List ℕ) (nodes : List Node) (records : List Record)
+pub replaced-Entry : (by : Hashing) (t : Table)
     (part : Part) (p : List Bool) (es : List Numbered) (new : Numbered) (c : Change) (index : List ℕ) (same : Bool)
-    → part ≡ Entry c → Stands hash nonce nodes records part p es → new.index ≡ index → same ≡ bytes_eq index c.index.0 → same ≡ true → overwritten es (new ∷ []) ≡ new ∷ []
-replaced-Entry hash nonce nodes records part p es new c index same is s new-is same-is true-is =
-    let one : es ≡ entry_of_change c ∷ [] = subst (λ q. Stands hash nonce nodes records q p es) is s in
+    → part ≡ Entry c → Stands by t part p es → new.index ≡ index → same ≡ bytes_eq index c.index.0 → same ≡ true → overwritten es (new ∷ []) ≡ new ∷ []
+replaced-Entry by t part p es new c index same is s new-is same-is true-is =
+    let one : es ≡ entry_of_change c ∷ [] = subst (λ q. Stands by t q p es) is s in
     ap (λ xs. overwritten xs (new ∷ [])) one ∙ overwritten-same (entry_of_change c) new (ap (λ i. bytes_eq i c.index.0) new-is ∙ sym same-is ∙ true-is)
 
 -- the changes with the first one named
@@ -147,17 +148,17 @@ split_side true k es s = s.right
 split_side false k es s = s.left
 
 -- one side of what grows: its changes and what it becomes
-record IsReady (hash : List ℕ → List ℕ) (nonce : List ℕ) (nodes : List Node) (records : List Record) (before : Part) (b : Bool) (p q : List Bool) (es cs some : List Numbered) : Type 0 where
+record IsReady (by : Hashing) (t : Table) (before : Part) (b : Bool) (p q : List Bool) (es cs some : List Numbered) : Type 0 where
   deeper : suc (length p) ≡ length q
   whole : half b (length p) (overwritten es cs) ≡ overwritten (half b (length p) es) some
   ordered : AreInOrder (length q) some
   apart : AreApart (length q) (overwritten (half b (length p) es) some)
-  stands : Stands hash nonce nodes records before q (half b (length p) es)
+  stands : Stands by t before q (half b (length p) es)
 
-ready : (hash : List ℕ → List ℕ) (nonce : List ℕ) (nodes : List Node) (records : List Record) (before : Part) (b : Bool) (p q : List Bool) (es cs some : List Numbered)
+ready : (by : Hashing) (t : Table) (before : Part) (b : Bool) (p q : List Bool) (es cs some : List Numbered)
     → q ≡ child p b → length p < 256 → some ≡ half b (length p) cs → AreInOrder (length p) cs → AreApart (length p) (overwritten es cs)
-    → Stands hash nonce nodes records before (child p b) (half b (length p) es) → IsReady hash nonce nodes records before b p q es cs some
-ready hash nonce nodes records before b p q es cs some q-is short some-is ordered apart s =
+    → Stands by t before (child p b) (half b (length p) es) → IsReady by t before b p q es cs some
+ready by t before b p q es cs some q-is short some-is ordered apart s =
     let deeper : suc (length p) ≡ length q = sym (ap length q-is ∙ length-child p b) in
     let whole : half b (length p) (overwritten es cs) ≡ overwritten (half b (length p) es) some = half-overwritten b (length p) es cs ∙ ap (overwritten (half b (length p) es)) (sym some-is) in
     record {
@@ -166,30 +167,30 @@ ready hash nonce nodes records before b p q es cs some q-is short some-is ordere
       ordered = subst (λ k. AreInOrder k some) deeper (subst (AreInOrder (suc (length p))) (sym some-is) (split_side b (length p) cs (in_order-split (length p) cs short ordered)));
       apart = subst (λ k. AreApart k (overwritten (half b (length p) es) some)) deeper
           (subst (AreApart (suc (length p))) whole (apart-halves b (length p) (overwritten es cs) short apart));
-      stands = subst (λ z. Stands hash nonce nodes records before z (half b (length p) es)) (sym q-is) s;
+      stands = subst (λ z. Stands by t before z (half b (length p) es)) (sym q-is) s;
     }
 
 -- one side of a part that grew
-pub grown_side : (hash : List ℕ → List ℕ) (nonce : List ℕ) (nodes : List Node) (records : List Record) (before after : Part) (b : Bool) (p q : List Bool) (es cs : List Numbered) (some : List Numbered)
+pub grown_side : (by : Hashing) (t : Table) (before after : Part) (b : Bool) (p q : List Bool) (es cs : List Numbered) (some : List Numbered)
     → q ≡ child p b → length p < 256 → some ≡ half b (length p) cs → AreInOrder (length p) cs → AreApart (length p) (overwritten es cs)
     → (AreInOrder (length q) some → AreApart (length q) (overwritten (half b (length p) es) some)
-    → Stands hash nonce nodes records before q (half b (length p) es) → Stands hash nonce nodes records after q (overwritten (half b (length p) es) some))
-    → Stands hash nonce nodes records before (child p b) (half b (length p) es)
-    → Stands hash nonce nodes records after (child p b) (half b (length p) (overwritten es cs))
-grown_side hash nonce nodes records before after b p q es cs some q-is short some-is ordered apart grown s =
-    let side = ready hash nonce nodes records before b p q es cs some q-is short some-is ordered apart s in
-    subst (λ z. Stands hash nonce nodes records after z (half b (length p) (overwritten es cs))) q-is
-    (subst (Stands hash nonce nodes records after q) (sym side.whole) (grown side.ordered side.apart side.stands))
+    → Stands by t before q (half b (length p) es) → Stands by t after q (overwritten (half b (length p) es) some))
+    → Stands by t before (child p b) (half b (length p) es)
+    → Stands by t after (child p b) (half b (length p) (overwritten es cs))
+grown_side by t before after b p q es cs some q-is short some-is ordered apart grown s =
+    let side = ready by t before b p q es cs some q-is short some-is ordered apart s in
+    subst (λ z. Stands by t after z (half b (length p) (overwritten es cs))) q-is
+    (subst (Stands by t after q) (sym side.whole) (grown side.ordered side.apart side.stands))
 
 -- how many nodes of one side are new
-pub new_side : (hash : List ℕ → List ℕ) (nonce : List ℕ) (nodes : List Node) (records : List Record) (before : Part) (n : ℕ) (b : Bool) (p q : List Bool) (es cs some : List Numbered)
+pub new_side : (by : Hashing) (t : Table) (before : Part) (n : ℕ) (b : Bool) (p q : List Bool) (es cs some : List Numbered)
     → q ≡ child p b → length p < 256 → some ≡ half b (length p) cs → AreInOrder (length p) cs → AreApart (length p) (overwritten es cs)
     → (AreInOrder (length q) some → AreApart (length q) (overwritten (half b (length p) es) some)
-    → Stands hash nonce nodes records before q (half b (length p) es) → n ≡ new_nodes (length q) (half b (length p) es) some)
-    → Stands hash nonce nodes records before (child p b) (half b (length p) es)
+    → Stands by t before q (half b (length p) es) → n ≡ new_nodes (length q) (half b (length p) es) some)
+    → Stands by t before (child p b) (half b (length p) es)
     → n ≡ new_nodes (suc (length p)) (half b (length p) es) (half b (length p) cs)
-new_side hash nonce nodes records before n b p q es cs some q-is short some-is ordered apart new s =
-    let side = ready hash nonce nodes records before b p q es cs some q-is short some-is ordered apart s in
+new_side by t before n b p q es cs some q-is short some-is ordered apart new s =
+    let side = ready by t before b p q es cs some q-is short some-is ordered apart s in
     subst (λ xs. n ≡ new_nodes (suc (length p)) (half b (length p) es) xs) some-is
     (subst (λ k. n ≡ new_nodes k (half b (length p) es) some) (sym side.deeper) (new side.ordered side.apart side.stands))
 
@@ -222,18 +223,18 @@ count_grown left left' right right' level l r all joined short old-l old-r all-i
     (subst (λ z. joined ≤ 1 + 2 * (((255 - level) + 1) * z)) all-is (count_sum (255 - level) l r (node_count left') (node_count right') joined a b join (omega arith)))
 
 -- the prefix and the entries one level down
-pub down : (hash : List ℕ → List ℕ) (nonce : List ℕ) (nodes : List Node) (records : List Record) (part : Part) (prefix : List Bool) (level : ℕ) (b : Bool) (es : List Numbered)
-    → slice_get prefix level ≡ Some b → Stands hash nonce nodes records part (child (take level prefix) b) (half b level (under (take level prefix) es))
-    → Stands hash nonce nodes records part (take (level + 1) prefix) (under (take (level + 1) prefix) es)
-down hash nonce nodes records part prefix level b es at s =
+pub down : (by : Hashing) (t : Table) (part : Part) (prefix : List Bool) (level : ℕ) (b : Bool) (es : List Numbered)
+    → slice_get prefix level ≡ Some b → Stands by t part (child (take level prefix) b) (half b level (under (take level prefix) es))
+    → Stands by t part (take (level + 1) prefix) (under (take (level + 1) prefix) es)
+down by t part prefix level b es at s =
     let within = slice_get_within prefix level b at in
     let longer : take (level + 1) prefix ≡ child (take level prefix) b =
     take_more prefix level b within ∙ ap (λ x. take level prefix ++ x ∷ []) (get_or_from_slice_get prefix level b b at) in
     let sized : length (take level prefix) ≡ level = length-take-le level prefix (omega arith) in
     let below : under (take (level + 1) prefix) es ≡ half b level (under (take level prefix) es) =
     ap (λ q. under q es) longer ∙ under-child (take level prefix) b es ∙ ap (λ k. half b k (under (take level prefix) es)) sized in
-    subst (λ q. Stands hash nonce nodes records part q (under (take (level + 1) prefix) es)) (sym longer)
-    (subst (Stands hash nonce nodes records part (child (take level prefix) b)) (sym below) s)
+    subst (λ q. Stands by t part q (under (take (level + 1) prefix) es)) (sym longer)
+    (subst (Stands by t part (child (take level prefix) b)) (sym below) s)
 
 pub AllPlaced-take : (all : List Record) (n : ℕ) (cs : List Change) → AllPlaced all cs → AllPlaced all (take n cs)
 AllPlaced-take all zero cs placed = tt

@@ -3,11 +3,12 @@ use Rattle.std.proofs.Common.{◌≡◌, ℕ, zero, suc, ◌+◌, ◌≤◌, Lis
 use Rattle.coniks_proof.specs.Bits.{bit_at, child}
 use Rattle.coniks_proof.specs.Entries.{Entry, backed_by, half}
 use Rattle.coniks_proof.specs.Changes.{ApartWithin, AreApart}
+use Rattle.coniks_proof.specs.Hashing.{Hashing}
 use Rattle.coniks_proof.specs.Registry.{Registered}
 use Rattle.coniks_proof.specs.Paths.{siblings, end_of}
 use Rattle.coniks_proof.proofs.Lemmas.{end_of-empty, end_of-in, end_of-inner, end_of-leaf, end_of-present, length-child, length-halves, siblings-empty, siblings-inner, siblings-leaf}
 use Rattle.coniks_proof.specs.declared.values.Digest.{Digest}
-use Rattle.coniks_tree.specs.Table.{Numbered, registered_at, registered_by, Shows, shows_empty, shows_leaf, shows_inner, hash_of_node, entry_of_record}
+use Rattle.coniks_tree.specs.Table.{Numbered, registered_at, registered_by, Shows, shows_empty, shows_leaf, shows_inner, hash_of_node, entry_of_record, Table}
 use Rattle.coniks_tree.specs.Paths.{Finds, IsAt, IsStep, PathStopsAt}
 use Rattle.coniks_tree.proofs.TableLemmas.{Shows-hash}
 use Rattle.coniks_tree.specs.declared.table.Node.{Node}
@@ -17,67 +18,66 @@ use Rattle.coniks_tree.specs.declared.table.RecordNo.{RecordNo}
 use Rattle.coniks_tree.specs.declared.path.Stop.{Stop}
 use Rattle.coniks_tree.specs.declared.path.Stop.TheVariants.{Empty, Other, Here}
 
-pub step_left : (hash : List ℕ → List ℕ) (nonce : List ℕ) (nodes : List Node) (records : List Record) (b : Bool) (p : List Bool) (es : List Numbered) (n l r : ℕ) (d x : Digest) (v : Node)
-    → b ≡ false → slice_get nodes n ≡ Some (Inner l r d) → slice_get nodes r ≡ Some v → x ≡ hash_of_node v → Shows hash nonce nodes records n p es → IsStep hash nonce nodes records b p es l x
-step_left hash nonce nodes records b _ _ _ l r d x v b-is at beside x-is (shows_empty n p es d' at' none is) = cc
-step_left hash nonce nodes records b _ _ _ l r d x v b-is at beside x-is (shows_leaf n p es d' place rec at' stored one is) = cc
-step_left hash nonce nodes records b _ _ _ l r d x v b-is at beside x-is (shows_inner n p es d' l' r' at' short many is left right) =
+pub step_left : (by : Hashing) (t : Table) (b : Bool) (p : List Bool) (es : List Numbered) (n l r : ℕ) (d x : Digest) (v : Node)
+    → b ≡ false → slice_get t.nodes n ≡ Some (Inner l r d) → slice_get t.nodes r ≡ Some v → x ≡ hash_of_node v → Shows by t n p es → IsStep by t b p es l x
+step_left by t b _ _ _ l r d x v b-is at beside x-is (shows_empty n p es d' at' none is) = cc
+step_left by t b _ _ _ l r d x v b-is at beside x-is (shows_leaf n p es d' place rec at' stored one is) = cc
+step_left by t b _ _ _ l r d x v b-is at beside x-is (shows_inner n p es d' l' r' at' short many is left right) =
     let l-is : l' ≡ l = cc in
     let r-is : r' ≡ r = cc in
-    subst (λ c. IsStep hash nonce nodes records c p es l x) (sym b-is) (record {
+    subst (λ c. IsStep by t c p es l x) (sym b-is) (record {
       many = many;
       short = short;
-      beside = ap (λ w. w.0) x-is ∙ Shows-hash hash nonce nodes records r (child p true) _ v (subst (λ k. Shows hash nonce nodes records k (child p true) (half true (length p) es)) r-is right) beside;
-      shows = subst (λ k. Shows hash nonce nodes records k (child p false) (half false (length p) es)) l-is left;
+      beside = ap (λ w. w.0) x-is ∙ Shows-hash by t r (child p true) _ v (subst (λ k. Shows by t k (child p true) (half true (length p) es)) r-is right) beside;
+      shows = subst (λ k. Shows by t k (child p false) (half false (length p) es)) l-is left;
     })
 
 -- the record behind a leaf
-pub Shows-record : (hash : List ℕ → List ℕ) (nonce : List ℕ) (nodes : List Node) (records : List Record) (p : List Bool) (es : List Numbered) (n : ℕ) (place : RecordNo) (d : Digest) (r : Record)
-    → slice_get nodes n ≡ Some (Leaf place d) → slice_get records place.0 ≡ Some r → Shows hash nonce nodes records n p es → es ≡ entry_of_record place.0 r ∷ []
-Shows-record hash nonce nodes records _ _ _ place d r at here (shows_empty n p es d' at' none is) = cc
-Shows-record hash nonce nodes records _ _ _ place d r at here (shows_inner n p es d' l' r' at' short many is left right) = cc
-Shows-record hash nonce nodes records _ _ _ place d r at here (shows_leaf n p es d' place' r' at' stored one is) =
+pub Shows-record : (by : Hashing) (t : Table) (p : List Bool) (es : List Numbered) (n : ℕ) (place : RecordNo) (d : Digest) (r : Record)
+    → slice_get t.nodes n ≡ Some (Leaf place d) → slice_get t.records place.0 ≡ Some r → Shows by t n p es → es ≡ entry_of_record place.0 r ∷ []
+Shows-record by t _ _ _ place d r at here (shows_empty n p es d' at' none is) = cc
+Shows-record by t _ _ _ place d r at here (shows_inner n p es d' l' r' at' short many is left right) = cc
+Shows-record by t _ _ _ place d r at here (shows_leaf n p es d' place' r' at' stored one is) =
     let place-is : place' ≡ place = cc in
-    let stored' : slice_get records place.0 ≡ Some r' = subst (λ q. slice_get records q.0 ≡ Some r') place-is stored in
+    let stored' : slice_get t.records place.0 ≡ Some r' = subst (λ q. slice_get t.records q.0 ≡ Some r') place-is stored in
     let same : r' ≡ r = cc in
     one ∙ ap (λ (q : RecordNo). entry_of_record q.0 r' ∷ []) place-is ∙ ap (λ q. entry_of_record place.0 q ∷ []) same
 
 -- a way from the root, as far as it has come
-pub record OnWay (hash : List ℕ → List ℕ) (nonce : List ℕ) (nodes : List Node) (records : List Record)
-    (index : List ℕ) (entries : List Numbered) (so_far : List (List ℕ)) (number level : ℕ) : Type 0 where
+pub record OnWay (by : Hashing) (t : Table) (index : List ℕ) (entries : List Numbered) (so_far : List (List ℕ)) (number level : ℕ) : Type 0 where
   pub prefix : List Bool
   pub below : List Numbered
   pub at : length prefix ≡ level
-  pub shows : Shows hash nonce nodes records number prefix below
-  pub told : so_far ++ siblings hash nonce prefix index below ≡ siblings hash nonce [] index entries
+  pub shows : Shows by t number prefix below
+  pub told : so_far ++ siblings by prefix index below ≡ siblings by [] index entries
   pub ends : end_of prefix index below ≡ end_of [] index entries
 
-pub way_begins : (hash : List ℕ → List ℕ) (nonce : List ℕ) (nodes : List Node) (records : List Record) (index : List ℕ) (entries : List Numbered) (number : ℕ)
-    → Shows hash nonce nodes records number [] entries → OnWay hash nonce nodes records index entries [] number 0
-way_begins hash nonce nodes records index entries number s = record { prefix = []; below = entries; at = refl; shows = s; told = refl; ends = refl }
+pub way_begins : (by : Hashing) (t : Table) (index : List ℕ) (entries : List Numbered) (number : ℕ)
+    → Shows by t number [] entries → OnWay by t index entries [] number 0
+way_begins by t index entries number s = record { prefix = []; below = entries; at = refl; shows = s; told = refl; ends = refl }
 
-pub way_goes_on : (hash : List ℕ → List ℕ) (nonce : List ℕ) (nodes : List Node) (records : List Record)
+pub way_goes_on : (by : Hashing) (t : Table)
     (index : List ℕ) (entries : List Numbered) (so_far : List (List ℕ)) (number near level : ℕ) (sibling : Digest)
-    → (w : OnWay hash nonce nodes records index entries so_far number level) → IsStep hash nonce nodes records (bit_at index level) w.prefix w.below near sibling
-    → OnWay hash nonce nodes records index entries (so_far ++ sibling.0 ∷ []) near (level + 1)
-way_goes_on hash nonce nodes records index entries so_far number near level sibling w s =
+    → (w : OnWay by t index entries so_far number level) → IsStep by t (bit_at index level) w.prefix w.below near sibling
+    → OnWay by t index entries (so_far ++ sibling.0 ∷ []) near (level + 1)
+way_goes_on by t index entries so_far number near level sibling w s =
     let b = bit_at index level in
     let b-is : bit_at index (length w.prefix) ≡ b = ap (bit_at index) w.at in
-    let told = siblings-inner hash nonce w.prefix index w.below b b-is s.short s.many in
+    let told = siblings-inner by w.prefix index w.below b b-is s.short s.many in
     record {
       prefix = child w.prefix b;
       below = half b (length w.prefix) w.below;
       at = omega (arith, length-child w.prefix b, w.at);
       shows = s.shows;
-      told = append_assoc so_far (sibling.0 ∷ []) _ ∙ ap (λ x. so_far ++ x ∷ siblings hash nonce (child w.prefix b) index (half b (length w.prefix) w.below))
+      told = append_assoc so_far (sibling.0 ∷ []) _ ∙ ap (λ x. so_far ++ x ∷ siblings by (child w.prefix b) index (half b (length w.prefix) w.below))
           s.beside ∙ ap (λ xs. so_far ++ xs) (sym told) ∙ w.told;
       ends = sym (end_of-inner w.prefix index w.below b b-is s.short s.many) ∙ w.ends;
     }
 
-siblings-few : (hash : List ℕ → List ℕ) (nonce : List ℕ) (p : List Bool) (j : List ℕ) (es : List Numbered) → length es ≤ 1 → siblings hash nonce p j es ≡ []
-siblings-few hash nonce p j [] few = siblings-empty ℕ hash nonce p j
-siblings-few hash nonce p j (e ∷ []) few = siblings-leaf hash nonce p j e
-siblings-few hash nonce p j (e ∷ f ∷ es) few = absurd (omega arith)
+siblings-few : (by : Hashing) (p : List Bool) (j : List ℕ) (es : List Numbered) → length es ≤ 1 → siblings by p j es ≡ []
+siblings-few by p j [] few = siblings-empty ℕ by p j
+siblings-few by p j (e ∷ []) few = siblings-leaf by p j e
+siblings-few by p j (e ∷ f ∷ es) few = absurd (omega arith)
 
 end_of-few : (p : List Bool) (j : List ℕ) (es : List Numbered) → length es ≤ 1 → end_of p j es ≡ es
 end_of-few p j [] few = end_of-empty p j
@@ -85,21 +85,21 @@ end_of-few p j (e ∷ []) few = end_of-leaf p j e
 end_of-few p j (e ∷ f ∷ es) few = absurd (omega arith)
 
 -- at the end of the way the path is whole
-pub way_told : (hash : List ℕ → List ℕ) (nonce : List ℕ) (nodes : List Node) (records : List Record) (index : List ℕ) (entries : List Numbered) (so_far : List (List ℕ)) (number level : ℕ)
-    → (w : OnWay hash nonce nodes records index entries so_far number level) → length w.below ≤ 1 → so_far ≡ siblings hash nonce [] index entries
-way_told hash nonce nodes records index entries so_far number level w few =
-    sym (append-nil so_far) ∙ ap (λ xs. so_far ++ xs) (sym (siblings-few hash nonce w.prefix index w.below few)) ∙ w.told
+pub way_told : (by : Hashing) (t : Table) (index : List ℕ) (entries : List Numbered) (so_far : List (List ℕ)) (number level : ℕ)
+    → (w : OnWay by t index entries so_far number level) → length w.below ≤ 1 → so_far ≡ siblings by [] index entries
+way_told by t index entries so_far number level w few =
+    sym (append-nil so_far) ∙ ap (λ xs. so_far ++ xs) (sym (siblings-few by w.prefix index w.below few)) ∙ w.told
 
-pub way_ends : (hash : List ℕ → List ℕ) (nonce : List ℕ) (nodes : List Node) (records : List Record) (index : List ℕ) (entries : List Numbered) (so_far : List (List ℕ)) (number level : ℕ)
-    → (w : OnWay hash nonce nodes records index entries so_far number level) → length w.below ≤ 1 → w.below ≡ end_of [] index entries
-way_ends hash nonce nodes records index entries so_far number level w few = sym (end_of-few w.prefix index w.below few) ∙ w.ends
+pub way_ends : (by : Hashing) (t : Table) (index : List ℕ) (entries : List Numbered) (so_far : List (List ℕ)) (number level : ℕ)
+    → (w : OnWay by t index entries so_far number level) → length w.below ≤ 1 → w.below ≡ end_of [] index entries
+way_ends by t index entries so_far number level w few = sym (end_of-few w.prefix index w.below few) ∙ w.ends
 
-pub way_last : (hash : List ℕ → List ℕ) (nonce : List ℕ) (nodes : List Node) (records : List Record) (index : List ℕ) (entries : List Numbered) (so_far : List (List ℕ)) (number level : ℕ)
-    → (w : OnWay hash nonce nodes records index entries so_far number level) → length w.below ≤ 1
-    → (p : List Bool) × Shows hash nonce nodes records number p (end_of [] index entries) × (length (end_of [] index entries) ≤ 1)
-way_last hash nonce nodes records index entries so_far number level w few =
-    let same = way_ends hash nonce nodes records index entries so_far number level w few in
-    (w.prefix, subst (Shows hash nonce nodes records number w.prefix) same w.shows, subst (λ es. length es ≤ 1) same few)
+pub way_last : (by : Hashing) (t : Table) (index : List ℕ) (entries : List Numbered) (so_far : List (List ℕ)) (number level : ℕ)
+    → (w : OnWay by t index entries so_far number level) → length w.below ≤ 1
+    → (p : List Bool) × Shows by t number p (end_of [] index entries) × (length (end_of [] index entries) ≤ 1)
+way_last by t index entries so_far number level w few =
+    let same = way_ends by t index entries so_far number level w few in
+    (w.prefix, subst (Shows by t number w.prefix) same w.shows, subst (λ es. length es ≤ 1) same few)
 
 -- what the end of a path shows of a record
 pub here_shown : (records : List Record) (index : List ℕ) (entries : List Numbered) (place : RecordNo) (found : Record) (name key : List ℕ)
@@ -122,23 +122,21 @@ apart-few (suc h) k es few =
     (apart-few h (suc k) (half false k es) (omega (arith, all, few)), apart-few h (suc k) (half true k es) (omega (arith, all, few)))
 
 -- the entries that a node shows part within the bits below it
-shown_within : (hash : List ℕ → List ℕ) (nonce : List ℕ) (nodes : List Node) (records : List Record) (h n : ℕ) (p : List Bool) (es : List Numbered)
-    → length p + h ≡ 256 → Shows hash nonce nodes records n p es → ApartWithin h (length p) es
+shown_within : (by : Hashing) (t : Table) (h n : ℕ) (p : List Bool) (es : List Numbered) → length p + h ≡ 256 → Shows by t n p es → ApartWithin h (length p) es
 unfolding ApartWithin
-shown_within hash nonce nodes records h _ _ _ full (shows_empty n p es d at none is) = apart-few h (length p) es (omega (arith, ap length none))
-shown_within hash nonce nodes records h _ _ _ full (shows_leaf n p es d place r at stored one is) = apart-few h (length p) es (omega (arith, ap length one))
-shown_within hash nonce nodes records zero _ _ _ full (shows_inner n p es d l r at short many is left right) = absurd (omega arith)
-shown_within hash nonce nodes records (suc h) _ _ _ full (shows_inner n p es d l r at short many is left right) =
+shown_within by t h _ _ _ full (shows_empty n p es d at none is) = apart-few h (length p) es (omega (arith, ap length none))
+shown_within by t h _ _ _ full (shows_leaf n p es d place r at stored one is) = apart-few h (length p) es (omega (arith, ap length one))
+shown_within by t zero _ _ _ full (shows_inner n p es d l r at short many is left right) = absurd (omega arith)
+shown_within by t (suc h) _ _ _ full (shows_inner n p es d l r at short many is left right) =
     let deeper : (b : Bool) → length (child p b) ≡ suc (length p) = λ b. omega (arith, length-child p b) in (
-      subst (λ k. ApartWithin h k (half false (length p) es)) (deeper false) (shown_within hash nonce nodes records h l (child p false) _ (omega (arith, deeper false)) left),
-      subst (λ k. ApartWithin h k (half true (length p) es)) (deeper true) (shown_within hash nonce nodes records h r (child p true) _ (omega (arith, deeper true)) right),
+      subst (λ k. ApartWithin h k (half false (length p) es)) (deeper false) (shown_within by t h l (child p false) _ (omega (arith, deeper false)) left),
+      subst (λ k. ApartWithin h k (half true (length p) es)) (deeper true) (shown_within by t h r (child p true) _ (omega (arith, deeper true)) right),
     )
 
 -- no two of the entries that a root shows have the same bits
-pub Shows-apart : (hash : List ℕ → List ℕ) (nonce : List ℕ) (nodes : List Node) (records : List Record) (n : ℕ) (es : List Numbered)
-    → Shows hash nonce nodes records n [] es → AreApart 0 es
+pub Shows-apart : (by : Hashing) (t : Table) (n : ℕ) (es : List Numbered) → Shows by t n [] es → AreApart 0 es
 unfolding AreApart
-Shows-apart hash nonce nodes records n es s = shown_within hash nonce nodes records 256 n [] es refl s
+Shows-apart by t n es s = shown_within by t 256 n [] es refl s
 
 -- the record that the way stops at
 abbrev pub found_at : Stop → Option RecordNo

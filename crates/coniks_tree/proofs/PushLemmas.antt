@@ -3,9 +3,10 @@ use Rattle.std.proofs.Common.{◌≡◌, ℕ, zero, suc, ◌<◌, ◌≤◌, Lis
 use Rattle.coniks_proof.specs.Bits.{child}
 use Rattle.coniks_proof.specs.Entries.{half}
 use Rattle.coniks_proof.specs.Tree.{node}
-use Rattle.coniks_tree.specs.Table.{Numbered, NodeFits, Shows, shows_inner, IsTable, Extends}
+use Rattle.coniks_tree.specs.Table.{Numbered, NodeFits, Shows, shows_inner, IsLinked, Extends, Table, table}
 use Rattle.coniks_tree.specs.Parts.{Stands, IsSubtree, Fits, entry_of_change}
 use Rattle.coniks_proof.specs.Bits.{turns}
+use Rattle.coniks_proof.specs.Hashing.{Hashing}
 use Rattle.coniks_proof.specs.Maps.{IsMap, SameEntries}
 use Rattle.coniks_proof.proofs.Lemmas.{IsMap-filter, SameEntries-filter, node-same, same_as_none, same_as_one}
 use Rattle.coniks_tree.proofs.TableLemmas.{Shows-extended, Shows-same, many_in}
@@ -34,17 +35,17 @@ Fits-more n m level (Entry c) more f = f
 Fits-more n m level (Kept root) more f = omega arith
 Fits-more n m level (Made' ptr d lh rh count l r) more f = (f.0, f.1, Fits-more n m (suc level) l more f.2, Fits-more n m (suc level) r more f.3)
 
-pub Stands-extended : (hash : List ℕ → List ℕ) (nonce : List ℕ) (nodes nodes' : List Node) (records : List Record) → Extends nodes nodes' → (part : Part) (p : List Bool) (es : List Numbered)
-    → Stands hash nonce nodes records part p es → Stands hash nonce nodes' records part p es
-Stands-extended hash nonce nodes nodes' records more Nothing p es s = s
-Stands-extended hash nonce nodes nodes' records more (Entry c) p es s = s
-Stands-extended hash nonce nodes nodes' records more (Kept root) p es s = (Shows-extended hash nonce nodes nodes' records records more (λ k v at. at) root.0 p es s.0, s.1)
-Stands-extended hash nonce nodes nodes' records more (Made' ptr d lh rh count l r) p es s =
+pub Stands-extended : (by : Hashing) (nodes nodes' : List Node) (records : List Record) → Extends nodes nodes' → (part : Part) (p : List Bool) (es : List Numbered)
+    → Stands by (table nodes records) part p es → Stands by (table nodes' records) part p es
+Stands-extended by nodes nodes' records more Nothing p es s = s
+Stands-extended by nodes nodes' records more (Entry c) p es s = s
+Stands-extended by nodes nodes' records more (Kept root) p es s = (Shows-extended by (table nodes records) (table nodes' records) more (λ k v at. at) root.0 p es s.0, s.1)
+Stands-extended by nodes nodes' records more (Made' ptr d lh rh count l r) p es s =
     record {
       many = s.many;
       is_hash = s.is_hash;
-      left = record { is_hash = s.left.is_hash; stands = Stands-extended hash nonce nodes nodes' records more l (child p false) _ s.left.stands };
-      right = record { is_hash = s.right.is_hash; stands = Stands-extended hash nonce nodes nodes' records more r (child p true) _ s.right.stands };
+      left = record { is_hash = s.left.is_hash; stands = Stands-extended by nodes nodes' records more l (child p false) _ s.left.stands };
+      right = record { is_hash = s.right.is_hash; stands = Stands-extended by nodes nodes' records more r (child p true) _ s.right.stands };
     }
 
 -- what stands in a list with one more at its end
@@ -54,51 +55,51 @@ get-push [] x (suc k) v at = cc
 get-push (y ∷ xs) x zero v at = inl at
 get-push (y ∷ xs) x (suc k) v at = elim (get-push xs x k v at) [ inl h ↦ inl h | inr h ↦ inr (ap suc h.0, h.1) ]
 
-pub IsTable-push : (nodes : List Node) (records : List Record) (new : Node) → NodeFits (length nodes) records new → IsTable nodes records → IsTable (nodes ++ new ∷ []) records
-IsTable-push nodes records new fits table = record {
-  lower = λ n l r d at. elim (get-push nodes new n (Inner l r d) at) [
+pub IsLinked-push : (t : Table) (new : Node) → NodeFits (length t.nodes) t.records new → IsLinked t → IsLinked (table (t.nodes ++ new ∷ []) t.records)
+IsLinked-push t new fits table = record {
+  lower = λ n l r d at. elim (get-push t.nodes new n (Inner l r d) at) [
     | inl old ↦ table.lower n l r d old
-    | inr last ↦ let f : NodeFits (length nodes) records (Inner l r d) = subst (NodeFits (length nodes) records) last.1 fits in (omega (arith, f.0, last.0), omega (arith, f.1, last.0))
+    | inr last ↦ let f : NodeFits (length t.nodes) t.records (Inner l r d) = subst (NodeFits (length t.nodes) t.records) last.1 fits in (omega (arith, f.0, last.0), omega (arith, f.1, last.0))
   ];
-  stored = λ n place d at. elim (get-push nodes new n (Leaf place d) at) [
+  stored = λ n place d at. elim (get-push t.nodes new n (Leaf place d) at) [
     | inl old ↦ table.stored n place d old
-    | inr last ↦ subst (NodeFits (length nodes) records) last.1 fits
+    | inr last ↦ subst (NodeFits (length t.nodes) t.records) last.1 fits
   ];
 }
 
 -- what a new subtree stands for
-abbrev pub StandsMade : (List ℕ → List ℕ) → List ℕ → List Node → List Record → Subtree → List Bool → List Numbered → Type 0
-StandsMade hash nonce nodes records m p es = IsSubtree hash nonce p es m.hash m.left_hash m.right_hash (Stands hash nonce nodes records m.left) (Stands hash nonce nodes records m.right)
+abbrev pub StandsMade : Hashing → Table → Subtree → List Bool → List Numbered → Type 0
+StandsMade by t m p es = IsSubtree by p es m.hash m.left_hash m.right_hash (Stands by t m.left) (Stands by t m.right)
 
 -- a new subtree, appended
-pub made_shown : (hash : List ℕ → List ℕ) (nonce : List ℕ) (nodes0 nodes1 nodes2 nodes3 : List Node) (records : List Record) (p : List Bool) (es : List Numbered) (m : Subtree) (left right n : ℕ)
+pub made_shown : (by : Hashing) (nodes0 nodes1 nodes2 nodes3 : List Node) (records : List Record) (p : List Bool) (es : List Numbered) (m : Subtree) (left right n : ℕ)
     → Extends nodes0 nodes1 → Extends nodes1 nodes2 → Extends nodes2 nodes3 → slice_get nodes3 n ≡ Some (Inner left right m.hash) → length p < 256
-    → StandsMade hash nonce nodes0 records m p es
-    → (m.left_hash.0 ≡ node hash nonce (child p false) (half false (length p) es)
-    → Stands hash nonce nodes0 records m.left (child p false) (half false (length p) es) → Shows hash nonce nodes1 records left (child p false) (half false (length p) es))
-    → (m.right_hash.0 ≡ node hash nonce (child p true) (half true (length p) es)
-    → Stands hash nonce nodes1 records m.right (child p true) (half true (length p) es) → Shows hash nonce nodes2 records right (child p true) (half true (length p) es))
-    → Shows hash nonce nodes3 records n p es
-made_shown hash nonce nodes0 nodes1 nodes2 nodes3 records p es m left right n e01 e12 e23 at short s shown-left shown-right =
+    → StandsMade by (table nodes0 records) m p es
+    → (m.left_hash.0 ≡ node by (child p false) (half false (length p) es)
+    → Stands by (table nodes0 records) m.left (child p false) (half false (length p) es) → Shows by (table nodes1 records) left (child p false) (half false (length p) es))
+    → (m.right_hash.0 ≡ node by (child p true) (half true (length p) es)
+    → Stands by (table nodes1 records) m.right (child p true) (half true (length p) es) → Shows by (table nodes2 records) right (child p true) (half true (length p) es))
+    → Shows by (table nodes3 records) n p es
+made_shown by nodes0 nodes1 nodes2 nodes3 records p es m left right n e01 e12 e23 at short s shown-left shown-right =
     let l1 = shown-left s.left.is_hash s.left.stands in
-    let l3 = Shows-extended hash nonce nodes1 nodes3 records records (Extends-trans nodes1 nodes2 nodes3 e12 e23) (λ k v h. h) left (child p false) _ l1 in
-    let s1 = Stands-extended hash nonce nodes0 nodes1 records e01 m.right (child p true) _ s.right.stands in
+    let l3 = Shows-extended by (table nodes1 records) (table nodes3 records) (Extends-trans nodes1 nodes2 nodes3 e12 e23) (λ k v h. h) left (child p false) _ l1 in
+    let s1 = Stands-extended by nodes0 nodes1 records e01 m.right (child p true) _ s.right.stands in
     let r2 = shown-right s.right.is_hash s1 in
-    let r3 = Shows-extended hash nonce nodes2 nodes3 records records e23 (λ k v h. h) right (child p true) _ r2 in
+    let r3 = Shows-extended by (table nodes2 records) (table nodes3 records) e23 (λ k v h. h) right (child p true) _ r2 in
     shows_inner n p es m.hash left right at short s.many s.is_hash l3 r3
 
 -- a part stands for what it stood for once there are more records
-pub Stands-records : (hash : List ℕ → List ℕ) (nonce : List ℕ) (nodes : List Node) (records records' : List Record) → Extends records records' → (part : Part) (p : List Bool) (es : List Numbered)
-    → Stands hash nonce nodes records part p es → Stands hash nonce nodes records' part p es
-Stands-records hash nonce nodes records records' more Nothing p es s = s
-Stands-records hash nonce nodes records records' more (Entry c) p es s = s
-Stands-records hash nonce nodes records records' more (Kept root) p es s = (Shows-extended hash nonce nodes nodes records records' (λ k v at. at) more root.0 p es s.0, s.1)
-Stands-records hash nonce nodes records records' more (Made' ptr d lh rh count l r) p es s =
+pub Stands-records : (by : Hashing) (t : Table) (records' : List Record) → Extends t.records records' → (part : Part) (p : List Bool) (es : List Numbered)
+    → Stands by t part p es → Stands by (table t.nodes records') part p es
+Stands-records by t records' more Nothing p es s = s
+Stands-records by t records' more (Entry c) p es s = s
+Stands-records by t records' more (Kept root) p es s = (Shows-extended by t (table t.nodes records') (λ k v at. at) more root.0 p es s.0, s.1)
+Stands-records by t records' more (Made' ptr d lh rh count l r) p es s =
     record {
       many = s.many;
       is_hash = s.is_hash;
-      left = record { is_hash = s.left.is_hash; stands = Stands-records hash nonce nodes records records' more l (child p false) _ s.left.stands };
-      right = record { is_hash = s.right.is_hash; stands = Stands-records hash nonce nodes records records' more r (child p true) _ s.right.stands };
+      left = record { is_hash = s.left.is_hash; stands = Stands-records by t records' more l (child p false) _ s.left.stands };
+      right = record { is_hash = s.right.is_hash; stands = Stands-records by t records' more r (child p true) _ s.right.stands };
     }
 
 half_map : (b : Bool) (k : ℕ) (es : List Numbered) → IsMap es → IsMap (half b k es)
@@ -108,26 +109,26 @@ half_same : (b : Bool) (k : ℕ) (es fs : List Numbered) → SameEntries es fs �
 half_same b k es fs same = SameEntries-filter (λ e. turns b k e.index) es fs same
 
 -- a part stands for a map and not an order of its entries
-pub Stands-same : (hash : List ℕ → List ℕ) (nonce : List ℕ) (nodes : List Node) (records : List Record) (part : Part) (p : List Bool) (es fs : List Numbered)
-    → IsMap es → IsMap fs → SameEntries es fs → Stands hash nonce nodes records part p es → Stands hash nonce nodes records part p fs
-Stands-same hash nonce nodes records Nothing p es fs me mf same s = same_as_none fs (subst (λ xs. SameEntries xs fs) s same)
-Stands-same hash nonce nodes records (Entry c) p es fs me mf same s = same_as_one (entry_of_change c) fs mf (subst (λ xs. SameEntries xs fs) s same)
-Stands-same hash nonce nodes records (Kept root) p es fs me mf same s =
-    (Shows-same hash nonce nodes records root.0 p es fs me mf same s.0, λ below. many_in es fs me mf same (s.1 below))
-Stands-same hash nonce nodes records (Made' ptr d lh rh count l r) p es fs me mf same s =
+pub Stands-same : (by : Hashing) (t : Table) (part : Part) (p : List Bool) (es fs : List Numbered)
+    → IsMap es → IsMap fs → SameEntries es fs → Stands by t part p es → Stands by t part p fs
+Stands-same by t Nothing p es fs me mf same s = same_as_none fs (subst (λ xs. SameEntries xs fs) s same)
+Stands-same by t (Entry c) p es fs me mf same s = same_as_one (entry_of_change c) fs mf (subst (λ xs. SameEntries xs fs) s same)
+Stands-same by t (Kept root) p es fs me mf same s =
+    (Shows-same by t root.0 p es fs me mf same s.0, λ below. many_in es fs me mf same (s.1 below))
+Stands-same by t (Made' ptr d lh rh count l r) p es fs me mf same s =
     let k = length p in
-    let at : (b : Bool) → node hash nonce (child p b) (half b k es) ≡ node hash nonce (child p b) (half b k fs) =
-    λ b. node-same hash nonce (child p b) (half b k es) (half b k fs) (half_map b k es me) (half_map b k fs mf) (half_same b k es fs same) in
+    let at : (b : Bool) → node by (child p b) (half b k es) ≡ node by (child p b) (half b k fs) =
+    λ b. node-same by (child p b) (half b k es) (half b k fs) (half_map b k es me) (half_map b k fs mf) (half_same b k es fs same) in
     record {
       many = many_in es fs me mf same s.many;
-      is_hash = s.is_hash ∙ node-same hash nonce p es fs me mf same;
+      is_hash = s.is_hash ∙ node-same by p es fs me mf same;
       left = record {
         is_hash = s.left.is_hash ∙ at false;
-        stands = Stands-same hash nonce nodes records l (child p false) (half false k es) (half false k fs)
+        stands = Stands-same by t l (child p false) (half false k es) (half false k fs)
             (half_map false k es me) (half_map false k fs mf) (half_same false k es fs same) s.left.stands;
       };
       right = record {
         is_hash = s.right.is_hash ∙ at true;
-        stands = Stands-same hash nonce nodes records r (child p true) (half true k es) (half true k fs) (half_map true k es me) (half_map true k fs mf) (half_same true k es fs same) s.right.stands;
+        stands = Stands-same by t r (child p true) (half true k es) (half true k fs) (half_map true k es me) (half_map true k fs mf) (half_same true k es fs same) s.right.stands;
       };
     }

@@ -2,10 +2,12 @@
 use Rattle.std.specs.Prelude.{◌≡◌, ◌<◌, ◌≤◌, ◌+◌, ℕ, List, [], ◌∷◌, ◌++◌, length, Bool, true, false}
 use Rattle.coniks_proof.specs.Bits.{child}
 use Rattle.coniks_proof.specs.Entries.{half}
+use Rattle.coniks_proof.specs.Hashing.{Hashing}
+use Rattle.coniks_proof.specs.Octets.{Octets}
 use Rattle.coniks_proof.specs.Preimages.{empty_preimage, leaf_preimage, inner_preimage}
 use Rattle.coniks_proof.specs.Tree.{node}
 use Rattle.coniks_proof.specs.declared.values.Digest.{Digest}
-use Rattle.coniks_tree.specs.Table.{Numbered}
+use Rattle.coniks_tree.specs.Table.{Numbered, table}
 use Rattle.coniks_tree.specs.Counts.{joined_count}
 use Rattle.coniks_tree.specs.Parts.{Stands, Fits, KeepsNone, Placed, node_count}
 use Rattle.coniks_tree.specs.declared.table.Node.{Node}
@@ -15,19 +17,19 @@ use Rattle.coniks_tree.specs.declared.joining.Pair.{Pair}
 use Rattle.coniks_tree.specs.declared.joining.Halved.{Halved}
 
 -- what is hashed for a part at the prefix that has no hash yet
-abbrev pub asked_at : List ℕ → List Bool → Part → List (List ℕ)
+abbrev pub asked_at : Octets → List Bool → Part → List Octets
 asked_at nonce prefix Nothing = empty_preimage nonce prefix ∷ []
 asked_at nonce prefix (Entry c) = leaf_preimage nonce c.index.0 (length prefix) c.commitment.0 ∷ []
 asked_at nonce prefix (Kept root) = []
 asked_at nonce prefix (Made' p hash lh rh count left right) = []
 
 -- what is hashed for the sides of the pairs that have no hash yet, from left to right
-abbrev pub asked_of : List ℕ → List Pair → List (List ℕ)
+abbrev pub asked_of : Octets → List Pair → List Octets
 asked_of nonce [] = []
 asked_of nonce (pair ∷ pairs) = asked_at nonce (child pair.prefix false) pair.left
     ++ (asked_at nonce (child pair.prefix true) pair.right ++ asked_of nonce pairs)
 
--- the two parts of the pair speak of the first `n` nodes, and are of the prefixes below the pair's
+-- the two parts of the pair keep nodes among the first `n` only, and are of the prefixes below the pair's
 pub record PairFits (n : ℕ) (pair : Pair) : Type 0 where
   pub short : length pair.prefix < 256
   pub left : Fits n (length pair.prefix + 1) pair.left
@@ -39,41 +41,40 @@ PairsFit n [] = Unit {0}
 PairsFit n (pair ∷ pairs) = PairFits n pair × PairsFit n pairs
 
 -- the digest is the hash of the part at the prefix
-abbrev pub IsHashAt : (List ℕ → List ℕ) → List ℕ → List Node → List Bool → Part → Digest → Type 0
-IsHashAt hash nonce nodes prefix part d = (records : List Record) (entries : List Numbered)
-    → Stands hash nonce nodes records part prefix entries → d.0 ≡ node hash nonce prefix entries
+abbrev pub IsHashAt : Hashing → List Node → List Bool → Part → Digest → Type 0
+IsHashAt by nodes prefix part d = (records : List Record) (entries : List Numbered)
+    → Stands by (table nodes records) part prefix entries → d.0 ≡ node by prefix entries
 
 -- the pair's two parts have these hashes
-pub record IsHalved (hash : List ℕ → List ℕ) (nonce : List ℕ) (nodes : List Node) (halved : Halved) : Type 0 where
-  pub left : IsHashAt hash nonce nodes (child halved.pair.prefix false) halved.pair.left halved.left_hash
-  pub right : IsHashAt hash nonce nodes (child halved.pair.prefix true) halved.pair.right halved.right_hash
+pub record IsHalved (by : Hashing) (nodes : List Node) (halved : Halved) : Type 0 where
+  pub left : IsHashAt by nodes (child halved.pair.prefix false) halved.pair.left halved.left_hash
+  pub right : IsHashAt by nodes (child halved.pair.prefix true) halved.pair.right halved.right_hash
 
 -- each of them has
-abbrev pub AllHalved : (List ℕ → List ℕ) → List ℕ → List Node → List Halved → Type 0
-AllHalved hash nonce nodes [] = Unit {0}
-AllHalved hash nonce nodes (h ∷ hs) = IsHalved hash nonce nodes h × AllHalved hash nonce nodes hs
+abbrev pub AllHalved : Hashing → List Node → List Halved → Type 0
+AllHalved by nodes [] = Unit {0}
+AllHalved by nodes (h ∷ hs) = IsHalved by nodes h × AllHalved by nodes hs
 
 -- what is hashed for the node over the two
-abbrev pub inner_of : Halved → List ℕ
+abbrev pub inner_of : Halved → Octets
 inner_of halved = inner_preimage halved.left_hash.0 halved.right_hash.0
 
 -- the part is the pair's two as the part of the prefix above
-pub record IsJoined (hash : List ℕ → List ℕ) (nonce : List ℕ)
-    (nodes : List Node) (prefix : List Bool) (left right joined : Part) : Type 0 where
+pub record IsJoined (by : Hashing) (nodes : List Node) (prefix : List Bool) (left right joined : Part) : Type 0 where
   pub fits : Fits (length nodes) (length prefix) joined
   pub count : node_count joined ≤ node_count left + node_count right + 1
   pub new : node_count joined ≡ joined_count left right
   pub keeps : KeepsNone left → KeepsNone right → KeepsNone joined
   pub placed : (all : List Record) → Placed all left → Placed all right → Placed all joined
   pub stands : (records : List Record) (entries : List Numbered)
-      → Stands hash nonce nodes records left (child prefix false) (half false (length prefix) entries)
-      → Stands hash nonce nodes records right (child prefix true) (half true (length prefix) entries)
-      → Stands hash nonce nodes records joined prefix entries
+      → Stands by (table nodes records) left (child prefix false) (half false (length prefix) entries)
+      → Stands by (table nodes records) right (child prefix true) (half true (length prefix) entries)
+      → Stands by (table nodes records) joined prefix entries
 
 -- the parts are, in order, those of the pairs
-abbrev pub AllJoined : (List ℕ → List ℕ) → List ℕ → List Node → List Pair → List Part → Type 0
-AllJoined hash nonce nodes [] [] = Unit {0}
-AllJoined hash nonce nodes [] (part ∷ parts) = ⊥
-AllJoined hash nonce nodes (pair ∷ pairs) [] = ⊥
-AllJoined hash nonce nodes (pair ∷ pairs) (part ∷ parts) = IsJoined hash nonce nodes pair.prefix pair.left pair.right part
-    × AllJoined hash nonce nodes pairs parts
+abbrev pub AllJoined : Hashing → List Node → List Pair → List Part → Type 0
+AllJoined by nodes [] [] = Unit {0}
+AllJoined by nodes [] (part ∷ parts) = ⊥
+AllJoined by nodes (pair ∷ pairs) [] = ⊥
+AllJoined by nodes (pair ∷ pairs) (part ∷ parts) = IsJoined by nodes pair.prefix pair.left pair.right part
+    × AllJoined by nodes pairs parts

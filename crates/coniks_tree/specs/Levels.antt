@@ -1,7 +1,8 @@
 -- Parts that are grown level by level.
 use Rattle.std.specs.Prelude.{◌≡◌, ◌<◌, ◌≤◌, ◌+◌, ◌*◌, ◌-◌, ℕ, List, [], ◌∷◌, ◌++◌, length, slice_get, Bool, cond, false, true, Option, Some, None}
 use Rattle.coniks_proof.specs.Changes.{overwritten, AreApart, AreInOrder}
-use Rattle.coniks_tree.specs.Table.{Extends, Numbered}
+use Rattle.coniks_proof.specs.Hashing.{Hashing}
+use Rattle.coniks_tree.specs.Table.{Extends, Numbered, Table}
 use Rattle.coniks_tree.specs.Counts.{new_nodes}
 use Rattle.coniks_tree.specs.Parts.{Stands, Fits, KeepsNone, Placed, AllPlaced, node_count, is_made, entries_in}
 use Rattle.coniks_tree.specs.Joins.{IsJoined}
@@ -41,7 +42,7 @@ interior_of nodes (Some (Leaf place hash)) = 0
 interior_of nodes (Some (Inner left right hash)) = cond
     (is_interior (slice_get nodes left)) 1 0 + cond (is_interior (slice_get nodes right)) 1 0
 
--- the number of child nodes of a part, if it is a node
+-- how many of the nodes below a part are interior ones, if it is a node of the tree
 abbrev pub interior_below : List Node → Part → ℕ
 interior_below nodes Nothing = 0
 interior_below nodes (Entry change) = 0
@@ -72,23 +73,23 @@ filled (o ∷ os) below =
     record { prefix = o.prefix; left = side_from o.left below; right = side_from o.right (left_by o.left below) } ∷
     filled os (left_by o.right (left_by o.left below))
 
-module _ (hash : List ℕ → List ℕ) (nonce : List ℕ) (nodes : List Node) (records : List Record) where
+module _ (by : Hashing) (t : Table) where
   -- the part of a prefix, overwritten by changes
   pub record IsGrown (prefix : List Bool) (part : Part) (changes : List Change) (grown : Part) : Type 0 where
-    pub fits : Fits (length nodes) (length prefix) grown
-    pub placed : (all : List Record) → Extends records all → Placed all part → AllPlaced all changes → Placed all grown
+    pub fits : Fits (length t.nodes) (length prefix) grown
+    pub placed : (all : List Record) → Extends t.records all → Placed all part → AllPlaced all changes → Placed all grown
     pub count : is_made part ≡ false → node_count grown ≤ 1 + 2 * ((256 - length prefix) * length changes)
     pub new : is_made part ≡ false → 0 < length prefix + length changes → (entries : List Numbered)
         → AreInOrder (length prefix) (entries_in changes)
         → AreApart (length prefix) (overwritten entries (entries_in changes))
-        → Stands hash nonce nodes records part prefix entries
+        → Stands by t part prefix entries
         → node_count grown ≡ new_nodes (length prefix) entries (entries_in changes)
     pub keeps : KeepsNone part → KeepsNone grown
     pub stands : (entries : List Numbered)
         → AreInOrder (length prefix) (entries_in changes)
         → AreApart (length prefix) (overwritten entries (entries_in changes))
-        → Stands hash nonce nodes records part prefix entries
-        → Stands hash nonce nodes records grown prefix (overwritten entries (entries_in changes))
+        → Stands by t part prefix entries
+        → Stands by t grown prefix (overwritten entries (entries_in changes))
 
   -- the parts are, in order, those that grow
   abbrev pub AllGrown : List Growing → List Part → Type 0
@@ -100,9 +101,9 @@ module _ (hash : List ℕ → List ℕ) (nonce : List ℕ) (nodes : List Node) (
   -- two parts whose join is the part that grows
   pub record IsDivided (prefix : List Bool) (part : Part) (changes : List Change) (left right : Part) : Type 0 where
     pub short : length prefix < 256
-    pub left_fits : Fits (length nodes) (length prefix + 1) left
-    pub right_fits : Fits (length nodes) (length prefix + 1) right
-    pub joined : (whole : Part) → IsJoined hash nonce nodes prefix left right whole → IsGrown prefix part changes whole
+    pub left_fits : Fits (length t.nodes) (length prefix + 1) left
+    pub right_fits : Fits (length t.nodes) (length prefix + 1) right
+    pub joined : (whole : Part) → IsJoined by t.nodes prefix left right whole → IsGrown prefix part changes whole
 
   -- the pairs are, in order, those of the parts that grow
   abbrev pub AllDivided : List Growing → List Pair → Type 0

@@ -5,3 +5,4 @@ pub mod Paths
 pub mod Entries
 pub mod Joins
 pub mod Levels
+pub mod Trees

@@ -2,10 +2,10 @@
 use Rattle.std.specs.Prelude.{◌≡◌, ◌<◌, ◌≤◌, ◌+◌, ◌^◌, ◌-◌, ℕ, suc, List, [], ◌∷◌, length, Bool, true, false, Some, slice_get, min, map}
 use Rattle.coniks_proof.specs.Bits.{child}
 use Rattle.coniks_proof.specs.Entries.{half}
+use Rattle.coniks_proof.specs.Hashing.{Hashing}
 use Rattle.coniks_proof.specs.Tree.{node}
 use Rattle.coniks_proof.specs.declared.values.Digest.{Digest}
-use Rattle.coniks_tree.specs.Table.{Numbered, Shows, entry_of_record}
-use Rattle.coniks_tree.specs.declared.table.Node.{Node}
+use Rattle.coniks_tree.specs.Table.{Numbered, Shows, entry_of_record, Table}
 use Rattle.coniks_tree.specs.declared.table.Record.{Record}
 use Rattle.coniks_tree.specs.declared.part.Change.{Change}
 use Rattle.coniks_tree.specs.declared.part.Part.{Part, Nothing, Entry, Kept, Made'}
@@ -25,7 +25,7 @@ node_count (Entry c) = 1
 node_count (Kept root) = 0
 node_count (Made' p hash lh rh count left right) = node_count left + node_count right + 1
 
--- the part speaks of the first `n` nodes, it is of a prefix of `level` bits, and its counts are right
+-- the part keeps nodes among the first `n` only, it is of a prefix of `level` bits, and its counts are right
 abbrev pub Fits : ℕ → ℕ → Part → Type 0
 Fits n level Nothing = level ≤ 256
 Fits n level (Entry c) = level ≤ 256
@@ -34,27 +34,27 @@ Fits n level (Made' p hash lh rh count left right) =
     (level < 256) × (count ≡ min (node_count left + node_count right + 1) (2 ^ 64 - 1)) × Fits n (suc level) left × Fits n (suc level) right
 
 -- one side of a new subtree: its hash is that of its node, and its part represents the entries of that side
-pub record IsSide (hash : List ℕ → List ℕ) (nonce : List ℕ) (prefix : List Bool) (entries : List Numbered)
+pub record IsSide (by : Hashing) (prefix : List Bool) (entries : List Numbered)
     (bit : Bool) (d : Digest) (StandsFor : List Bool → List Numbered → Type 0) : Type 0 where
-  pub is_hash : d.0 ≡ node hash nonce (child prefix bit) (half bit (length prefix) entries)
+  pub is_hash : d.0 ≡ node by (child prefix bit) (half bit (length prefix) entries)
   pub stands : StandsFor (child prefix bit) (half bit (length prefix) entries)
 
 -- a new subtree: two entries or more, with the hash of its node and its two sides
-pub record IsSubtree (hash : List ℕ → List ℕ) (nonce : List ℕ) (prefix : List Bool)
+pub record IsSubtree (by : Hashing) (prefix : List Bool)
     (entries : List Numbered) (d lh rh : Digest) (Left Right : List Bool → List Numbered → Type 0) : Type 0 where
   pub many : 2 ≤ length entries
-  pub is_hash : d.0 ≡ node hash nonce prefix entries
-  pub left : IsSide hash nonce prefix entries false lh Left
-  pub right : IsSide hash nonce prefix entries true rh Right
+  pub is_hash : d.0 ≡ node by prefix entries
+  pub left : IsSide by prefix entries false lh Left
+  pub right : IsSide by prefix entries true rh Right
 
 -- the entries under the prefix are those of the part, and its hashes are those of its nodes
-abbrev pub Stands : (List ℕ → List ℕ) → List ℕ → List Node → List Record → Part → List Bool → List Numbered → Type 0
-Stands hash nonce nodes records Nothing prefix entries = entries ≡ []
-Stands hash nonce nodes records (Entry c) prefix entries = entries ≡ entry_of_change c ∷ []
-Stands hash nonce nodes records (Kept root) prefix entries = Shows hash nonce nodes records root.0 prefix entries
+abbrev pub Stands : Hashing → Table → Part → List Bool → List Numbered → Type 0
+Stands by t Nothing prefix entries = entries ≡ []
+Stands by t (Entry c) prefix entries = entries ≡ entry_of_change c ∷ []
+Stands by t (Kept root) prefix entries = Shows by t root.0 prefix entries
     × (0 < length prefix → 2 ≤ length entries)
-Stands hash nonce nodes records (Made' p d lh rh count left right) prefix entries =
-    IsSubtree hash nonce prefix entries d lh rh (Stands hash nonce nodes records left) (Stands hash nonce nodes records right)
+Stands by t (Made' p d lh rh count left right) prefix entries =
+    IsSubtree by prefix entries d lh rh (Stands by t left) (Stands by t right)
 
 -- at least how many entries a part below the root has, counted up to two
 abbrev pub weight_of : Part → ℕ

@@ -1,8 +1,9 @@
 //! Makes nodes at the end of the table from a part.
 
-ghost use Rattle.std.specs.Prelude.{◌≡◌, ◌++◌, ◌∷◌, [], ◌<◌, ◌≤◌, ◌+◌, ◌*◌, ◌-◌, List, ℕ, length, slice_get, vec_len, vec_capacity, Bool};
+ghost use Rattle.std.specs.Prelude.{◌≡◌, ◌++◌, ◌∷◌, [], ◌<◌, ◌≤◌, ◌+◌, ◌*◌, ◌-◌, List, length, slice_get, vec_len, vec_capacity, Bool};
+ghost use Rattle.coniks_proof.specs.Hashing.{Hashing};
 ghost use Rattle.coniks_proof.specs.Tree.{node};
-ghost use Rattle.coniks_tree.specs.Table.{Extends, IsTable, NodeFits, Numbered, Shows};
+ghost use Rattle.coniks_tree.specs.Table.{Extends, IsLinked, NodeFits, Numbered, Shows, table};
 ghost use Rattle.coniks_tree.specs.Parts.{Stands, Fits, Placed, node_count};
 
 use crate::part::{Part, Subtree};
@@ -28,7 +29,7 @@ pub(crate) fn push_node(nodes: &mut Vec<Node>, node: Node) -> usize
     ensures at { slice_get nodes.new.items result ≡ Some node }
     ensures extends { Extends nodes.old.items nodes.new.items }
     ensures table { (records : List Record) → NodeFits (length nodes.old.items) records node
-        → IsTable nodes.old.items records → IsTable nodes.new.items records }
+        → IsLinked (table nodes.old.items records) → IsLinked (table nodes.new.items records) }
 {
     let number = nodes.len();
     put(nodes, node);
@@ -45,11 +46,11 @@ pub(crate) fn append(nodes: &mut Vec<Node>, level: usize, hash: &Digest, part: &
     ensures room { vec_capacity nodes.old ≤ vec_capacity nodes.new }
     ensures known { result < length nodes.new.items }
     ensures extends { Extends nodes.old.items nodes.new.items }
-    ensures table { (records : List Record) → Placed records part.now → IsTable nodes.old.items records → IsTable nodes.new.items records }
-    ensures shows { (digest_of : List ℕ → List ℕ) (nonce : List ℕ) (records : List Record) (prefix : List Bool) (entries : List Numbered)
-        → length prefix ≡ level → Placed records part.now → hash.now.0 ≡ node digest_of nonce prefix entries
-        → Stands digest_of nonce nodes.old.items records part.now prefix entries
-        → Shows digest_of nonce nodes.new.items records result prefix entries }
+    ensures table { (records : List Record) → Placed records part.now → IsLinked (table nodes.old.items records) → IsLinked (table nodes.new.items records) }
+    ensures shows { (by : Hashing) (records : List Record) (prefix : List Bool) (entries : List Numbered)
+        → length prefix ≡ level → Placed records part.now → hash.now.0 ≡ node by prefix entries
+        → Stands by (table nodes.old.items records) part.now prefix entries
+        → Shows by (table nodes.new.items records) result prefix entries }
 {
     match part {
         Part::Nothing => push_node(nodes, Node::Empty(*hash)),

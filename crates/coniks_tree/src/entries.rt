@@ -1,9 +1,10 @@
 //! The entries under a root, in the order of their indices.
 
-ghost use Rattle.std.specs.Prelude.{◌≡◌, ◌++◌, [], ◌<◌, ◌-◌, List, ℕ, length, slice_get, IfOk, OnOk, Bool};
+ghost use Rattle.std.specs.Prelude.{◌≡◌, ◌++◌, [], ◌<◌, ◌-◌, List, length, slice_get, IfOk, OnOk, Bool};
+ghost use Rattle.coniks_proof.specs.Hashing.{Hashing};
 ghost use Rattle.coniks_tree.specs.Entries.{AreStored, Lists, entries_at, entry_at, in_order};
 ghost use Rattle.coniks_tree.specs.Parts.{AllPlaced, entries_in};
-ghost use Rattle.coniks_tree.specs.Table.{Extends, IsTable, Numbered, Shows};
+ghost use Rattle.coniks_tree.specs.Table.{Extends, IsLinked, Numbered, Shows, table};
 
 use crate::halving::change_at;
 use crate::part::Change;
@@ -20,13 +21,13 @@ pub(crate) fn list_places(
     number: usize,
     listed: &mut Vec<RecordNo>,
 ) -> Result<(), AllocError>
-    requires table { (records : List Record) × IsTable nodes.now records }
+    requires table { (records : List Record) × IsLinked (table nodes.now records) }
     requires known { number < length nodes.now }
-    ensures stored { OnOk result ((records : List Record) → IsTable nodes.now records
+    ensures stored { OnOk result ((records : List Record) → IsLinked (table nodes.now records)
         → AreStored (length records) listed.old.items → AreStored (length records) listed.new.items) }
-    ensures lists { OnOk result ((hash : List ℕ → List ℕ) (nonce : List ℕ) (records : List Record) (prefix : List Bool) (entries : List Numbered)
+    ensures lists { OnOk result ((by : Hashing) (records : List Record) (prefix : List Bool) (entries : List Numbered)
         → length prefix ≡ level
-        → Shows hash nonce nodes.now records number prefix entries
+        → Shows by (table nodes.now records) number prefix entries
         → entries_at records listed.new.items ≡ entries_at records listed.old.items ++ in_order level entries) }
 {
     match node_of(nodes, number) {
@@ -81,11 +82,11 @@ pub(crate) fn entries_from(
     records: &[Record],
     root: usize,
 ) -> Result<Vec<Change>, AllocError>
-    requires table { IsTable nodes.now records.now }
+    requires table { IsLinked (table nodes.now records.now) }
     requires known { root < length nodes.now }
     ensures placed { IfOk result (λ changes. (all : List Record) → Extends records.now all → AllPlaced all changes.items) }
-    ensures lists { IfOk result (λ changes. (hash : List ℕ → List ℕ) (nonce : List ℕ) (entries : List Numbered)
-        → Shows hash nonce nodes.now records.now root [] entries → Lists changes.items entries) }
+    ensures lists { IfOk result (λ changes. (by : Hashing) (entries : List Numbered)
+        → Shows by (table nodes.now records.now) root [] entries → Lists changes.items entries) }
 {
     let mut places = Vec::new(alloc);
     list_places(nodes, 0, root, &mut places)?;

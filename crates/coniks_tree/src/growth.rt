@@ -1,9 +1,10 @@
 //! Parts that are overwritten by changes.
 
-ghost use Rattle.std.specs.Prelude.{◌≡◌, ◌∷◌, [], ◌<◌, ◌≤◌, ◌+◌, ◌*◌, ◌-◌, List, ℕ, length, slice_get, IfOk, IfSome, Some, None, Bool, drop, false, take, true};
+ghost use Rattle.std.specs.Prelude.{◌≡◌, ◌∷◌, [], ◌<◌, ◌≤◌, ◌+◌, ◌*◌, ◌-◌, List, length, slice_get, IfOk, IfSome, Some, None, Bool, drop, false, take, true};
 ghost use Rattle.coniks_proof.specs.Entries.{half};
 ghost use Rattle.coniks_proof.specs.Changes.{overwritten, AreApart, AreInOrder};
-ghost use Rattle.coniks_tree.specs.Table.{Extends, IsTable, Numbered};
+ghost use Rattle.coniks_proof.specs.Hashing.{Hashing, hashing};
+ghost use Rattle.coniks_tree.specs.Table.{Extends, IsLinked, Numbered, Table, table};
 ghost use Rattle.coniks_tree.specs.declared.part.Part.{Entry};
 ghost use Rattle.coniks_tree.specs.Counts.{new_nodes};
 ghost use Rattle.coniks_tree.specs.Parts.{Stands, Fits, KeepsNone, Placed, AllPlaced, node_count, is_made, entries_in, entry_of_change};
@@ -11,7 +12,7 @@ ghost use Rattle.coniks_tree.specs.Parts.{Stands, Fits, KeepsNone, Placed, AllPl
 use crate::halving::opened;
 use crate::levels::grow_by_levels;
 use crate::part::{Change, Part, join_parts, lefts};
-use crate::table::{Base, Node, Record};
+use crate::table::{Base, Record};
 use coniks_proof::{Hash32, Index, MAX_LEVEL, Prefix};
 use std::alloc::{AllocError, Global};
 
@@ -38,9 +39,8 @@ pub fn sides(changes: &[Change], level: usize) -> (&[Change], &[Change])
 
 /// Returns whether a change of this index leaves a part with no other entry.
 pub(crate) fn is_replaced(part: &Part, index: &Index) -> bool
-    ensures { (hash : List ℕ → List ℕ) (nonce : List ℕ) (nodes : List Node)
-        (records : List Record) (prefix : List Bool) (entries : List Numbered) (new : Numbered)
-        → Stands hash nonce nodes records part.now prefix entries → new.index ≡ index.now.0 → result ≡ true → overwritten entries (new ∷ []) ≡ new ∷ [] }
+    ensures { (by : Hashing) (t : Table) (prefix : List Bool) (entries : List Numbered) (new : Numbered)
+        → Stands by t part.now prefix entries → new.index ≡ index.now.0 → result ≡ true → overwritten entries (new ∷ []) ≡ new ∷ [] }
 {
     match part {
         Part::Nothing => true,
@@ -65,9 +65,9 @@ pub(crate) fn only_change(level: usize, part: &Part, changes: &[Change]) -> Opti
     ensures none { result ≡ None → level < 256 }
     ensures placed { IfSome result (λ change. (all : List Record) → AllPlaced all changes.now → Placed all (Entry change)) }
     ensures stands { IfSome result
-        (λ change. (hash : List ℕ → List ℕ) (nonce : List ℕ) (nodes : List Node) (records : List Record) (prefix : List Bool) (entries : List Numbered)
+        (λ change. (by : Hashing) (t : Table) (prefix : List Bool) (entries : List Numbered)
         → AreApart level (overwritten entries (entries_in changes.now))
-        → Stands hash nonce nodes records part.now prefix entries → overwritten entries (entries_in changes.now) ≡ entry_of_change change ∷ []) }
+        → Stands by t part.now prefix entries → overwritten entries (entries_in changes.now) ≡ entry_of_change change ∷ []) }
 {
     let first = first_of(changes);
     if level == MAX_LEVEL {
@@ -91,7 +91,7 @@ pub(crate) fn grow_part<H: Hash32>(
     prefix: &Prefix,
     changes: &[Change],
 ) -> Result<Part, AllocError>
-    requires table { IsTable base.now.nodes.now base.now.records.now }
+    requires table { IsLinked (table base.now.nodes.now base.now.records.now) }
     requires fits { Fits (length base.now.nodes.now) (length prefix.now) part }
     ensures fits { IfOk result (λ grown. Fits (length base.now.nodes.now) (length prefix.now) grown) }
     ensures same { IfOk result (λ grown. length changes.now ≡ 0 → grown ≡ part) }
@@ -102,14 +102,14 @@ pub(crate) fn grow_part<H: Hash32>(
     ensures new { IfOk result (λ grown. is_made part ≡ false → 0 < length prefix.now + length changes.now → (entries : List Numbered)
         → AreInOrder (length prefix.now) (entries_in changes.now)
         → AreApart (length prefix.now) (overwritten entries (entries_in changes.now))
-        → Stands (H.digest_of base.now.h.now) base.now.nonce.now.0 base.now.nodes.now base.now.records.now part prefix.now entries
+        → Stands (hashing (H.digest_of base.now.h.now) base.now.nonce.now.0) (table base.now.nodes.now base.now.records.now) part prefix.now entries
         → node_count grown ≡ new_nodes (length prefix.now) entries (entries_in changes.now)) }
     ensures keeps { IfOk result (λ grown. KeepsNone part → KeepsNone grown) }
     ensures stands { IfOk result (λ grown. (entries : List Numbered)
         → AreInOrder (length prefix.now) (entries_in changes.now)
         → AreApart (length prefix.now) (overwritten entries (entries_in changes.now))
-        → Stands (H.digest_of base.now.h.now) base.now.nonce.now.0 base.now.nodes.now base.now.records.now part prefix.now entries
-        → Stands (H.digest_of base.now.h.now) base.now.nonce.now.0 base.now.nodes.now base.now.records.now
+        → Stands (hashing (H.digest_of base.now.h.now) base.now.nonce.now.0) (table base.now.nodes.now base.now.records.now) part prefix.now entries
+        → Stands (hashing (H.digest_of base.now.h.now) base.now.nonce.now.0) (table base.now.nodes.now base.now.records.now)
         grown prefix.now (overwritten entries (entries_in changes.now))) }
 {
     if changes.is_empty() {

@@ -3,7 +3,8 @@
 ghost use Rattle.std.specs.Prelude.{◌≡◌, ◌∷◌, [], ◌<◌, ◌≤◌, ◌+◌, List, ℕ, length, slice_get, Some, Bool, false, true};
 ghost use Rattle.coniks_proof.specs.Bits.{child};
 ghost use Rattle.coniks_proof.specs.Entries.{half};
-ghost use Rattle.coniks_tree.specs.Table.{Extends, IsTable, Numbered, Shows, entry_of_record};
+ghost use Rattle.coniks_proof.specs.Hashing.{Hashing};
+ghost use Rattle.coniks_tree.specs.Table.{Extends, IsLinked, Numbered, Shows, entry_of_record, Table, table};
 ghost use Rattle.coniks_tree.specs.declared.part.Part.{Entry};
 ghost use Rattle.coniks_tree.specs.Parts.{Stands, Fits, KeepsNone, Placed, is_made, entry_of_change};
 
@@ -13,13 +14,13 @@ use coniks_proof::bit;
 
 /// Returns the part that a node stands for.
 pub(crate) fn kept(nodes: &[Node], records: &[Record], number: usize) -> Part
-    requires table { IsTable nodes.now records.now }
+    requires table { IsLinked (table nodes.now records.now) }
     requires known { number < length nodes.now }
     ensures fits { (level : ℕ) → level ≤ 256 → Fits (length nodes.now) level result }
     ensures unmade { is_made result ≡ false }
     ensures placed { (all : List Record) → Extends records.now all → Placed all result }
-    ensures stands { (hash : List ℕ → List ℕ) (nonce : List ℕ) (prefix : List Bool) (entries : List Numbered)
-        → Shows hash nonce nodes.now records.now number prefix entries → Stands hash nonce nodes.now records.now result prefix entries }
+    ensures stands { (by : Hashing) (prefix : List Bool) (entries : List Numbered)
+        → Shows by (table nodes.now records.now) number prefix entries → Stands by (table nodes.now records.now) result prefix entries }
 {
     match node_of(nodes, number) {
         Node::Empty(_) => Part::Nothing,
@@ -45,7 +46,7 @@ pub(crate) fn change_at(records: &[Record], place: RecordNo) -> Change
 
 /// Returns the parts of the two prefixes below.
 pub(crate) fn opened(nodes: &[Node], records: &[Record], level: usize, part: Part) -> (Part, Part)
-    requires table { IsTable nodes.now records.now }
+    requires table { IsLinked (table nodes.now records.now) }
     requires fits { Fits (length nodes.now) level part }
     requires short { level < 256 }
     ensures left { Fits (length nodes.now) (level + 1) result.0 }
@@ -53,10 +54,10 @@ pub(crate) fn opened(nodes: &[Node], records: &[Record], level: usize, part: Par
     ensures unmade { is_made part ≡ false → (is_made result.0 ≡ false) × (is_made result.1 ≡ false) }
     ensures placed { (all : List Record) → Extends records.now all → Placed all part → Placed all result.0 × Placed all result.1 }
     ensures keeps { KeepsNone part → KeepsNone result.0 × KeepsNone result.1 }
-    ensures stands { (hash : List ℕ → List ℕ) (nonce : List ℕ) (prefix : List Bool) (entries : List Numbered) → length prefix ≡ level
-        → Stands hash nonce nodes.now records.now part prefix entries
-        → Stands hash nonce nodes.now records.now result.0 (child prefix false) (half false level entries)
-        × Stands hash nonce nodes.now records.now result.1 (child prefix true) (half true level entries) }
+    ensures stands { (by : Hashing) (prefix : List Bool) (entries : List Numbered) → length prefix ≡ level
+        → Stands by (table nodes.now records.now) part prefix entries
+        → Stands by (table nodes.now records.now) result.0 (child prefix false) (half false level entries)
+        × Stands by (table nodes.now records.now) result.1 (child prefix true) (half true level entries) }
 {
     match part {
         Part::Nothing => (Part::Nothing, Part::Nothing),
@@ -76,10 +77,10 @@ pub(crate) fn aside(level: usize, change: Change) -> (Part, Part)
     ensures unmade { (is_made result.0 ≡ false) × (is_made result.1 ≡ false) }
     ensures placed { (all : List Record) → Placed all (Entry change) → Placed all result.0 × Placed all result.1 }
     ensures keeps { KeepsNone result.0 × KeepsNone result.1 }
-    ensures stands { (hash : List ℕ → List ℕ) (nonce : List ℕ) (nodes : List Node) (records : List Record) (prefix : List Bool) (entries : List Numbered)
+    ensures stands { (by : Hashing) (t : Table) (prefix : List Bool) (entries : List Numbered)
         → entries ≡ entry_of_change change ∷ []
-        → Stands hash nonce nodes records result.0 (child prefix false) (half false level entries)
-        × Stands hash nonce nodes records result.1 (child prefix true) (half true level entries) }
+        → Stands by t result.0 (child prefix false) (half false level entries)
+        × Stands by t result.1 (child prefix true) (half true level entries) }
 {
     if bit(&change.index, level) {
         (Part::Nothing, Part::Entry(change))
@@ -90,17 +91,17 @@ pub(crate) fn aside(level: usize, change: Change) -> (Part, Part)
 
 /// Returns the parts below a node.
 pub(crate) fn below(nodes: &[Node], records: &[Record], level: usize, root: Root) -> (Part, Part)
-    requires table { IsTable nodes.now records.now }
+    requires table { IsLinked (table nodes.now records.now) }
     requires known { root.0 < length nodes.now }
     requires short { level < 256 }
     ensures left { Fits (length nodes.now) (level + 1) result.0 }
     ensures right { Fits (length nodes.now) (level + 1) result.1 }
     ensures unmade { (is_made result.0 ≡ false) × (is_made result.1 ≡ false) }
     ensures placed { (all : List Record) → Extends records.now all → Placed all result.0 × Placed all result.1 }
-    ensures stands { (hash : List ℕ → List ℕ) (nonce : List ℕ) (prefix : List Bool) (entries : List Numbered) → length prefix ≡ level
-        → Shows hash nonce nodes.now records.now root.0 prefix entries
-        → Stands hash nonce nodes.now records.now result.0 (child prefix false) (half false level entries)
-        × Stands hash nonce nodes.now records.now result.1 (child prefix true) (half true level entries) }
+    ensures stands { (by : Hashing) (prefix : List Bool) (entries : List Numbered) → length prefix ≡ level
+        → Shows by (table nodes.now records.now) root.0 prefix entries
+        → Stands by (table nodes.now records.now) result.0 (child prefix false) (half false level entries)
+        × Stands by (table nodes.now records.now) result.1 (child prefix true) (half true level entries) }
 {
     match node_of(nodes, root.0) {
         Node::Empty(_) => (Part::Nothing, Part::Nothing),

@@ -4,7 +4,9 @@ ghost use Rattle.std.specs.Prelude.{◌≡◌, ◌++◌, ◌∷◌, ◌<◌, ◌
 ghost use Rattle.coniks_proof.specs.Bits.{child};
 ghost use Rattle.coniks_proof.specs.Messages.{preimage_of};
 ghost use Rattle.coniks_proof.specs.Entries.{half};
-ghost use Rattle.coniks_tree.specs.Table.{Numbered};
+ghost use Rattle.coniks_proof.specs.Hashing.{Hashing, hashing};
+ghost use Rattle.coniks_proof.specs.Octets.{Octets};
+ghost use Rattle.coniks_tree.specs.Table.{Numbered, Table};
 ghost use Rattle.coniks_tree.specs.Counts.{joined_count};
 ghost use Rattle.coniks_tree.specs.Parts.{Stands, Fits, KeepsNone, Placed, node_count};
 ghost use Rattle.coniks_tree.specs.Joins.{asked_at, asked_of, inner_of, AllHalved, AllJoined, IsHashAt, IsHalved, IsJoined, PairFits, PairsFit};
@@ -39,7 +41,7 @@ fn ask(
     messages: &mut Vec<Message>,
 ) -> Result<(), AllocError>
     requires { length prefix.now < 256 }
-    ensures { OnOk result ((nonce : List ℕ)
+    ensures { OnOk result ((nonce : Octets)
         → map (preimage_of nonce) messages.new.items ≡ map (preimage_of nonce) messages.old.items ++ asked_at nonce (child prefix.now right) part.now) }
 {
     match part {
@@ -56,7 +58,7 @@ fn ask(
 /// Returns the messages of the sides of pairs that have no hash yet, from left to right.
 fn asked(alloc: Global, pairs: &[Pair]) -> Result<Vec<Message>, AllocError>
     requires { (n : ℕ) × PairsFit n pairs.now }
-    ensures { IfOk result (λ messages. (nonce : List ℕ) → map (preimage_of nonce) messages.items ≡ asked_of nonce pairs.now) }
+    ensures { IfOk result (λ messages. (nonce : Octets) → map (preimage_of nonce) messages.items ≡ asked_of nonce pairs.now) }
 {
     let mut messages = Vec::with_capacity(alloc, pairs.len())?;
     let mut rest = pairs;
@@ -84,9 +86,9 @@ fn side_hash(nodes: &[Node], part: &Part, hashes: &mut VecDeque<Digest>) -> Dige
     requires fits { (level : ℕ) × Fits (length nodes.now) level part.now }
     requires some { length (asked_at [] [] part.now) ≤ length hashes.old.items }
     ensures len { length hashes.new.items + length (asked_at [] [] part.now) ≡ length hashes.old.items }
-    ensures hash { (hash : List ℕ → List ℕ) (nonce : List ℕ) (prefix : List Bool) (rest : List (List ℕ))
-        → map (λ d. d.0) hashes.old.items ≡ map hash (asked_at nonce prefix part.now ++ rest)
-        → IsHashAt hash nonce nodes.now prefix part.now result × (map (λ d. d.0) hashes.new.items ≡ map hash rest) }
+    ensures hash { (by : Hashing) (prefix : List Bool) (rest : List Octets)
+        → map (λ d. d.0) hashes.old.items ≡ map by.hash (asked_at by.nonce prefix part.now ++ rest)
+        → IsHashAt by nodes.now prefix part.now result × (map (λ d. d.0) hashes.new.items ≡ map by.hash rest) }
 {
     match part {
         Part::Nothing => first_hash(hashes),
@@ -102,10 +104,10 @@ fn halve(nodes: &[Node], pair: Pair, hashes: &mut VecDeque<Digest>) -> Halved
     requires some { length (asked_at [] [] pair.left) + length (asked_at [] [] pair.right) ≤ length hashes.old.items }
     ensures same { result.pair ≡ pair }
     ensures len { length hashes.new.items + length (asked_at [] [] pair.left) + length (asked_at [] [] pair.right) ≡ length hashes.old.items }
-    ensures halved { (hash : List ℕ → List ℕ) (nonce : List ℕ) (rest : List (List ℕ))
-        → map (λ d. d.0) hashes.old.items ≡ map hash
-        (asked_at nonce (child pair.prefix false) pair.left ++ (asked_at nonce (child pair.prefix true) pair.right ++ rest))
-        → IsHalved hash nonce nodes.now result × (map (λ d. d.0) hashes.new.items ≡ map hash rest) }
+    ensures halved { (by : Hashing) (rest : List Octets)
+        → map (λ d. d.0) hashes.old.items ≡ map by.hash
+        (asked_at by.nonce (child pair.prefix false) pair.left ++ (asked_at by.nonce (child pair.prefix true) pair.right ++ rest))
+        → IsHalved by nodes.now result × (map (λ d. d.0) hashes.new.items ≡ map by.hash rest) }
 {
     let left_hash = side_hash(nodes, &pair.left, hashes);
     let right_hash = side_hash(nodes, &pair.right, hashes);
@@ -126,9 +128,9 @@ fn halve_all(
     requires fits { PairsFit (length nodes.now) pairs.items }
     requires some { length (asked_of [] pairs.items) ≤ length hashes.items }
     ensures same { IfOk result (λ all. map (λ h. h.pair) all.0.items ≡ pairs.items) }
-    ensures inner { IfOk result (λ all. (nonce : List ℕ) → map (preimage_of nonce) all.1.items ≡ map inner_of all.0.items) }
-    ensures halved { IfOk result (λ all. (hash : List ℕ → List ℕ) (nonce : List ℕ)
-        → map (λ d. d.0) hashes.items ≡ map hash (asked_of nonce pairs.items) → AllHalved hash nonce nodes.now all.0.items) }
+    ensures inner { IfOk result (λ all. (nonce : Octets) → map (preimage_of nonce) all.1.items ≡ map inner_of all.0.items) }
+    ensures halved { IfOk result (λ all. (by : Hashing)
+        → map (λ d. d.0) hashes.items ≡ map by.hash (asked_of by.nonce pairs.items) → AllHalved by nodes.now all.0.items) }
 {
     let mut halved = VecDeque::with_capacity(alloc, pairs.len())?;
     let mut messages = Vec::with_capacity(alloc, pairs.len())?;
@@ -148,11 +150,11 @@ fn joined(alloc: Global, halved: Halved, hash: Digest) -> Result<Part, AllocErro
     ensures new { IfOk result (λ part. node_count part ≡ joined_count halved.pair.left halved.pair.right) }
     ensures keeps { IfOk result (λ part. KeepsNone halved.pair.left → KeepsNone halved.pair.right → KeepsNone part) }
     ensures placed { IfOk result (λ part. (all : List Record) → Placed all halved.pair.left → Placed all halved.pair.right → Placed all part) }
-    ensures stands { IfOk result (λ part. (digest_of : List ℕ → List ℕ) (nonce : List ℕ) (nodes : List Node) (records : List Record) (entries : List Numbered)
-        → length halved.pair.prefix < 256 → IsHalved digest_of nonce nodes halved → hash.0 ≡ digest_of (inner_of halved)
-        → Stands digest_of nonce nodes records halved.pair.left (child halved.pair.prefix false) (half false (length halved.pair.prefix) entries)
-        → Stands digest_of nonce nodes records halved.pair.right (child halved.pair.prefix true) (half true (length halved.pair.prefix) entries)
-        → Stands digest_of nonce nodes records part halved.pair.prefix entries) }
+    ensures stands { IfOk result (λ part. (by : Hashing) (t : Table) (entries : List Numbered)
+        → length halved.pair.prefix < 256 → IsHalved by t.nodes halved → hash.0 ≡ by.hash (inner_of halved)
+        → Stands by t halved.pair.left (child halved.pair.prefix false) (half false (length halved.pair.prefix) entries)
+        → Stands by t halved.pair.right (child halved.pair.prefix true) (half true (length halved.pair.prefix) entries)
+        → Stands by t part halved.pair.prefix entries) }
 {
     let Halved {
         pair,
@@ -177,10 +179,10 @@ fn joined_all(
     mut hashes: VecDeque<Digest>,
 ) -> Result<VecDeque<Part>, AllocError>
     requires { length halved.items ≡ length hashes.items }
-    ensures { IfOk result (λ parts. (digest_of : List ℕ → List ℕ) (nonce : List ℕ) (nodes : List Node)
+    ensures { IfOk result (λ parts. (by : Hashing) (nodes : List Node)
         → PairsFit (length nodes) (map (λ h. h.pair) halved.items)
-        → AllHalved digest_of nonce nodes halved.items → map (λ d. d.0) hashes.items ≡ map (λ h. digest_of (inner_of h)) halved.items
-        → AllJoined digest_of nonce nodes (map (λ h. h.pair) halved.items) parts.items) }
+        → AllHalved by nodes halved.items → map (λ d. d.0) hashes.items ≡ map (λ h. by.hash (inner_of h)) halved.items
+        → AllJoined by nodes (map (λ h. h.pair) halved.items) parts.items) }
 {
     let mut parts = VecDeque::with_capacity(alloc, halved.len())?;
     while let Some(one) = halved.pop_front() {
@@ -201,7 +203,7 @@ pub(crate) fn join_all<H: Hash32>(
     pairs: Vec<Pair>,
 ) -> Result<VecDeque<Part>, AllocError>
     requires { PairsFit (length nodes.now) pairs.items }
-    ensures { IfOk result (λ parts. AllJoined (H.digest_of h.now) nonce.now.0 nodes.now pairs.items parts.items) }
+    ensures { IfOk result (λ parts. AllJoined (hashing (H.digest_of h.now) nonce.now.0) nodes.now pairs.items parts.items) }
 {
     let messages = asked(alloc, &pairs)?;
     let hashes = hash_all(alloc, h, nonce, &messages)?;

@@ -1,8 +1,9 @@
 //! Overwrites a part with many changes, level by level.
 
-ghost use Rattle.std.specs.Prelude.{◌≡◌, ◌++◌, ◌∷◌, ◌<◌, ◌≤◌, ◌+◌, ◌-◌, ◌^◌, [], List, ℕ, length, slice_get, min, IfOk, Bool, false, true};
+ghost use Rattle.std.specs.Prelude.{◌≡◌, ◌++◌, ◌∷◌, ◌<◌, ◌≤◌, ◌+◌, ◌-◌, ◌^◌, [], List, length, slice_get, min, IfOk, Bool, false, true};
 ghost use Rattle.coniks_proof.specs.Bits.{child};
-ghost use Rattle.coniks_tree.specs.Table.{IsTable};
+ghost use Rattle.coniks_proof.specs.Hashing.{Hashing, hashing};
+ghost use Rattle.coniks_tree.specs.Table.{IsLinked, Table, table};
 ghost use Rattle.coniks_tree.specs.Parts.{Fits};
 ghost use Rattle.coniks_tree.specs.Levels.{AllDivide, AllGrown, AllOpen, Divides, IsGrown, IsOpen, SideGrows, all_interior_below, filled, interior_below, is_interior, left_by, side_from};
 
@@ -39,10 +40,10 @@ fn settle<'a>(
     changes: &'a [Change],
     next: &mut VecDeque<Growing<'a>>,
 ) -> Result<Option<Part>, AllocError>
-    ensures { IfOk result (λ side. (digest_of : List ℕ → List ℕ) (nonce : List ℕ) (nodes : List Node) (records : List Record)
-        → Fits (length nodes) (length prefix) part
-        → (more : List Growing) × (next.new.items ≡ next.old.items ++ more) × AllOpen (length nodes) (length prefix) more
-        × SideGrows digest_of nonce nodes records prefix part changes.now side more) }
+    ensures { IfOk result (λ side. (by : Hashing) (t : Table)
+        → Fits (length t.nodes) (length prefix) part
+        → (more : List Growing) × (next.new.items ≡ next.old.items ++ more) × AllOpen (length t.nodes) (length prefix) more
+        × SideGrows by t prefix part changes.now side more) }
 {
     if changes.is_empty() {
         return Ok(Some(part));
@@ -67,13 +68,13 @@ fn divide<'a>(
     changes: &'a [Change],
     next: &mut VecDeque<Growing<'a>>,
 ) -> Result<(Option<Part>, Option<Part>), AllocError>
-    requires table { IsTable nodes.now records.now }
+    requires table { IsLinked (table nodes.now records.now) }
     requires short { length prefix.now < 256 }
     requires some { 0 < length changes.now }
     requires fits { Fits (length nodes.now) (length prefix.now) part }
-    ensures { IfOk result (λ both. (digest_of : List ℕ → List ℕ) (nonce : List ℕ)
+    ensures { IfOk result (λ both. (by : Hashing)
         → (more : List Growing) × (next.new.items ≡ next.old.items ++ more) × AllOpen (length nodes.now) (length prefix.now + 1) more
-        × Divides digest_of nonce nodes.now records.now prefix.now part changes.now both.0 both.1 more) }
+        × Divides by (table nodes.now records.now) prefix.now part changes.now both.0 both.1 more) }
 {
     let level = prefix.len();
     let (left, right) = opened(nodes, records, level, part);
@@ -122,11 +123,10 @@ fn divide_all<'a>(
     level: usize,
     mut growing: VecDeque<Growing<'a>>,
 ) -> Result<(VecDeque<Opened>, VecDeque<Growing<'a>>), AllocError>
-    requires table { IsTable nodes.now records.now }
+    requires table { IsLinked (table nodes.now records.now) }
     requires growing { AllOpen (length nodes.now) level growing.items }
     ensures below { IfOk result (λ both. AllOpen (length nodes.now) (level + 1) both.1.items) }
-    ensures divide { IfOk result (λ both. (digest_of : List ℕ → List ℕ) (nonce : List ℕ)
-        → AllDivide digest_of nonce nodes.now records.now growing.entry.items both.0.items both.1.items) }
+    ensures divide { IfOk result (λ both. (by : Hashing) → AllDivide by (table nodes.now records.now) growing.entry.items both.0.items both.1.items) }
 {
     // Read for the contract alone.
     let _ = level;
@@ -194,10 +194,10 @@ fn grow_level<H: Hash32>(
     level: usize,
     growing: VecDeque<Growing>,
 ) -> Result<VecDeque<Part>, AllocError>
-    requires table { IsTable base.now.nodes.now base.now.records.now }
+    requires table { IsLinked (table base.now.nodes.now base.now.records.now) }
     requires growing { AllOpen (length base.now.nodes.now) level growing.items }
-    ensures { IfOk result (λ parts. AllGrown (H.digest_of base.now.h.now) base.now.nonce.now.0
-        base.now.nodes.now base.now.records.now growing.entry.items parts.items) }
+    ensures { IfOk result (λ parts. AllGrown (hashing (H.digest_of base.now.h.now) base.now.nonce.now.0)
+        (table base.now.nodes.now base.now.records.now) growing.entry.items parts.items) }
 {
     if growing.is_empty() {
         return Ok(VecDeque::new(alloc));
@@ -219,12 +219,12 @@ pub(crate) fn grow_by_levels<H: Hash32>(
     prefix: &Prefix,
     changes: &[Change],
 ) -> Result<Part, AllocError>
-    requires table { IsTable base.now.nodes.now base.now.records.now }
+    requires table { IsLinked (table base.now.nodes.now base.now.records.now) }
     requires short { length prefix.now < 256 }
     requires some { 0 < length changes.now }
     requires fits { Fits (length base.now.nodes.now) (length prefix.now) part }
-    ensures { IfOk result (λ grown. IsGrown (H.digest_of base.now.h.now) base.now.nonce.now.0
-        base.now.nodes.now base.now.records.now prefix.now part changes.now grown) }
+    ensures { IfOk result (λ grown. IsGrown (hashing (H.digest_of base.now.h.now) base.now.nonce.now.0)
+        (table base.now.nodes.now base.now.records.now) prefix.now part changes.now grown) }
 {
     let mut next = VecDeque::with_capacity(alloc, 2)?;
     let (left, right) = divide(base.nodes, base.records, part, prefix, changes, &mut next)?;

@@ -45,5 +45,4 @@ pub mod tree;
 pub use coniks_proof::OutOfMemory;
 pub use growth::sides;
 pub use part::{Change, Part, Subtree, lefts};
-pub use table::{Record, RecordNo, Root};
-pub use tree::Tree;
+pub use table::{Record, RecordNo, Root, Tree};

@@ -3,8 +3,9 @@
 ghost use Rattle.std.specs.Prelude.{◌≡◌, ◌<◌, ◌≤◌, ◌+◌, ◌-◌, ◌^◌, List, ℕ, length, Bool, IfOk, false, true, min};
 ghost use Rattle.coniks_proof.specs.Bits.{child};
 ghost use Rattle.coniks_proof.specs.Entries.{half};
+ghost use Rattle.coniks_proof.specs.Hashing.{Hashing, hashing};
 ghost use Rattle.coniks_proof.specs.Tree.{node};
-ghost use Rattle.coniks_tree.specs.Table.{Numbered};
+ghost use Rattle.coniks_tree.specs.Table.{Numbered, Table, table};
 ghost use Rattle.coniks_tree.specs.Counts.{joined_count};
 ghost use Rattle.coniks_tree.specs.Parts.{Stands, Fits, KeepsNone, Placed, IsSubtree, entries_in, node_count, weight_of};
 
@@ -71,8 +72,9 @@ pub(crate) fn hash_at<H: Hash32>(
     part: &Part,
 ) -> Digest
     requires { Fits (length nodes.now) (length prefix.now) part.now }
-    ensures { (records : List Record) (entries : List Numbered) → Stands (H.digest_of h.now) nonce.now.0 nodes.now records part.now prefix.now entries
-        → result.0 ≡ node (H.digest_of h.now) nonce.now.0 prefix.now entries }
+    ensures { (records : List Record) (entries : List Numbered)
+        → Stands (hashing (H.digest_of h.now) nonce.now.0) (table nodes.now records) part.now prefix.now entries
+        → result.0 ≡ node (hashing (H.digest_of h.now) nonce.now.0) prefix.now entries }
 {
     match part {
         Part::Nothing => empty_hash(h, nonce, prefix),
@@ -120,11 +122,11 @@ pub(crate) fn made(
     ensures count { IfOk result (λ part. node_count part ≡ node_count left + node_count right + 1) }
     ensures keeps { IfOk result (λ part. KeepsNone left → KeepsNone right → KeepsNone part) }
     ensures placed { IfOk result (λ part. (all : List Record) → Placed all left → Placed all right → Placed all part) }
-    ensures stands { IfOk result (λ part. (digest_of : List ℕ → List ℕ) (nonce : List ℕ)
-        (nodes : List Node) (records : List Record) (prefix : List Bool) (entries : List Numbered)
-        → IsSubtree digest_of nonce prefix entries hash left_hash right_hash
-        (Stands digest_of nonce nodes records left) (Stands digest_of nonce nodes records right)
-        → Stands digest_of nonce nodes records part prefix entries) }
+    ensures stands { IfOk result (λ part. (by : Hashing)
+        (t : Table) (prefix : List Bool) (entries : List Numbered)
+        → IsSubtree by prefix entries hash left_hash right_hash
+        (Stands by t left) (Stands by t right)
+        → Stands by t part prefix entries) }
 {
     let count = new_nodes(&left)
         .saturating_add(new_nodes(&right))
@@ -159,11 +161,11 @@ pub(crate) fn join_parts<H: Hash32>(
     ensures keeps { IfOk result (λ part. KeepsNone left → KeepsNone right → KeepsNone part) }
     ensures placed { IfOk result (λ part. (all : List Record) → Placed all left → Placed all right → Placed all part) }
     ensures stands { IfOk result (λ part. (records : List Record) (entries : List Numbered)
-        → Stands (H.digest_of base.now.h.now) base.now.nonce.now.0 base.now.nodes.now records
+        → Stands (hashing (H.digest_of base.now.h.now) base.now.nonce.now.0) (table base.now.nodes.now records)
         left (child prefix.now false) (half false (length prefix.now) entries)
-        → Stands (H.digest_of base.now.h.now) base.now.nonce.now.0 base.now.nodes.now records
+        → Stands (hashing (H.digest_of base.now.h.now) base.now.nonce.now.0) (table base.now.nodes.now records)
         right (child prefix.now true) (half true (length prefix.now) entries)
-        → Stands (H.digest_of base.now.h.now) base.now.nonce.now.0 base.now.nodes.now records part prefix.now entries) }
+        → Stands (hashing (H.digest_of base.now.h.now) base.now.nonce.now.0) (table base.now.nodes.now records) part prefix.now entries) }
 {
     let weight_left = weight(&left);
     if weight_left + weight(&right) < 2 {

@@ -1,9 +1,10 @@
 //! The part under a prefix.
 
-ghost use Rattle.std.specs.Prelude.{◌≡◌, ◌<◌, ◌≤◌, ◌+◌, List, ℕ, length, Bool, false, []};
+ghost use Rattle.std.specs.Prelude.{◌≡◌, ◌<◌, ◌≤◌, ◌+◌, List, length, Bool, false, []};
 ghost use Rattle.coniks_proof.specs.Entries.{half, under};
 ghost use Rattle.coniks_proof.specs.Bits.{child};
-ghost use Rattle.coniks_tree.specs.Table.{Extends, IsTable, Numbered, Shows};
+ghost use Rattle.coniks_proof.specs.Hashing.{Hashing};
+ghost use Rattle.coniks_tree.specs.Table.{Extends, IsLinked, Numbered, Shows, table};
 ghost use Rattle.coniks_tree.specs.Parts.{Stands, Fits, Placed, is_made, node_count};
 
 use crate::halving::opened;
@@ -19,15 +20,15 @@ pub(crate) fn side(
     part: Part,
     right: bool,
 ) -> Part
-    requires table { IsTable nodes.now records.now }
+    requires table { IsLinked (table nodes.now records.now) }
     requires fits { Fits (length nodes.now) level part }
     requires short { level < 256 }
     ensures fits { Fits (length nodes.now) (level + 1) result }
     ensures unmade { is_made part ≡ false → is_made result ≡ false }
     ensures placed { (all : List Record) → Extends records.now all → Placed all part → Placed all result }
-    ensures stands { (hash : List ℕ → List ℕ) (nonce : List ℕ) (prefix : List Bool) (entries : List Numbered) → length prefix ≡ level
-        → Stands hash nonce nodes.now records.now part prefix entries
-        → Stands hash nonce nodes.now records.now result (child prefix right) (half right level entries) }
+    ensures stands { (by : Hashing) (prefix : List Bool) (entries : List Numbered) → length prefix ≡ level
+        → Stands by (table nodes.now records.now) part prefix entries
+        → Stands by (table nodes.now records.now) result (child prefix right) (half right level entries) }
 {
     let (below_left, below_right) = opened(nodes, records, level, part);
     if right { below_right } else { below_left }
@@ -35,14 +36,14 @@ pub(crate) fn side(
 
 /// Returns the part of the entries under a prefix. It copies no subtree.
 pub(crate) fn part_under(nodes: &[Node], records: &[Record], root: usize, prefix: &Prefix) -> Part
-    requires table { IsTable nodes.now records.now }
+    requires table { IsLinked (table nodes.now records.now) }
     requires known { root < length nodes.now }
     ensures fits { Fits (length nodes.now) (length prefix.now) result }
     ensures unmade { is_made result ≡ false }
     ensures whole { length prefix.now ≡ 0 → node_count result ≡ 0 }
     ensures placed { (all : List Record) → Extends records.now all → Placed all result }
-    ensures stands { (hash : List ℕ → List ℕ) (nonce : List ℕ) (entries : List Numbered)
-        → Shows hash nonce nodes.now records.now root [] entries → Stands hash nonce nodes.now records.now result prefix.now (under prefix.now entries) }
+    ensures stands { (by : Hashing) (entries : List Numbered)
+        → Shows by (table nodes.now records.now) root [] entries → Stands by (table nodes.now records.now) result prefix.now (under prefix.now entries) }
 {
     let mut part = Part::Kept(Root(root));
     for level in 0..prefix.len() {

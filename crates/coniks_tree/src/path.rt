@@ -1,10 +1,12 @@
 //! The way to an index: its end, and the authentication path.
 
-ghost use Rattle.std.specs.Prelude.{◌≡◌, ◌++◌, ◌∷◌, [], ◌<◌, ◌≤◌, ◌+◌, List, ℕ, length, slice_get, IfOk, IfSome, None, Bool, not, map};
+ghost use Rattle.std.specs.Prelude.{◌≡◌, ◌++◌, ◌∷◌, [], ◌<◌, ◌≤◌, ◌+◌, List, length, slice_get, IfOk, IfSome, None, Bool, not, map};
 ghost use Rattle.coniks_proof.specs.Bits.{bit_at};
 ghost use Rattle.coniks_proof.specs.Entries.{backed_by};
+ghost use Rattle.coniks_proof.specs.Hashing.{Hashing};
+ghost use Rattle.coniks_proof.specs.Octets.{Octets};
 ghost use Rattle.coniks_proof.specs.Paths.{EndIs, IsPath, end_of};
-ghost use Rattle.coniks_tree.specs.Table.{IsTable, Numbered, Shows, registered_at};
+ghost use Rattle.coniks_tree.specs.Table.{IsLinked, Numbered, Shows, registered_at, table};
 ghost use Rattle.coniks_tree.specs.Paths.{Finds, IsKnown, IsStep, PathStopsAt};
 
 use crate::table::{Node, Record, RecordNo, node_of, record_of};
@@ -27,15 +29,15 @@ pub(crate) fn step(
     index: &Index,
     level: usize,
 ) -> Option<(usize, Digest)>
-    requires table { IsTable nodes.now records.now }
+    requires table { IsLinked (table nodes.now records.now) }
     requires known { number < length nodes.now }
     ensures known { IfSome result (λ s. s.0 < length nodes.now) }
     ensures short { IfSome result (λ _. level < 256) }
-    ensures down { IfSome result (λ s. (hash : List ℕ → List ℕ) (nonce : List ℕ) (prefix : List Bool) (entries : List Numbered) → length prefix ≡ level
-        → Shows hash nonce nodes.now records.now number prefix entries
-        → IsStep hash nonce nodes.now records.now (bit_at index.now.0 level) prefix entries s.0 s.1) }
-    ensures last { result ≡ None → (hash : List ℕ → List ℕ) (nonce : List ℕ) (prefix : List Bool) (entries : List Numbered) → length prefix ≡ level
-        → Shows hash nonce nodes.now records.now number prefix entries → length entries ≤ 1 }
+    ensures down { IfSome result (λ s. (by : Hashing) (prefix : List Bool) (entries : List Numbered) → length prefix ≡ level
+        → Shows by (table nodes.now records.now) number prefix entries
+        → IsStep by (table nodes.now records.now) (bit_at index.now.0 level) prefix entries s.0 s.1) }
+    ensures last { result ≡ None → (by : Hashing) (prefix : List Bool) (entries : List Numbered) → length prefix ≡ level
+        → Shows by (table nodes.now records.now) number prefix entries → length entries ≤ 1 }
 {
     if level >= MAX_LEVEL {
         return None;
@@ -55,11 +57,11 @@ pub(crate) fn step(
 
 /// Returns the end at a node that is not an interior node.
 pub(crate) fn stop_at(nodes: &[Node], records: &[Record], number: usize, index: &Index) -> Stop
-    requires table { IsTable nodes.now records.now }
+    requires table { IsLinked (table nodes.now records.now) }
     requires known { number < length nodes.now }
     ensures known { IsKnown (length records.now) result }
-    ensures stops { (hash : List ℕ → List ℕ) (nonce : List ℕ) (prefix : List Bool) (entries : List Numbered)
-        → length entries ≤ 1 → Shows hash nonce nodes.now records.now number prefix entries → PathStopsAt records.now index.now.0 result entries }
+    ensures stops { (by : Hashing) (prefix : List Bool) (entries : List Numbered)
+        → length entries ≤ 1 → Shows by (table nodes.now records.now) number prefix entries → PathStopsAt records.now index.now.0 result entries }
 {
     match node_of(nodes, number) {
         Node::Empty(_) => Stop::Empty,
@@ -78,7 +80,7 @@ pub(crate) fn stop_at(nodes: &[Node], records: &[Record], number: usize, index: 
 /// Returns the end of a path, with a copy of the binding that it shows.
 pub(crate) fn end_of_path(alloc: Global, records: &[Record], stop: Stop) -> Result<End, AllocError>
     requires { IsKnown (length records.now) stop }
-    ensures { IfOk result (λ end. (index : List ℕ) (entries : List Numbered)
+    ensures { IfOk result (λ end. (index : Octets) (entries : List Numbered)
         → PathStopsAt records.now index stop entries → EndIs index (map (backed_by (registered_at records.now)) entries) end) }
 {
     match stop {
@@ -105,11 +107,11 @@ pub(crate) fn path_from(
     root: usize,
     index: &Index,
 ) -> Result<Proof, AllocError>
-    requires table { IsTable nodes.now records.now }
+    requires table { IsLinked (table nodes.now records.now) }
     requires known { root < length nodes.now }
-    ensures { IfOk result (λ path. (hash : List ℕ → List ℕ) (nonce : List ℕ) (entries : List Numbered)
-        → Shows hash nonce nodes.now records.now root [] entries
-        → IsPath hash nonce (map (backed_by (registered_at records.now)) entries) index.now.0 path) }
+    ensures { IfOk result (λ path. (by : Hashing) (entries : List Numbered)
+        → Shows by (table nodes.now records.now) root [] entries
+        → IsPath by (map (backed_by (registered_at records.now)) entries) index.now.0 path) }
 {
     let mut siblings = Vec::new(alloc);
     let mut number = root;
@@ -128,11 +130,11 @@ pub(crate) fn path_from(
 
 /// Returns the number of the node at which the way to an index ends.
 pub(crate) fn last_number(nodes: &[Node], records: &[Record], root: usize, index: &Index) -> usize
-    requires table { IsTable nodes.now records.now }
+    requires table { IsLinked (table nodes.now records.now) }
     requires known { root < length nodes.now }
     ensures known { result < length nodes.now }
-    ensures ends { (hash : List ℕ → List ℕ) (nonce : List ℕ) (entries : List Numbered) → Shows hash nonce nodes.now records.now root [] entries
-        → (prefix : List Bool) × Shows hash nonce nodes.now records.now result prefix (end_of [] index.now.0 entries)
+    ensures ends { (by : Hashing) (entries : List Numbered) → Shows by (table nodes.now records.now) root [] entries
+        → (prefix : List Bool) × Shows by (table nodes.now records.now) result prefix (end_of [] index.now.0 entries)
         × (length (end_of [] index.now.0 entries) ≤ 1) }
 {
     let mut number = root;
@@ -153,11 +155,11 @@ pub(crate) fn find_from(
     root: usize,
     index: &Index,
 ) -> Option<RecordNo>
-    requires table { IsTable nodes.now records.now }
+    requires table { IsLinked (table nodes.now records.now) }
     requires known { root < length nodes.now }
     ensures known { IfSome result (λ place. place.0 < length records.now) }
-    ensures finds { (hash : List ℕ → List ℕ) (nonce : List ℕ) (entries : List Numbered)
-        → Shows hash nonce nodes.now records.now root [] entries → Finds records.now index.now.0 result entries }
+    ensures finds { (by : Hashing) (entries : List Numbered)
+        → Shows by (table nodes.now records.now) root [] entries → Finds records.now index.now.0 result entries }
 {
     match stop_at(
         nodes,

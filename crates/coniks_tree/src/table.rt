@@ -1,9 +1,10 @@
-//! Numbered nodes, and records.
+//! A tree's nodes, which are numbered, and its records.
 
 ghost use Rattle.std.specs.Prelude.{◌≡◌, ◌<◌, length, slice_get, Some};
-ghost use Rattle.coniks_tree.specs.Table.{hash_of_node};
+ghost use Rattle.coniks_tree.specs.Table.{IsLinked, hash_of_node, table};
 
 use coniks_proof::{Binding, Digest, Index, Nonce, Opening};
+use std::alloc::Global;
 
 /// The number of a record: its position in the list of a tree's records, from 0.
 #[derive(Clone, Copy, Debug, PartialEq, Eq)]
@@ -34,6 +35,19 @@ pub enum Node {
     Empty(Digest),
     Leaf(RecordNo, Digest),
     Inner(usize, usize, Digest),
+}
+
+/// The nodes that epochs share, and the records of their leaves. Both lists only grow, at their ends.
+///
+/// A part or a root belongs to the tree that returned it, and to the hash and the nonce that it was made with. The
+/// postconditions are for a part that stands for a map, or a root that shows one. With another tree, hash or nonce a call
+/// is memory-safe and terminates, but returns something else.
+#[derive(Drop)]
+pub struct Tree {
+    pub(crate) nodes: Vec<Node>,
+    pub(crate) records: Vec<Record>,
+    pub(crate) alloc: Global,
+    ghost whole: { IsLinked (table nodes.items records.items) },
 }
 
 /// What new parts are made over: the nodes and records of a tree, and the hash and nonce of the new nodes.

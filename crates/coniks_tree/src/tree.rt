@@ -1,13 +1,15 @@
-//! The tree: a table of nodes, and a list of records.
+//! The calls of a tree.
 
 ghost use Rattle.std.specs.Prelude.{◌≡◌, ◌++◌, ◌∷◌, [], ◌<◌, ◌≤◌, ◌+◌, ◌*◌, ◌-◌, ◌^◌, List, ℕ, length, slice_get, IfOk, IfSome, Some, OnOk, OnErr, vec_capacity, Bool, false, true, map, min};
 ghost use Rattle.coniks_proof.specs.Bits.{child};
 ghost use Rattle.coniks_proof.specs.Entries.{backed_by, half, under};
 ghost use Rattle.coniks_proof.specs.Changes.{overwritten, AreApart, AreInOrder};
+ghost use Rattle.coniks_proof.specs.Hashing.{Hashing, hashing};
 ghost use Rattle.coniks_proof.specs.Paths.{IsPath};
 ghost use Rattle.coniks_proof.specs.Tree.{node};
+ghost use Rattle.coniks_tree.specs.Trees.{table_of};
 ghost use Rattle.coniks_tree.specs.Entries.{Lists};
-ghost use Rattle.coniks_tree.specs.Table.{Extends, IsTable, Numbered, Shows, registered_at};
+ghost use Rattle.coniks_tree.specs.Table.{Extends, Numbered, Shows, registered_at};
 ghost use Rattle.coniks_tree.specs.Counts.{joined_count, new_nodes};
 ghost use Rattle.coniks_tree.specs.Parts.{Stands, Fits, KeepsNone, Placed, AllPlaced, node_count, is_made, entries_in};
 ghost use Rattle.coniks_tree.specs.Paths.{Finds};
@@ -18,22 +20,9 @@ use crate::growth::grow_part;
 use crate::part::{Change, Part, hash_at, join_parts, new_nodes};
 use crate::part_at::part_under;
 use crate::path::{find_from, path_from};
-use crate::table::{Base, Node, Record, RecordNo, Root, node_of, record_of};
+use crate::table::{Base, Record, RecordNo, Root, Tree, node_of, record_of};
 use coniks_proof::{Digest, Hash32, Index, Nonce, OutOfMemory, Prefix, Proof};
 use std::alloc::Global;
-
-/// The nodes that epochs share, and the records of their leaves. Both lists only grow, at their ends.
-///
-/// A part or a root belongs to the tree that returned it, and to the hash and the nonce that it was made with. The
-/// postconditions are for a part that stands for a map, or a root that shows one. With another tree, hash or nonce a call
-/// is memory-safe and terminates, but returns something else.
-#[derive(Drop)]
-pub struct Tree {
-    nodes: Vec<Node>,
-    records: Vec<Record>,
-    alloc: Global,
-    ghost whole: { IsTable nodes.items records.items },
-}
 
 impl Tree {
     /// Returns a tree without nodes and records.
@@ -73,8 +62,8 @@ impl Tree {
     /// Returns the hash of a node, which is stored in the node. Computes no hash.
     pub fn node_hash(&self, root: Root) -> Digest
         requires { root.0 < length self.now.nodes.items }
-        ensures { (hash : List ℕ → List ℕ) (nonce : List ℕ) (prefix : List Bool) (entries : List Numbered)
-            → Shows hash nonce self.now.nodes.items self.now.records.items root.0 prefix entries → result.0 ≡ node hash nonce prefix entries }
+        ensures { (by : Hashing) (prefix : List Bool) (entries : List Numbered)
+            → Shows by (table_of self.now) root.0 prefix entries → result.0 ≡ node by prefix entries }
     {
         node_of(&self.nodes, root.0).hash()
     }
@@ -85,8 +74,8 @@ impl Tree {
     pub fn find(&self, root: Root, index: &Index) -> Option<RecordNo>
         requires { root.0 < length self.now.nodes.items }
         ensures known { IfSome result (λ place. place.0 < length self.now.records.items) }
-        ensures finds { (hash : List ℕ → List ℕ) (nonce : List ℕ) (entries : List Numbered)
-            → Shows hash nonce self.now.nodes.items self.now.records.items root.0 [] entries → Finds self.now.records.items index.now.0 result entries }
+        ensures finds { (by : Hashing) (entries : List Numbered)
+            → Shows by (table_of self.now) root.0 [] entries → Finds self.now.records.items index.now.0 result entries }
     {
         find_from(&self.nodes, &self.records, root.0, index)
     }
@@ -101,9 +90,9 @@ impl Tree {
     /// `OutOfMemory` if an allocation fails.
     pub fn path(&self, root: Root, index: &Index) -> Result<Proof, OutOfMemory>
         requires { root.0 < length self.now.nodes.items }
-        ensures { IfOk result (λ path. (hash : List ℕ → List ℕ) (nonce : List ℕ) (entries : List Numbered)
-            → Shows hash nonce self.now.nodes.items self.now.records.items root.0 [] entries
-            → IsPath hash nonce (map (backed_by (registered_at self.now.records.items)) entries) index.now.0 path) }
+        ensures { IfOk result (λ path. (by : Hashing) (entries : List Numbered)
+            → Shows by (table_of self.now) root.0 [] entries
+            → IsPath by (map (backed_by (registered_at self.now.records.items)) entries) index.now.0 path) }
     {
         Ok(path_from(self.alloc, &self.nodes, &self.records, root.0, index)?)
     }
@@ -118,8 +107,8 @@ impl Tree {
     pub fn entries(&self, root: Root) -> Result<Vec<Change>, OutOfMemory>
         requires { root.0 < length self.now.nodes.items }
         ensures placed { IfOk result (λ changes. (all : List Record) → Extends self.now.records.items all → AllPlaced all changes.items) }
-        ensures lists { IfOk result (λ changes. (hash : List ℕ → List ℕ) (nonce : List ℕ) (entries : List Numbered)
-            → Shows hash nonce self.now.nodes.items self.now.records.items root.0 [] entries → Lists changes.items entries) }
+        ensures lists { IfOk result (λ changes. (by : Hashing) (entries : List Numbered)
+            → Shows by (table_of self.now) root.0 [] entries → Lists changes.items entries) }
     {
         Ok(entries_from(self.alloc, &self.nodes, &self.records, root.0)?)
     }
@@ -134,9 +123,9 @@ impl Tree {
         ensures count { node_count result ≤ 1 }
         ensures whole { length prefix.now ≡ 0 → node_count result ≡ 0 }
         ensures placed { (all : List Record) → Extends self.now.records.items all → Placed all result }
-        ensures stands { (hash : List ℕ → List ℕ) (nonce : List ℕ) (entries : List Numbered)
-            → Shows hash nonce self.now.nodes.items self.now.records.items root.0 [] entries
-            → Stands hash nonce self.now.nodes.items self.now.records.items result prefix.now (under prefix.now entries) }
+        ensures stands { (by : Hashing) (entries : List Numbered)
+            → Shows by (table_of self.now) root.0 [] entries
+            → Stands by (table_of self.now) result prefix.now (under prefix.now entries) }
     {
         part_under(&self.nodes, &self.records, root.0, prefix)
     }
@@ -146,8 +135,8 @@ impl Tree {
     /// Computes a hash only for a single entry or an empty part, and only one.
     pub fn part_hash<H: Hash32>(&self, h: &H, nonce: &Nonce, part: &Part) -> Digest
         requires { Fits (length self.now.nodes.items) 0 part.now }
-        ensures { (entries : List Numbered) → Stands (H.digest_of h.now) nonce.now.0 self.now.nodes.items self.now.records.items part.now [] entries
-            → result.0 ≡ node (H.digest_of h.now) nonce.now.0 [] entries }
+        ensures { (entries : List Numbered) → Stands (hashing (H.digest_of h.now) nonce.now.0) (table_of self.now) part.now [] entries
+            → result.0 ≡ node (hashing (H.digest_of h.now) nonce.now.0) [] entries }
     {
         hash_at(&self.nodes, h, nonce, &Prefix::root(), part)
     }
@@ -177,11 +166,11 @@ impl Tree {
         ensures keeps { IfOk result (λ part. KeepsNone left → KeepsNone right → KeepsNone part) }
         ensures placed { IfOk result (λ part. (all : List Record) → Placed all left → Placed all right → Placed all part) }
         ensures stands { IfOk result (λ part. (entries : List Numbered)
-            → Stands (H.digest_of h.now) nonce.now.0 self.now.nodes.items self.now.records.items
+            → Stands (hashing (H.digest_of h.now) nonce.now.0) (table_of self.now)
             left (child prefix.now false) (half false (length prefix.now) entries)
-            → Stands (H.digest_of h.now) nonce.now.0 self.now.nodes.items self.now.records.items
+            → Stands (hashing (H.digest_of h.now) nonce.now.0) (table_of self.now)
             right (child prefix.now true) (half true (length prefix.now) entries)
-            → Stands (H.digest_of h.now) nonce.now.0 self.now.nodes.items self.now.records.items part prefix.now entries) }
+            → Stands (hashing (H.digest_of h.now) nonce.now.0) (table_of self.now) part prefix.now entries) }
     {
         let base = Base {
             nodes: &self.nodes,
@@ -218,14 +207,14 @@ impl Tree {
         ensures new { IfOk result (λ grown. is_made part ≡ false → 0 < length prefix.now + length changes.now → (entries : List Numbered)
             → AreInOrder (length prefix.now) (entries_in changes.now)
             → AreApart (length prefix.now) (overwritten entries (entries_in changes.now))
-            → Stands (H.digest_of h.now) nonce.now.0 self.now.nodes.items self.now.records.items part prefix.now entries
+            → Stands (hashing (H.digest_of h.now) nonce.now.0) (table_of self.now) part prefix.now entries
             → node_count grown ≡ new_nodes (length prefix.now) entries (entries_in changes.now)) }
         ensures keeps { IfOk result (λ grown. KeepsNone part → KeepsNone grown) }
         ensures stands { IfOk result (λ grown. (entries : List Numbered)
             → AreInOrder (length prefix.now) (entries_in changes.now)
             → AreApart (length prefix.now) (overwritten entries (entries_in changes.now))
-            → Stands (H.digest_of h.now) nonce.now.0 self.now.nodes.items self.now.records.items part prefix.now entries
-            → Stands (H.digest_of h.now) nonce.now.0 self.now.nodes.items self.now.records.items
+            → Stands (hashing (H.digest_of h.now) nonce.now.0) (table_of self.now) part prefix.now entries
+            → Stands (hashing (H.digest_of h.now) nonce.now.0) (table_of self.now)
             grown prefix.now (overwritten entries (entries_in changes.now))) }
     {
         let base = Base {
@@ -290,8 +279,8 @@ impl Tree {
         ensures known { result.0 < length self.new.nodes.items }
         ensures older { Extends self.old.nodes.items self.new.nodes.items }
         ensures shows { (entries : List Numbered)
-            → Stands (H.digest_of h.now) nonce.now.0 self.old.nodes.items self.old.records.items part [] entries
-            → Shows (H.digest_of h.now) nonce.now.0 self.new.nodes.items self.new.records.items result.0 [] entries }
+            → Stands (hashing (H.digest_of h.now) nonce.now.0) (table_of self.old) part [] entries
+            → Shows (hashing (H.digest_of h.now) nonce.now.0) (table_of self.new) result.0 [] entries }
     {
         let hash = hash_at(&self.nodes, h, nonce, &Prefix::root(), &part);
         let mut added = records;

@@ -3,10 +3,10 @@ use Rattle.std.specs.Prelude.{◌≡◌, ◌<◌, ◌≤◌, ◌+◌, ◌*◌, �
 use Rattle.coniks_proof.specs.Bits.{child}
 use Rattle.coniks_proof.specs.Entries.{under}
 use Rattle.coniks_proof.specs.Changes.{overwritten, AreApart, AreInOrder}
-use Rattle.coniks_tree.specs.Table.{Numbered, Shows, Extends, entry_of_record}
+use Rattle.coniks_proof.specs.Hashing.{Hashing}
+use Rattle.coniks_tree.specs.Table.{Numbered, Shows, Extends, entry_of_record, Table}
 use Rattle.coniks_tree.specs.Counts.{new_nodes}
 use Rattle.coniks_tree.specs.Parts.{Stands, Fits, KeepsNone, Placed, node_count}
-use Rattle.coniks_tree.specs.declared.table.Node.{Node}
 use Rattle.coniks_tree.specs.declared.table.Record.{Record}
 use Rattle.coniks_tree.specs.declared.table.Root.{Root}
 use Rattle.coniks_tree.specs.declared.part.Part.{Part, Nothing, Kept}
@@ -15,9 +15,9 @@ use Rattle.coniks_work.specs.Sides.{side}
 use Rattle.coniks_work.specs.declared.jobs.Job.{Job}
 
 -- the old map is that of the root, empty if there is no root
-abbrev pub IsOldMap : (List ℕ → List ℕ) → List ℕ → List Node → List Record → Option Root → List Numbered → Type 0
-IsOldMap hash nonce nodes records (Some root) entries = Shows hash nonce nodes records root.0 [] entries
-IsOldMap hash nonce nodes records None entries = entries ≡ []
+abbrev pub IsOldMap : Hashing → Table → Option Root → List Numbered → Type 0
+IsOldMap by t (Some root) entries = Shows by t root.0 [] entries
+IsOldMap by t None entries = entries ≡ []
 
 -- the part without changes: the old root, kept, or nothing if there is none
 abbrev pub unchanged : Option Root → Part
@@ -30,19 +30,19 @@ AllStored records [] = Unit {0}
 AllStored records (e ∷ es) = ((r : Record) × (slice_get records e.behind ≡ Some r) × (entry_of_record e.behind r ≡ e))
     × AllStored records es
 
-module _ (hash : List ℕ → List ℕ) (nonce : List ℕ) (nodes : List Node) (records : List Record) (root : Option Root) where
+module _ (by : Hashing) (t : Table) (root : Option Root) where
   -- the part is what the old map has under the prefix, overwritten by the entries, which are under the prefix
   pub record IsGrown (prefix : List Bool) (entries : List Numbered) (part : Part) : Type 0 where
-    pub fits : Fits (length nodes) (length prefix) part
+    pub fits : Fits (length t.nodes) (length prefix) part
     pub count : node_count part ≤ 1 + 2 * ((256 - length prefix) * length entries)
-    pub placed : (all : List Record) → Extends records all → AllStored all entries → Placed all part
+    pub placed : (all : List Record) → Extends t.records all → AllStored all entries → Placed all part
     pub keeps : root ≡ None → KeepsNone part
-    pub new : (old : List Numbered) → IsOldMap hash nonce nodes records root old → 0 < length prefix + length entries
+    pub new : (old : List Numbered) → IsOldMap by t root old → 0 < length prefix + length entries
         → AreInOrder (length prefix) entries → AreApart (length prefix) (overwritten (under prefix old) entries)
         → node_count part ≡ new_nodes (length prefix) (under prefix old) entries
-    pub stands : (old : List Numbered) → IsOldMap hash nonce nodes records root old
+    pub stands : (old : List Numbered) → IsOldMap by t root old
         → AreInOrder (length prefix) entries → AreApart (length prefix) (overwritten (under prefix old) entries)
-        → Stands hash nonce nodes records part prefix (overwritten (under prefix old) entries)
+        → Stands by t part prefix (overwritten (under prefix old) entries)
 
   -- the parts are, from left to right, those of the prefixes that are `height` bits longer, as far as one of the entries is under them
   abbrev pub AreGrown : ℕ → List Bool → List Numbered → List Part → Type 0

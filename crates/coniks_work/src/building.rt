@@ -2,6 +2,8 @@
 
 ghost use Rattle.std.specs.Prelude.{◌≡◌, ◌<◌, ◌≤◌, ◌+◌, ◌*◌, List, [], length, IfOk, IfSome, None};
 ghost use Rattle.coniks_proof.specs.Changes.{overwritten, AreApart, AreInOrder};
+ghost use Rattle.coniks_proof.specs.Hashing.{hashing};
+ghost use Rattle.coniks_tree.specs.Trees.{table_of};
 ghost use Rattle.coniks_tree.specs.Table.{Extends, Numbered};
 ghost use Rattle.coniks_tree.specs.Counts.{new_nodes};
 ghost use Rattle.coniks_tree.specs.Parts.{Stands, Fits, KeepsNone, Placed, AllPlaced, node_count, entries_in};
@@ -94,15 +96,15 @@ pub fn build<H: Hash32 + Sync, G: Gate + Sync, R: Threads + Sync>(
     ensures placed { IfOk result (λ part. (all : List Record) → Extends tree.now.records.items all → AllPlaced all changes.now → Placed all part) }
     ensures keeps { IfOk result (λ part. root ≡ None → KeepsNone part) }
     ensures new { IfOk result (λ part. 0 < length changes.now → (entries : List Numbered)
-        → IsOldMap (H.digest_of h.now) nonce.now.0 tree.now.nodes.items tree.now.records.items root entries
+        → IsOldMap (hashing (H.digest_of h.now) nonce.now.0) (table_of tree.now) root entries
         → AreInOrder 0 (entries_in changes.now)
         → AreApart 0 (overwritten entries (entries_in changes.now))
         → node_count part ≡ new_nodes 0 entries (entries_in changes.now)) }
     ensures stands { IfOk result (λ part. (entries : List Numbered)
-        → IsOldMap (H.digest_of h.now) nonce.now.0 tree.now.nodes.items tree.now.records.items root entries
+        → IsOldMap (hashing (H.digest_of h.now) nonce.now.0) (table_of tree.now) root entries
         → AreInOrder 0 (entries_in changes.now)
         → AreApart 0 (overwritten entries (entries_in changes.now))
-        → Stands (H.digest_of h.now) nonce.now.0 tree.now.nodes.items tree.now.records.items part [] (overwritten entries (entries_in changes.now))) }
+        → Stands (hashing (H.digest_of h.now) nonce.now.0) (table_of tree.now) part [] (overwritten entries (entries_in changes.now))) }
 {
     if changes.is_empty() {
         return Ok(unchanged_part(root));

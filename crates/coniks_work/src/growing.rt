@@ -1,8 +1,10 @@
 //! The work of the jobs: each grows the part of its prefix.
 
-ghost use Rattle.std.specs.Prelude.{◌≡◌, ◌<◌, ◌≤◌, ℕ, List, [], length, slice_get, IfOk, IfSome, None, Some, false, All};
+ghost use Rattle.std.specs.Prelude.{◌≡◌, ◌<◌, ◌≤◌, List, [], length, slice_get, IfOk, IfSome, None, Some, false, All};
 ghost use Rattle.std.proofs.Props.{props};
 ghost use Rattle.coniks_proof.specs.Entries.{under};
+ghost use Rattle.coniks_proof.specs.Hashing.{Hashing, hashing};
+ghost use Rattle.coniks_tree.specs.Trees.{table_of};
 ghost use Rattle.coniks_tree.specs.Table.{Extends, Numbered};
 ghost use Rattle.coniks_tree.specs.Parts.{entries_in, is_made, node_count, Fits, KeepsNone, Placed, Stands};
 ghost use Rattle.coniks_tree.specs.declared.table.Record.{Record};
@@ -22,9 +24,9 @@ pub(crate) fn old_part(tree: &Tree, root: Option<Root>, prefix: &Prefix) -> Part
     ensures count { node_count result ≤ 1 }
     ensures placed { (all : List Record) → Extends tree.now.records.items all → Placed all result }
     ensures keeps { root ≡ None → KeepsNone result }
-    ensures stands { (hash : List ℕ → List ℕ) (nonce : List ℕ) (old : List Numbered)
-        → IsOldMap hash nonce tree.now.nodes.items tree.now.records.items root old
-        → Stands hash nonce tree.now.nodes.items tree.now.records.items result prefix.now (under prefix.now old) }
+    ensures stands { (by : Hashing) (old : List Numbered)
+        → IsOldMap by (table_of tree.now) root old
+        → Stands by (table_of tree.now) result prefix.now (under prefix.now old) }
 {
     // Read for the contract alone.
     let _level = prefix.len();
@@ -50,8 +52,8 @@ pub(crate) fn grown_part<H: Hash32>(
     changes: &[Change],
 ) -> Result<Part, OutOfMemory>
     requires { IfSome old.now.root (λ r. r.0 < length old.now.tree.now.nodes.items) }
-    ensures { IfOk result (λ part. IsGrown (H.digest_of old.now.h.now) old.now.nonce.now.0
-        old.now.tree.now.nodes.items old.now.tree.now.records.items old.now.root prefix.now (entries_in changes.now) part) }
+    ensures { IfOk result (λ part. IsGrown (hashing (H.digest_of old.now.h.now) old.now.nonce.now.0)
+        (table_of old.now.tree.now) old.now.root prefix.now (entries_in changes.now) part) }
 {
     let part = old_part(old.tree, old.root, prefix);
     Ok(old.tree.grow(old.h, old.nonce, part, prefix, changes)?)
@@ -85,8 +87,8 @@ impl<'a, H: Hash32> Work for Growing<'a, H> {
     ghost count = { λ w. length w.jobs.now };
 
     ghost part = { λ w number part. (job : Job) × (slice_get w.jobs.now number ≡ Some job)
-        × IsGrown (H.digest_of w.old.now.h.now) w.old.now.nonce.now.0 w.old.now.tree.now.nodes.items
-        w.old.now.tree.now.records.items w.old.now.root job.prefix (entries_in (in_range job w.changes.now)) part };
+        × IsGrown (hashing (H.digest_of w.old.now.h.now) w.old.now.nonce.now.0) (table_of w.old.now.tree.now)
+        w.old.now.root job.prefix (entries_in (in_range job w.changes.now)) part };
 
     fn run(&self, number: usize) -> Result<Part, OutOfMemory> {
         let job = job_at(self.jobs, number);

@@ -1,8 +1,9 @@
 //! A directory whose indices are supplied: lookups, batches and installs that come with the indices of names.
 
-ghost use Rattle.std.specs.Prelude.{◌≡◌, ◌<◌, ◌+◌, ◌-◌, ◌^◌, ◌++◌, ◌∷◌, [], List, ℕ, None, Some, IfErr, IfOk, OnErr, OnOk, length, true, false};
+ghost use Rattle.std.specs.Prelude.{◌≡◌, ◌<◌, ◌+◌, ◌-◌, ◌^◌, ◌++◌, ◌∷◌, [], List, None, Some, IfErr, IfOk, OnErr, OnOk, length, true, false};
 ghost use Rattle.coniks_chain.specs.Entries.{body_bytes};
 ghost use Rattle.coniks_proof.specs.Batches.{after};
+ghost use Rattle.coniks_proof.specs.Octets.{Octets};
 ghost use Rattle.coniks_proof.specs.Registry.{has_name};
 ghost use Rattle.coniks_directory.specs.Batches.{IsAccepted, operations};
 ghost use Rattle.coniks_directory.specs.Directories.{FindsAt, HasGoodChain, NextBodyBy, ShowsAt, batch_index, entry, heads, history, registry};
@@ -168,7 +169,7 @@ impl<H: Hash32> Directory<H, SuppliedIndices> {
         publisher: &mut Publisher,
         board: &Board,
     ) -> Result<Entry, (InstallFault, Prepared)>
-        requires update { (index : List ℕ → List ℕ) × IsSuppliedUpdate (H.digest_of self.old.hash) (supplied_index self.old.index) self.old.state update index }
+        requires update { (index : Octets → Octets) × IsSuppliedUpdate (H.digest_of self.old.hash) (supplied_index self.old.index) self.old.state update index }
         requires made { S.made_of signer.old < 2 ^ 64 - 1 }
         requires refused { S.refused_of signer.old < 2 ^ 64 - 1 }
         requires table { publisher.old.table ≡ board.now.table }
@@ -178,7 +179,7 @@ impl<H: Hash32> Directory<H, SuppliedIndices> {
         ensures history { OnOk result (history self.new ≡ history self.old ++ shown_after self.old.state update t ∷ []) }
         ensures chain { IfOk result (λ entry. self.new.state.chain ≡ self.old.state.chain ++ entry ∷ []) }
         ensures nodes { OnOk result (length self.new.state.nodes ≡ length self.old.state.nodes + nodes_added update) }
-        ensures body { IfOk result (λ entry. (index : List ℕ → List ℕ)
+        ensures body { IfOk result (λ entry. (index : Octets → Octets)
             → IsSuppliedUpdate (H.digest_of self.old.hash) (supplied_index self.old.index) self.old.state update index
             → entry.body ≡ NextBodyBy H.digest_of self.old index (shown_after self.old.state update t)) }
         ensures may { OnOk result (MayInstall self.old.state (base_of update) t (length publisher.old.heads) board.now.capacity) }
@@ -188,7 +189,7 @@ impl<H: Hash32> Directory<H, SuppliedIndices> {
         // The update's names have their indices from then on, and the registered ones keep theirs.
         ensures indices { OnOk result (self.new.index ≡ put_indices self.old.index (indices_of update)) }
         ensures kept { AgreeOn (supplied_index self.old.index) (supplied_index self.new.index) (registry self.old) }
-        ensures given { OnOk result ((index : List ℕ → List ℕ)
+        ensures given { OnOk result ((index : Octets → Octets)
             → IsSuppliedUpdate (H.digest_of self.old.hash) (supplied_index self.old.index) self.old.state update index
             → AgreeOn index (supplied_index self.new.index) (registry_after self.old.state update)) }
 
@@ -198,7 +199,7 @@ impl<H: Hash32> Directory<H, SuppliedIndices> {
         ensures asked { IfOk result (λ entry. S.signs signer.old (body_bytes entry.body) (Some entry.signature) signer.new) }
         ensures verdict { IfOk result (λ entry. S.verdict_of signer.new (body_bytes entry.body) entry.signature.0 ≡ true) }
         ensures good { HasGoodChain H.digest_of (S.verdict_of signer.old) self.old → HasGoodChain H.digest_of (S.verdict_of signer.new) self.new }
-        ensures verdicts_kept { (bytes signature : List ℕ) → S.verdict_of signer.new bytes signature ≡ S.verdict_of signer.old bytes signature }
+        ensures verdicts_kept { (bytes signature : Octets) → S.verdict_of signer.new bytes signature ≡ S.verdict_of signer.old bytes signature }
 
         // The heads on the board.
         ensures heads { publisher.new.heads ≡ heads H.digest_of self.new }
@@ -210,7 +211,7 @@ impl<H: Hash32> Directory<H, SuppliedIndices> {
         ensures handed_back { IfErr result (λ r. r.1 ≡ update) }
         ensures unsigned { IfErr result (λ r. HasRefused S.made_of S.refused_of S.last_of signer.old signer.new (refusals r.0)) }
         ensures unasked { IfErr result
-            (λ r. (index : List ℕ → List ℕ) → IsSuppliedUpdate (H.digest_of self.old.hash) (supplied_index self.old.index) self.old.state update index
+            (λ r. (index : Octets → Octets) → IsSuppliedUpdate (H.digest_of self.old.hash) (supplied_index self.old.index) self.old.state update index
             → LeavesSigner S.signs (NextBodyBy H.digest_of self.old index (shown_after self.old.state update t)) signer.old signer.new r.0) }
     {
         let (published, capacity) = (publisher.published(), board.capacity());

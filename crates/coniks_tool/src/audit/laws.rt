@@ -1,6 +1,7 @@
 //! Lemmas about the answers of `audit`, each the contract of a function that only reads.
 
-ghost use Rattle.std.specs.Prelude.{◌≡◌, ◌↔◌, ℕ, List, Bool, false, Option, None, Some};
+ghost use Rattle.std.specs.Prelude.{◌≡◌, ◌↔◌, List, Bool, false, Option, None, Some};
+ghost use Rattle.coniks_proof.specs.Octets.{Octets};
 ghost use Rattle.coniks_proof.specs.Sha256.{sha256};
 ghost use Rattle.coniks_chain.specs.Chain.{Follows, GoodChain, IsFirstEntryFault};
 ghost use Rattle.coniks_chain.specs.declared.auditor.AuditFault.{AuditFault};
@@ -13,18 +14,18 @@ ghost use Rattle.coniks_tool.specs.Seal.{is_seal};
 
 /// Proves that an entry has no error if and only if it follows, and that the printed error is its first one.
 pub fn told_fault_is_the_first()
-    ensures none { (verdict : List ℕ → List ℕ → Bool) (before : Option AuditorState) (entry : Entry)
+    ensures none { (verdict : Octets → Octets → Bool) (before : Option AuditorState) (entry : Entry)
         → (audit_fault verdict before entry ≡ None) ↔ Follows verdict before entry }
-    ensures some { (verdict : List ℕ → List ℕ → Bool) (before : Option AuditorState) (entry : Entry) (fault : AuditFault)
+    ensures some { (verdict : Octets → Octets → Bool) (before : Option AuditorState) (entry : Entry) (fault : AuditFault)
         → (audit_fault verdict before entry ≡ Some fault) ↔ IsFirstEntryFault verdict before entry fault }
 {}
 
 /// Proves that the entries of the accepted lines are a good chain, whatever lines are between them.
 pub fn accepted_lines_are_a_chain()
-    ensures { (key : List ℕ) (lines : List (List ℕ)) → GoodChain sha256 (is_seal key) (accepted_entries (none_audited key) lines) }
+    ensures { (key : Octets) (lines : List Octets) → GoodChain sha256 (is_seal key) (accepted_entries (none_audited key) lines) }
 {}
 
 /// Proves that a refused line does not change the state that the next entry is compared with.
 pub fn refused_line_changes_no_auditor()
-    ensures { (s : AuditState) (line : List ℕ) → (audit_answer s line).accepted ≡ false → (audit_answer s line).state ≡ s }
+    ensures { (s : AuditState) (line : Octets) → (audit_answer s line).accepted ≡ false → (audit_answer s line).state ≡ s }
 {}

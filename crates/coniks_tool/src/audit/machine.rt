@@ -1,8 +1,9 @@
 //! The machine of `audit`, and its engine.
 
-ghost use Rattle.std.specs.Prelude.{◌≡◌, ◌<◌, ◌+◌, ◌^◌, ◌↔◌, ℕ, List, IfOk, OnOk, Some, true};
+ghost use Rattle.std.specs.Prelude.{◌≡◌, ◌<◌, ◌+◌, ◌^◌, ◌↔◌, IfOk, OnOk, Some, true};
+ghost use Rattle.coniks_proof.specs.Octets.{Octets};
 ghost use Rattle.coniks_lines.specs.Lines.{lines_of};
-ghost use Rattle.coniks_lines.specs.Runs.{EndsBadly, IsRunOf};
+ghost use Rattle.coniks_lines.specs.Runs.{EndsBadly, IsRunOf, streams};
 ghost use Rattle.coniks_tool.specs.Audit.{AuditState, audit_answer, audit_turn, entry_turn, none_audited};
 ghost use Rattle.coniks_tool.specs.AuditChain.{HoldsGoodChain};
 ghost use Rattle.coniks_tool.specs.AuditReplies.{audit_outcome};
@@ -110,12 +111,11 @@ pub fn run_audit<R: ByteIn, W: ByteOut>(
     requires reads { (R.source reader.old).failed + 1 < 2 ^ 64 }
     requires writes { (W.sink writer.old).failed + 1 < 2 ^ 64 }
     ensures run { IsRunOf audit_answer (none_audited key) (EndsBadly audit_answer (none_audited key))
-        (R.source reader.old) (R.source reader.new)
-        (W.sink writer.old) (W.sink writer.new)
+        (streams (R.source reader.old) (R.source reader.new) (W.sink writer.old) (W.sink writer.new))
         result }
 
     // Each line is accepted if and only if the lines hold a good chain.
-    ensures chain { (input : List ℕ) → (R.source reader.old).left ≡ Some input
+    ensures chain { (input : Octets) → (R.source reader.old).left ≡ Some input
         → IfOk result (λ all. (all ≡ true) ↔ HoldsGoodChain key (lines_of input)) }
 {
     let mut auditing = Auditing::new(alloc, key);

@@ -3,7 +3,7 @@
 ghost use Rattle.std.specs.Prelude.{◌≡◌, ◌<◌, ◌+◌, ◌^◌, ◌++◌, Ok, IfOk, OnOk, Some};
 ghost use Rattle.serde_json.specs.View.{view};
 ghost use Rattle.serde_json.specs.Written.{compact_text};
-ghost use Rattle.coniks_lines.specs.Runs.{EndsBadly, IsRunOf};
+ghost use Rattle.coniks_lines.specs.Runs.{EndsBadly, IsRunOf, streams};
 ghost use Rattle.coniks_tool.specs.Check.{Stateless, asked_by, asked_in, check_answer, question_outcome, stateless};
 ghost use Rattle.coniks_tool.specs.CheckReplies.{check_data, check_outcome, is_answered};
 
@@ -92,8 +92,7 @@ pub fn run_check<R: ByteIn, W: ByteOut>(
     requires reads { (R.source reader.old).failed + 1 < 2 ^ 64 }
     requires writes { (W.sink writer.old).failed + 1 < 2 ^ 64 }
     ensures run { IsRunOf check_answer stateless (EndsBadly check_answer stateless)
-        (R.source reader.old) (R.source reader.new)
-        (W.sink writer.old) (W.sink writer.new)
+        (streams (R.source reader.old) (R.source reader.new) (W.sink writer.old) (W.sink writer.new))
         result }
 {
     let mut checking = Checking { alloc };

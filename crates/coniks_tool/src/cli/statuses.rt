@@ -1,8 +1,10 @@
 //! The whole program over its streams.
 
-ghost use Rattle.std.specs.Prelude.{◌≡◌, ◌≢◌, ◌⊎◌, ◌<◌, ◌≤◌, ◌+◌, ◌^◌, IfErr, IfOk, false, map, true, List, ℕ};
+ghost use Rattle.std.specs.Prelude.{◌≡◌, ◌≢◌, ◌⊎◌, ◌<◌, ◌≤◌, ◌+◌, ◌^◌, IfErr, IfOk, false, map, true};
+ghost use Rattle.coniks_proof.specs.Octets.{Octets};
 ghost use Rattle.clap.specs.Words.{fault_of, kind_of, takes};
 ghost use Rattle.coniks_lines.specs.Known.{Source};
+ghost use Rattle.coniks_lines.specs.Runs.{streams};
 ghost use Rattle.coniks_lines.specs.declared.fault.RunFault.{RunFault as Fault};
 ghost use Rattle.coniks_tool.specs.Keydir.{keydir};
 ghost use Rattle.coniks_tool.specs.Program.{bad_expectation_line, bad_key_line, fault_line, status_of, told_of, is_asked_for, unread_line, unread_status, AsksForHelp, ChooseNoRun, EndsFor, HasBadExpectation, HasBadKey, HasBadText, HasMistake, IfDone, IfRefused, IsCutOff, IsExplained, IsShown, NeverBegins, RunsFor, StopsAt, Tells, TellsIf, AsksForBoard, Fails};
@@ -43,10 +45,12 @@ pub fn program<T: Threads + Sync, S: AsStr, R: ByteIn, W: ByteOut, E: ByteOut>(
 
     // The result of `clap` for the arguments decides between a run, help or the version, and an error. A run is that of
     // the settings, under their key and expectation. Its status is 0 if it accepted every line, and else 1.
-    ensures done { result ≡ 0 → RunsFor (map S.text words.entry.now) (R.source reader.old) (R.source reader.new) (W.sink writer.old) (W.sink writer.new) true
+    ensures done { result ≡ 0 → RunsFor (map S.text words.entry.now)
+        (streams (R.source reader.old) (R.source reader.new) (W.sink writer.old) (W.sink writer.new)) true
         ⊎ (AsksForHelp (fault_of keydir (map S.text words.entry.now))
-        × IsShown (R.source reader.old) (R.source reader.new) (W.sink writer.old) (W.sink writer.new)) }
-    ensures ran { result ≡ 1 → RunsFor (map S.text words.entry.now) (R.source reader.old) (R.source reader.new) (W.sink writer.old) (W.sink writer.new) false }
+        × IsShown (streams (R.source reader.old) (R.source reader.new) (W.sink writer.old) (W.sink writer.new))) }
+    ensures ran { result ≡ 1 → RunsFor (map S.text words.entry.now)
+        (streams (R.source reader.old) (R.source reader.new) (W.sink writer.old) (W.sink writer.new)) false }
     ensures refused { result ≡ 2 → HasMistake (fault_of keydir (map S.text words.entry.now)) ⊎ HasBadText (map S.text words.entry.now) }
     ensures taken { takes keydir (map S.text words.entry.now) ≡ true → result ≡ 2 → HasBadText (map S.text words.entry.now) }
     ensures bad_key { HasBadKey (map S.text words.entry.now) → 2 ≤ result }
@@ -60,15 +64,15 @@ pub fn program<T: Threads + Sync, S: AsStr, R: ByteIn, W: ByteOut, E: ByteOut>(
     ensures unwritten { result ≡ 2 → W.sink writer.new ≡ W.sink writer.old }
     ensures idle_reader { ChooseNoRun (map S.text words.entry.now) → R.source reader.new ≡ R.source reader.old }
     ensures idle_writer { HasBadText (map S.text words.entry.now) → W.sink writer.new ≡ W.sink writer.old }
-    ensures refused_told { result ≡ 2 → (text : List ℕ) × Tells (E.sink errors.old) text (E.sink errors.new) }
+    ensures refused_told { result ≡ 2 → (text : Octets) × Tells (E.sink errors.old) text (E.sink errors.new) }
     ensures bad_key_told { HasBadKey (map S.text words.entry.now) → result ≡ 2 → Tells (E.sink errors.old) bad_key_line (E.sink errors.new) }
     ensures bad_expectation_told { HasBadExpectation (map S.text words.entry.now)
         → result ≡ 2 → Tells (E.sink errors.old) bad_expectation_line (E.sink errors.new) }
     // At status 3 the line in `errors` is that of the error that ended the run, and of no other. The answers until then
     // are written, and of help or the version a prefix.
     ensures told { result ≡ 3 → (fault : Fault) × (Tells (E.sink errors.old) (fault_line fault) (E.sink errors.new)
-        × (Fails (AsksForBoard (map S.text words.entry.now)) (R.source reader.old) (R.source reader.new) (W.sink writer.old) (W.sink writer.new) fault
-        × StopsAt (map S.text words.entry.now) (R.source reader.old) (R.source reader.new) (W.sink writer.old) (W.sink writer.new) fault)) }
+        × (Fails (AsksForBoard (map S.text words.entry.now)) (streams (R.source reader.old) (R.source reader.new) (W.sink writer.old) (W.sink writer.new)) fault
+        × StopsAt (map S.text words.entry.now) (streams (R.source reader.old) (R.source reader.new) (W.sink writer.old) (W.sink writer.new)) fault)) }
 {
     let outcome = dispatch(rt, alloc, words, reader, writer);
     conclude(&outcome, errors)
@@ -120,14 +124,16 @@ fn dispatch<T: Threads + Sync, S: AsStr, R: ByteIn, W: ByteOut>(
 ) -> Result<Ending, RunFault>
     requires reads { (R.source reader.old).failed + 1 < 2 ^ 64 }
     requires writes { (W.sink writer.old).failed + 1 < 2 ^ 64 }
-    ensures found { IfOk result (EndsFor (map S.text words.entry.now) (R.source reader.old) (R.source reader.new) (W.sink writer.old) (W.sink writer.new)) }
+    ensures found { IfOk result (EndsFor (map S.text words.entry.now)
+        (streams (R.source reader.old) (R.source reader.new) (W.sink writer.old) (W.sink writer.new))) }
     ensures taken { IfOk result (λ ending. IfRefused ending (takes keydir (map S.text words.entry.now) ≢ true)) }
     ensures unwritten { IfOk result (λ ending. IfRefused ending (W.sink writer.new ≡ W.sink writer.old)) }
     ensures idle_reader { ChooseNoRun (map S.text words.entry.now) → R.source reader.new ≡ R.source reader.old }
     ensures idle_writer { HasBadText (map S.text words.entry.now) → W.sink writer.new ≡ W.sink writer.old }
     ensures fails { IfErr result (Fails (AsksForBoard (map S.text words.entry.now))
-        (R.source reader.old) (R.source reader.new) (W.sink writer.old) (W.sink writer.new)) }
-    ensures stops { IfErr result (StopsAt (map S.text words.entry.now) (R.source reader.old) (R.source reader.new) (W.sink writer.old) (W.sink writer.new)) }
+        (streams (R.source reader.old) (R.source reader.new) (W.sink writer.old) (W.sink writer.new))) }
+    ensures stops { IfErr result (StopsAt (map S.text words.entry.now)
+        (streams (R.source reader.old) (R.source reader.new) (W.sink writer.old) (W.sink writer.new))) }
 {
     match settings(alloc, words) {
         Ok(settings) => run_settings(rt, alloc, settings, reader, writer),
@@ -141,11 +147,11 @@ fn explain<W: ByteOut>(alloc: Global, error: Error, writer: &mut W) -> Result<En
     requires { (W.sink writer.old).failed + 1 < 2 ^ 64 }
     ensures kind { IfOk result (IsExplained (kind_of error)) }
     ensures unwritten { IfOk result (λ ending. IfRefused ending (W.sink writer.new ≡ W.sink writer.old)) }
-    ensures shown { (still : Source) → IfOk result (λ ending. IfDone ending (IsShown still still (W.sink writer.old) (W.sink writer.new))) }
-    ensures fails { (still : Source) → IfErr result (Fails ⊥ still still (W.sink writer.old) (W.sink writer.new)) }
+    ensures shown { (still : Source) → IfOk result (λ ending. IfDone ending (IsShown (streams still still (W.sink writer.old) (W.sink writer.new)))) }
+    ensures fails { (still : Source) → IfErr result (Fails ⊥ (streams still still (W.sink writer.old) (W.sink writer.new))) }
     ensures stops { (still : Source)
-        → IfErr result (λ fault. ((is_asked_for (kind_of error) ≡ true) × IsCutOff still still (W.sink writer.old) (W.sink writer.new) fault)
-        ⊎ NeverBegins still still (W.sink writer.old) (W.sink writer.new) fault) }
+        → IfErr result (λ fault. ((is_asked_for (kind_of error) ≡ true) × IsCutOff (streams still still (W.sink writer.old) (W.sink writer.new)) fault)
+        ⊎ NeverBegins (streams still still (W.sink writer.old) (W.sink writer.new)) fault) }
 {
     let Ok(text) = error.to_string(alloc) else {
         return Err(RunFault::OutOfMemory);

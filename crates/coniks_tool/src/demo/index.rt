@@ -18,9 +18,9 @@ pub struct DemoIndex {
 }
 
 impl Model for DemoIndex {
-    ghost use Rattle.std.specs.Prelude.{List, ℕ};
+    ghost use Rattle.coniks_proof.specs.Octets.{Octets};
 
-    ghost Value = { List ℕ };
+    ghost Value = { Octets };
 
     ghost view = { λ source. source.key };
 

@@ -1,6 +1,7 @@
 //! Lemmas about the answers of `monitor`, each the contract of a function that only reads.
 
-ghost use Rattle.std.specs.Prelude.{◌≡◌, ◌↔◌, ◌⊎◌, ℕ, List};
+ghost use Rattle.std.specs.Prelude.{◌≡◌, ◌↔◌, ◌⊎◌, ℕ};
+ghost use Rattle.coniks_proof.specs.Octets.{Octets};
 ghost use Rattle.coniks_proof.specs.Proofs.{answer_of};
 ghost use Rattle.coniks_proof.specs.Sha256.{sha256};
 ghost use Rattle.coniks_proof.specs.declared.paths.Proof.{Proof};
@@ -28,7 +29,7 @@ pub fn told_fault_of_a_step_is_the_first()
 
 /// Proves that only a line that sets the expectation, or whose entry and proof are accepted, changes the monitor.
 pub fn refused_line_changes_no_monitor()
-    ensures { (s : MonitorState) (line : List ℕ)
+    ensures { (s : MonitorState) (line : Octets)
         → (monitor_turn s line).state ≡ s
         ⊎ (monitor_turn s line).outcome ≡ expecting
         ⊎ (epoch : ℕ) × ((seen : Seen) × ((monitor_turn s line).outcome ≡ watched epoch seen)) }

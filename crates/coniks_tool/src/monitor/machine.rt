@@ -2,7 +2,7 @@
 
 ghost use Rattle.std.specs.Prelude.{◌≡◌, ◌<◌, ◌+◌, ◌^◌, codes, IfOk, OnOk, Some};
 ghost use Rattle.serde_json.specs.View.{view};
-ghost use Rattle.coniks_lines.specs.Runs.{EndsBadly, IsRunOf};
+ghost use Rattle.coniks_lines.specs.Runs.{EndsBadly, IsRunOf, streams};
 ghost use Rattle.coniks_tool.specs.EntryLines.{entry_in};
 ghost use Rattle.coniks_tool.specs.Expectations.{expected_in};
 ghost use Rattle.coniks_tool.specs.Members.{text_in};
@@ -173,8 +173,7 @@ pub fn run_monitor<R: ByteIn, W: ByteOut>(
     requires reads { (R.source reader.old).failed + 1 < 2 ^ 64 }
     requires writes { (W.sink writer.old).failed + 1 < 2 ^ 64 }
     ensures run { IsRunOf monitor_answer (none_watched key name expected) (EndsBadly monitor_answer (none_watched key name expected))
-        (R.source reader.old) (R.source reader.new)
-        (W.sink writer.old) (W.sink writer.new)
+        (streams (R.source reader.old) (R.source reader.new) (W.sink writer.old) (W.sink writer.new))
         result }
 {
     let mut monitoring = Monitoring::new(alloc, key, name, expected);

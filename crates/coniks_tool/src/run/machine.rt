@@ -3,7 +3,7 @@
 ghost use Rattle.std.specs.Prelude.{◌≡◌, ◌<◌, ◌≤◌, ◌+◌, ◌^◌, None, Some, IfOk, OnOk, codes};
 ghost use Rattle.serde_json.specs.View.{view};
 ghost use Rattle.coniks_directory.specs.Batches.{AreWorkers};
-ghost use Rattle.coniks_lines.specs.Runs.{FailsWithBoard, IsRunOf};
+ghost use Rattle.coniks_lines.specs.Runs.{FailsWithBoard, IsRunOf, streams};
 ghost use Rattle.coniks_work.specs.declared.jobs.TheConstants.{MAX_DEPTH};
 ghost use Rattle.coniks_tool.specs.Members.{array_in, digits_in, if_there, number_in, text_in};
 ghost use Rattle.coniks_tool.specs.Replies.{outcome_of};
@@ -162,8 +162,7 @@ pub fn run_script<T: Threads + Sync, R: ByteIn, W: ByteOut>(
     requires reads { (R.source reader.old).failed + 1 < 2 ^ 64 }
     requires writes { (W.sink writer.old).failed + 1 < 2 ^ 64 }
     ensures run { IsRunOf script_answer None (FailsWithBoard script_answer None)
-        (R.source reader.old) (R.source reader.new)
-        (W.sink writer.old) (W.sink writer.new)
+        (streams (R.source reader.old) (R.source reader.new) (W.sink writer.old) (W.sink writer.new))
         result }
 {
     let store = Store::new(alloc)?;

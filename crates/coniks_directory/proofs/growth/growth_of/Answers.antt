@@ -11,7 +11,7 @@ returns c =
     record {
       kept = λ off. absurd (let never = off in cc);
       none = λ on. refl;
-      all = λ on hash nonce entries old map own ordered. overlaid-Lists listed _ entries (entries_in changes) (c.in_ok-entries.ensures.lists hash nonce entries old) map own ordered
+      all = λ on by entries old map own ordered. overlaid-Lists listed _ entries (entries_in changes) (c.in_ok-entries.ensures.lists by entries old) map own ordered
           (rw (c.deref.ensures.value, c.deref-2.ensures.value, c.in_ok-all.ensures.items) at e.lists);
       placed = λ further grown placed.
           (rw (c.deref.ensures.value, c.deref-2.ensures.value, c.in_ok-all.ensures.items) at e.placed) further (c.in_ok-entries.ensures.placed further grown) placed tt;

@@ -1,4 +1,5 @@
 use Rattle.std.proofs.Common.{◌≡◌, ◌++◌, ◌∷◌, [], List, ℕ, ap, option_map, subst, sym, ◌∙◌}
+use Rattle.coniks_tree.specs.Trees.{table_of}
 use Rattle.coniks_directory.proofs.Words.{ArePendingRecords, HolderIs, IsFree, Registered, Registry, ShowsLatest, fault_is, fault_of, operation_of}
 use Rattle.coniks_directory.proofs.judge.judge_one.Goals.{After-op_fault}
 use Rattle.coniks_directory.proofs.judge.judge_one.Given as given
@@ -6,7 +7,7 @@ use Rattle.coniks_directory.proofs.judge.judge_one.Goals as goal
 
 -- what `op_fault` answers is the error by the registry and by the earlier operations
 fault_in : (g : given.Over) (c : goal.After-op_fault g) → (hash : List ℕ → List ℕ) (nonce : List ℕ) (registry : Registry) (bound : List Registered)
-    → ShowsLatest hash (g.X.IndexSource.index_of c.args.source.now) nonce c.args.tree.now.nodes.items c.args.tree.now.records.items c.args.root registry
+    → ShowsLatest hash (g.X.IndexSource.index_of c.args.source.now) nonce (table_of c.args.tree.now) c.args.root registry
     → ArePendingRecords hash (g.X.IndexSource.index_of c.args.source.now) bound c.args.pending.now.records.items c.args.pending.now.numbers
     → option_map fault_is c.op_fault.result ≡ fault_of (g.X.IndexSource.index_of c.args.source.now) registry bound (operation_of c.args.op.now)
 fault_in g c hash nonce registry bound shown s =

@@ -22,7 +22,7 @@ pub returns-clause-lookups : goal.returns-clause-lookups
 returns-clause-lookups c = λ hash index_of nonce policy batches s run t name proof is. rw (← history_by hash index_of nonce policy batches s run) is
 
 pub returns-clause-answers : goal.returns-clause-answers
-returns-clause-answers c = λ hash nonce root index name_a name_b a b x y left right differ.
+returns-clause-answers c = λ by root index name_a name_b a b x y left right differ.
     record {
       left = record { well_formed = left.well_formed; root_met = left.root_met; answered = refl };
       right = record { well_formed = right.well_formed; root_met = right.root_met; answered = refl };

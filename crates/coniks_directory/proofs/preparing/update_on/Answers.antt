@@ -1,4 +1,5 @@
 use Rattle.std.proofs.Common.{◌≡◌, Err, ap, map, refl, rules, sym, ◌∙◌}
+use Rattle.coniks_tree.specs.Table.{table}
 use Rattle.coniks_directory.proofs.Words.{RotatesTo, IsBuilt, Nonce, bound_by, history_of, latest_nonce, latest_registry}
 use Rattle.coniks_directory.proofs.Words.{operations, option_map, state_of}
 use Rattle.coniks_directory.proofs.OrderLemmas.{numbers_within}
@@ -29,7 +30,7 @@ part_of-requires-clause-numbered g c κs within =
 -- the part is that of the batch on the latest registry
 built_in : (g : given.Over) (c : In-Ok g)
     → (let s = state_of c.args.origin.now.held.now in IsBuilt (g.H.Hash32.digest_of c.args.origin.now.h.now) (g.X.IndexSource.index_of c.args.origin.now.source.now) c.nonce_after-nonce.result.0
-    s.nodes s.records c.latest_root-root.result (latest_registry (history_of s)) (operations c.args.ops.now) c.is_some.result c.in-Ok.part c.in_ok-pending.pending.records.items)
+    (table s.nodes s.records) c.latest_root-root.result (latest_registry (history_of s)) (operations c.args.ops.now) c.is_some.result c.in-Ok.part c.in_ok-pending.pending.records.items)
 built_in g c =
     let index_of = g.X.IndexSource.index_of c.args.origin.now.source.now in
     let s = state_of c.args.origin.now.held.now in

@@ -1,7 +1,7 @@
 use Rattle.std.proofs.Common.{◌≡◌, List, ℕ, ◌∷◌, [], ◌++◌, arith, subst}
 use Rattle.std.proofs.lemmas.Result.{err_from_is_err_and}
 use Rattle.std.proofs.lemmas.Grind.{common_steps}
-use Rattle.coniks_lines.specs.Runs.{AnswersLine, StopsFor}
+use Rattle.coniks_lines.specs.Runs.{AnswersLine, StopsFor, streams}
 use Rattle.coniks_lines.proofs.RunsLemmas.{stops_before}
 use Rattle.coniks_lines.proofs.engine.end_line.Goals as goal
 
@@ -16,8 +16,8 @@ returns-in_err-accepted-clause-err g c =
     let line : c.deref.result.now ≡ c.args.held.now.items ++ c.args.part.now = grind (arith, common_steps) in
     λ still.
     rw (p.1, p.2)
-    (subst (λ (l : List ℕ). StopsFor g.M.LineMachine.answer (g.M.LineMachine.state c.args.machine.now) (l ∷ []) still still
-    (sink c.args.writer.now) (sink c.answer_line-2.new.writer) c.in_err-accepted.field-0.0) line (c.in_err-accepted.ensures.err still))
+    (subst (λ (l : List ℕ). StopsFor g.M.LineMachine.answer (g.M.LineMachine.state c.args.machine.now) (l ∷ [])
+    (streams still still (sink c.args.writer.now) (sink c.answer_line-2.new.writer)) c.in_err-accepted.field-0.0) line (c.in_err-accepted.ensures.err still))
 
 pub returns-clause-ok : goal.returns-clause-ok
 returns-clause-ok g c =

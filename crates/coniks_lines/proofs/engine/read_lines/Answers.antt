@@ -3,7 +3,7 @@ use Rattle.std.proofs.lemmas.Result.{err_from_is_err_and}
 use Rattle.std.proofs.lemmas.Grind.{common_steps}
 use Rattle.std.proofs.KnownBytes.{Consumes-kept}
 use Rattle.std.specs.Io.KnownBytes.{Keeps}
-use Rattle.coniks_lines.specs.Runs.{AnswersLine, StopsFor}
+use Rattle.coniks_lines.specs.Runs.{AnswersLine, StopsFor, streams}
 use Rattle.coniks_lines.proofs.KnownLemmas.{Takes-then, Takes-end}
 use Rattle.coniks_lines.proofs.RunsLemmas.{ReadsOn, Counted, AnswersWhole-then, ReadsOn-then, ReadsOn-end, ends_in_chunk, ends_at_last, ends_unread, Counted-next, Counted-some, ends_empty, ends_with_line, AnswersAll-same}
 use Rattle.coniks_lines.proofs.engine.read_lines.Goals as goal
@@ -26,8 +26,8 @@ returns-in_err-accepted-clause-err g c =
     let ended = ReadsOn-end from (source loop.reader) from' inv.reads_on ends (c.in-Ok.ensures.none_left c.if-count-eq0.true) in
     let took = Takes-end from (source loop.reader) from' loop.invariant.0 c.read.new.buffer c.in-Ok.count inv.taken c.in-Ok.ensures.taken c.if-count-eq0.true in
     -- and the last line wasn't answered
-    let at_line = subst (λ (line : List ℕ). StopsFor g.M.LineMachine.answer (g.M.LineMachine.state loop.machine) (line ∷ []) from from
-    (g.W.ByteOut.sink loop.writer) (g.W.ByteOut.sink c.answer_line.new.writer) c.in_err-accepted.field-0.0) c.deref.ensures.value (c.in_err-accepted.ensures.err from) in
+    let at_line = subst (λ (line : List ℕ). StopsFor g.M.LineMachine.answer (g.M.LineMachine.state loop.machine) (line ∷ [])
+    (streams from from (g.W.ByteOut.sink loop.writer) (g.W.ByteOut.sink c.answer_line.new.writer)) c.in_err-accepted.field-0.0) c.deref.ensures.value (c.in_err-accepted.ensures.err from) in
     rw (p.1, p.2) (ends_at_last g.M.LineMachine.answer some took (failed ∙ inv.reads_on.none_failed) ended inv.answers at_line)
 
 pub returns-then-count-eq0-clause-ok : goal.returns-then-count-eq0-clause-ok

@@ -1,4 +1,5 @@
 use Rattle.std.proofs.Common.{rules, ◌≡◌, ◌∷◌, length, sym, ◌∙◌, IsTrue}
+use Rattle.coniks_proof.specs.Hashing.{hashing}
 use Rattle.coniks_proof.proofs.MeetingLemmas.{place_here, place_below, nodes_same, same_nodes}
 use Rattle.coniks_proof.proofs.meeting.+meet.Goals as goal
 
@@ -8,9 +9,9 @@ returns-then-same_pairs-clause-place g t c =
     let some_b : c.args.b.siblings.now ≡ c.in-Some-split_first.first_b.now ∷ c.in-Some-split_first.rest_b.now = search rules in
     let size : length c.in-Some.first_a.now.0 ≡ length c.in-Some-split_first.first_b.now.0 = c.in_range.ensures.size ∙ sym c.in_range-2.ensures.size in
     let pairs = c.same_pairs.ensures.0 (search rules) in
-    place_below (g.H.Hash32.digest_of c.args.h.now) c.args.nonce.now.0 c.args.index.now.0 c.args.level c.args.a.siblings.now c.in-Some.first_a.now c.in-Some.rest_a.now
+    place_below (hashing (g.H.Hash32.digest_of c.args.h.now) c.args.nonce.now.0) c.args.index.now.0 c.args.level c.args.a.siblings.now c.in-Some.first_a.now c.in-Some.rest_a.now
     c.args.a.end.now c.args.b.siblings.now c.in-Some-split_first.first_b.now c.in-Some-split_first.rest_b.now c.args.b.end.now c.meet-below.result.place some_a some_b size
-    (nodes_same (g.H.Hash32.digest_of c.args.h.now) c.args.nonce.now.0 c.args.index.now.0 c.args.level c.args.a.siblings.now c.in-Some.first_a.now
+    (nodes_same (hashing (g.H.Hash32.digest_of c.args.h.now) c.args.nonce.now.0) c.args.index.now.0 c.args.level c.args.a.siblings.now c.in-Some.first_a.now
     c.in-Some.rest_a.now c.args.a.end.now c.args.b.siblings.now c.in-Some-split_first.first_b.now c.in-Some-split_first.rest_b.now
     c.args.b.end.now c.meet-below.result.a c.meet-below.result.b some_a some_b c.meet-below.ensures.a c.meet-below.ensures.b pairs)
     c.meet-below.ensures.place
@@ -21,8 +22,8 @@ returns-clause-place g t c =
     let some_b : c.args.b.siblings.now ≡ c.in-Some-split_first.first_b.now ∷ c.in-Some-split_first.rest_b.now = search rules in
     let size : length c.in-Some.first_a.now.0 ≡ length c.in-Some-split_first.first_b.now.0 = c.in_range.ensures.size ∙ sym c.in_range-2.ensures.size in
     let no : IsTrue c.same_pairs.result → ⊥ = search rules in
-    place_here (g.H.Hash32.digest_of c.args.h.now) c.args.nonce.now.0 c.args.index.now.0 c.args.level c.args.a.siblings.now c.args.a.end.now c.args.b.siblings.now c.args.b.end.now
+    place_here (hashing (g.H.Hash32.digest_of c.args.h.now) c.args.nonce.now.0) c.args.index.now.0 c.args.level c.args.a.siblings.now c.args.a.end.now c.args.b.siblings.now c.args.b.end.now
     (λ same. no (c.same_pairs.ensures.1
-    (same_nodes (g.H.Hash32.digest_of c.args.h.now) c.args.nonce.now.0 c.args.index.now.0 c.args.level c.args.a.siblings.now c.in-Some.first_a.now
+    (same_nodes (hashing (g.H.Hash32.digest_of c.args.h.now) c.args.nonce.now.0) c.args.index.now.0 c.args.level c.args.a.siblings.now c.in-Some.first_a.now
     c.in-Some.rest_a.now c.args.a.end.now c.args.b.siblings.now c.in-Some-split_first.first_b.now c.in-Some-split_first.rest_b.now
     c.args.b.end.now c.meet-below.result.a c.meet-below.result.b some_a some_b c.meet-below.ensures.a c.meet-below.ensures.b size same)))

@@ -1,4 +1,5 @@
 use Rattle.std.proofs.Common.{◌≡◌, ◌+◌, ◌≤◌, drop, length}
+use Rattle.coniks_proof.specs.Hashing.{hashing}
 use Rattle.coniks_proof.specs.ProofRefs.{listed, owned}
 use Rattle.coniks_proof.specs.Proofs.{preimage}
 use Rattle.coniks_proof.proofs.paths.carried.Given as goal
@@ -7,7 +8,7 @@ use Rattle.coniks_proof.proofs.paths.carried.Given as goal
 abbrev pub invariant-loop-place : goal.invariant-loop-place
 invariant-loop-place g l = let digest = g.H.Hash32.digest_of l.fn.h in
     (l.place ≤ length (listed l.siblings))
-    × (l.hash.0 ≡ digest (preimage digest l.nonce.0 l.index.0 (l.level + l.place) (drop l.place (listed l.siblings)) (owned l.end)))
+    × (l.hash.0 ≡ digest (preimage (hashing digest l.nonce.0) l.index.0 (l.level + l.place) (drop l.place (listed l.siblings)) (owned l.end)))
 
 abbrev pub decreases-loop-place : goal.decreases-loop-place
 decreases-loop-place g l = l.place

@@ -1,6 +1,6 @@
 use Rattle.std.proofs.Common.{ap, sym, subst, ◌∙◌, ◌++◌, ◌∷◌, [], slice_get}
-use Rattle.coniks_tree.specs.Table.{Extends, IsTable}
-use Rattle.coniks_tree.proofs.PushLemmas.{Extends-append, get-last, IsTable-push}
+use Rattle.coniks_tree.specs.Table.{Extends, IsLinked, table}
+use Rattle.coniks_tree.proofs.PushLemmas.{Extends-append, get-last, IsLinked-push}
 use Rattle.coniks_tree.proofs.attach.push_node.Goals as goal
 
 pub returns-clause-at : goal.returns-clause-at
@@ -13,6 +13,6 @@ pub returns-clause-extends : goal.returns-clause-extends
 returns-clause-extends c = subst (Extends c.args.nodes.now.items) (sym c.put.ensures.items) (Extends-append c.args.nodes.now.items (c.args.node ∷ []))
 
 pub returns-clause-table : goal.returns-clause-table
-returns-clause-table c = λ records fits table.
-    subst (λ xs. IsTable xs records) (sym c.put.ensures.items)
-    (IsTable-push c.args.nodes.now.items records c.args.node fits table)
+returns-clause-table c = λ records fits linked.
+    subst (λ xs. IsLinked (table xs records)) (sym c.put.ensures.items)
+    (IsLinked-push (table c.args.nodes.now.items records) c.args.node fits linked)

@@ -19,8 +19,8 @@ loop-pair-preserved c =
       same = same-more _ c.loop-pair.rest.items rest c.in-Some.pair c.loop-pair.halved.items c.push_back.new.self.items one popped pushed c.halve-one.ensures.same c.loop-pair.invariant.same;
       inner = λ nonce. ap (map (preimage_of nonce)) asked ∙ map-append (preimage_of nonce) c.loop-pair.messages.items (Inner one.left_hash one.right_hash ∷ [])
           ∙ ap (λ xs. xs ++ inner_of one ∷ []) (c.loop-pair.invariant.inner nonce) ∙ sym (map-append inner_of c.loop-pair.halved.items (one ∷ [])) ∙ sym (ap (map inner_of) pushed);
-      halved = λ hash nonce all.
-          let before = c.loop-pair.invariant.halved hash nonce all in
-          let now = c.halve-one.ensures.halved hash nonce (asked_of nonce rest) (before.1 ∙ ap (λ ps. map hash (asked_of nonce ps)) popped) in
-          (subst (AllHalved hash nonce c.args.nodes.now) (sym pushed) (AllHalved-push hash nonce c.args.nodes.now c.loop-pair.halved.items one before.0 now.0), now.1);
+      halved = λ by all.
+          let before = c.loop-pair.invariant.halved by all in
+          let now = c.halve-one.ensures.halved by (asked_of by.nonce rest) (before.1 ∙ ap (λ ps. map by.hash (asked_of by.nonce ps)) popped) in
+          (subst (AllHalved by c.args.nodes.now) (sym pushed) (AllHalved-push by c.args.nodes.now c.loop-pair.halved.items one before.0 now.0), now.1);
     }

@@ -1,5 +1,6 @@
 use Rattle.std.proofs.Common.{length, sym, subst, map, ap, ◌∙◌, arith}
 use Rattle.std.proofs.lemmas.List.{length-map}
+use Rattle.coniks_proof.specs.Hashing.{hashing}
 use Rattle.coniks_proof.specs.Messages.{preimage_of}
 use Rattle.coniks_tree.specs.Joins.{AllJoined, PairsFit, asked_of, inner_of}
 use Rattle.coniks_tree.proofs.JoinLemmas.{hashed_all, hashed_as}
@@ -18,15 +19,14 @@ joined_all-requires g c =
 
 pub returns : goal.returns
 returns g c =
-    let digest_of = g.H.Hash32.digest_of c.args.h.now in
-    let nonce = c.args.nonce.now.0 in
+    let by = hashing (g.H.Hash32.digest_of c.args.h.now) c.args.nonce.now.0 in
     let nodes = c.args.nodes.now in
     let pairs = c.args.pairs.items in
     let same = c.in_ok-halved.ensures.same in
     -- the hashes that were asked for, and those of the nodes above
-    let sides = hashed_all digest_of (preimage_of nonce) c.deref-2.result.now (asked_of nonce pairs) c.in_ok-hashes.hashes.items c.in_ok-hashes.ensures
-    (ap (map (preimage_of nonce)) c.deref-2.ensures.value ∙ c.in_ok-messages.ensures nonce ∙ ap (asked_of nonce) c.deref.ensures.value) in
-    let inner = hashed_as digest_of (preimage_of nonce) inner_of c.deref-3.result.now c.in_ok-halved.halved.items c.in_ok-hashes-2.hashes.items c.in_ok-hashes-2.ensures
-    (ap (map (preimage_of nonce)) c.deref-3.ensures.value ∙ c.in_ok-halved.ensures.inner nonce) in
-    subst (λ ps. AllJoined digest_of nonce nodes ps c.in_ok-joined_all.field-0.items) same
-    (c.in_ok-joined_all.ensures digest_of nonce nodes (subst (PairsFit (length nodes)) (sym same) c.requires) (c.in_ok-halved.ensures.halved digest_of nonce sides) inner)
+    let sides = hashed_all by.hash (preimage_of by.nonce) c.deref-2.result.now (asked_of by.nonce pairs) c.in_ok-hashes.hashes.items c.in_ok-hashes.ensures
+    (ap (map (preimage_of by.nonce)) c.deref-2.ensures.value ∙ c.in_ok-messages.ensures by.nonce ∙ ap (asked_of by.nonce) c.deref.ensures.value) in
+    let inner = hashed_as by.hash (preimage_of by.nonce) inner_of c.deref-3.result.now c.in_ok-halved.halved.items c.in_ok-hashes-2.hashes.items c.in_ok-hashes-2.ensures
+    (ap (map (preimage_of by.nonce)) c.deref-3.ensures.value ∙ c.in_ok-halved.ensures.inner by.nonce) in
+    subst (λ ps. AllJoined by nodes ps c.in_ok-joined_all.field-0.items) same
+    (c.in_ok-joined_all.ensures by nodes (subst (PairsFit (length nodes)) (sym same) c.requires) (c.in_ok-halved.ensures.halved by sides) inner)

@@ -6,27 +6,27 @@ use Rattle.coniks_tree.proofs.PartLemmas.{hash_made, join_many, join_left, join_
 use Rattle.coniks_tree.proofs.joining.joined.Goals as goal
 
 pub returns-then-weight_left-eq1-clause-stands : goal.returns-then-weight_left-eq1-clause-stands
-returns-then-weight_left-eq1-clause-stands c = λ digest_of nonce nodes records entries short halved is sl sr.
+returns-then-weight_left-eq1-clause-stands c = λ by t entries short halved is sl sr.
     let pair = c.args.halved.pair in
-    join_left digest_of nonce nodes records pair.left pair.right pair.prefix entries (omega arith) (omega arith) sl sr
+    join_left by t pair.left pair.right pair.prefix entries (omega arith) (omega arith) sl sr
 
 pub returns-then-weight_left-weight-lt2-clause-stands : goal.returns-then-weight_left-weight-lt2-clause-stands
-returns-then-weight_left-weight-lt2-clause-stands c = λ digest_of nonce nodes records entries short halved is sl sr.
+returns-then-weight_left-weight-lt2-clause-stands c = λ by t entries short halved is sl sr.
     let pair = c.args.halved.pair in
-    join_right digest_of nonce nodes records pair.left pair.right pair.prefix entries (omega arith) (omega arith) sl sr
+    join_right by t pair.left pair.right pair.prefix entries (omega arith) (omega arith) sl sr
 
 pub returns-clause-stands : goal.returns-clause-stands
-returns-clause-stands c = λ digest_of nonce nodes records entries short halved is sl sr.
+returns-clause-stands c = λ by t entries short halved is sl sr.
     let pair = c.args.halved.pair in
     let p = pair.prefix in
     let heavy : 2 ≤ weight_of pair.left + weight_of pair.right = omega arith in
-    let many = join_many digest_of nonce nodes records pair.left pair.right p entries heavy sl sr in
-    let left = halved.left records _ sl in
-    let right = halved.right records _ sr in
-    c.in_ok-made.ensures.stands digest_of nonce nodes records p entries
+    let many = join_many by t pair.left pair.right p entries heavy sl sr in
+    let left = halved.left t.records _ sl in
+    let right = halved.right t.records _ sr in
+    c.in_ok-made.ensures.stands by t p entries
     (record {
       many = many;
-      is_hash = hash_made digest_of nonce p (child p false) (child p true) entries _ _ _ short many refl refl is left right;
+      is_hash = hash_made by p (child p false) (child p true) entries _ _ _ short many refl refl is left right;
       left = record { is_hash = left; stands = sl };
       right = record { is_hash = right; stands = sr };
     })

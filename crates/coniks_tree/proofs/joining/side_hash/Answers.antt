@@ -2,10 +2,10 @@ use Rattle.coniks_tree.proofs.JoinLemmas.{side_nothing, side_entry}
 use Rattle.coniks_tree.proofs.joining.side_hash.Goals as goal
 
 pub returns-in-Nothing-clause-hash : goal.returns-in-Nothing-clause-hash
-returns-in-Nothing-clause-hash c = λ hash nonce prefix rest asked.
-    side_nothing hash nonce c.args.nodes.now c.args.part.now prefix rest c.args.hashes.now.items c.first_hash.new.hashes.items c.first_hash.result c.in-Nothing.is c.first_hash.ensures asked
+returns-in-Nothing-clause-hash c = λ by prefix rest asked.
+    side_nothing by c.args.nodes.now c.args.part.now prefix rest c.args.hashes.now.items c.first_hash.new.hashes.items c.first_hash.result c.in-Nothing.is c.first_hash.ensures asked
 
 pub returns-in-Entry-clause-hash : goal.returns-in-Entry-clause-hash
-returns-in-Entry-clause-hash c = λ hash nonce prefix rest asked.
-    side_entry hash nonce c.args.nodes.now c.args.part.now prefix rest c.args.hashes.now.items c.first_hash-in-Entry.new.hashes.items c.first_hash-in-Entry.result c.in-Entry.field-0
+returns-in-Entry-clause-hash c = λ by prefix rest asked.
+    side_entry by c.args.nodes.now c.args.part.now prefix rest c.args.hashes.now.items c.first_hash-in-Entry.new.hashes.items c.first_hash-in-Entry.result c.in-Entry.field-0
     c.in-Entry.is c.first_hash-in-Entry.ensures asked

@@ -3,9 +3,9 @@ use Rattle.coniks_tree.proofs.PushLemmas.{Stands-same}
 use Rattle.coniks_tree.proofs.laws.order_is_of_no_account.Goals as goal
 
 pub returns-clause-shows : goal.returns-clause-shows
-returns-clause-shows c = λ hash nonce nodes records number prefix es fs me mf same s.
-    Shows-same hash nonce nodes records number prefix es fs me mf same s
+returns-clause-shows c = λ by t number prefix es fs me mf same s.
+    Shows-same by t number prefix es fs me mf same s
 
 pub returns-clause-stands : goal.returns-clause-stands
-returns-clause-stands c = λ hash nonce nodes records part prefix es fs me mf same s.
-    Stands-same hash nonce nodes records part prefix es fs me mf same s
+returns-clause-stands c = λ by t part prefix es fs me mf same s.
+    Stands-same by t part prefix es fs me mf same s

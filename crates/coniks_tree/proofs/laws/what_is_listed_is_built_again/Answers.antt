@@ -7,8 +7,8 @@ pub returns-clause-apart : goal.returns-clause-apart
 returns-clause-apart c = λ changes entries lists. Lists-apart changes entries lists
 
 pub returns-clause-stands : goal.returns-clause-stands
-returns-clause-stands c = λ hash nonce nodes records part changes entries map lists s.
-    Lists-stands hash nonce nodes records part changes entries map lists s
+returns-clause-stands c = λ by t part changes entries map lists s.
+    Lists-stands by t part changes entries map lists s
 
 pub returns-clause-increasing : goal.returns-clause-increasing
 returns-clause-increasing c = λ changes entries map lists. in_order-AreIncreasing (entries_in changes) (lists.once map) lists.order

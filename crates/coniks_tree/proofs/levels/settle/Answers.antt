@@ -5,21 +5,21 @@ use Rattle.coniks_tree.proofs.LevelLemmas.{grown-one, grown-same, side_done}
 use Rattle.coniks_tree.proofs.levels.settle.Goals as goal
 
 pub returns-then-is_empty : goal.returns-then-is_empty
-returns-then-is_empty c = λ digest_of nonce nodes records fits.
+returns-then-is_empty c = λ by t fits.
     let none : c.args.changes.now ≡ [] = nil_from_length c.args.changes.now (grind (arith, nat_tests, c.is_empty.ensures, c.if-is_empty.true)) in (
       [],
       sym (append-nil c.args.next.now.items),
       tt,
-      side_done digest_of nonce nodes records c.args.prefix c.args.part c.args.changes.now c.args.part
-          (grown-same digest_of nonce nodes records c.args.prefix c.args.part c.args.changes.now none fits),
+      side_done by t c.args.prefix c.args.part c.args.changes.now c.args.part
+          (grown-same by t c.args.prefix c.args.part c.args.changes.now none fits),
     )
 
 pub returns-in-Some : goal.returns-in-Some
-returns-in-Some c = λ digest_of nonce nodes records fits. (
+returns-in-Some c = λ by t fits. (
   [],
   sym (append-nil c.args.next.now.items),
   tt,
-  side_done digest_of nonce nodes records c.args.prefix c.args.part c.args.changes.now _
-      (grown-one digest_of nonce nodes records c.args.prefix c.args.part c.args.changes.now c.in-Some.change c.len.result c.len.ensures.len (omega (arith, c.len.ensures.len, c.len.ensures.short))
-      c.in-Some.ensures.placed (λ entries. c.in-Some.ensures.stands digest_of nonce nodes records c.args.prefix entries)),
+  side_done by t c.args.prefix c.args.part c.args.changes.now _
+      (grown-one by t c.args.prefix c.args.part c.args.changes.now c.in-Some.change c.len.result c.len.ensures.len (omega (arith, c.len.ensures.len, c.len.ensures.short))
+      c.in-Some.ensures.placed (λ entries. c.in-Some.ensures.stands by t c.args.prefix entries)),
 )

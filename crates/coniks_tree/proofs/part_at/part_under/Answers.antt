@@ -1,5 +1,6 @@
 use Rattle.std.proofs.Common.{refl, take, arith, length, ◌≡◌, length-take-le}
 use Rattle.coniks_proof.specs.Entries.{under}
+use Rattle.coniks_tree.specs.Table.{table}
 use Rattle.coniks_tree.proofs.PartLemmas.{down}
 use Rattle.coniks_tree.proofs.part_at.part_under.Goals as goal
 
@@ -10,12 +11,12 @@ loop-level-preserved c = record {
   unmade = c.side-part.ensures.unmade c.loop-level.invariant.unmade;
   whole = λ none. absurd (omega (arith, none));
   placed = λ all more. c.side-part.ensures.placed all more (c.loop-level.invariant.placed all more);
-  stands = λ hash nonce entries s.
+  stands = λ by entries s.
       let p = c.args.prefix.now in
       let k = c.loop-level.level in
       let sized : length (take k p) ≡ k = length-take-le k p c.loop-level.invariant.within in
-      down hash nonce c.args.nodes.now c.args.records.now c.side-part.result p k c.at.result entries c.at.ensures
-      (c.side-part.ensures.stands hash nonce (take k p) (under (take k p) entries) sized (c.loop-level.invariant.stands hash nonce entries s));
+      down by (table c.args.nodes.now c.args.records.now) c.side-part.result p k c.at.result entries c.at.ensures
+      (c.side-part.ensures.stands by (take k p) (under (take k p) entries) sized (c.loop-level.invariant.stands by entries s));
 }
 
 pub loop-level-init : goal.loop-level-init
@@ -25,5 +26,5 @@ loop-level-init c = record {
   unmade = refl;
   whole = λ _. refl;
   placed = λ all more. tt;
-  stands = λ hash nonce entries s. (s, λ below. absurd (omega (arith, below)));
+  stands = λ by entries s. (s, λ below. absurd (omega (arith, below)));
 }

@@ -1,6 +1,7 @@
-use Rattle.std.proofs.Common.{◌≡◌, ℕ, ◌≤◌, length, List, [], take, false}
+use Rattle.std.proofs.Common.{◌≡◌, ◌≤◌, length, List, [], take, false}
 use Rattle.coniks_proof.specs.Entries.{under}
-use Rattle.coniks_tree.specs.Table.{Numbered, Shows, Extends}
+use Rattle.coniks_proof.specs.Hashing.{Hashing}
+use Rattle.coniks_tree.specs.Table.{Numbered, Shows, Extends, table}
 use Rattle.coniks_tree.specs.declared.table.Record.{Record}
 use Rattle.coniks_tree.specs.Parts.{Stands, Fits, Placed, is_made, node_count}
 use Rattle.coniks_tree.proofs.part_at.part_under.Given as goal
@@ -12,6 +13,6 @@ invariant-loop-level l = record {
   unmade : is_made l.part ≡ false;
   whole : l.level ≡ 0 → node_count l.part ≡ 0;
   placed : (all : List Record) → Extends l.records all → Placed all l.part;
-  stands : (hash : List ℕ → List ℕ) (nonce : List ℕ) (entries : List Numbered) → Shows hash nonce l.nodes l.records l.root [] entries
-      → Stands hash nonce l.nodes l.records l.part (take l.level l.prefix) (under (take l.level l.prefix) entries);
+  stands : (by : Hashing) (entries : List Numbered) → Shows by (table l.nodes l.records) l.root [] entries
+      → Stands by (table l.nodes l.records) l.part (take l.level l.prefix) (under (take l.level l.prefix) entries);
 }

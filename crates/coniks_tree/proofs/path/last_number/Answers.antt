@@ -1,28 +1,29 @@
 use Rattle.coniks_tree.proofs.PathLemmas.{way_begins, way_goes_on, way_last}
 use Rattle.std.proofs.Common.{[]}
+use Rattle.coniks_tree.specs.Table.{table}
 use Rattle.coniks_tree.proofs.path.last_number.Goals as goal
 
 pub loop-near-init : goal.loop-near-init
 loop-near-init c = record {
   known = c.requires.known;
-  way = λ hash nonce entries s. ([], way_begins hash nonce c.args.nodes.now c.args.records.now c.args.index.now.0 entries c.args.root s);
+  way = λ by entries s. ([], way_begins by (table c.args.nodes.now c.args.records.now) c.args.index.now.0 entries c.args.root s);
 }
 
 pub loop-near-preserved : goal.loop-near-preserved
 loop-near-preserved c = record {
   known = c.in-Some.ensures.known;
-  way = λ hash nonce entries s.
-      let so_far = (c.loop-near.invariant.way hash nonce entries s).0 in
-      let w = (c.loop-near.invariant.way hash nonce entries s).1 in (
+  way = λ by entries s.
+      let so_far = (c.loop-near.invariant.way by entries s).0 in
+      let w = (c.loop-near.invariant.way by entries s).1 in (
         _,
-        way_goes_on hash nonce c.args.nodes.now c.args.records.now c.args.index.now.0 entries so_far c.loop-near.number c.in-Some.near c.loop-near.level c.in-Some.beside w
-            (c.in-Some.ensures.down hash nonce w.prefix w.below w.at w.shows),
+        way_goes_on by (table c.args.nodes.now c.args.records.now) c.args.index.now.0 entries so_far c.loop-near.number c.in-Some.near c.loop-near.level c.in-Some.beside w
+            (c.in-Some.ensures.down by w.prefix w.below w.at w.shows),
       );
 }
 
 pub returns-clause-ends : goal.returns-clause-ends
-returns-clause-ends c = λ hash nonce entries s.
-    let so_far = (c.loop-near.invariant.way hash nonce entries s).0 in
-    let w = (c.loop-near.invariant.way hash nonce entries s).1 in
-    way_last hash nonce c.args.nodes.now c.args.records.now c.args.index.now.0 entries so_far c.loop-near.number c.loop-near.level w
-    (c.step.ensures.last c.in_default.is hash nonce w.prefix w.below w.at w.shows)
+returns-clause-ends c = λ by entries s.
+    let so_far = (c.loop-near.invariant.way by entries s).0 in
+    let w = (c.loop-near.invariant.way by entries s).1 in
+    way_last by (table c.args.nodes.now c.args.records.now) c.args.index.now.0 entries so_far c.loop-near.number c.loop-near.level w
+    (c.step.ensures.last c.in_default.is by w.prefix w.below w.at w.shows)

@@ -1,5 +1,7 @@
 use Rattle.std.proofs.Common.{◌≡◌, ◌∙◌, sym, ℕ, [], Some, slice_get, length, refl, arith}
 use Rattle.std.proofs.lemmas.Bool.Decides.{nat_tests}
+use Rattle.coniks_proof.specs.Hashing.{hashing}
+use Rattle.coniks_tree.specs.Trees.{table_of}
 use Rattle.coniks_tree.specs.Parts.{entries_in}
 use Rattle.coniks_tree.specs.declared.part.Part.{Part}
 use Rattle.coniks_work.specs.Grown.{IsGrown}
@@ -11,21 +13,19 @@ use Rattle.coniks_work.proofs.building.build.Goals as goal
 pub returns-then-is_empty-clause-stands : goal.returns-then-is_empty-clause-stands
 returns-then-is_empty-clause-stands g c = λ entries old ordered apart.
     let none : length c.args.changes.now ≡ 0 = grind (arith, nat_tests, c.is_empty.ensures, c.if-is_empty.true) in
-    unchanged_stands (g.H.Hash32.digest_of c.args.h.now) c.args.nonce.now.0 c.args.tree.now.nodes.items c.args.tree.now.records.items c.args.root c.args.changes.now entries c.unchanged_part.result
+    unchanged_stands (hashing (g.H.Hash32.digest_of c.args.h.now) c.args.nonce.now.0) (table_of c.args.tree.now) c.args.root c.args.changes.now entries c.unchanged_part.result
     c.unchanged_part.ensures none old
 
 pub join_upwards-requires-clause-parts : goal.join_upwards-requires-clause-parts
 join_upwards-requires-clause-parts g c =
-    let hash = g.H.Hash32.digest_of c.args.h.now in
-    let nonce = c.args.nonce.now.0 in
-    let nodes = c.args.tree.now.nodes.items in
-    let records = c.args.tree.now.records.items in
+    let by = hashing (g.H.Hash32.digest_of c.args.h.now) c.args.nonce.now.0 in
+    let t = table_of c.args.tree.now in
     let jobs = c.deref.result.now in
     let parts = c.in_ok-parts.parts.items in
-    let part : ℕ → Part → Type 0 = λ n x. (job : Job) × (slice_get jobs n ≡ Some job) × IsGrown hash nonce nodes records c.args.root job.prefix (entries_in (in_range job c.args.changes.now)) x in
-    let done = numbered_done hash nonce nodes records c.args.root c.args.changes.now jobs part (λ n x p. p) 0 [] jobs parts refl refl
+    let part : ℕ → Part → Type 0 = λ n x. (job : Job) × (slice_get jobs n ≡ Some job) × IsGrown by t c.args.root job.prefix (entries_in (in_range job c.args.changes.now)) x in
+    let done = numbered_done by t c.args.root c.args.changes.now jobs part (λ n x p. p) 0 [] jobs parts refl refl
     c.in_ok-parts.ensures.0 (c.in_ok-parts.ensures.1 ∙ c.len.ensures ∙ sym c.deref.ensures.len) in
-    let ready = parts_ready hash nonce nodes records c.args.root c.cut_for-depth.result c.root.result (entries_in c.args.changes.now) jobs c.in_ok-jobs.jobs.items parts
+    let ready = parts_ready by t c.args.root c.cut_for-depth.result c.root.result (entries_in c.args.changes.now) jobs c.in_ok-jobs.jobs.items parts
     c.root.ensures c.deref.ensures.value c.in_ok-jobs.ensures.jobs done in
     ([], parts, refl, ready)
 

@@ -1,4 +1,5 @@
 use Rattle.std.proofs.Common.{ap, is_some, refl, sym}
+use Rattle.coniks_proof.specs.Hashing.{hashing}
 use Rattle.coniks_directory.proofs.Words.{IsPath, entries_of, shown_of, state_of}
 use Rattle.coniks_directory.proofs.LookupLemmas.{accepted_there, accepted_under, pathed}
 use Rattle.coniks_directory.proofs.directory.Directory.signed_lookup.Given as given
@@ -22,14 +23,14 @@ path-requires g c =
 
 -- the path is that of the name's index in the tree of the epoch's registry
 path_in : (g : given.Over) (c : goal.In-Ok g) → (let hash = g.H.Hash32.digest_of c.self.inside.h in let index_of = g.X.IndexSource.index_of c.self.inside.source in
-    IsPath hash c.in-Some.epoch.nonce.0 (entries_of hash index_of (shown_of c.self.inside.held.tree.records.items c.in-Some.epoch).registry) (index_of c.args.name.now) c.in-Ok.proof)
+    IsPath (hashing hash c.in-Some.epoch.nonce.0) (entries_of hash index_of (shown_of c.self.inside.held.tree.records.items c.in-Some.epoch).registry) (index_of c.args.name.now) c.in-Ok.proof)
 path_in g c =
     let d = c.self.inside in
     let hash = g.H.Hash32.digest_of d.h in
     let index_of = g.X.IndexSource.index_of d.source in
     let e = c.in-Some.epoch in
     rw (← c.index-index.ensures) (pathed hash index_of (state_of d.held) c.args.t e _ (c.in-Some.ensures hash index_of c.self.invariant) c.index-index.result.0 c.in-Ok.proof
-    (λ entries shows. c.in-Ok.ensures hash e.nonce.0 entries shows))
+    (λ entries shows. c.in-Ok.ensures (hashing hash e.nonce.0) entries shows))
 
 pub returns-in-Ok-clause-entry : goal.returns-in-Ok-clause-entry
 returns-in-Ok-clause-entry g c =

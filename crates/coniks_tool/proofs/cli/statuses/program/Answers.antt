@@ -7,27 +7,27 @@ returns-clause-status g c = subst (λ n. n ≤ 3) (sym c.conclude.ensures.status
 
 pub returns-clause-done : goal.returns-clause-done
 returns-clause-done g c = λ is.
-    done-at_0 (map g.S.AsStr.text c.args.words.now) _ _ _ _ c.dispatch-outcome.result c.dispatch-outcome.ensures.found (sym c.conclude.ensures.status ∙ is)
+    done-at_0 (map g.S.AsStr.text c.args.words.now) _ c.dispatch-outcome.result c.dispatch-outcome.ensures.found (sym c.conclude.ensures.status ∙ is)
 
 pub returns-clause-ran : goal.returns-clause-ran
 returns-clause-ran g c = λ is.
-    ran-at_1 (map g.S.AsStr.text c.args.words.now) _ _ _ _ c.dispatch-outcome.result c.dispatch-outcome.ensures.found (sym c.conclude.ensures.status ∙ is)
+    ran-at_1 (map g.S.AsStr.text c.args.words.now) _ c.dispatch-outcome.result c.dispatch-outcome.ensures.found (sym c.conclude.ensures.status ∙ is)
 
 pub returns-clause-refused : goal.returns-clause-refused
 returns-clause-refused g c = λ is.
-    refused-at_2 (map g.S.AsStr.text c.args.words.now) _ _ _ _ c.dispatch-outcome.result c.dispatch-outcome.ensures.found (sym c.conclude.ensures.status ∙ is)
+    refused-at_2 (map g.S.AsStr.text c.args.words.now) _ c.dispatch-outcome.result c.dispatch-outcome.ensures.found (sym c.conclude.ensures.status ∙ is)
 
 pub returns-clause-taken : goal.returns-clause-taken
 returns-clause-taken g c = λ taken is.
-    taken-at_2 (map g.S.AsStr.text c.args.words.now) _ _ _ _ c.dispatch-outcome.result c.dispatch-outcome.ensures.found c.dispatch-outcome.ensures.taken taken (sym c.conclude.ensures.status ∙ is)
+    taken-at_2 (map g.S.AsStr.text c.args.words.now) _ c.dispatch-outcome.result c.dispatch-outcome.ensures.found c.dispatch-outcome.ensures.taken taken (sym c.conclude.ensures.status ∙ is)
 
 pub returns-clause-bad_key : goal.returns-clause-bad_key
 returns-clause-bad_key g c = λ bad.
-    subst (λ n. 2 ≤ n) (sym c.conclude.ensures.status) (bad_key-from_2 (map g.S.AsStr.text c.args.words.now) _ _ _ _ c.dispatch-outcome.result c.dispatch-outcome.ensures.found bad)
+    subst (λ n. 2 ≤ n) (sym c.conclude.ensures.status) (bad_key-from_2 (map g.S.AsStr.text c.args.words.now) _ c.dispatch-outcome.result c.dispatch-outcome.ensures.found bad)
 
 pub returns-clause-bad_expectation : goal.returns-clause-bad_expectation
 returns-clause-bad_expectation g c = λ bad.
-    subst (λ n. 2 ≤ n) (sym c.conclude.ensures.status) (bad_expectation-from_2 (map g.S.AsStr.text c.args.words.now) _ _ _ _ c.dispatch-outcome.result c.dispatch-outcome.ensures.found bad)
+    subst (λ n. 2 ≤ n) (sym c.conclude.ensures.status) (bad_expectation-from_2 (map g.S.AsStr.text c.args.words.now) _ c.dispatch-outcome.result c.dispatch-outcome.ensures.found bad)
 
 pub returns-clause-quiet : goal.returns-clause-quiet
 returns-clause-quiet g c = λ low.
@@ -35,20 +35,20 @@ returns-clause-quiet g c = λ low.
 
 pub returns-clause-unread : goal.returns-clause-unread
 returns-clause-unread g c = λ is.
-    c.dispatch-outcome.ensures.idle_reader (none-at_2 (map g.S.AsStr.text c.args.words.now) _ _ _ _ c.dispatch-outcome.result c.dispatch-outcome.ensures.found (sym c.conclude.ensures.status ∙ is))
+    c.dispatch-outcome.ensures.idle_reader (none-at_2 (map g.S.AsStr.text c.args.words.now) _ c.dispatch-outcome.result c.dispatch-outcome.ensures.found (sym c.conclude.ensures.status ∙ is))
 
 pub returns-clause-unwritten : goal.returns-clause-unwritten
 returns-clause-unwritten g c = λ is.
-    unwritten-at_2 (map g.S.AsStr.text c.args.words.now) _ _ _ _ c.dispatch-outcome.result c.dispatch-outcome.ensures.found
+    unwritten-at_2 (map g.S.AsStr.text c.args.words.now) _ c.dispatch-outcome.result c.dispatch-outcome.ensures.found
     c.dispatch-outcome.ensures.unwritten c.dispatch-outcome.ensures.idle_writer (sym c.conclude.ensures.status ∙ is)
 
 pub returns-clause-bad_key_told : goal.returns-clause-bad_key_told
 returns-clause-bad_key_told g c = λ bad is.
-    bad_key-at_2 (map g.S.AsStr.text c.args.words.now) _ _ _ _ c.dispatch-outcome.result _ _ c.dispatch-outcome.ensures.found c.conclude.ensures.told bad (sym c.conclude.ensures.status ∙ is)
+    bad_key-at_2 (map g.S.AsStr.text c.args.words.now) _ c.dispatch-outcome.result _ _ c.dispatch-outcome.ensures.found c.conclude.ensures.told bad (sym c.conclude.ensures.status ∙ is)
 
 pub returns-clause-bad_expectation_told : goal.returns-clause-bad_expectation_told
 returns-clause-bad_expectation_told g c = λ bad is.
-    bad_expectation-at_2 (map g.S.AsStr.text c.args.words.now) _ _ _ _ c.dispatch-outcome.result _ _ c.dispatch-outcome.ensures.found c.conclude.ensures.told bad (sym c.conclude.ensures.status ∙ is)
+    bad_expectation-at_2 (map g.S.AsStr.text c.args.words.now) _ c.dispatch-outcome.result _ _ c.dispatch-outcome.ensures.found c.conclude.ensures.told bad (sym c.conclude.ensures.status ∙ is)
 
 pub returns-clause-refused_told : goal.returns-clause-refused_told
 returns-clause-refused_told g c = λ is. told-at_2 c.dispatch-outcome.result _ _ c.conclude.ensures.told (sym c.conclude.ensures.status ∙ is)

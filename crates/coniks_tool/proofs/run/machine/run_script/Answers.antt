@@ -1,5 +1,5 @@
 use Rattle.std.proofs.Common.{subst}
-use Rattle.coniks_lines.specs.Runs.{FailsWithBoard, IsRunOf}
+use Rattle.coniks_lines.specs.Runs.{FailsWithBoard, IsRunOf, streams}
 use Rattle.coniks_lines.proofs.Lemmas.{run_with_board}
 use Rattle.coniks_tool.specs.Script.{ScriptState, script_answer}
 use Rattle.coniks_tool.proofs.run.machine.run_script.Goals as goal
@@ -9,7 +9,7 @@ returns g c =
     let from = g.R.ByteIn.source in
     let to = g.W.ByteOut.sink in
     record {
-      run = subst (λ (s : ScriptState). IsRunOf script_answer s (FailsWithBoard script_answer s) (from c.args.reader.now) (from c.run_lines.new.reader)
-          (to c.args.writer.now) (to c.run_lines.new.writer) c.run_lines.result) c.in_ok-store.ensures.ok
+      run = subst (λ (s : ScriptState). IsRunOf script_answer s (FailsWithBoard script_answer s)
+          (streams (from c.args.reader.now) (from c.run_lines.new.reader) (to c.args.writer.now) (to c.run_lines.new.writer)) c.run_lines.result) c.in_ok-store.ensures.ok
           (run_with_board script_answer _ c.run_lines.result c.run_lines.ensures.ok c.run_lines.ensures.err);
     }

@@ -22,4 +22,5 @@ returns-in-Err-clause-reply c =
 pub returns-in-Err-clause-state : goal.returns-in-Err-clause-state
 returns-in-Err-clause-state c =
     let s = watching c.self.inside.seal.key c.self.inside.monitor in
-    rw (← c.self.view_is) (ap (watching c.self.inside.seal.key) c.in-Err.ensures.unchanged ∙ sym (ap (λ (t : MonitorTurn). t.state) (refused-step s c.args.entry.now c.args.proof.now c.in-Err.fault c.in-Err.ensures.err)))
+    rw (← c.self.view_is) (ap (watching c.self.inside.seal.key) c.in-Err.ensures.unchanged ∙ sym
+    (ap (λ (t : MonitorTurn). t.state) (refused-step s c.args.entry.now c.args.proof.now c.in-Err.fault c.in-Err.ensures.err)))

@@ -1,0 +1,24 @@
+use Rattle.std.proofs.Common.{sym, ap, subst, refl, ◌∙◌, ◌≡◌, ◌++◌, [], rules}
+use Rattle.coniks_proof.specs.Hashing.{hashing}
+use Rattle.coniks_proof.specs.Tree.{node}
+use Rattle.coniks_tree.specs.Table.{table}
+use Rattle.coniks_tree.specs.Parts.{Stands, Placed}
+use Rattle.coniks_tree.proofs.PushLemmas.{Extends-append, Stands-records}
+use Rattle.coniks_tree.proofs.table.Tree.attach.Goals as goal
+
+pub returns-clause-shows : goal.returns-clause-shows
+returns-clause-shows g c = λ entries s.
+    let by = hashing (g.H.Hash32.digest_of c.args.h.now) c.args.nonce.now.0 in
+    let nodes = c.args.self.now.nodes.items in
+    let old = c.args.self.now.records.items in
+    let all : c.append.new.self.items ≡ old ++ c.args.records.items = search rules in
+    let placed : Placed c.append.new.self.items c.args.part = subst (λ rs. Placed rs c.args.part) (sym all) c.requires.placed in
+    let at_root : Stands by (table c.deref.result.now old) c.args.part c.root.result entries =
+    subst (λ ns. Stands by (table ns old) c.args.part c.root.result entries) (sym c.deref.ensures.value)
+    (subst (λ p. Stands by (table nodes old) c.args.part p entries) (sym c.root.ensures) s) in
+    let is : c.hash_at-hash.result.0 ≡ node by [] entries =
+    c.hash_at-hash.ensures old entries at_root ∙ ap (λ p. node by p entries) c.root.ensures in
+    let more = Stands-records by (table nodes old) (old ++ c.args.records.items) (Extends-append old c.args.records.items) c.args.part [] entries s in
+    let whole : Stands by (table nodes c.append.new.self.items) c.args.part [] entries =
+    subst (λ rs. Stands by (table nodes rs) c.args.part [] entries) (sym all) more in
+    c.append-2.ensures.shows by c.append.new.self.items [] entries refl placed is whole
