@@ -1,22 +1,14 @@
 //! A registry of pseudo-random indices, with an epoch for each batch.
 
-ghost use Rattle.std.specs.Prelude.{List, length};
-ghost use Rattle.coniks_tree.specs.Parts.{Fits, Placed};
-ghost use Rattle.coniks_tree.specs.Table.{Extends};
-ghost use Rattle.coniks_tree.specs.declared.table.Record.{Record};
-
 use crate::counting::Counting;
 use crate::plan::{Parallelism, Plan};
-use coniks_proof::{Digest, Hash32, Index, Nonce, Prefix, Proof, Sha256Hash};
-use coniks_samples::{NONCE, add, changes_to, known, record_of};
+use coniks_proof::{Digest, Hash32, Index, Prefix, Proof, Sha256Hash};
+use coniks_test_support::{NONCE, RENEWED, add, changes_to, known, part_before, record_of};
 use coniks_tree::{Change, OutOfMemory, Part, Record, Root, Tree};
 use coniks_work::{Open, build};
 use std::alloc::{AllocError, Global};
 use std::fmt;
 use std::thread::Threads;
-
-/// The nonce of a rotation.
-const RENEWED: Nonce = Nonce([0x44; 32]);
 
 /// The numbers of nodes and hashes, and the latest root's hash.
 #[derive(Drop)]
@@ -83,17 +75,6 @@ fn records_of<H: Hash32>(
     Ok(records)
 }
 
-/// Returns the part that the latest root shows, or nothing if the tree has no such root.
-fn part_before(tree: &Tree, latest: Option<Root>) -> Part
-    ensures fits { Fits (length tree.now.nodes.items) 0 result }
-    ensures placed { (all : List Record) → Extends tree.now.records.items all → Placed all result }
-{
-    match latest {
-        Some(root) if root.0 < tree.nodes() => tree.part_at(root, &Prefix::root()),
-        _ => Part::Nothing,
-    }
-}
-
 /// A tree with an epoch for each batch, and a hash that counts its calls.
 #[derive(Drop)]
 pub struct Registry {
@@ -128,10 +109,9 @@ impl Registry {
     fn register(&mut self, from: u64, to: u64) -> Result<(), OutOfMemory> {
         let records = records_of(self.alloc, &self.hash, from, to)?;
         let changes = changes_to(self.alloc, self.tree.records(), &records)?;
-        let part = part_before(&self.tree, self.latest);
-        let part = self
-            .tree
-            .grow(&self.hash, &NONCE, part, &Prefix::root(), &changes)?;
+        let top = Prefix::root();
+        let part = part_before(&self.tree, self.latest, &top);
+        let part = self.tree.grow(&self.hash, &NONCE, part, &top, &changes)?;
         let added = add(&mut self.tree, &self.hash, part, records)?;
         self.latest = Some(added.root);
         Ok(())

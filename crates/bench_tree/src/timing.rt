@@ -63,7 +63,32 @@ fn print_times<R: Print>(
     Ok(())
 }
 
-/// Prints the times of one more batch, built in turn by one worker without a split and by several.
+/// Prints the times of work that is done in turn by one worker without a split and by several.
+fn print_in_turn<F: Fn(&Parallelism) -> Result<Duration>, R: Print + AllocGlobal>(
+    rt: &R,
+    what: &str,
+    repeats: usize,
+    parallelism: &Parallelism,
+    time: &F,
+) -> Result<()>
+    requires { F.IsAlwaysCallable time.now }
+{
+    let one = Parallelism {
+        workers: 1,
+        depth: 0,
+    };
+    let mut alone = Vec::with_capacity(rt.alloc(), repeats)?;
+    let mut together = Vec::with_capacity(rt.alloc(), repeats)?;
+    for _ in 0..repeats {
+        alone.push(time(&one)?)?;
+        together.push(time(parallelism)?)?;
+    }
+    print_times(rt, what, &one, alone)?;
+    print_times(rt, what, parallelism, together)?;
+    Ok(())
+}
+
+/// Prints the times of one more batch.
 pub fn print_builds<R: Threads + Sync + Clock + Print + AllocGlobal>(
     rt: &R,
     registry: &Registry,
@@ -72,19 +97,13 @@ pub fn print_builds<R: Threads + Sync + Clock + Print + AllocGlobal>(
 ) -> Result<()> {
     let to = plan.indices.saturating_add(plan.batch);
     let changes = registry.changes(plan.indices, to)?;
-    let one = Parallelism {
-        workers: 1,
-        depth: 0,
-    };
-    let mut alone = Vec::with_capacity(rt.alloc(), REPEATS)?;
-    let mut together = Vec::with_capacity(rt.alloc(), REPEATS)?;
-    for _ in 0..REPEATS {
-        alone.push(build_time(rt, registry, &changes, &one)?)?;
-        together.push(build_time(rt, registry, &changes, parallelism)?)?;
-    }
-    print_times(rt, "batch", &one, alone)?;
-    print_times(rt, "batch", parallelism, together)?;
-    Ok(())
+    print_in_turn(
+        rt,
+        "batch",
+        REPEATS,
+        parallelism,
+        &|by: &Parallelism| build_time(rt, registry, &changes, by),
+    )
 }
 
 /// Returns how long these workers take to list all entries and build them under another nonce.
@@ -101,25 +120,19 @@ fn renewal_time<R: Threads + Sync + Clock>(
     Ok(time)
 }
 
-/// Prints the times of a rotation, made in turn by one worker without a split and by several.
+/// Prints the times of a rotation.
 pub fn print_renewals<R: Threads + Sync + Clock + Print + AllocGlobal>(
     rt: &R,
     registry: &Registry,
     parallelism: &Parallelism,
 ) -> Result<()> {
-    let one = Parallelism {
-        workers: 1,
-        depth: 0,
-    };
-    let mut alone = Vec::with_capacity(rt.alloc(), RENEWALS)?;
-    let mut together = Vec::with_capacity(rt.alloc(), RENEWALS)?;
-    for _ in 0..RENEWALS {
-        alone.push(renewal_time(rt, registry, &one)?)?;
-        together.push(renewal_time(rt, registry, parallelism)?)?;
-    }
-    print_times(rt, "renewal", &one, alone)?;
-    print_times(rt, "renewal", parallelism, together)?;
-    Ok(())
+    print_in_turn(
+        rt,
+        "renewal",
+        RENEWALS,
+        parallelism,
+        &|by: &Parallelism| renewal_time(rt, registry, by),
+    )
 }
 
 /// Returns how long the authentication paths to these indices take, one after another.

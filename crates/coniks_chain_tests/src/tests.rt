@@ -7,9 +7,10 @@ use coniks_chain::{
     Verify, Wanted, audit, extract_history, link,
 };
 use coniks_proof::{
-    Bytes, CheckFault, Digest, Digests, End, Flat, Hash32, Head, Index, Nonce, Opening, Proof,
+    Bytes, CheckFault, Collision, Digest, Digests, End, Flat, Hash32, Head, Index, Proof,
     Sha256Hash,
 };
+use coniks_test_support::{NONCE, OPENING, Only, POLICY, Yes, bytes_of, digest};
 use std::alloc::Global;
 use std::process::Abort;
 
@@ -47,52 +48,18 @@ const PREIMAGES: [&str; 3] = [
     "530100000000000000020000000000000001000000000000000000000000000000000000000000000000000000000000000000000000000000000000000000000000000000000000000000000000000000001111111111111111111111111111111111111111111111111111111111111111333333333333333333333333333333333333333333333333333333333333333300000000000000000000000000000000000000000000000000000000000000000000000000000000000000000000000000000000000000000000000000000000",
 ];
 
-/// Takes every signature.
-struct Yes;
-
-impl Verify for Yes {
-    ghost use Rattle.std.specs.Prelude.{true};
-
-    ghost verdict_of = { λ _ _ _. true };
-
-    fn verdict(&self, _body: &[u8; 145], _signature: &Signature) -> bool {
-        true
-    }
-}
-
-/// Takes one signature.
-#[derive(Drop)]
-pub struct Only(pub Signature);
-
-impl Verify for Only {
-    ghost use Rattle.std.specs.Str.{bytes_eq};
-
-    ghost verdict_of = { λ only _ signature. bytes_eq signature only.0.0 };
-
-    fn verdict(&self, _body: &[u8; 145], signature: &Signature) -> bool {
-        signature.0 == self.0.0
-    }
-}
-
-/// The bytes that hexadecimal digits write.
-fn bytes_of<const N: usize>(rt: &impl Abort, digits: &str) -> [u8; N] {
-    let mut bytes = [0; N];
-    hex::decode_to_slice(digits, &mut bytes).expect(rt, "two digits for each byte");
-    bytes
-}
-
 /// The entry of one of the two epochs.
 fn entry_at(rt: &impl Abort, place: usize) -> Entry {
     let (body, signature) = ENTRIES.get(place).expect(rt, "an entry");
     Entry {
-        body: Body::read(&bytes_of(rt, body)),
-        signature: Signature(bytes_of(rt, signature)),
+        body: Body::read(&bytes_of(body)),
+        signature: Signature(bytes_of(signature)),
     }
 }
 
 /// The link of one of the three.
 fn link_at(rt: &impl Abort, place: usize) -> Digest {
-    Digest(bytes_of(rt, LINKS.get(place).expect(rt, "a link")))
+    digest(LINKS.get(place).expect(rt, "a link"))
 }
 
 /// The two entries, and one at epoch 5 that follows them.
@@ -124,11 +91,20 @@ pub fn flat_entry(t: u64, t_prev: u64, root: u8) -> Entry {
             t_prev,
             root: Digest(bytes),
             previous: Digest([0; 32]),
-            nonce: Nonce([0x11; 32]),
-            policy: [0x33; 32],
+            nonce: NONCE,
+            policy: POLICY,
         },
         signature: Signature([0; 64]),
     }
+}
+
+/// Two first entries under the flat hash, and one that follows both.
+fn flat_entries() -> [Entry; 3] {
+    [
+        flat_entry(1, 0, 0),
+        flat_entry(1, 0, 1),
+        flat_entry(2, 1, 0),
+    ]
 }
 
 /// A copy of a name or a key.
@@ -143,7 +119,7 @@ fn proof_of(rt: &impl Abort, alloc: Global, key: &[u8]) -> Proof {
         end: End::Here {
             name: copied(rt, alloc, b"a"),
             key: copied(rt, alloc, key),
-            opening: Opening([0x22; 32]),
+            opening: OPENING,
         },
     }
 }
@@ -185,7 +161,7 @@ fn bytes_and_links(rt: HostRuntime) {
 #[test]
 fn bytes_of_a_body(rt: HostRuntime) {
     let (body, _) = ENTRIES[1];
-    let mut bytes = bytes_of(&rt, body);
+    let mut bytes = bytes_of(body);
     assert!(rt; Body::read(&bytes).bytes() == bytes);
     bytes[0] = 2;
     let other = Body::read(&bytes);
@@ -200,10 +176,10 @@ fn fields_of_a_body(rt: HostRuntime) {
         version: 1,
         t: 1,
         t_prev: 0,
-        root: Digest(bytes_of(&rt, ROOT_OF_A)),
+        root: digest(ROOT_OF_A),
         previous: Digest([0; 32]),
-        nonce: Nonce([0x11; 32]),
-        policy: [0x33; 32],
+        nonce: NONCE,
+        policy: POLICY,
     };
     assert!(rt; first == want);
     let second = entry_at(&rt, 1).body;
@@ -259,15 +235,15 @@ fn hostile_chains(rt: HostRuntime) {
 }
 
 /// What an auditor says of an entry whose signature is taken, or isn't.
-fn fed(
-    auditor: &mut Auditor<Sha256Hash>,
+fn fed<H: Hash32 + Drop>(
+    auditor: &mut Auditor<H>,
     entry: &Entry,
     is_signed: bool,
 ) -> Result<(), AuditFault> {
     if is_signed {
         auditor.feed(entry, &Yes)
     } else {
-        auditor.feed(entry, &Only(Signature([0; 64])))
+        auditor.feed(entry, &Only(Signature([9; 64])))
     }
 }
 
@@ -448,11 +424,7 @@ fn after_one(
     let mut auditor = Auditor::new(Flat);
     let first = under(flat_entry(1, 0, 0), version, nonce);
     assert!(rt; auditor.feed(&first, &Yes) == Ok(()));
-    if is_signed {
-        auditor.feed(entry, &Yes)
-    } else {
-        auditor.feed(entry, &Only(Signature([9; 64])))
-    }
+    fed(&mut auditor, entry, is_signed)
 }
 
 /// Which version and nonce may follow which: version 2 from then on, and another nonce in version 2 alone.
@@ -552,7 +524,7 @@ fn seen_of_none(
     expected: Option<&[u8]>,
 ) -> Result<Seen, MonitorFault> {
     let mut entry = entry_at(rt, 0);
-    entry.body.root = Digest(bytes_of(rt, EMPTY_ROOT));
+    entry.body.root = digest(EMPTY_ROOT);
     watch(rt, alloc, name, expected).step(&entry, &proof_of_none(alloc), &Yes)
 }
 
@@ -619,17 +591,16 @@ fn refused_runs(rt: HostRuntime) {
     assert!(rt; seen == Ok(Seen::Changed));
 }
 
-/// Whether these are the bytes that hexadecimal digits write.
-fn are(rt: &impl Abort, bytes: &[u8], digits: &str) -> bool {
-    let want: [u8; 210] = bytes_of(rt, digits);
-    bytes == want.as_slice()
+/// Whether two texts are the 210 bytes each that hexadecimal digits write.
+fn are(found: &Collision, x: &str, y: &str) -> bool {
+    let (x, y): ([u8; 210], [u8; 210]) = (bytes_of(x), bytes_of(y));
+    found.x.as_slice() == x.as_slice() && found.y.as_slice() == y.as_slice()
 }
 
 /// Whether two histories under the flat hash give what is hashed to two links.
 fn give(rt: &impl Abort, alloc: Global, a: &[Entry], b: &[Entry], x: &str, y: &str) -> bool {
     let found = extract_history(alloc, &Flat, a, b).expect(rt, "memory");
-    let found = found.expect(rt, "two texts");
-    are(rt, found.x.as_slice(), x) && are(rt, found.y.as_slice(), y)
+    are(&found.expect(rt, "two texts"), x, y)
 }
 
 /// Whether two histories give nothing.
@@ -649,9 +620,7 @@ fn give_nothing<H: Hash32>(
 #[test]
 fn histories(rt: HostRuntime) {
     let alloc = rt.alloc();
-    let one = flat_entry(1, 0, 0);
-    let other = flat_entry(1, 0, 1);
-    let two = flat_entry(2, 1, 0);
+    let [one, other, two] = flat_entries();
     let [of_one, of_other, of_two] = PREIMAGES;
     assert!(rt; give(&rt, alloc, &[one], &[other], of_one, of_other));
     assert!(rt; give(&rt, alloc, &[one, two], &[other, two], of_one, of_other));
@@ -669,8 +638,7 @@ fn refused_once(
 ) -> bool {
     match extract_history(alloc, &Flat, a, b) {
         Ok(found) => {
-            let found = found.expect(rt, "two texts");
-            assert!(rt; are(rt, found.x.as_slice(), x) && are(rt, found.y.as_slice(), y));
+            assert!(rt; are(&found.expect(rt, "two texts"), x, y));
             false
         }
         Err(_) => {
@@ -685,9 +653,7 @@ fn refused_once(
 #[test]
 fn refused_in_turn(rt: HostRuntime) {
     let alloc = rt.alloc();
-    let one = flat_entry(1, 0, 0);
-    let other = flat_entry(1, 0, 1);
-    let two = flat_entry(2, 1, 0);
+    let [one, other, two] = flat_entries();
     let [of_one, of_other, of_two] = PREIMAGES;
     assert!(rt; give_nothing(&rt, alloc, &Flat, &[one], &[one]));
     assert!(rt; give_nothing(&rt, alloc, &Flat, &[], &[one]));

@@ -3,5 +3,4 @@
 mod broken;
 mod machine;
 mod runs;
-mod streams;
 mod traced;

@@ -5,32 +5,14 @@ mod fours;
 mod wire;
 
 use coniks_proof::{
-    Answer, Bytes, CheckFault, Digest, Digests, End, Flat, Hash32, Head, Index, MAX_KEY, MAX_NAME,
-    Nonce, Opening, Prefix, Proof, Sha256Hash, bit, check, commit_hash, empty_hash, inner_hash,
-    leaf_hash,
+    Answer, Bytes, CheckFault, Digest, Digests, End, Flat, Hash32, Head, MAX_KEY, MAX_NAME, Prefix,
+    Proof, Sha256Hash, bit, check, commit_hash, empty_hash, inner_hash, leaf_hash,
 };
+use coniks_test_support::{NONCE, OPENING, digest, index_of};
 use std::alloc::Global;
 use std::process::Abort;
 
-const NONCE: Nonce = Nonce([0x11; 32]);
-
-const OPENING: Opening = Opening([0x22; 32]);
-
 const ZERO: Digest = Digest([0; 32]);
-
-/// The index that begins with a byte, and has zeros after it.
-fn index_of(first: u8) -> Index {
-    let mut bytes = [0; 32];
-    bytes[0] = first;
-    Index(bytes)
-}
-
-/// The digest with these hexadecimal digits.
-fn digest(rt: &impl Abort, digits: &str) -> Digest {
-    let mut bytes = [0; 32];
-    hex::decode_to_slice(digits, &mut bytes).expect(rt, "64 digits");
-    Digest(bytes)
-}
 
 /// The commitment to a name with the key `k`.
 fn sealed(name: &[u8]) -> Digest {
@@ -91,19 +73,13 @@ fn beside(rt: &impl Abort, alloc: Global, siblings: usize, end: End) -> Proof {
 
 /// The fault of a proof for a name of index 0, under the root of zeros.
 fn fault_of(proof: &Proof, name: &[u8]) -> Option<CheckFault> {
-    check(&Sha256Hash, &NONCE, &ZERO, &index_of(0), name, proof).err()
+    check(&Sha256Hash, &NONCE, &ZERO, &index_of(0, 0), name, proof).err()
 }
 
 #[test]
 fn pieces_are_one_message(rt: HostRuntime) {
-    let empty = digest(
-        &rt,
-        "e3b0c44298fc1c149afbf4c8996fb92427ae41e4649b934ca495991b7852b855",
-    );
-    let abc = digest(
-        &rt,
-        "ba7816bf8f01cfea414140de5dae2223b00361a396177a9cb410ff61f20015ad",
-    );
+    let empty = digest("e3b0c44298fc1c149afbf4c8996fb92427ae41e4649b934ca495991b7852b855");
+    let abc = digest("ba7816bf8f01cfea414140de5dae2223b00361a396177a9cb410ff61f20015ad");
     assert!(rt; Sha256Hash.hash(&[]) == empty);
     assert!(rt; Sha256Hash.hash(&[b""]) == empty);
     assert!(rt; Sha256Hash.hash(&[b"abc"]) == abc);
@@ -127,7 +103,7 @@ fn commitments(rt: HostRuntime) {
             "b0df976167a07eb1cfc063bac4fb4e15e2e93c6c8eff6d6f947763d202429992",
         ),
     ] {
-        assert!(rt; sealed(name) == digest(&rt, want));
+        assert!(rt; sealed(name) == digest(want));
     }
 }
 
@@ -153,13 +129,13 @@ fn long_commitments(rt: HostRuntime) {
     ] {
         let name = repeated(&rt, rt.alloc(), b'n', name);
         let key = repeated(&rt, rt.alloc(), b'k', key);
-        assert!(rt; sealed_with(&name, &key) == digest(&rt, want));
+        assert!(rt; sealed_with(&name, &key) == digest(want));
     }
 }
 
 /// A leaf at level 1.
 fn half(name: &[u8], first: u8) -> Digest {
-    leaf_hash(&Sha256Hash, &NONCE, &index_of(first), 1, &sealed(name))
+    leaf_hash(&Sha256Hash, &NONCE, &index_of(first, 0), 1, &sealed(name))
 }
 
 #[test]
@@ -167,21 +143,19 @@ fn nodes(rt: HostRuntime) {
     let root = "1aa9b40c9d34d625d7329003c097925b7d4c7809b864b047b71defb140aca216";
     let right = "4efd57d68394bbbb37d8c702001e95330c4da455acb24567f83c5dc95c691776";
     for (prefix, want) in [(Prefix::root(), root), (Prefix::root().child(true), right)] {
-        assert!(rt; empty_hash(&Sha256Hash, &NONCE, &prefix) == digest(&rt, want));
+        assert!(rt; empty_hash(&Sha256Hash, &NONCE, &prefix) == digest(want));
     }
-    let mut last = [0; 32];
-    last[31] = 1;
-    let deepest = leaf_hash(&Sha256Hash, &NONCE, &Index(last), 256, &sealed(b"z"));
+    let deepest = leaf_hash(&Sha256Hash, &NONCE, &index_of(0, 1), 256, &sealed(b"z"));
     let want = "35f0449094f01d65f8e5833f8a4c6325bbc804feee898e7bd83d5b996054ddcf";
-    assert!(rt; deepest == digest(&rt, want));
+    assert!(rt; deepest == digest(want));
     let inner = inner_hash(&Sha256Hash, &half(b"a", 0), &half(b"b", 0x80));
     let want = "46de554c28df523fe8bbcbf7cf90c45cc1f44d29be6fc4bf4fa5fd416437b6ba";
-    assert!(rt; inner == digest(&rt, want));
+    assert!(rt; inner == digest(want));
 }
 
 #[test]
 fn bits_from_the_most_significant(rt: HostRuntime) {
-    let index = index_of(0x41);
+    let index = index_of(0x41, 0);
     index.known();
     assert!(rt; !bit(&index, 0));
     assert!(rt; bit(&index, 1));
@@ -205,9 +179,9 @@ fn presence(rt: HostRuntime) {
     let root = inner_hash(&Sha256Hash, &a, &b);
     let end = here(&rt, rt.alloc(), b"a", b"k");
     let proof = proof_of(&rt, rt.alloc(), &[b], end);
-    let answer = check(&Sha256Hash, &NONCE, &root, &index_of(0), b"a", &proof);
+    let answer = check(&Sha256Hash, &NONCE, &root, &index_of(0, 0), b"a", &proof);
     assert!(rt; answer == Ok(Answer::Key(b"k")));
-    let wrong = check(&Sha256Hash, &NONCE, &a, &index_of(0), b"a", &proof);
+    let wrong = check(&Sha256Hash, &NONCE, &a, &index_of(0, 0), b"a", &proof);
     assert!(rt; wrong == Err(CheckFault::RootMismatch));
 }
 
@@ -221,10 +195,10 @@ struct Parted {
 }
 
 fn two_leaves() -> Parted {
-    let a = leaf_hash(&Sha256Hash, &NONCE, &index_of(0), 2, &sealed(b"a"));
-    let c = leaf_hash(&Sha256Hash, &NONCE, &index_of(0x40), 2, &sealed(b"c"));
+    let a = leaf_hash(&Sha256Hash, &NONCE, &index_of(0, 0), 2, &sealed(b"a"));
+    let c = leaf_hash(&Sha256Hash, &NONCE, &index_of(0x40, 0), 2, &sealed(b"c"));
     let left = inner_hash(&Sha256Hash, &a, &c);
-    let empty = empty_hash(&Sha256Hash, &NONCE, &Prefix::of(&index_of(0x80), 1));
+    let empty = empty_hash(&Sha256Hash, &NONCE, &Prefix::of(&index_of(0x80, 0), 1));
     Parted {
         root: inner_hash(&Sha256Hash, &left, &empty),
         left,
@@ -242,12 +216,20 @@ fn fault_beside_a(
     first: u8,
 ) -> Option<CheckFault> {
     let end = End::Other {
-        index: index_of(0),
+        index: index_of(0, 0),
         commitment: sealed(b"a"),
     };
     let proof = proof_of(rt, alloc, siblings, end);
     let root = two_leaves().root;
-    check(&Sha256Hash, &NONCE, &root, &index_of(first), name, &proof).err()
+    check(
+        &Sha256Hash,
+        &NONCE,
+        &root,
+        &index_of(first, 0),
+        name,
+        &proof,
+    )
+    .err()
 }
 
 /// The leaf of `a`, where `d` would stand; asked for another index, and with its last sibling cut off.
@@ -256,7 +238,7 @@ fn absence_beside_a_leaf(rt: HostRuntime) {
     let alloc = rt.alloc();
     let tree = two_leaves();
     let root = "cedf53d7b5eac39a73da7f3fd65c38a4c7cf69a351dfde142aa469ba07e25efd";
-    assert!(rt; tree.root == digest(&rt, root));
+    assert!(rt; tree.root == digest(root));
     let whole = [tree.empty, tree.c];
     for (name, first, want) in [
         (b"d", 0x20, None),
@@ -278,7 +260,7 @@ fn absence_at_an_empty_node(rt: HostRuntime) {
         &Sha256Hash,
         &NONCE,
         &tree.root,
-        &index_of(0x80),
+        &index_of(0x80, 0),
         b"b",
         &proof,
     );
@@ -298,7 +280,7 @@ fn shaped(rt: &impl Abort, alloc: Global, shape: Shape) -> End {
         Shape::Nothing => End::Empty,
         Shape::Leaf { name, key } => { here(rt, alloc, &[name], &repeated(rt, alloc, b'k', key)) }
         Shape::Beside(first) => End::Other {
-            index: index_of(first),
+            index: index_of(first, 0),
             commitment: ZERO,
         },
     }
@@ -347,7 +329,7 @@ fn names_of_wrong_length(rt: HostRuntime) {
 fn accepted_by_a_flat_hash(rt: HostRuntime) {
     let end = here(&rt, rt.alloc(), b"a", b"forged");
     let proof = beside(&rt, rt.alloc(), 256, end);
-    let answer = check(&Flat, &NONCE, &ZERO, &index_of(0), b"a", &proof);
+    let answer = check(&Flat, &NONCE, &ZERO, &index_of(0, 0), b"a", &proof);
     assert!(rt; answer == Ok(Answer::Key(b"forged")));
 }
 

@@ -1,6 +1,5 @@
 mod deep;
 mod entries;
-mod epochs;
 mod examples;
 mod large;
 mod refused;

@@ -1,9 +1,5 @@
-//! Batches built by several workers.
+//! Jobs, workers and split depths by private items.
 
-mod batches;
 mod before;
-mod epochs;
-mod gates;
 mod pools;
 mod refused;
-mod sharing;

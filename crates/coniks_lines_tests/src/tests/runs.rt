@@ -2,16 +2,14 @@
 ghost use Rattle.std.specs.Prelude.{◌≡◌};
 
 use crate::tests::machine::{Echo, echoed};
-use crate::tests::streams::{SlowIn, SlowOut, Stop};
+use crate::tests::traced::Traced;
 use coniks_lines::{
     ByteIn, ByteOut, MemoryIn, MemoryOut, RunFault, SystemIn, SystemOut, run_lines,
 };
+use coniks_test_support::{FailIn, FailOut, NEVER, Stop};
 use std::alloc::Global;
 use std::io;
 use std::process::Abort;
-
-/// More calls than a test makes.
-const MANY: u64 = 1 << 40;
 
 /// Inputs, what is written for them, and whether each line is accepted.
 const RUNS: [(&[u8], &[u8], bool); 14] = [
@@ -49,11 +47,11 @@ struct Ended {
 fn slow_run<R: ByteIn + Drop>(
     alloc: Global,
     mut reader: R,
-    mut writer: SlowOut,
+    mut writer: FailOut,
     wanted: &[u8],
 ) -> Ended
     requires reads { (R.source reader).failed ≡ 0 }
-    requires writes { (⟦<SlowOut as ByteOut>⟧.sink writer).failed ≡ 0 }
+    requires writes { (⟦<FailOut as ByteOut>⟧.sink writer).failed ≡ 0 }
 {
     let all = run_lines(alloc, &mut Echo { odd: false }, &mut reader, &mut writer);
     Ended {
@@ -81,8 +79,8 @@ fn little_at_a_time(rt: HostRuntime) {
     for (input, wanted, accepted) in RUNS {
         for gives in 1..6 {
             for takes in 1..4 {
-                let reader = SlowIn::new(input_of(&rt, alloc, input), gives, MANY);
-                let writer = SlowOut::new(alloc, takes, MANY, Stop::Fails);
+                let reader = FailIn::new(input_of(&rt, alloc, input), gives, NEVER);
+                let writer = FailOut::new(Vec::new(alloc), takes, NEVER, Stop::Fails);
                 let ended = slow_run(alloc, reader, writer, wanted);
                 assert!(rt; ended.all == Ok(accepted));
                 assert!(rt; ended.wrote);
@@ -94,12 +92,14 @@ fn little_at_a_time(rt: HostRuntime) {
 #[test]
 fn one_flush_a_line(rt: HostRuntime) {
     let alloc = rt.alloc();
-    let mut reader = SlowIn::new(input_of(&rt, alloc, b"ab\n!\n\nc"), 100, MANY);
-    let mut writer = SlowOut::new(alloc, 100, MANY, Stop::Fails);
+    let mut reader = FailIn::new(input_of(&rt, alloc, b"ab\n!\n\nc"), 100, NEVER);
+    let mut traced = Traced {
+        calls: Vec::new(alloc),
+    };
+    let mut writer = SystemOut::new(&mut traced);
     let all = run_lines(alloc, &mut Echo { odd: true }, &mut reader, &mut writer);
     assert!(rt; all == Ok(false));
-    assert!(rt; writer.bytes.as_slice() == b"1ab\n?\n0\n1c\n".as_slice());
-    assert!(rt; writer.flushed.as_slice() == [4, 6, 8, 11].as_slice());
+    assert!(rt; traced.calls.as_slice() == b"1ab\n!?\n!0\n!1c\n!".as_slice());
 }
 
 /// A line of so many bytes, and then a short one.
@@ -137,7 +137,7 @@ fn many_lines(rt: HostRuntime) {
 
 /// A run whose writer takes a byte a write, and stops at a call.
 fn stopped_run(alloc: Global, input: Vec<u8>, calls: u64, stop: Stop, wanted: &[u8]) -> Ended {
-    let writer = SlowOut::new(alloc, 1, calls, stop);
+    let writer = FailOut::new(Vec::new(alloc), 1, calls, stop);
     slow_run(alloc, MemoryIn::new(input), writer, wanted)
 }
 
@@ -148,7 +148,7 @@ fn a_write_stops(rt: HostRuntime) {
     let written = [0, 1, 2, 3, 4, 4, 5, 6, 6, 7, 8, 9];
     let flushes = [4, 7, 11];
     let alloc = rt.alloc();
-    for stop in [Stop::Fails, Stop::TakesNone] {
+    for stop in [Stop::Fails, Stop::Stalls] {
         for k in 0..written.len() {
             let input = input_of(&rt, alloc, b"ab\n!c\nd");
             let ended = stopped_run(alloc, input, k as u64, stop, &wanted[..written[k]]);
@@ -166,8 +166,8 @@ fn a_write_stops(rt: HostRuntime) {
 
 /// A run whose reader gives two bytes a read, and fails at one.
 fn unread_run(alloc: Global, input: Vec<u8>, reads: u64, wanted: &[u8]) -> Ended {
-    let writer = SlowOut::new(alloc, 100, MANY, Stop::Fails);
-    slow_run(alloc, SlowIn::new(input, 2, reads), writer, wanted)
+    let writer = FailOut::new(Vec::new(alloc), 100, NEVER, Stop::Fails);
+    slow_run(alloc, FailIn::new(input, 2, reads), writer, wanted)
 }
 
 #[test]

@@ -7,8 +7,8 @@ use std::io::ErrorKind;
 
 /// Keeps the bytes of each write, and a `!` for each flush.
 #[derive(Drop)]
-struct Traced {
-    calls: Vec<u8>,
+pub struct Traced {
+    pub calls: Vec<u8>,
 }
 
 impl Traced {

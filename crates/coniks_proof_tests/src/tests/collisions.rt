@@ -1,7 +1,8 @@
 //! Collisions under a hash that gives 32 zero bytes for everything.
 
-use crate::tests::{NONCE, OPENING, ZERO, beside, here, index_of, proof_of, repeated, sealed};
+use crate::tests::{ZERO, beside, here, proof_of, repeated, sealed};
 use coniks_proof::{Collision, Digest, End, Flat, Proof, Sha256Hash, extract, leaf_hash};
+use coniks_test_support::{NONCE, OPENING, index_of};
 use std::alloc::Global;
 use std::process::Abort;
 
@@ -9,7 +10,7 @@ const ONES: Digest = Digest([1; 32]);
 
 /// What two proofs of the name `a`, of index 0, give.
 fn found(rt: &impl Abort, alloc: Global, a: &Proof, b: &Proof) -> Option<Collision> {
-    let index = index_of(0);
+    let index = index_of(0, 0);
     extract(alloc, &Flat, &NONCE, &ZERO, &index, (b"a", a), (b"a", b)).expect(rt, "memory")
 }
 
@@ -133,7 +134,7 @@ fn same_answers(rt: HostRuntime) {
     let long = proof_of(&rt, alloc, &[ZERO], End::Empty);
     assert!(rt; give_nothing(&rt, alloc, &short, &long));
     let end = End::Other {
-        index: index_of(0x80),
+        index: index_of(0x80, 0),
         commitment: ZERO,
     };
     let other = proof_of(&rt, alloc, &[], end);
@@ -156,7 +157,7 @@ fn found_at_last(
     a: &Proof,
     b: &Proof,
 ) -> (Option<Collision>, bool) {
-    let index = index_of(0);
+    let index = index_of(0, 0);
     match extract(alloc, &Flat, &NONCE, &ZERO, &index, (b"a", a), (b"a", b)) {
         Ok(given) => (given, false),
         Err(_) => (found(rt, alloc, a, b), true),
@@ -190,7 +191,7 @@ fn refused_in_turn(rt: HostRuntime) {
 #[test]
 fn no_collision_known(rt: HostRuntime) {
     let alloc = rt.alloc();
-    let index = index_of(0);
+    let index = index_of(0, 0);
     let root = leaf_hash(&Sha256Hash, &NONCE, &index, 0, &sealed(b"a"));
     let a = proof_of(&rt, alloc, &[], here(&rt, alloc, b"a", b"k"));
     let b = proof_of(&rt, alloc, &[], here(&rt, alloc, b"a", b"l"));
@@ -223,7 +224,7 @@ fn longest_proofs(rt: HostRuntime) {
     let name = repeated(&rt, alloc, b'n', 255);
     let a = longest(&rt, alloc, &name, b'k');
     let b = longest(&rt, alloc, &name, b'l');
-    let index = index_of(0);
+    let index = index_of(0, 0);
     let found = extract(
         alloc,
         &Flat,

@@ -1,10 +1,11 @@
 //! Four messages at once, of 55, 56, 119 and 120 bytes: where each has from 56 to 119 bytes they go by lanes.
 
-use crate::tests::{OPENING, digest, repeated};
+use crate::tests::repeated;
 use coniks_proof::{
     CommitmentPreimage, Digest, Flat, Hash32, MAX_KEY, MAX_NAME, Message, Nonce, Sha256Hash,
     commit_hash_four, hash_all,
 };
+use coniks_test_support::{OPENING, digest};
 use std::alloc::Global;
 use std::process::Abort;
 
@@ -18,7 +19,7 @@ fn counted() -> [u8; 120] {
 }
 
 /// The digest of the first so many counted bytes, and that of the commitment whose message has as many.
-fn wanted(rt: &impl Abort, length: usize) -> (Digest, Digest) {
+fn wanted(length: usize) -> (Digest, Digest) {
     let (hash, commitment) = match length {
         55 => (
             "e7313d333c272e639f790978283f9eb392e843d0f29b7016828bb1daa4aac70b",
@@ -37,7 +38,7 @@ fn wanted(rt: &impl Abort, length: usize) -> (Digest, Digest) {
             "6c49753ca7320199d02d8d1e5db79a8f0774504ea4d566d48205356e8c9e2f74",
         ),
     };
-    (digest(rt, hash), digest(rt, commitment))
+    (digest(hash), digest(commitment))
 }
 
 /// Lengths of four messages: mixed, each as the first of its kind in another place, and all by lanes.
@@ -57,10 +58,10 @@ fn hashes(rt: HostRuntime) {
     for [a, b, c, d] in GROUPS {
         let cut = &[front(10), front(a).get(10..).expect(&rt, "within")];
         let got = Sha256Hash.hash_four(cut, &[front(b)], &[front(c), b""], &[b"", front(d)]);
-        assert!(rt; got.0 == wanted(&rt, a).0);
-        assert!(rt; got.1 == wanted(&rt, b).0);
-        assert!(rt; got.2 == wanted(&rt, c).0);
-        assert!(rt; got.3 == wanted(&rt, d).0);
+        assert!(rt; got.0 == wanted(a).0);
+        assert!(rt; got.1 == wanted(b).0);
+        assert!(rt; got.2 == wanted(c).0);
+        assert!(rt; got.3 == wanted(d).0);
     }
     let zeros = Flat.hash_four(&[], &[b"a"], &[], &[]);
     assert!(rt;
@@ -96,10 +97,10 @@ fn commitments(rt: HostRuntime) {
             &preimage(&rt, &key(&rt, alloc, c)),
             &preimage(&rt, &key(&rt, alloc, d)),
         );
-        assert!(rt; got.0 == wanted(&rt, a).1);
-        assert!(rt; got.1 == wanted(&rt, b).1);
-        assert!(rt; got.2 == wanted(&rt, c).1);
-        assert!(rt; got.3 == wanted(&rt, d).1);
+        assert!(rt; got.0 == wanted(a).1);
+        assert!(rt; got.1 == wanted(b).1);
+        assert!(rt; got.2 == wanted(c).1);
+        assert!(rt; got.3 == wanted(d).1);
     }
 }
 
@@ -125,9 +126,6 @@ fn many_nodes(rt: HostRuntime) {
     for hash in hashes.expect(&rt, "memory").iter() {
         all = Sha256Hash.hash(&[&all.0, &hash.0]);
     }
-    let wanted = digest(
-        &rt,
-        "4c8371826fe1dfc11937dd91f5c3f74d9f6675cb7e39eaeed702d103140ae5bd",
-    );
+    let wanted = digest("4c8371826fe1dfc11937dd91f5c3f74d9f6675cb7e39eaeed702d103140ae5bd");
     assert!(rt; all == wanted);
 }

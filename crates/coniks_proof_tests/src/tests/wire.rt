@@ -1,10 +1,11 @@
 //! Proofs in bytes, put together by hand from their form.
 
-use crate::tests::{NONCE, OPENING, ZERO, beside, half, here, index_of, proof_of, repeated};
+use crate::tests::{ZERO, beside, half, here, proof_of, repeated};
 use coniks_proof::{
     Answer, BytesFault, CheckFault, Digest, End, EndRef, Proof, ProofRef, Sha256Hash, WireFault,
     check_ref, inner_hash,
 };
+use coniks_test_support::{NONCE, OPENING, index_of};
 use std::alloc::Global;
 use std::process::Abort;
 
@@ -28,7 +29,7 @@ fn of_empty(rt: &impl Abort, alloc: Global) -> Vec<u8> {
 
 /// A leaf of index 0x40.. with the commitment of aa.., without siblings.
 fn of_other(rt: &impl Abort, alloc: Global) -> Vec<u8> {
-    joined(rt, alloc, &[b"\x01\0\0", &index_of(0x40).0, &FIRST.0])
+    joined(rt, alloc, &[b"\x01\0\0", &index_of(0x40, 0).0, &FIRST.0])
 }
 
 /// The leaf of `a` with the key `kk`, below one sibling.
@@ -51,7 +52,7 @@ fn written(rt: HostRuntime) {
     let empty = proof_of(&rt, alloc, &[FIRST, SECOND], End::Empty);
     assert!(rt; is_written(alloc, &empty, &of_empty(&rt, alloc)));
     let leaf = End::Other {
-        index: index_of(0x40),
+        index: index_of(0x40, 0),
         commitment: FIRST,
     };
     let other = proof_of(&rt, alloc, &[], leaf);
@@ -88,7 +89,7 @@ fn is_other(bytes: &[u8]) -> bool {
         return false;
     };
     match proof.end() {
-        EndRef::Other { index, commitment } => index == index_of(0x40) && commitment == FIRST,
+        EndRef::Other { index, commitment } => index == index_of(0x40, 0) && commitment == FIRST,
         _ => false,
     }
 }
@@ -178,7 +179,7 @@ fn told(bytes: &[u8], root: &Digest) -> Result<usize, CheckFault> {
     let Ok(proof) = ProofRef::read(bytes) else {
         return Ok(1000);
     };
-    match check_ref(&Sha256Hash, &NONCE, root, &index_of(0), b"a", &proof)? {
+    match check_ref(&Sha256Hash, &NONCE, root, &index_of(0, 0), b"a", &proof)? {
         Answer::Key(key) => Ok(key.len()),
         Answer::Absent => Ok(0),
     }

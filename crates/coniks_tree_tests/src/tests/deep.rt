@@ -1,8 +1,8 @@
 //! Two indices that differ in their last bit alone: 256 levels.
 
-use crate::tests::epochs::{Epochs, answers, digest};
+use crate::tests::examples::answers;
 use coniks_proof::{Answer, Digest, Hash32, Sha256Hash};
-use coniks_samples::index_of;
+use coniks_test_support::{Epochs, digest, index_of};
 use coniks_tree::Root;
 use std::alloc::Global;
 use std::process::Abort;
@@ -10,7 +10,7 @@ use std::process::Abort;
 /// The newer root has this hash and shows both records, and the older one shows the first.
 fn show_both(rt: &impl Abort, epochs: &Epochs<Sha256Hash>, older: Root, newer: Root) {
     let want = "cb8d4906a412a18b555aa69c92619802b052c8d8661c6ccfae4ad96b7987fe42";
-    assert!(rt; epochs.hash(newer) == digest(rt, want));
+    assert!(rt; epochs.hash(newer) == digest(want));
     let (a, z) = (index_of(0, 0), index_of(0, 1));
     let found = (epochs.find(newer, &a), epochs.find(newer, &z));
     assert!(rt; found == (Some(0), Some(1)));
@@ -55,6 +55,6 @@ fn the_longest_path(rt: HostRuntime) {
     let both = epochs.add(None, 0, &names).expect(&rt, "memory").root;
     let want = "8b3b6c0e9ee7ea789a17c0ca1a923b3295535b95f6aff970c1902278a45689ab";
     let siblings = siblings_of_a(&rt, rt.alloc(), &epochs, both);
-    assert!(rt; siblings == (256, digest(&rt, want)));
+    assert!(rt; siblings == (256, digest(want)));
     assert!(rt; answers(&rt, &epochs, both, &a, b"a", Answer::Key(b"k")));
 }

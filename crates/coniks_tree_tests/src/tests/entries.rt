@@ -1,8 +1,7 @@
 //! What a root shows, entry by entry, and the roots that other programs computed of it under another nonce.
 
-use crate::tests::epochs::{Epochs, digest};
 use coniks_proof::{Index, Nonce, Sha256Hash};
-use coniks_samples::{Bound, index_of};
+use coniks_test_support::{Bound, Epochs, digest, index_of};
 use coniks_tree::Root;
 use std::alloc::Global;
 use std::process::Abort;
@@ -26,7 +25,7 @@ fn shows(
     }
     assert!(rt; found.as_slice() == want);
     let hash = epochs.hash_under(root, &OTHER_NONCE).expect(rt, "memory");
-    assert!(rt; hash == digest(rt, other_hash));
+    assert!(rt; hash == digest(other_hash));
 }
 
 /// The one epoch that binds these, and its root.

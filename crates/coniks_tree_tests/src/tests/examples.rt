@@ -1,8 +1,7 @@
 //! Worked examples, whose digests were computed by other programs.
 
-use crate::tests::epochs::{Epochs, answers, digest};
-use coniks_proof::{Answer, Digest, End, Index, Sha256Hash};
-use coniks_samples::{Bound, NONCE, index_of};
+use coniks_proof::{Answer, Digest, End, Index, Sha256Hash, check};
+use coniks_test_support::{Bound, Epochs, NONCE, digest, index_of};
 use coniks_tree::{Part, Root, Tree};
 use std::alloc::Global;
 use std::process::Abort;
@@ -29,8 +28,21 @@ fn grown(
     let added = epochs.add(None, depth, bindings).expect(rt, "memory");
     let sizes = (nodes, bindings.len());
     assert!(rt; (added.nodes, epochs.sizes()) == (nodes, sizes));
-    assert!(rt; epochs.hash(added.root) == digest(rt, hash));
+    assert!(rt; epochs.hash(added.root) == digest(hash));
     (epochs, added.root)
+}
+
+/// Whether the path to a name of this index is accepted, with this answer.
+pub fn answers(
+    rt: &impl Abort,
+    epochs: &Epochs<Sha256Hash>,
+    root: Root,
+    index: &Index,
+    name: &[u8],
+    answer: Answer<'_>,
+) -> bool {
+    let path = epochs.path(root, index).expect(rt, "memory");
+    check(&Sha256Hash, &NONCE, &epochs.hash(root), index, name, &path) == Ok(answer)
 }
 
 /// Where a path ends: at an empty node, at the leaf of its index, or at that of another one.
@@ -71,7 +83,7 @@ fn nothing(rt: HostRuntime) {
 fn hash_of_a_part(rt: HostRuntime) {
     let tree = Tree::new(rt.alloc());
     let hash = tree.part_hash(&Sha256Hash, &NONCE, &Part::Nothing);
-    assert!(rt; hash == digest(&rt, EMPTY_ROOT));
+    assert!(rt; hash == digest(EMPTY_ROOT));
 }
 
 #[test]
@@ -96,7 +108,7 @@ fn two_sides(rt: HostRuntime) {
     let names = [(a, b'a', b'k'), (b, b'b', b'k')];
     let root = "46de554c28df523fe8bbcbf7cf90c45cc1f44d29be6fc4bf4fa5fd416437b6ba";
     let sibling = "fcf9ce6e9af7b0821da977589ac6223aa4b0c9f17dfec6dfbec1666c854b14b5";
-    let siblings = [digest(&rt, sibling)];
+    let siblings = [digest(sibling)];
     for depth in [0, 1, 8] {
         let (epochs, two) = grown(&rt, rt.alloc(), depth, &names, 3, root);
         assert!(rt; end_of_path(&rt, &epochs, two, &a, &siblings) == Place::Here);
@@ -118,7 +130,7 @@ fn an_empty_side(rt: HostRuntime) {
     let b = index_of(0x80, 0);
     let (epochs, both) = a_and_c(&rt, rt.alloc(), 1);
     let sibling = "38019962bd3fb17b0ce139797de7810f62c05c3c6206aa5c75162bf635de3c88";
-    let end = end_of_path(&rt, &epochs, both, &b, &[digest(&rt, sibling)]);
+    let end = end_of_path(&rt, &epochs, both, &b, &[digest(sibling)]);
     assert!(rt; end == Place::Empty);
 }
 
@@ -128,7 +140,7 @@ fn another_leaf_at_the_end(rt: HostRuntime) {
     let (epochs, both) = a_and_c(&rt, rt.alloc(), 0);
     let empty = "4efd57d68394bbbb37d8c702001e95330c4da455acb24567f83c5dc95c691776";
     let leaf = "d678b1463f0c61c00a5d0b6ffe75bbce685a3b91ac5a96e7e2975fb8d1f32f69";
-    let siblings = [digest(&rt, empty), digest(&rt, leaf)];
+    let siblings = [digest(empty), digest(leaf)];
     let end = end_of_path(&rt, &epochs, both, &d, &siblings);
     assert!(rt; end == Place::Other(a));
     assert!(rt; answers(&rt, &epochs, both, &d, b"d", Answer::Absent));

@@ -1,8 +1,7 @@
 //! A tree of more nodes than one batch makes.
 
-use crate::tests::epochs::Epochs;
 use coniks_proof::{Flat, Index};
-use coniks_samples::{Bound, index_below};
+use coniks_test_support::{Bound, Epochs, index_below};
 use coniks_tree::RecordNo;
 use std::alloc::{AllocError, Global};
 

@@ -1,8 +1,7 @@
 //! Memory that is refused.
 
-use crate::tests::epochs::{Epochs, digest};
 use coniks_proof::Sha256Hash;
-use coniks_samples::index_of;
+use coniks_test_support::{Epochs, digest, index_of};
 use coniks_tree::{OutOfMemory, Part, Root, Tree};
 use std::process::Abort;
 
@@ -50,7 +49,7 @@ fn as_it_was(rt: HostRuntime) {
     assert!(rt; siblings_of_a(&rt, &epochs, both) == 2);
     assert!(rt; entries_of(&rt, &epochs, both) == 2);
     let root = "cedf53d7b5eac39a73da7f3fd65c38a4c7cf69a351dfde142aa469ba07e25efd";
-    assert!(rt; epochs.hash(both) == digest(&rt, root));
+    assert!(rt; epochs.hash(both) == digest(root));
 }
 
 /// Room for more records than memory has bytes is refused, and the tree is as it was.

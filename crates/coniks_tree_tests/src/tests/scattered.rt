@@ -1,8 +1,7 @@
 //! Indices as a hash gives them, beside roots and counts that a recursion over the list gave in another language.
 
-use crate::tests::epochs::{Epochs, digest};
 use coniks_proof::{Digest, Hash32, Index, Sha256Hash};
-use coniks_samples::Bound;
+use coniks_test_support::{Bound, Epochs, digest};
 use coniks_tree::Root;
 use std::alloc::Global;
 use std::process::Abort;
@@ -94,9 +93,9 @@ fn add_step(
     let bindings = scattered(rt, alloc, step);
     let added = epochs.add(older, depth, &bindings).expect(rt, "memory");
     assert!(rt; added.nodes == step.nodes);
-    assert!(rt; epochs.hash(added.root) == digest(rt, step.root));
+    assert!(rt; epochs.hash(added.root) == digest(step.root));
     let entries = hash_of_entries(rt, alloc, epochs, added.root);
-    assert!(rt; entries == digest(rt, step.entries));
+    assert!(rt; entries == digest(step.entries));
     added.root
 }
 

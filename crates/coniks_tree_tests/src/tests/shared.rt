@@ -1,8 +1,7 @@
 //! Epochs that share nodes.
 
-use crate::tests::epochs::{Epochs, digest};
 use coniks_proof::Sha256Hash;
-use coniks_samples::{Bound, index_of};
+use coniks_test_support::{Bound, Epochs, digest, index_of};
 use coniks_tree::Root;
 use std::process::Abort;
 
@@ -31,7 +30,7 @@ fn change(
         .add(Some(older), depth, &[changed])
         .expect(rt, "memory");
     assert!(rt; added.nodes == nodes);
-    assert!(rt; epochs.hash(added.root) == digest(rt, hash));
+    assert!(rt; epochs.hash(added.root) == digest(hash));
 }
 
 /// Adds an epoch with no changes, whose root is the older one. It takes no node.
@@ -90,5 +89,5 @@ fn older_roots(rt: HostRuntime) {
     shows(&rt, &epochs, first, 2, b'k');
     shows(&rt, &epochs, second, 3, b'l');
     shows(&rt, &epochs, third, 4, b'm');
-    assert!(rt; epochs.hash(first) == digest(&rt, OF_THREE));
+    assert!(rt; epochs.hash(first) == digest(OF_THREE));
 }

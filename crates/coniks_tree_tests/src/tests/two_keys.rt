@@ -1,8 +1,7 @@
 //! Two registries that bind one name to two keys.
 
-use crate::tests::epochs::Epochs;
 use coniks_proof::{Collision, Digest, Flat, Hash32, Proof, Sha256Hash, extract};
-use coniks_samples::{NONCE, index_of};
+use coniks_test_support::{Epochs, NONCE, index_of};
 use coniks_tree::Root;
 use std::alloc::Global;
 use std::process::Abort;

@@ -2,27 +2,41 @@
 
 ghost use Rattle.std.specs.Prelude.{ℕ};
 
+use crate::gate::Gate;
 use crate::pool::all_parts;
-use crate::tests::gates::Counts;
 use crate::work::Work;
 use coniks_tree::{OutOfMemory, Part};
 use std::sync::atomic::{AtomicU64, Ordering};
 
-/// Four jobs that count those of them that are done before they came to the gate.
+/// Four jobs and the gate before them, which counts how often each comes.
 #[derive(Drop)]
-struct Watching<'a> {
-    gate: &'a Counts,
-    early: AtomicU64,
+struct Four {
+    came: [AtomicU64; 4],
+    /// The jobs that were done before they came to the gate, and the comings of other jobs.
+    wrong: AtomicU64,
 }
 
-impl<'a> Work for Watching<'a> {
+impl Four {
+    /// Returns the count of a job, and `wrong` if it is none of the four.
+    fn count(&self, job: usize) -> &AtomicU64 {
+        self.came.get(job).unwrap_or(&self.wrong)
+    }
+}
+
+impl Gate for Four {
+    fn enter(&self, job: usize) {
+        self.count(job).fetch_add(1, Ordering::SeqCst);
+    }
+}
+
+impl Work for Four {
     ghost count = { λ w. 4 };
 
     ghost part = { λ w job part. Unit {0} };
 
     fn run(&self, job: usize) -> Result<Part, OutOfMemory> {
-        if !self.gate.has_come(job) {
-            self.early.fetch_add(1, Ordering::SeqCst);
+        if self.count(job).load(Ordering::SeqCst) == 0 {
+            self.wrong.fetch_add(1, Ordering::SeqCst);
         }
         Ok(Part::Nothing)
     }
@@ -32,14 +46,15 @@ impl<'a> Work for Watching<'a> {
 #[test]
 fn gate_before_job(rt: HostRuntime) {
     for workers in [1, 2, 4] {
-        let gate = Counts::new();
-        let work = Watching {
-            gate: &gate,
-            early: AtomicU64::new(0),
+        let four = Four {
+            came: [0; 4].map(|count| AtomicU64::new(count)),
+            wrong: AtomicU64::new(0),
         };
-        let parts = all_parts(&rt, rt.alloc(), 4, workers, &work, &gate).expect(&rt, "memory");
+        let parts = all_parts(&rt, rt.alloc(), 4, workers, &four, &four).expect(&rt, "memory");
         assert!(rt; parts.len() == 4);
-        assert!(rt; work.early.load(Ordering::SeqCst) == 0);
-        assert!(rt; gate.once_each());
+        assert!(rt; four.wrong.load(Ordering::SeqCst) == 0);
+        for count in &four.came {
+            assert!(rt; count.load(Ordering::SeqCst) == 1);
+        }
     }
 }

@@ -1,0 +1,149 @@
+//! A tree of epochs.
+
+ghost use Rattle.std.specs.Prelude.{List, length, IfOk};
+ghost use Rattle.coniks_tree.specs.Table.{Extends};
+ghost use Rattle.coniks_tree.specs.Parts.{AllPlaced, Fits, Placed};
+ghost use Rattle.coniks_tree.specs.declared.table.Record.{Record};
+
+use crate::records::{Added, Bound, add, changes_to, records_of};
+use crate::values::NONCE;
+use coniks_proof::{Digest, Hash32, Index, MAX_LEVEL, Nonce, Prefix, Proof};
+use coniks_tree::{Change, OutOfMemory, Part, Root, Tree, lefts};
+use std::alloc::Global;
+
+/// Returns what an older root shows under a prefix, or nothing if there is none, overwritten by changes. It takes one growth
+/// below each prefix of `depth` more bits that has a change.
+fn grown_at<H: Hash32>(
+    tree: &Tree,
+    h: &H,
+    older: Option<Root>,
+    prefix: &Prefix,
+    depth: usize,
+    changes: &[Change],
+) -> Result<Part, OutOfMemory>
+    ensures fits { IfOk result (λ part. Fits (length tree.now.nodes.items) (length prefix.now) part) }
+    ensures placed { IfOk result (λ part. (all : List Record) → Extends tree.now.records.items all → AllPlaced all changes.now → Placed all part) }
+{
+    if depth == 0 || changes.is_empty() || prefix.len() == MAX_LEVEL {
+        let part = part_before(tree, older, prefix);
+        return Ok(tree.grow(h, &NONCE, part, prefix, changes)?);
+    }
+    let (on_left, on_right) = changes.split_at(lefts(changes, prefix.len()));
+    let left = grown_at(tree, h, older, &prefix.child(false), depth - 1, on_left)?;
+    let right = grown_at(tree, h, older, &prefix.child(true), depth - 1, on_right)?;
+    Ok(tree.join(h, &NONCE, prefix, left, right)?)
+}
+
+/// Returns what an older root shows under a prefix, and nothing if the tree has no such root.
+pub fn part_before(tree: &Tree, older: Option<Root>, prefix: &Prefix) -> Part
+    ensures fits { Fits (length tree.now.nodes.items) (length prefix.now) result }
+    ensures placed { (all : List Record) → Extends tree.now.records.items all → Placed all result }
+{
+    let _level = prefix.len();
+    match older {
+        Some(root) if root.0 < tree.nodes() => tree.part_at(root, prefix),
+        _ => Part::Nothing,
+    }
+}
+
+/// A tree of epochs, all under `NONCE`.
+#[derive(Drop)]
+pub struct Epochs<H> {
+    pub alloc: Global,
+    pub h: H,
+    pub tree: Tree,
+}
+
+impl<H: Hash32> Epochs<H> {
+    /// Returns a tree without epochs.
+    pub fn new(alloc: Global, h: H) -> Epochs<H> {
+        Epochs {
+            alloc,
+            h,
+            tree: Tree::new(alloc),
+        }
+    }
+
+    /// Adds the epoch that binds what an older root shows and, over it, these, which are in the order of their indices. Its
+    /// parts are grown apart at a split depth.
+    ///
+    /// # Errors
+    ///
+    /// `OutOfMemory` if an allocation fails. The tree is unchanged.
+    pub fn add(
+        &mut self,
+        older: Option<Root>,
+        depth: usize,
+        bindings: &[Bound],
+    ) -> Result<Added, OutOfMemory> {
+        let records = records_of(self.alloc, &self.h, bindings)?;
+        let changes = changes_to(self.alloc, self.tree.records(), &records)?;
+        let part = grown_at(&self.tree, &self.h, older, &Prefix::root(), depth, &changes)?;
+        Ok(add(&mut self.tree, &self.h, part, records)?)
+    }
+
+    /// Returns the numbers of nodes and records.
+    pub fn sizes(&self) -> (usize, usize) {
+        (self.tree.nodes(), self.tree.records())
+    }
+
+    /// Returns the hash of a root, and zeros if the tree has no such root.
+    pub fn hash(&self, root: Root) -> Digest {
+        if root.0 < self.tree.nodes() {
+            self.tree.node_hash(root)
+        } else {
+            Digest([0; 32])
+        }
+    }
+
+    /// Returns the number of the record at an index, if the tree has the root and it shows such a record.
+    pub fn find(&self, root: Root, index: &Index) -> Option<usize> {
+        if root.0 < self.tree.nodes() {
+            self.tree.find(root, index).map(|place| place.0)
+        } else {
+            None
+        }
+    }
+
+    /// Returns the path to an index.
+    ///
+    /// # Errors
+    ///
+    /// `OutOfMemory` if an allocation fails, or the tree does not have the root.
+    pub fn path(&self, root: Root, index: &Index) -> Result<Proof, OutOfMemory> {
+        if root.0 < self.tree.nodes() {
+            Ok(self.tree.path(root, index)?)
+        } else {
+            Err(OutOfMemory)
+        }
+    }
+
+    /// Returns the changes that build what a root shows. Its errors are those of `path`.
+    pub fn entries(&self, root: Root) -> Result<Vec<Change>, OutOfMemory> {
+        if root.0 < self.tree.nodes() {
+            Ok(self.tree.entries(root)?)
+        } else {
+            Err(OutOfMemory)
+        }
+    }
+
+    /// Returns the hash under another nonce of what a root shows, built again from nothing. Its errors are those of `path`.
+    pub fn hash_under(&self, root: Root, nonce: &Nonce) -> Result<Digest, OutOfMemory> {
+        let changes = self.entries(root)?;
+        let top = Prefix::root();
+        let part = self
+            .tree
+            .grow(&self.h, nonce, Part::Nothing, &top, &changes)?;
+        Ok(self.tree.part_hash(&self.h, nonce, &part))
+    }
+
+    /// Returns the key at an index, if the tree has the root and it shows such a record.
+    pub fn key(&self, root: Root, index: &Index) -> Option<&[u8]> {
+        if root.0 < self.tree.nodes() {
+            let place = self.tree.find(root, index)?;
+            Some(self.tree.record(place).binding.key.as_slice())
+        } else {
+            None
+        }
+    }
+}

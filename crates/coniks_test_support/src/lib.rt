@@ -1,0 +1,20 @@
+//! Values, trees, streams, signers, gates and watchers for tests and measurements.
+//!
+//! No function here asserts or aborts: a test unwraps the result.
+#![tactic(auto)]
+
+mod epochs;
+mod gates;
+mod records;
+mod signers;
+mod streams;
+mod values;
+mod watches;
+
+pub use epochs::{Epochs, part_before};
+pub use gates::{Counts, Crowd, Meeting};
+pub use records::{Added, Bound, add, changes_to, known, record_of, records_of};
+pub use signers::{Only, Stamp, Yes};
+pub use streams::{FailIn, FailOut, NEVER, Stop};
+pub use values::{NONCE, OPENING, POLICY, RENEWED, bytes_of, digest, index_below, index_of};
+pub use watches::{Watch, watch_each, watches_of};

@@ -1,4 +1,0 @@
-use Rattle.coniks_tree_tests.proofs.tests.epochs.+grown_at.Given as goal
-
-abbrev pub decreases-grown_at : goal.decreases-grown_at
-decreases-grown_at g l = l.depth

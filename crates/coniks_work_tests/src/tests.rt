@@ -1,0 +1,6 @@
+//! Batches built by several workers.
+
+mod batches;
+mod epochs;
+mod pools;
+mod sharing;
