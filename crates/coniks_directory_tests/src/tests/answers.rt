@@ -1,8 +1,9 @@
 //! What a client is told of a name.
 
-use crate::tests::clerk::{Letters, NONCE};
+use crate::tests::clerk::Letters;
 use coniks_directory::{Directory, IndexSource, LookupFault};
 use coniks_proof::{Answer, Digest, Nonce, Proof, Sha256Hash, check};
+use coniks_test_support::NONCE;
 use std::process::Abort;
 use std::thread;
 use std::thread::Threads;
@@ -66,18 +67,6 @@ pub fn are_told(
         let told = asked(directory, t, name);
         assert!(rt; told == want, "of `{name}` at {t}: {told:?}");
     }
-}
-
-/// The bytes with these hexadecimal digits.
-pub fn decoded<const N: usize>(rt: &impl Abort, digits: &str) -> [u8; N] {
-    let mut bytes = [0; N];
-    hex::decode_to_slice(digits, &mut bytes).expect(rt, "two digits for each byte");
-    bytes
-}
-
-/// The digest with these hexadecimal digits.
-pub fn digest(rt: &impl Abort, digits: &str) -> Digest {
-    Digest(decoded(rt, digits))
 }
 
 /// Whether two threads that ask the same are both told that it is so.

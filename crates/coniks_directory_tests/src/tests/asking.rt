@@ -1,11 +1,10 @@
 //! How often the source of indices is asked.
 
 use crate::tests::batches::sized;
-use crate::tests::clerk::{NONCE, POLICY, refusing};
-use coniks_chain::Sign;
+use crate::tests::clerk::committed;
 use coniks_directory::{Directory, IndexSource, LookupFault};
 use coniks_proof::{Index, Sha256Hash};
-use coniks_shared::Board;
+use coniks_test_support::{NONCE, POLICY};
 use coniks_work::Open;
 use std::alloc::Global;
 use std::cell::Cell;
@@ -78,24 +77,8 @@ fn with_epoch<'a, R: Threads + Sync + Abort>(
     alloc: Global,
     calls: &'a Cell<u64>,
 ) -> Directory<Sha256Hash, Asked<'a>> {
-    let (board, mut publisher) = Board::new(alloc, 1).expect(rt, "a board");
-    let mut signer = refusing(u64::MAX);
-    assert!(rt; signer.made() < u64::MAX && signer.refused() < u64::MAX);
     let ops = [sized(rt, alloc, 1, 1)];
-    let mut directory = Directory::open(alloc, Sha256Hash, Asked { calls }, NONCE, POLICY);
-    let committed = directory.commit(
-        rt,
-        &ops,
-        0,
-        1,
-        &Open,
-        2,
-        &mut signer,
-        &mut publisher,
-        &board,
-    );
-    assert!(rt; committed.is_ok());
-    directory
+    committed(rt, alloc, Asked { calls }, &ops, 2, (0, 1))
 }
 
 /// The fault of a lookup of a name of so many bytes `b`, at most 256.

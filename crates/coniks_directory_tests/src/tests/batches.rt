@@ -1,10 +1,11 @@
 //! Batches that are refused, and one that each number of workers prepares.
 
-use crate::tests::answers::{Told, asked, digest};
-use crate::tests::clerk::{Clerk, Letters, NONCE, POLICY, Written, ops_of, with_clerk};
+use crate::tests::answers::{Told, asked};
+use crate::tests::clerk::{Clerk, Letters, Written, ops_of, with_clerk};
 use coniks_directory::OpKind::{Change, Register};
 use coniks_directory::{BatchFault, Directory, Op, OpFault, OpKind};
-use coniks_proof::{Bytes, Opening, Sha256Hash};
+use coniks_proof::{Bytes, Sha256Hash};
+use coniks_test_support::{NONCE, OPENING, POLICY, digest};
 use coniks_work::Open;
 use std::alloc::Global;
 use std::process::Abort;
@@ -38,7 +39,7 @@ pub fn sized(rt: &impl Abort, alloc: Global, name: usize, key: usize) -> Op {
         kind: OpKind::Register,
         name: Bytes::copy_of(alloc, name.unwrap_or(&[])).expect(rt, "memory"),
         key: Bytes::copy_of(alloc, key.unwrap_or(&[])).expect(rt, "memory"),
-        opening: Opening([0x22; 32]),
+        opening: OPENING,
     }
 }
 
@@ -130,13 +131,12 @@ fn fault_on<R: Threads + Sync + Abort>(
 }
 
 /// The first operation at fault of a batch, on the registry that another batch leaves in a new directory, and its fault.
-fn fault_after<R: Threads + Sync + Abort>(
+fn fault_after<R: Threads + Sync + Abort + AllocGlobal>(
     rt: &R,
-    alloc: Global,
     before: &[Written],
     written: &[Written],
 ) -> Option<(usize, OpFault)> {
-    with_clerk(rt, alloc, 1, u64::MAX, |clerk| {
+    with_clerk(rt, 1, |clerk| {
         place_of(fault_on(rt, clerk, before, written))
     })
 }
@@ -145,13 +145,10 @@ fn fault_after<R: Threads + Sync + Abort>(
 type Refused<'a> = (&'a [Written], &'a [Written], usize, OpFault);
 
 /// Asserts the first fault of each batch.
-fn are_refused<R: Threads + Sync + Abort>(rt: &R, alloc: Global, batches: &[Refused<'_>]) {
+fn are_refused<R: Threads + Sync + Abort + AllocGlobal>(rt: &R, batches: &[Refused<'_>]) {
     for &(before, written, position, fault) in batches {
         let want = Some((position, fault));
-        assert!(rt;
-            fault_after(rt, alloc, before, written) == want,
-            "of {written:?}"
-        );
+        assert!(rt; fault_after(rt, before, written) == want, "of {written:?}");
     }
 }
 
@@ -160,7 +157,6 @@ fn are_refused<R: Threads + Sync + Abort>(rt: &R, alloc: Global, batches: &[Refu
 fn twice_or_taken(rt: HostRuntime) {
     are_refused(
         &rt,
-        rt.alloc(),
         &[
             (&[A], &[B, B], 1, OpFault::NameTwice),
             (&[A], &[A], 0, OpFault::NameTaken),
@@ -175,7 +171,6 @@ fn unknown_or_first(rt: HostRuntime) {
     let changes = [(Change, b'a', b'l'), (Change, b'b', b'l')];
     are_refused(
         &rt,
-        rt.alloc(),
         &[
             (&[A], &changes, 1, OpFault::NameUnknown),
             (&[A], &[A, B, B], 0, OpFault::NameTaken),
@@ -188,7 +183,6 @@ fn unknown_or_first(rt: HostRuntime) {
 fn one_index(rt: HostRuntime) {
     are_refused(
         &rt,
-        rt.alloc(),
         &[
             (&[], &[P, Q], 1, OpFault::IndexClash),
             (&[P], &[Q], 0, OpFault::IndexClash),
@@ -208,39 +202,32 @@ fn is_same<R: Threads + Sync + Abort>(
     let three = [A, B, (Register, b'c', b'k')];
     let change = [(Change, b'b', b'l')];
     let root = "3561a57a963e7a5b825887fc338f85e89b699fc6361bcb0f383fa49ae4b04042";
-    clerk
-        .commit_by(rt, 1, &three, depth, workers, &Open)
-        .is_ok()
-        && clerk
-            .commit_by(rt, 2, &change, depth, workers, &Open)
-            .is_ok()
+    let three = ops_of(clerk.alloc, &three).expect(rt, "operations");
+    let change = ops_of(clerk.alloc, &change).expect(rt, "operations");
+    let first = clerk.commit_ops(rt, 1, &three, depth, workers, &Open);
+    let second = clerk.commit_ops(rt, 2, &change, depth, workers, &Open);
+    first.is_ok()
+        && second.is_ok()
         && clerk.directory.nodes() == 7
-        && clerk.directory.root_at(2) == Some(digest(rt, root))
+        && clerk.directory.root_at(2) == Some(digest(root))
         && asked(&clerk.directory, 1, "b") == Told::Key(1, b'k')
         && asked(&clerk.directory, 2, "b") == Told::Key(1, b'l')
 }
 
 /// Whether these workers make of these batches what any number of them does.
-fn makes_same<R: Threads + Sync + Abort>(
+fn makes_same<R: Threads + Sync + Abort + AllocGlobal>(
     rt: &R,
-    alloc: Global,
     depth: usize,
     workers: usize,
 ) -> bool {
-    with_clerk(
-        rt,
-        alloc,
-        2,
-        u64::MAX,
-        |clerk| is_same(rt, clerk, depth, workers),
-    )
+    with_clerk(rt, 2, |clerk| is_same(rt, clerk, depth, workers))
 }
 
 #[test]
 fn same_for_every_crew(rt: HostRuntime) {
     for &workers in &[1, 2, 7, 64] {
         for &depth in &[0, 1, 8, 12] {
-            let same = makes_same(&rt, rt.alloc(), depth, workers);
+            let same = makes_same(&rt, depth, workers);
             assert!(rt; same, "{workers} workers at depth {depth}");
         }
     }

@@ -57,7 +57,5 @@ fn fill_watched<R: Threads + Sync + Abort>(rt: &R, clerk: &mut Clerk<Sha256Hash>
 /// A board of two heads: the third epoch is refused, and the two stay.
 #[test]
 fn full_board(rt: HostRuntime) {
-    with_clerk(&rt, rt.alloc(), 2, u64::MAX, |clerk| {
-        fill_watched(&rt, clerk);
-    });
+    with_clerk(&rt, 2, |clerk| fill_watched(&rt, clerk));
 }

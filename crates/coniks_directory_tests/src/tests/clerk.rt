@@ -5,26 +5,18 @@ ghost use Rattle.coniks_directory.specs.Chain.{heads_of};
 ghost use Rattle.coniks_directory_tests.specs.Letters.{high as high_of, index_of_letter, low as low_of};
 ghost use Rattle.coniks_directory.specs.Updates.{Grows, IsUpdateOf};
 
-use coniks_chain::{Entry, Sign, Signature, SignatureSource, Signer, Verify};
+use coniks_chain::{Entry, Sign, Signature, Signer};
 use coniks_directory::laws::updates_stay;
 use coniks_directory::{
     BatchFault, CommitFault, Directory, IndexSource, InstallFault, Op, OpKind, Prepared,
 };
-use coniks_proof::{Bytes, Hash32, Index, Nonce, Opening, Sha256Hash};
+use coniks_proof::{Bytes, Hash32, Index, Nonce, Sha256Hash};
 use coniks_shared::{Board, MAX_HEADS, Publisher, Watcher};
+use coniks_test_support::{NONCE, OPENING, POLICY, Stamp};
 use coniks_work::{Gate, Open};
 use std::alloc::{AllocError, Global};
 use std::process::Abort;
 use std::thread::Threads;
-
-pub const NONCE: Nonce = Nonce([0x11; 32]);
-
-/// A nonce that an epoch brings.
-pub const RENEWED: Nonce = Nonce([0x44; 32]);
-
-pub const POLICY: [u8; 32] = [0x33; 32];
-
-const OPENING: Opening = Opening([0x22; 32]);
 
 /// Gives each letter of the worked examples an index of its own, but `p` and `q` one, and every other name that of `a`.
 #[derive(Clone, Copy, Drop)]
@@ -67,53 +59,15 @@ impl IndexSource for Letters {
     }
 }
 
-/// Signs with 64 bytes 55, or of another letter, and refuses the call of one number, counted from 0. It counts the calls,
-/// and keeps the bytes of the last one.
-#[derive(Drop)]
-pub struct Stamp {
-    pub letter: u8,
-    pub calls: u64,
-    pub asked: Option<[u8; 145]>,
-    refused_call: u64,
-}
+/// The signature of each entry.
+const SIGNATURE: Signature = Signature([0x55; 64]);
 
-impl Verify for Stamp {
-    ghost use Rattle.std.specs.Prelude.{replicate};
-    ghost use Rattle.std.specs.Str.{bytes_eq};
-
-    ghost verdict_of = { λ stamp body signature. bytes_eq signature (replicate 64 stamp.letter) };
-
-    fn verdict(&self, _body: &[u8; 145], signature: &Signature) -> bool {
-        signature.0 == [self.letter; 64]
-    }
-}
-
-impl SignatureSource for Stamp {
-    ghost gives = { λ _ _ _ _. Unit {0} };
-
-    fn signature(&mut self, body: &[u8; 145]) -> Option<Signature> {
-        let call = self.calls;
-        self.calls = call.wrapping_add(1);
-        self.asked = Some(*body);
-        if call == self.refused_call {
-            None
-        } else {
-            Some(Signature([self.letter; 64]))
-        }
-    }
-}
-
-/// A signer that refuses the call of this number.
+/// A signer that refuses the call of this number, counted from 0.
 pub fn refusing(refused_call: u64) -> Signer<Stamp>
     ensures made { result.signings.made ≡ 0 }
     ensures refused { result.signings.refused ≡ 0 }
 {
-    Signer::new(Stamp {
-        letter: 0x55,
-        calls: 0,
-        asked: None,
-        refused_call,
-    })
+    Signer::new(Stamp::new(Some(SIGNATURE), SIGNATURE, refused_call))
 }
 
 /// An operation as the tests write it: its kind, its name and its key, each of one letter.
@@ -187,7 +141,7 @@ impl<'a, H: Hash32 + Sync> Clerk<'a, H> {
         self.signer.made() < u64::MAX && self.signer.refused() < u64::MAX
     }
 
-    /// Commits a batch at depth 1 with two workers, as `commit_by` does.
+    /// Commits a batch at depth 1 with two workers. It is `BatchTooLong` if there is no memory for the operations.
     pub fn commit<R: Threads + Sync>(
         &mut self,
         rt: &R,
@@ -196,7 +150,10 @@ impl<'a, H: Hash32 + Sync> Clerk<'a, H> {
     ) -> Result<Entry, CommitFault>
         ensures { self.new.board.now.table ≡ self.old.board.now.table }
     {
-        self.commit_by(rt, t, written, 1, 2, &Open)
+        let Ok(ops) = ops_of(self.alloc, written) else {
+            return Err(CommitFault::Batch(BatchFault::BatchTooLong));
+        };
+        self.commit_ops(rt, t, &ops, 1, 2, &Open)
     }
 
     /// Registers the name `a` with the key `k`.
@@ -247,26 +204,7 @@ impl<'a, H: Hash32 + Sync> Clerk<'a, H> {
         self.directory.install(update, t, &mut self.signer, &mut self.publisher, self.board)
     }
 
-    /// Commits a batch at a depth, with so many workers that pass a gate. It is `BatchTooLong` where there is no memory for
-    /// the operations.
-    pub fn commit_by<G: Gate + Sync, R: Threads + Sync>(
-        &mut self,
-        rt: &R,
-        t: u64,
-        written: &[Written],
-        depth: usize,
-        workers: usize,
-        gate: &G,
-    ) -> Result<Entry, CommitFault>
-        ensures { self.new.board.now.table ≡ self.old.board.now.table }
-    {
-        let Ok(ops) = ops_of(self.alloc, written) else {
-            return Err(CommitFault::Batch(BatchFault::BatchTooLong));
-        };
-        self.commit_ops(rt, t, &ops, depth, workers, gate)
-    }
-
-    /// Commits these operations, as `commit_by` does.
+    /// Commits operations with a split depth, a number of workers and a gate that they pass.
     pub fn commit_ops<G: Gate + Sync, R: Threads + Sync>(
         &mut self,
         rt: &R,
@@ -351,9 +289,46 @@ pub fn new_board(rt: &impl Abort, alloc: Global, heads: usize) -> (Board, Publis
     made.expect(rt, "a board")
 }
 
-/// Takes steps with the clerk of a new directory, whose board takes `heads` heads, at least 1, and whose signer refuses the
-/// call of this number.
-pub fn with_clerk<T, F: FnOnce(&mut Clerk<Sha256Hash>) -> T>(
+/// Commits a batch at epoch `t` to a new directory over a source of indices, with a split depth and a number of workers.
+pub fn committed<X: IndexSource, R: Threads + Sync + Abort>(
+    rt: &R,
+    alloc: Global,
+    source: X,
+    ops: &[Op],
+    t: u64,
+    (depth, workers): (usize, usize),
+) -> Directory<Sha256Hash, X> {
+    let (board, mut publisher) = Board::new(alloc, 1).expect(rt, "a board");
+    let mut directory = Directory::open(alloc, Sha256Hash, source, NONCE, POLICY);
+    let mut signer = refusing(u64::MAX);
+    let entry = directory.commit(
+        rt,
+        ops,
+        depth,
+        workers,
+        &Open,
+        t,
+        &mut signer,
+        &mut publisher,
+        &board,
+    );
+    assert!(rt; entry.is_ok());
+    directory
+}
+
+/// Takes steps with the clerk of a new directory, whose board takes `heads` heads, at least 1. Its signer refuses nothing.
+pub fn with_clerk<T, F: FnOnce(&mut Clerk<Sha256Hash>) -> T, R: Abort + AllocGlobal>(
+    rt: &R,
+    heads: usize,
+    steps: F,
+) -> T
+    requires { F.IsAlwaysCallable steps }
+{
+    with_refusing_clerk(rt, rt.alloc(), heads, u64::MAX, steps)
+}
+
+/// Takes steps as `with_clerk` does. The signer refuses the call of this number.
+pub fn with_refusing_clerk<T, F: FnOnce(&mut Clerk<Sha256Hash>) -> T>(
     rt: &impl Abort,
     alloc: Global,
     heads: usize,

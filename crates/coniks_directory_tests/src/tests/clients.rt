@@ -1,12 +1,12 @@
 //! What clients of two directories find, where the hash has collisions and where it has none that are known.
 
-use crate::tests::answers::decoded;
-use crate::tests::clerk::{Clerk, Letters, NONCE, with_clerk};
-use coniks_chain::{Entry, extract_history};
+use crate::tests::clerk::{Clerk, Letters, with_clerk};
+use coniks_chain::{Entry, Signature, Signer, extract_history};
 use coniks_directory::IndexSource;
 use coniks_directory::OpKind::Register;
 use coniks_proof::{Collision, Digest, Flat, Hash32, Proof, Sha256Hash, extract};
 use coniks_shared::Board;
+use coniks_test_support::{NEVER, NONCE, Stamp, bytes_of};
 use std::alloc::Global;
 use std::process::Abort;
 use std::thread::Threads;
@@ -50,7 +50,8 @@ fn shown_by<R: Threads + Sync + Abort>(rt: &R, clerk: &mut Clerk<Flat>, key: u8)
 fn showing<R: Threads + Sync + Abort>(rt: &R, alloc: Global, key: u8, letter: u8) -> Shown {
     let (board, publisher) = Board::new(alloc, 1).expect(rt, "a board");
     let mut clerk = Clerk::new(alloc, Flat, &board, publisher, u64::MAX);
-    clerk.signer.source.letter = letter;
+    let signature = Signature([letter; 64]);
+    clerk.signer = Signer::new(Stamp::new(Some(signature), signature, NEVER));
     shown_by(rt, &mut clerk, key)
 }
 
@@ -65,7 +66,7 @@ fn gives(rt: &impl Abort, alloc: Global, one: &Shown, other: &Shown, x: &str, y:
     let root = Digest([0; 32]);
     let found = collision_of(rt, alloc, &Flat, &root, &one.proof, &other.proof);
     let found = found.expect(rt, "a collision");
-    let (x, y): ([u8; 41], [u8; 41]) = (decoded(rt, x), decoded(rt, y));
+    let (x, y): ([u8; 41], [u8; 41]) = (bytes_of(x), bytes_of(y));
     found.x.as_slice() == x.as_slice() && found.y.as_slice() == y.as_slice()
 }
 
@@ -82,9 +83,8 @@ fn two_clients(rt: HostRuntime) {
 }
 
 /// Whether bytes are what is hashed to the link of the first entry, signed with a letter.
-fn is_preimage(rt: &impl Abort, bytes: &[u8], letter: u8) -> bool {
-    let body: [u8; 146] = decoded(
-        rt,
+fn is_preimage(bytes: &[u8], letter: u8) -> bool {
+    let body: [u8; 146] = bytes_of(
         "5301000000000000000100000000000000000000000000000000000000000000000000000000000000000000000000000000000000000000000000000000000000000000000000000000000000000000000011111111111111111111111111111111111111111111111111111111111111113333333333333333333333333333333333333333333333333333333333333333",
     );
     bytes.strip_prefix(body.as_slice()) == Some([letter; 64].as_slice())
@@ -97,8 +97,8 @@ fn two_signers(rt: HostRuntime) {
     let other = showing(&rt, rt.alloc(), b'l', 0x66);
     let found = extract_history(rt.alloc(), &Flat, &one.chain, &other.chain);
     let found = found.expect(&rt, "memory").expect(&rt, "a collision");
-    assert!(rt; is_preimage(&rt, found.x.as_slice(), 0x55));
-    assert!(rt; is_preimage(&rt, found.y.as_slice(), 0x66));
+    assert!(rt; is_preimage(found.x.as_slice(), 0x55));
+    assert!(rt; is_preimage(found.y.as_slice(), 0x66));
 }
 
 /// What two lookups of `a` at epoch 1 give.
@@ -116,8 +116,6 @@ fn collision_within<R: Threads + Sync + Abort>(
 /// Two lookups of one name at one epoch give no collision.
 #[test]
 fn one_answer(rt: HostRuntime) {
-    let collides = with_clerk(&rt, rt.alloc(), 1, u64::MAX, |clerk| {
-        collision_within(&rt, clerk).is_some()
-    });
+    let collides = with_clerk(&rt, 1, |clerk| { collision_within(&rt, clerk).is_some() });
     assert!(rt; !collides);
 }

@@ -1,12 +1,10 @@
 //! Batches whose commitments are groups of four and one, two or three left over.
 
-use crate::tests::answers::digest;
-use crate::tests::clerk::{NONCE, POLICY, refusing};
+use crate::tests::clerk::committed;
 use crate::tests::largest::Hashed;
-use coniks_directory::{Directory, Op, OpKind};
-use coniks_proof::{Bytes, Digest, Opening, Sha256Hash};
-use coniks_shared::Board;
-use coniks_work::Open;
+use coniks_directory::{Op, OpKind};
+use coniks_proof::{Bytes, Digest};
+use coniks_test_support::{OPENING, digest};
 use std::alloc::Global;
 use std::process::Abort;
 use std::thread::Threads;
@@ -29,7 +27,7 @@ fn registering(rt: &impl Abort, alloc: Global, sizes: &[Sizes]) -> Vec<Op> {
             kind: OpKind::Register,
             name: letters(rt, alloc, b'a', behind, name),
             key: letters(rt, alloc, b'A', behind, key),
-            opening: Opening([0x22; 32]),
+            opening: OPENING,
         };
         ops.push(op).expect(rt, "memory");
         behind = behind.wrapping_add(1);
@@ -40,22 +38,7 @@ fn registering(rt: &impl Abort, alloc: Global, sizes: &[Sizes]) -> Vec<Op> {
 /// The root of a new directory after such a batch.
 fn root_after<R: Threads + Sync + Abort>(rt: &R, alloc: Global, sizes: &[Sizes]) -> Option<Digest> {
     let ops = registering(rt, alloc, sizes);
-    let (board, mut publisher) = Board::new(alloc, 1).expect(rt, "a board");
-    let mut directory = Directory::open(alloc, Sha256Hash, Hashed, NONCE, POLICY);
-    let mut signer = refusing(u64::MAX);
-    let entry = directory.commit(
-        rt,
-        &ops,
-        1,
-        2,
-        &Open,
-        1,
-        &mut signer,
-        &mut publisher,
-        &board,
-    );
-    assert!(rt; entry.is_ok());
-    directory.root_at(1)
+    committed(rt, alloc, Hashed, &ops, 1, (1, 2)).root_at(1)
 }
 
 /// Each root is another, and the commitments of all places stand in it. A message of 56 to 119 bytes goes by lanes, where
@@ -88,6 +71,6 @@ fn left_over(rt: HostRuntime) {
         ),
     ] {
         let root = root_after(&rt, rt.alloc(), sizes);
-        assert!(rt; root == Some(digest(&rt, want)), "of {} names", sizes.len());
+        assert!(rt; root == Some(digest(want)), "of {} names", sizes.len());
     }
 }

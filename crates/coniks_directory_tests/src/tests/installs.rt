@@ -1,6 +1,6 @@
 //! Installs that are refused.
 
-use crate::tests::clerk::{Clerk, Written, with_clerk};
+use crate::tests::clerk::{Clerk, Written, with_clerk, with_refusing_clerk};
 use coniks_chain::{Entry, Sign};
 use coniks_directory::OpKind::{Change, Register};
 use coniks_directory::{BatchFault, CommitFault, InstallFault, OpFault};
@@ -50,9 +50,7 @@ fn commit_not_later<R: Threads + Sync + Abort>(rt: &R, clerk: &mut Clerk<Sha256H
 /// An epoch that isn't later, as the first one and as the second.
 #[test]
 fn not_later(rt: HostRuntime) {
-    with_clerk(&rt, rt.alloc(), 4, u64::MAX, |clerk| {
-        commit_not_later(&rt, clerk);
-    });
+    with_clerk(&rt, 4, |clerk| commit_not_later(&rt, clerk));
 }
 
 const SECOND: [Written; 2] = [(Change, b'a', b'l'), (Register, b'c', b'k')];
@@ -84,8 +82,8 @@ fn entry_after_refusal<R: Threads + Sync + Abort>(rt: &R, clerk: &mut Clerk<Sha2
 #[test]
 fn signer_refuses(rt: HostRuntime) {
     let alloc = rt.alloc();
-    let unrefused = with_clerk(&rt, alloc, 4, u64::MAX, |clerk| unrefused_entry(&rt, clerk));
-    let entry = with_clerk(&rt, alloc, 4, 1, |clerk| entry_after_refusal(&rt, clerk));
+    let unrefused = with_clerk(&rt, 4, |clerk| unrefused_entry(&rt, clerk));
+    let entry = with_refusing_clerk(&rt, alloc, 4, 1, |clerk| entry_after_refusal(&rt, clerk));
     assert!(rt; entry == unrefused);
 }
 
@@ -119,7 +117,5 @@ fn commit_asking<R: Threads + Sync + Abort>(rt: &R, clerk: &mut Clerk<Sha256Hash
 /// The source is asked once for the body of each entry and of a refused one, and at no other refusal.
 #[test]
 fn source_asked_once(rt: HostRuntime) {
-    with_clerk(&rt, rt.alloc(), 2, 1, |clerk| {
-        commit_asking(&rt, clerk);
-    });
+    with_refusing_clerk(&rt, rt.alloc(), 2, 1, |clerk| commit_asking(&rt, clerk));
 }

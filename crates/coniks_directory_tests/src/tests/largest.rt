@@ -1,12 +1,11 @@
 //! The largest batch, and as many epochs as a board has heads.
 
-use crate::tests::answers::digest;
 use crate::tests::batches::sized;
-use crate::tests::clerk::{Clerk, NONCE, POLICY, refusing};
+use crate::tests::clerk::{Clerk, committed};
 use coniks_directory::{CommitFault, Directory, IndexSource, InstallFault, Op, OpKind};
-use coniks_proof::{Answer, Bytes, Flat, Hash32, Index, Opening, Sha256Hash, check};
+use coniks_proof::{Answer, Bytes, Flat, Hash32, Index, Sha256Hash, check};
 use coniks_shared::{Board, MAX_HEADS};
-use coniks_work::Open;
+use coniks_test_support::{NONCE, OPENING, digest};
 use std::alloc::Global;
 use std::process::Abort;
 use std::thread::Threads;
@@ -31,7 +30,7 @@ fn numbered(rt: &impl Abort, alloc: Global, number: u32) -> Op {
         kind: OpKind::Register,
         name: Bytes::copy_of(alloc, &number.to_be_bytes()).expect(rt, "memory"),
         key: Bytes::copy_of(alloc, b"k").expect(rt, "memory"),
-        opening: Opening([0x22; 32]),
+        opening: OPENING,
     }
 }
 
@@ -65,24 +64,10 @@ fn key_of(rt: &impl Abort, directory: &Directory<Sha256Hash, Hashed>, name: &[u8
 #[test]
 fn largest_batch(rt: HostRuntime) {
     let ops = most(&rt, rt.alloc());
-    let (board, mut publisher) = Board::new(rt.alloc(), 1).expect(&rt, "a board");
-    let mut directory = Directory::open(rt.alloc(), Sha256Hash, Hashed, NONCE, POLICY);
-    let mut signer = refusing(u64::MAX);
-    let entry = directory.commit(
-        &rt,
-        &ops,
-        12,
-        4,
-        &Open,
-        1,
-        &mut signer,
-        &mut publisher,
-        &board,
-    );
-    assert!(rt; entry.is_ok());
+    let directory = committed(&rt, rt.alloc(), Hashed, &ops, 1, (12, 4));
     assert!(rt; directory.nodes() == 12_205);
     let root = "dc8fccd2b142454a80b5f5bb4361fed549b910534e87818985abeb04797a199b";
-    assert!(rt; directory.root_at(1) == Some(digest(&rt, root)));
+    assert!(rt; directory.root_at(1) == Some(digest(root)));
     assert!(rt; key_of(&rt, &directory, &4094u32.to_be_bytes()) == 1);
     assert!(rt; key_of(&rt, &directory, &[b'b'; 255]) == 16_384);
 }

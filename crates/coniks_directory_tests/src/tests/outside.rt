@@ -6,12 +6,13 @@ ghost use Rattle.coniks_directory.specs.Updates.{IsUpdateOf};
 ghost use Rattle.coniks_directory_tests.specs.Letters.{index_of_letter};
 ghost use Rattle.coniks_proof.specs.Sha256.{sha256};
 
-use crate::tests::clerk::{Letters, NONCE, POLICY, prepared};
+use crate::tests::clerk::{Letters, prepared};
 use coniks_chain::{Body, Entry, Sign, Signature, SignatureSource, Signer, Verify};
 use coniks_directory::OpKind::Register;
 use coniks_directory::{Directory, InstallFault, Prepared};
 use coniks_proof::{Hash32, Sha256Hash};
 use coniks_shared::{Board, Publisher};
+use coniks_test_support::{NONCE, POLICY};
 use std::alloc::Global;
 use std::process::Abort;
 use std::thread::Threads;

@@ -15,10 +15,8 @@ mod install;
 mod lookup;
 mod prepare;
 
-use crate::tests::answers::{Told, asked, digest};
-use crate::tests::clerk::{
-    Clerk, Letters, NONCE, POLICY, RENEWED, Stamp, Written, new_board, ops_of, refusing, with_clerk,
-};
+use crate::tests::answers::{Told, asked};
+use crate::tests::clerk::{Clerk, Letters, Written, new_board, ops_of, refusing, with_clerk};
 use coniks_chain::{Entry, Sign, Signer};
 use coniks_directory::OpKind::{Change, Register};
 use coniks_directory::{
@@ -27,6 +25,7 @@ use coniks_directory::{
 };
 use coniks_proof::{Digest, Hash32, Head, Index, Nonce, Sha256Hash};
 use coniks_shared::{Board, Publisher};
+use coniks_test_support::{NONCE, POLICY, RENEWED, Stamp, digest};
 use coniks_work::Open;
 use std::alloc::Global;
 use std::process::Abort;
@@ -125,8 +124,8 @@ fn install_at_last(rt: &impl Abort, clerk: &mut Clerk<Sha256Hash>, update: Prepa
 }
 
 /// Whether the last head is that of an epoch with this link.
-fn ends_with(rt: &impl Abort, publisher: &Publisher, epoch: u64, link: &str) -> bool {
-    let link = digest(rt, link);
+fn ends_with(publisher: &Publisher, epoch: u64, link: &str) -> bool {
+    let link = digest(link);
     publisher.last() == Some(Head { epoch, link })
 }
 
@@ -135,7 +134,7 @@ fn first_epoch<R: Threads + Sync + Abort>(rt: &R, clerk: &mut Clerk<Sha256Hash>)
     let ops = batch(rt, clerk.alloc, &FIRST);
     let (update, _) = prepare_at_last(rt, clerk, None, &ops, 1);
     let refused = install_at_last(rt, clerk, update, 1);
-    assert!(rt; ends_with(rt, &clerk.publisher, 1, LINKS[0]));
+    assert!(rt; ends_with(&clerk.publisher, 1, LINKS[0]));
     refused
 }
 
@@ -153,7 +152,7 @@ fn second_by<R: Threads + Sync + Abort>(
     let (update, refused) = prepare_at_last(rt, clerk, new_nonce, &ops, workers);
     assert!(rt; update.new_nodes() == 5);
     install_at_last(rt, clerk, update, 2);
-    assert!(rt; ends_with(rt, &clerk.publisher, 2, link));
+    assert!(rt; ends_with(&clerk.publisher, 2, link));
     refused
 }
 
@@ -184,7 +183,7 @@ fn write(rt: &impl Print, is_refused: bool) {
 fn tell<F: FnOnce(&mut Clerk<Sha256Hash>) -> bool, R: Abort + AllocGlobal + Print>(rt: &R, steps: F)
     requires { F.IsAlwaysCallable steps }
 {
-    write(rt, with_clerk(rt, rt.alloc(), 4, u64::MAX, steps));
+    write(rt, with_clerk(rt, 4, steps));
 }
 
 /// With three workers a refusal in a job of either is the call's, and one that only costs a worker changes no answer.
@@ -223,7 +222,7 @@ fn commit_at_last<R: Threads + Sync + Abort>(
         assert!(rt; seen(clerk) == before);
         assert!(rt; clerk.commit_ops(rt, 1, &ops, 1, 1, &Open).is_ok());
     }
-    assert!(rt; ends_with(rt, &clerk.publisher, 1, LINKS[0]));
+    assert!(rt; ends_with(&clerk.publisher, 1, LINKS[0]));
     refused
 }
 
@@ -459,12 +458,12 @@ fn supplied_epochs<R: Threads + Sync + Abort>(rt: &R, alloc: Global) -> (bool, b
     let [a, b, c, d] = [b"a", b"b", b"c", b"d"].map(|name| Letters.index(name));
     let (first, _) = prepare_supplied_at_last(rt, &clerk, &FIRST, &[a, b]);
     install_supplied_at_last(rt, &mut clerk, first, 1);
-    assert!(rt; ends_with(rt, &clerk.publisher, 1, LINKS[0]));
+    assert!(rt; ends_with(&clerk.publisher, 1, LINKS[0]));
     assert!(rt; clerk.supplied(rt) == 2);
     let (second, in_prepare) = prepare_supplied_at_last(rt, &clerk, &MIXED, &[d, b, c]);
     assert!(rt; second.new_nodes() == 7);
     let in_install = install_supplied_at_last(rt, &mut clerk, second, 2);
-    assert!(rt; ends_with(rt, &clerk.publisher, 2, MIXED_LINK));
+    assert!(rt; ends_with(&clerk.publisher, 2, MIXED_LINK));
     assert!(rt; clerk.supplied(rt) == 4);
     (in_prepare, in_install)
 }

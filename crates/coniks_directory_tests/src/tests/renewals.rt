@@ -1,12 +1,12 @@
 //! Epochs that bring a nonce.
 
-use crate::tests::answers::{Told, asked_under, decoded, digest};
-use crate::tests::clerk::{Clerk, NONCE, RENEWED, Written, ops_of, with_clerk};
+use crate::tests::answers::{Told, asked_under};
+use crate::tests::clerk::{Clerk, Written, ops_of, with_clerk};
 use coniks_chain::audit;
 use coniks_directory::OpKind::{Change, Register};
 use coniks_directory::{BatchFault, OpFault};
 use coniks_proof::{Head, Nonce, Sha256Hash};
-use std::alloc::Global;
+use coniks_test_support::{NONCE, RENEWED, bytes_of, digest};
 use std::process::Abort;
 use std::thread::Threads;
 
@@ -43,7 +43,7 @@ fn install_by<R: Threads + Sync + Abort>(
 /// Whether the last entry's body has these bytes.
 fn ends_with(rt: &impl Abort, clerk: &Clerk<Sha256Hash>, body: &str) -> bool {
     let last = clerk.directory.chain().last().expect(rt, "an entry");
-    last.body.bytes() == decoded(rt, body)
+    last.body.bytes() == bytes_of(body)
 }
 
 /// Installs an epoch that registers two names, one without changes that brings a nonce, and one that brings none.
@@ -74,7 +74,7 @@ fn has_good_chain(rt: &impl Abort, clerk: &Clerk<Sha256Hash>) {
     let link = "cc36dcd0d6a7a9ff54dba6812b7968f0fc0f9a4d92501af3c2fc9ccb349be6c8";
     let want = Head {
         epoch: 3,
-        link: digest(rt, link),
+        link: digest(link),
     };
     assert!(rt; head == Some(want));
 }
@@ -92,28 +92,19 @@ fn renew_and_ask<R: Threads + Sync + Abort>(rt: &R, clerk: &mut Clerk<Sha256Hash
 /// An epoch's proofs hold under the nonce that it has, and the auditor accepts the chain.
 #[test]
 fn nonce_from_the_second_epoch_on(rt: HostRuntime) {
-    with_clerk(&rt, rt.alloc(), 3, u64::MAX, |clerk| {
-        renew_and_ask(&rt, clerk);
-    });
+    with_clerk(&rt, 3, |clerk| renew_and_ask(&rt, clerk));
 }
 
 /// Installs the three epochs with several workers.
-fn install_three_by<R: Threads + Sync + Abort>(
-    rt: &R,
-    alloc: Global,
-    depth: usize,
-    workers: usize,
-) {
-    with_clerk(rt, alloc, 3, u64::MAX, |clerk| {
-        install_three(rt, clerk, depth, workers);
-    });
+fn install_three_by<R: Threads + Sync + Abort + AllocGlobal>(rt: &R, depth: usize, workers: usize) {
+    with_clerk(rt, 3, |clerk| install_three(rt, clerk, depth, workers));
 }
 
 #[test]
 fn same_for_every_crew(rt: HostRuntime) {
     for &workers in &[1, 3] {
         for &depth in &[0, 1, 8] {
-            install_three_by(&rt, rt.alloc(), depth, workers);
+            install_three_by(&rt, depth, workers);
         }
     }
 }
@@ -138,9 +129,7 @@ fn rotates<R: Threads + Sync + Abort>(
 fn same_nonce_again(rt: HostRuntime) {
     let body =
         "020000000000000002000000000000000146de554c28df523fe8bbcbf7cf90c45cc1f44d29be6fc4bf4fa5fd416437b6ba9efd9e7911a2ebeef55ec07b8784e4a86ec0ffd7569f4d6aefdbc195087a129811111111111111111111111111111111111111111111111111111111111111113333333333333333333333333333333333333333333333333333333333333333";
-    with_clerk(&rt, rt.alloc(), 2, u64::MAX, |clerk| {
-        rotates(&rt, clerk, NONCE, &[], 3, body);
-    });
+    with_clerk(&rt, 2, |clerk| rotates(&rt, clerk, NONCE, &[], 3, body));
 }
 
 /// Installs a change and a registration with a nonce, and looks both up.
@@ -158,9 +147,7 @@ fn renew_with_changes<R: Threads + Sync + Abort>(rt: &R, clerk: &mut Clerk<Sha25
 /// The changes of a batch that brings a nonce are in its tree.
 #[test]
 fn nonce_with_changes(rt: HostRuntime) {
-    with_clerk(&rt, rt.alloc(), 2, u64::MAX, |clerk| {
-        renew_with_changes(&rt, clerk);
-    });
+    with_clerk(&rt, 2, |clerk| renew_with_changes(&rt, clerk));
 }
 
 /// Brings a nonce with the first epoch, which has no names.
@@ -174,9 +161,7 @@ fn renew_nothing<R: Threads + Sync + Abort>(rt: &R, clerk: &mut Clerk<Sha256Hash
 /// The empty tree under the nonce that the first epoch brings is one node.
 #[test]
 fn nonce_of_the_first_epoch(rt: HostRuntime) {
-    with_clerk(&rt, rt.alloc(), 1, u64::MAX, |clerk| {
-        renew_nothing(&rt, clerk);
-    });
+    with_clerk(&rt, 1, |clerk| renew_nothing(&rt, clerk));
 }
 
 /// The fault of the two names' registration with a nonce, at a depth with so many workers.
@@ -216,7 +201,5 @@ fn refuse_renewals<R: Threads + Sync + Abort>(rt: &R, clerk: &mut Clerk<Sha256Ha
 /// A batch that brings a nonce is judged as any other, and one that is refused leaves nonce and version as they were.
 #[test]
 fn nonce_of_a_refused_batch(rt: HostRuntime) {
-    with_clerk(&rt, rt.alloc(), 2, u64::MAX, |clerk| {
-        refuse_renewals(&rt, clerk);
-    });
+    with_clerk(&rt, 2, |clerk| refuse_renewals(&rt, clerk));
 }

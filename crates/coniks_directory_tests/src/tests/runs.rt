@@ -13,8 +13,7 @@ ghost use Rattle.coniks_directory.specs.SuppliedBatches.{IsSuppliedUpdate, index
 ghost use Rattle.coniks_directory.specs.Updates.{Grows, IsUpdateOf, registry_after};
 ghost use Rattle.coniks_proof.specs.Batches.{Operation};
 
-use crate::tests::answers::digest;
-use crate::tests::clerk::{Clerk, ops_of, with_clerk};
+use crate::tests::clerk::{Clerk, Letters, ops_of, with_clerk};
 use coniks_chain::{Entry, Sign};
 use coniks_directory::OpKind::{Change, Register};
 use coniks_directory::laws::{directories_grow, directory_theorem, updates_stay};
@@ -24,6 +23,7 @@ use coniks_directory::{
 };
 use coniks_proof::{Digest, Hash32, Index, Nonce, Proof, Sha256Hash};
 use coniks_shared::{Board, Publisher};
+use coniks_test_support::{RENEWED, digest};
 use coniks_work::Open;
 use std::process::Abort;
 use std::thread::Threads;
@@ -229,18 +229,16 @@ fn register_three<R: Threads + Sync + Abort>(rt: &R, clerk: &mut Clerk<Sha256Has
     assert!(rt; committed.is_ok());
 }
 
-/// Prepares a change of a name and installs it at epoch 4.
-fn change_one<R: Threads + Sync + Abort>(rt: &R, clerk: &mut Clerk<Sha256Hash>) {
-    updates_stay();
-    let ops = ops_of(clerk.alloc, &[(Change, b'b', b'l')]).expect(rt, "operations");
-    let update = prepare_next(rt, &clerk.directory, &ops)
-        .ok()
-        .expect(rt, "an update");
+/// Installs an update.
+fn install_at(rt: &impl Abort, clerk: &mut Clerk<Sha256Hash>, update: Prepared, t: u64)
+    requires { IsUpdateOf (⟦<Sha256Hash as Hash32>⟧.digest_of clerk.old.directory.hash)
+        (⟦<Letters as IndexSource>⟧.index_of clerk.old.directory.index) clerk.old.directory.state update }
+{
     assert!(rt; clerk.may_sign());
     let installed = install_next(
         &mut clerk.directory,
         update,
-        4,
+        t,
         &mut clerk.signer,
         &mut clerk.publisher,
         clerk.board,
@@ -248,22 +246,23 @@ fn change_one<R: Threads + Sync + Abort>(rt: &R, clerk: &mut Clerk<Sha256Hash>) 
     assert!(rt; installed.is_ok());
 }
 
+/// Prepares a change of a name and installs it at epoch 4.
+fn change_one<R: Threads + Sync + Abort>(rt: &R, clerk: &mut Clerk<Sha256Hash>) {
+    updates_stay();
+    let ops = ops_of(clerk.alloc, &[(Change, b'b', b'l')]).expect(rt, "operations");
+    let update = prepare_next(rt, &clerk.directory, &ops)
+        .ok()
+        .expect(rt, "an update");
+    install_at(rt, clerk, update, 4);
+}
+
 /// Renews the nonce at epoch 5.
 fn renew<R: Threads + Sync + Abort>(rt: &R, clerk: &mut Clerk<Sha256Hash>) {
     updates_stay();
-    let update = prepare_renewed(rt, &clerk.directory, Nonce([0x44; 32]), &[])
+    let update = prepare_renewed(rt, &clerk.directory, RENEWED, &[])
         .ok()
         .expect(rt, "an update");
-    assert!(rt; clerk.may_sign());
-    let installed = install_next(
-        &mut clerk.directory,
-        update,
-        5,
-        &mut clerk.signer,
-        &mut clerk.publisher,
-        clerk.board,
-    );
-    assert!(rt; installed.is_ok());
+    install_at(rt, clerk, update, 5);
 }
 
 /// Commits a batch, prepares one after it and installs it, renews the nonce, and asks for roots and a path.
@@ -272,11 +271,11 @@ fn run_and_ask<R: Threads + Sync + Abort>(rt: &R, clerk: &mut Clerk<Sha256Hash>)
     change_one(rt, clerk);
     renew(rt, clerk);
     let three = "9f0f0e3455b88ce5747710c5195756230f5f5a6810b4f76899e2d7d1293fd6ac";
-    assert!(rt; root_of(&clerk.directory, 3) == Some(digest(rt, three)));
+    assert!(rt; root_of(&clerk.directory, 3) == Some(digest(three)));
     let changed = "3561a57a963e7a5b825887fc338f85e89b699fc6361bcb0f383fa49ae4b04042";
-    assert!(rt; root_of(&clerk.directory, 4) == Some(digest(rt, changed)));
+    assert!(rt; root_of(&clerk.directory, 4) == Some(digest(changed)));
     let renewed = "cb7706ab8b0971df8477b71cdcbbb3c780e9f4247df8ba2c3dbca124ab3a7120";
-    assert!(rt; root_of(&clerk.directory, 5) == Some(digest(rt, renewed)));
+    assert!(rt; root_of(&clerk.directory, 5) == Some(digest(renewed)));
     let path = path_of(&clerk.directory, 4, b"b").ok().expect(rt, "a path");
     assert!(rt; path.siblings.as_slice().len() == 1);
 }
@@ -284,7 +283,5 @@ fn run_and_ask<R: Threads + Sync + Abort>(rt: &R, clerk: &mut Clerk<Sha256Hash>)
 /// Calls that make a run of three batches, with roots that were computed by another program.
 #[test]
 fn steps_of_a_run(rt: HostRuntime) {
-    with_clerk(&rt, rt.alloc(), 4, u64::MAX, |clerk| {
-        run_and_ask(&rt, clerk);
-    });
+    with_clerk(&rt, 4, |clerk| run_and_ask(&rt, clerk));
 }

@@ -4,8 +4,7 @@ ghost use Rattle.std.specs.Prelude.{◌≡◌};
 ghost use Rattle.coniks_directory.specs.Chain.{heads_of};
 ghost use Rattle.coniks_directory.specs.Updates.{IsUpdateOf};
 
-use crate::tests::answers::digest;
-use crate::tests::clerk::{NONCE, POLICY, Stamp, ops_of, refusing};
+use crate::tests::clerk::{ops_of, refusing};
 use crate::tests::runs::{commit_next, install_next, root_of, supply_beside, supply_next};
 use coniks_chain::{Sign, Signer};
 use coniks_directory::OpKind::{Change, Register};
@@ -15,27 +14,21 @@ use coniks_directory::{
 };
 use coniks_proof::{Answer, Hash32, Index, Sha256Hash, check};
 use coniks_shared::{Board, Publisher};
+use coniks_test_support::{NONCE, POLICY, Stamp, digest, index_of};
 use coniks_work::Open;
 use std::alloc::Global;
 use std::process::Abort;
 use std::thread::Threads;
-
-/// An index that begins with a byte, with zero bytes after it.
-pub fn index_from(first: u8) -> Index {
-    let mut bytes = [0; 32];
-    bytes[0] = first;
-    Index(bytes)
-}
 
 /// Supplies the indices of the worked examples' letters. Until a name is registered another index of it may be supplied.
 fn supply_letters(rt: &impl Abort, directory: &mut Directory<Sha256Hash, SuppliedIndices>)
     ensures chain { directory.new.state.chain ≡ directory.old.state.chain }
     ensures hash { directory.new.hash ≡ directory.old.hash }
 {
-    assert!(rt; supply_next(directory, b"a", index_from(0)).is_ok());
-    assert!(rt; supply_next(directory, b"b", index_from(0x70)).is_ok());
-    assert!(rt; supply_next(directory, b"b", index_from(0x80)).is_ok());
-    assert!(rt; supply_next(directory, b"c", index_from(0x40)).is_ok());
+    assert!(rt; supply_next(directory, b"a", index_of(0, 0)).is_ok());
+    assert!(rt; supply_next(directory, b"b", index_of(0x70, 0)).is_ok());
+    assert!(rt; supply_next(directory, b"b", index_of(0x80, 0)).is_ok());
+    assert!(rt; supply_next(directory, b"c", index_of(0x40, 0)).is_ok());
 }
 
 /// A registered name keeps its index.
@@ -43,9 +36,9 @@ fn supply_again(rt: &impl Abort, directory: &mut Directory<Sha256Hash, SuppliedI
     ensures chain { directory.new.state.chain ≡ directory.old.state.chain }
     ensures hash { directory.new.hash ≡ directory.old.hash }
 {
-    assert!(rt; supply_next(directory, b"b", index_from(0x81)) == Err(SupplyFault::OtherIndex));
-    assert!(rt; supply_next(directory, b"b", index_from(0x80)).is_ok());
-    assert!(rt; supply_next(directory, b"", index_from(0x80)) == Err(SupplyFault::NameLength));
+    assert!(rt; supply_next(directory, b"b", index_of(0x81, 0)) == Err(SupplyFault::OtherIndex));
+    assert!(rt; supply_next(directory, b"b", index_of(0x80, 0)).is_ok());
+    assert!(rt; supply_next(directory, b"", index_of(0x80, 0)) == Err(SupplyFault::NameLength));
 }
 
 /// The first byte of the key that a name has at epoch 3, looked up at an index that comes with the call; none if it is absent.
@@ -72,14 +65,14 @@ fn key_at(
 /// A registered name is found at its own index and refused at another. One that was never registered is absent at the index
 /// of the call, which is not stored.
 fn look_up(rt: &impl Abort, directory: &Directory<Sha256Hash, SuppliedIndices>) {
-    assert!(rt; key_at(rt, directory, b"b", index_from(0x80)) == Some(b'k'));
-    assert!(rt; key_at(rt, directory, b"d", index_from(0x20)).is_none());
+    assert!(rt; key_at(rt, directory, b"b", index_of(0x80, 0)) == Some(b'k'));
+    assert!(rt; key_at(rt, directory, b"d", index_of(0x20, 0)).is_none());
     assert!(rt; !directory.source().has(b"d"));
-    let other = directory.lookup_at(3, b"b", index_from(0x81)).err();
+    let other = directory.lookup_at(3, b"b", index_of(0x81, 0)).err();
     assert!(rt; other == Some(LookupAtFault::OtherIndex));
-    let empty = directory.lookup_at(3, b"", index_from(0x81)).err();
+    let empty = directory.lookup_at(3, b"", index_of(0x81, 0)).err();
     assert!(rt; empty == Some(LookupAtFault::NameLength));
-    let unknown = directory.lookup_at(2, b"", index_from(0x81)).err();
+    let unknown = directory.lookup_at(2, b"", index_of(0x81, 0)).err();
     assert!(rt; unknown == Some(LookupAtFault::UnknownEpoch));
 }
 
@@ -125,8 +118,8 @@ fn supply_and_run<R: Threads + Sync + Abort>(
     supply_again(rt, directory);
     look_up(rt, directory);
     let update = prepare_change(rt, alloc, directory);
-    assert!(rt; !supply_beside(directory, &update, b"b", index_from(0x81)));
-    assert!(rt; supply_beside(directory, &update, b"d", index_from(0x20)));
+    assert!(rt; !supply_beside(directory, &update, b"b", index_of(0x81, 0)));
+    assert!(rt; supply_beside(directory, &update, b"d", index_of(0x20, 0)));
     assert!(rt; signer.made() < u64::MAX && signer.refused() < u64::MAX);
     assert!(rt; install_next(directory, update, 4, signer, publisher, board).is_ok());
 }
@@ -148,8 +141,8 @@ fn indices_supplied_after_open(rt: HostRuntime) {
         &board,
     );
     let three = "9f0f0e3455b88ce5747710c5195756230f5f5a6810b4f76899e2d7d1293fd6ac";
-    assert!(rt; root_of(&directory, 3) == Some(digest(&rt, three)));
+    assert!(rt; root_of(&directory, 3) == Some(digest(three)));
     let changed = "3561a57a963e7a5b825887fc338f85e89b699fc6361bcb0f383fa49ae4b04042";
-    assert!(rt; root_of(&directory, 4) == Some(digest(&rt, changed)));
-    assert!(rt; directory.source().index(b"d") == index_from(0x20));
+    assert!(rt; root_of(&directory, 4) == Some(digest(changed)));
+    assert!(rt; directory.source().index(b"d") == index_of(0x20, 0));
 }

@@ -4,25 +4,23 @@ ghost use Rattle.std.specs.Prelude.{◌≡◌};
 
 use crate::tests::answers::{Told, asked, both};
 use crate::tests::clerk::{Clerk, Letters, ops_of, with_clerk};
-use crate::tests::gates::Meeting;
 use coniks_chain::link;
 use coniks_directory::Directory;
 use coniks_directory::OpKind::Register;
 use coniks_proof::{Head, Sha256Hash};
 use coniks_shared::{Board, Watcher};
-use std::alloc::Global;
+use coniks_test_support::Meeting;
 use std::process::Abort;
 use std::thread;
 use std::thread::Threads;
 
 /// Prepares a batch through the gate, and says whether it was accepted.
-fn prepares<R: Threads + Sync>(
+fn prepares<R: Threads + Sync + AllocGlobal>(
     rt: &R,
-    alloc: Global,
     directory: &Directory<Sha256Hash, Letters>,
     gate: &Meeting,
 ) -> bool {
-    match ops_of(alloc, &[(Register, b'b', b'k')]) {
+    match ops_of(rt.alloc(), &[(Register, b'b', b'k')]) {
         Ok(ops) => directory.prepare(rt, &ops, 1, 2, gate).is_ok(),
         Err(_) => false,
     }
@@ -45,34 +43,31 @@ fn both_look_up<R: Threads + Sync>(
 }
 
 /// Whether a batch is prepared while two threads look up.
-fn prepares_beside<R: Threads + Sync>(
+fn prepares_beside<R: Threads + Sync + AllocGlobal>(
     rt: &R,
-    alloc: Global,
     directory: &Directory<Sha256Hash, Letters>,
     gate: &Meeting,
 ) -> bool {
     let (prepared, both) = thread::join(
         rt,
-        || prepares(rt, alloc, directory, gate),
+        || prepares(rt, directory, gate),
         || both_look_up(rt, directory, gate),
     );
     prepared && both
 }
 
 /// Commits an epoch, and prepares the next batch beside two lookups.
-fn prepare_held<R: Threads + Sync + Abort>(rt: &R, clerk: &mut Clerk<Sha256Hash>) {
+fn prepare_held<R: Threads + Sync + Abort + AllocGlobal>(rt: &R, clerk: &mut Clerk<Sha256Hash>) {
     assert!(rt; clerk.register_a(rt, 1).is_ok());
     let gate = Meeting::of(3);
-    assert!(rt; prepares_beside(rt, clerk.alloc, &clerk.directory, &gate));
+    assert!(rt; prepares_beside(rt, &clerk.directory, &gate));
     assert!(rt; gate.met());
 }
 
 /// Two threads look up while the first job of a batch is held.
 #[test]
 fn look_up_while_preparing(rt: HostRuntime) {
-    with_clerk(&rt, rt.alloc(), 4, u64::MAX, |clerk| {
-        prepare_held(&rt, clerk);
-    });
+    with_clerk(&rt, 4, |clerk| prepare_held(&rt, clerk));
 }
 
 /// Looks at the board once, and tells the gate.
@@ -85,7 +80,7 @@ fn looks_once(watcher: &mut Watcher, board: &Board, gate: &Meeting) -> Option<He
 }
 
 /// What a watcher answers while the first job of a batch is held. None also where the batch isn't prepared.
-fn seen_beside<R: Threads + Sync>(
+fn seen_beside<R: Threads + Sync + AllocGlobal>(
     rt: &R,
     clerk: &Clerk<Sha256Hash>,
     watcher: &mut Watcher,
@@ -93,10 +88,10 @@ fn seen_beside<R: Threads + Sync>(
 ) -> Option<Head>
     requires { watcher.old.table ≡ clerk.now.board.now.table }
 {
-    let (alloc, directory, board) = (clerk.alloc, &clerk.directory, clerk.board);
+    let (directory, board) = (&clerk.directory, clerk.board);
     let (prepared, seen) = thread::join(
         rt,
-        || prepares(rt, alloc, directory, gate),
+        || prepares(rt, directory, gate),
         ||
             requires { watcher.now.table ≡ board.now.table }
         { looks_once(watcher, board, gate) },
@@ -105,7 +100,7 @@ fn seen_beside<R: Threads + Sync>(
 }
 
 /// Commits an epoch, and prepares the next batch beside a watcher, which answers the epoch's head.
-fn watch_held<R: Threads + Sync + Abort>(rt: &R, clerk: &mut Clerk<Sha256Hash>) {
+fn watch_held<R: Threads + Sync + Abort + AllocGlobal>(rt: &R, clerk: &mut Clerk<Sha256Hash>) {
     let mut watcher = clerk.watcher(rt);
     let entry = clerk.register_a(rt, 1).expect(rt, "an epoch");
     let head = Head {
@@ -120,5 +115,5 @@ fn watch_held<R: Threads + Sync + Abort>(rt: &R, clerk: &mut Clerk<Sha256Hash>) 
 /// A watcher looks while the first job of a batch is held, and answers the head installed before.
 #[test]
 fn watch_while_preparing(rt: HostRuntime) {
-    with_clerk(&rt, rt.alloc(), 4, u64::MAX, |clerk| watch_held(&rt, clerk));
+    with_clerk(&rt, 4, |clerk| watch_held(&rt, clerk));
 }

@@ -1,7 +1,7 @@
 //! Updates that are held before they are installed.
 
 use crate::tests::answers::{Told, are_told};
-use crate::tests::clerk::{Clerk, Written, with_clerk};
+use crate::tests::clerk::{Clerk, Written, with_clerk, with_refusing_clerk};
 use coniks_chain::Entry;
 use coniks_directory::InstallFault;
 use coniks_directory::OpKind::{Change, Register};
@@ -43,9 +43,7 @@ fn commit_around<R: Threads + Sync + Abort>(rt: &R, clerk: &mut Clerk<Sha256Hash
 /// Of two updates from one base the second is stale, however often it is handed in. Prepared anew it installs.
 #[test]
 fn stale_twice(rt: HostRuntime) {
-    with_clerk(&rt, rt.alloc(), 4, u64::MAX, |clerk| {
-        commit_around(&rt, clerk);
-    });
+    with_clerk(&rt, 4, |clerk| commit_around(&rt, clerk));
 }
 
 /// Prepares an update, which the signer refuses, and installs it at epoch 3 once it is handed back.
@@ -70,7 +68,5 @@ fn install_and_ask<R: Threads + Sync + Abort>(rt: &R, clerk: &mut Clerk<Sha256Ha
 /// An update that a signer's refusal handed back installs with the next signature.
 #[test]
 fn handed_back(rt: HostRuntime) {
-    with_clerk(&rt, rt.alloc(), 4, 0, |clerk| {
-        install_and_ask(&rt, clerk);
-    });
+    with_refusing_clerk(&rt, rt.alloc(), 4, 0, |clerk| install_and_ask(&rt, clerk));
 }

@@ -4,63 +4,16 @@ ghost use Rattle.std.specs.Prelude.{◌≡◌, ◌<◌, length, All};
 
 use crate::tests::answers::{Told, asked, both};
 use crate::tests::clerk::{Clerk, Letters, Written, prepared, with_clerk};
-use coniks_chain::{Entry, link};
+use coniks_chain::Entry;
 use coniks_directory::Directory;
 use coniks_directory::OpKind::{Change, Register};
-use coniks_proof::{Head, Sha256Hash};
+use coniks_proof::Sha256Hash;
 use coniks_shared::{Board, Publisher, Watcher};
-use std::alloc::Global;
+use coniks_test_support::{Watch, watch_each, watches_of};
 use std::process::Abort;
+use std::sync::atomic::{AtomicU64, Ordering};
 use std::thread;
 use std::thread::Threads;
-
-/// A watcher on its way through a thread, with its answers.
-#[derive(Drop)]
-struct Watch {
-    watcher: Watcher,
-    answers: Vec<Head>,
-    refused: bool,
-}
-
-/// Keeps one answer.
-fn keep(watch: &mut Watch, answer: Option<Head>)
-    ensures { watch.new.watcher ≡ watch.old.watcher }
-{
-    if let Some(head) = answer {
-        if watch.answers.push(head).is_err() {
-            watch.refused = true;
-        }
-    }
-}
-
-fn look_often(watch: &mut Watch, board: &Board, looks: usize)
-    requires { watch.old.watcher.table ≡ board.now.table }
-    ensures { watch.new.watcher.table ≡ watch.old.watcher.table }
-{
-    for _ in 0..looks {
-        let answer = watch.watcher.latest(board);
-        keep(watch, answer);
-    }
-}
-
-fn watch_each<R: Threads + Sync>(rt: &R, board: &Board, watches: &mut [Watch], looks: usize)
-    requires own { All (λ w. w.watcher.table ≡ board.now.table) watches.old }
-    requires some { 0 < length watches.old }
-    ensures { All (λ w. w.watcher.table ≡ board.now.table) watches.new }
-{
-    let threads = watches.len();
-    thread::for_each_mut(
-        rt,
-        watches,
-        threads,
-        &|_place, one: &mut Watch|
-            requires { one.now.watcher.table ≡ board.now.table }
-            ensures { one.exit.now.watcher.table ≡ one.entry.now.watcher.table }
-        {
-            look_often(one, board, looks);
-        },
-    );
-}
 
 /// The key of `a` at an epoch.
 fn key_at(t: u64) -> u8 {
@@ -110,14 +63,15 @@ fn round<R: Threads + Sync>(rt: &R, clerk: &mut Clerk<Sha256Hash>, t: u64) -> bo
     }
 }
 
-/// Forty installs, at epochs 1 to 40.
-fn commit_forty<R: Threads + Sync>(rt: &R, clerk: &mut Clerk<Sha256Hash>) -> bool
+/// Forty installs, at epochs 1 to 40. Then `over` is 1, which ends the watchers.
+fn commit_forty<R: Threads + Sync>(rt: &R, clerk: &mut Clerk<Sha256Hash>, over: &AtomicU64) -> bool
     ensures { clerk.new.board.now.table ≡ clerk.old.board.now.table }
 {
     let mut right = clerk.commit(rt, 1, &[(Register, b'a', key_at(1))]).is_ok();
     for t in 2..41u64 {
         right = round(rt, clerk, t) && right;
     }
+    over.store(1, Ordering::SeqCst);
     right
 }
 
@@ -133,71 +87,25 @@ fn commit_beside<R: Threads + Sync>(
     ensures own { All (λ w. w.watcher.table ≡ board.now.table) watches.new }
     ensures board { clerk.new.board.now.table ≡ clerk.old.board.now.table }
 {
+    let over = AtomicU64::new(0);
     let (right, _) = thread::join_mut(
         rt,
-        &mut || commit_forty(rt, clerk),
+        &mut || commit_forty(rt, clerk, &over),
         &mut ||
             requires { (0 < length watches.now) × All (λ w. w.watcher.table ≡ board.now.table) watches.now }
             ensures { All (λ w. w.watcher.table ≡ board.entry.now.table) watches.exit.now }
         {
-            watch_each(rt, board, watches, 1000);
+            watch_each(rt, board, watches, &over);
         },
     );
     right
 }
 
-/// Whether a head is that of the chain's entry of its epoch, where the epochs are 1, 2 and so on.
-fn is_of_chain(head: &Head, chain: &[Entry]) -> bool {
-    let Some(place) = head.epoch.checked_sub(1) else {
-        return false;
-    };
-    match chain.get(place as usize) {
-        Some(entry) => entry.body.t == head.epoch && link(&Sha256Hash, entry) == head.link,
-        None => false,
-    }
-}
-
-/// Whether each answer is a head of the chain, and none is before an earlier one.
-fn are_right(answers: &[Head], chain: &[Entry]) -> bool {
-    let mut last = 0;
-    let mut right = true;
-    for head in answers {
-        right = right && is_of_chain(head, chain) && last <= head.epoch;
-        last = head.epoch;
-    }
-    right
-}
-
-/// So many watchers of a board, each with no answers.
-fn watches_of(
-    rt: &impl Abort,
-    alloc: Global,
-    count: usize,
-    publisher: &mut Publisher,
-    board: &Board,
-) -> Vec<Watch>
-    requires { publisher.old.table ≡ board.now.table }
-    ensures own { All (λ w. w.watcher.table ≡ board.now.table) result.items }
-    ensures some { length result.items ≡ count }
-    ensures same { publisher.new ≡ publisher.old }
-{
-    let mut watches = Vec::new(alloc);
-    for _ in 0..count {
-        let watch = Watch {
-            watcher: publisher.watcher(board).expect(rt, "a watcher"),
-            answers: Vec::new(alloc),
-            refused: false,
-        };
-        watches.push(watch).expect(rt, "memory");
-    }
-    watches
-}
-
-/// Whether no watcher was refused memory, and all answers are right.
+/// Whether no watcher saw a wrong head.
 fn all_right(watches: &[Watch], chain: &[Entry]) -> bool {
     let mut right = true;
     for one in watches {
-        right = right && !one.refused && are_right(&one.answers, chain);
+        right = right && one.wrong(chain) == 0;
     }
     right
 }
@@ -233,7 +141,8 @@ fn all_end_with_last(watches: &mut Vec<Watch>, publisher: &mut Publisher, board:
 /// Commits forty epochs beside four watchers, and makes a fifth one after them.
 fn commit_watched<R: Threads + Sync + Abort>(rt: &R, clerk: &mut Clerk<Sha256Hash>) {
     let board = clerk.board;
-    let mut watches = watches_of(rt, clerk.alloc, 4, &mut clerk.publisher, board);
+    let watches = watches_of(clerk.alloc, 4, &mut clerk.publisher, board);
+    let mut watches = watches.expect(rt, "watchers");
     assert!(rt; commit_beside(rt, board, clerk, watches.as_mut_slice()));
     assert!(rt; all_right(&watches, clerk.directory.chain()));
     assert!(rt; all_end_with_last(&mut watches, &mut clerk.publisher, board));
@@ -243,7 +152,5 @@ fn commit_watched<R: Threads + Sync + Abort>(rt: &R, clerk: &mut Clerk<Sha256Has
 
 #[test]
 fn four_watchers(rt: HostRuntime) {
-    with_clerk(&rt, rt.alloc(), 64, u64::MAX, |clerk| {
-        commit_watched(&rt, clerk);
-    });
+    with_clerk(&rt, 64, |clerk| commit_watched(&rt, clerk));
 }
