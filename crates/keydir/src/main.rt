@@ -1,9 +1,6 @@
 //! The program `keydir`: its words and streams, handed to `coniks_tool::program`.
 #![tactic(auto)]
 
-#[cfg(test)]
-mod tests;
-
 use coniks_tool::{SystemIn, SystemOut, Unread, program, unread_words};
 use std::env;
 use std::io::ErrorKind;

@@ -1,6 +1,6 @@
 //! Runs of the program over streams, and words that no file of cases can hold.
 
-use crate::tests::streams::{FailIn, FailOut, Stop};
+use coniks_test_support::{FailIn, FailOut, NEVER, Stop};
 use coniks_tool::{MemoryIn, MemoryOut, Unread, program, unread_words};
 use std::alloc::Global;
 use std::process::Abort;
@@ -69,7 +69,7 @@ pub(crate) enum Way {
     Reads,
     /// Writes and flushes.
     Writes,
-    /// Writes, of which one takes 0 bytes.
+    /// Writes, of which one takes 0 bytes, and flushes.
     Stalls,
 }
 
@@ -105,15 +105,15 @@ pub(crate) struct Given<'a> {
 /// The status of a run that is cut. Where it meets the failure it ends with status 3, has written a part of its whole output
 /// and tells of the failure; else it writes the whole and tells nothing. No status where it doesn't.
 pub(crate) fn status_cut(
-    rt: &(impl Threads + Abort + Sync),
-    alloc: Global,
+    rt: &(impl Threads + Abort + Sync + AllocGlobal),
     given: &Given<'_>,
     cut: Cut,
 ) -> Option<u8> {
+    let alloc = rt.alloc();
     let (reads, writes, stop) = match cut.way {
-        Way::Reads => (cut.call, u64::MAX, Stop::Fails),
-        Way::Writes => (u64::MAX, cut.call, Stop::Fails),
-        Way::Stalls => (u64::MAX, cut.call, Stop::Stalls),
+        Way::Reads => (cut.call, NEVER, Stop::Fails),
+        Way::Writes => (NEVER, cut.call, Stop::Fails),
+        Way::Stalls => (NEVER, cut.call, Stop::Stalls),
     };
     let input = Vec::from_slice(alloc, given.input).expect(rt, "memory");
     let mut reader = FailIn::new(input, cut.piece, reads);
@@ -139,8 +139,7 @@ pub(crate) fn status_cut(
 /// The status of the first run that meets no failure where the first call fails, then the second, and so on, and each
 /// moves at most 64 bytes.
 pub(crate) fn status_after_cuts(
-    rt: &(impl Threads + Abort + Sync),
-    alloc: Global,
+    rt: &(impl Threads + Abort + Sync + AllocGlobal),
     given: &Given<'_>,
     way: Way,
 ) -> Option<u8> {
@@ -150,7 +149,7 @@ pub(crate) fn status_after_cuts(
             call,
             piece: 64,
         };
-        let status = status_cut(rt, alloc, given, cut);
+        let status = status_cut(rt, given, cut);
         if status != Some(3) {
             return status;
         }

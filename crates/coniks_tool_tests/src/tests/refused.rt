@@ -1,7 +1,7 @@
 //! Memory that is refused to `run_script`.
 
 use crate::tests::scripts::{ANSWERED, SCRIPT};
-use crate::tests::streams::{FailOut, Stop};
+use coniks_test_support::{FailOut, NEVER, Stop};
 use coniks_tool::{MemoryIn, RunFault, run_script};
 use std::alloc::Global;
 use std::process::Abort;
@@ -41,7 +41,7 @@ fn is_written(ran: &Result<bool, RunFault>, written: &[u8]) -> bool {
 fn is_refused<R: Threads + Sync + Abort>(rt: &R, alloc: Global, workers: usize) -> bool {
     assert!(rt; 1 <= workers && workers <= 64);
     let mut reader = MemoryIn::new(script(rt, alloc));
-    let mut writer = FailOut::new(room(rt, alloc), 64, u64::MAX, Stop::Fails);
+    let mut writer = FailOut::new(room(rt, alloc), 64, NEVER, Stop::Fails);
     let ran = run_script(rt, alloc, &mut reader, &mut writer, workers, 1);
     assert!(rt; is_written(&ran, &writer.bytes), "{ran:?}");
     ran.is_err()

@@ -4,7 +4,7 @@ use crate::tests::program::{Cut, Given, Way, ends_untold, run_of, status_after_c
 use crate::tests::scripts::{
     ANSWERED, AUDIT, AUDITED, CHANGED, CHECKED, ENTRIES, LOOKUP, MONITOR, SCRIPT,
 };
-use std::alloc::Global;
+use coniks_test_support::NEVER;
 use std::process::Abort;
 use std::thread::Threads;
 
@@ -25,12 +25,13 @@ fn given<'a>(row: &(&'a [&'a str], &'a str, &'a str)) -> Given<'a> {
     }
 }
 
-/// Each read fails in turn, then each write or flush, and then each write takes 0 bytes, until a run meets none.
+/// Each read fails in turn, then each write or flush, and then each write takes 0 bytes or a flush fails, until a run meets
+/// none.
 #[test]
 fn one_failing_call(rt: HostRuntime) {
     for row in &SCRIPTS {
         for way in [Way::Reads, Way::Writes, Way::Stalls] {
-            let found = status_after_cuts(&rt, rt.alloc(), &given(row), way);
+            let found = status_after_cuts(&rt, &given(row), way);
             assert!(rt; found == Some(1), "{:?}, {way:?}", row.0);
         }
     }
@@ -42,29 +43,29 @@ fn byte_by_byte(rt: HostRuntime) {
     for row in &SCRIPTS {
         let cut = Cut {
             way: Way::Reads,
-            call: u64::MAX,
+            call: NEVER,
             piece: 1,
         };
-        let found = status_cut(&rt, rt.alloc(), &given(row), cut);
+        let found = status_cut(&rt, &given(row), cut);
         assert!(rt; found == Some(1), "{:?}", row.0);
     }
 }
 
 /// The status of the first run that meets no failure where each call on the output fails in turn, and help is asked for.
-fn status_of_help_cut(rt: &(impl Threads + Abort + Sync), alloc: Global) -> Option<u8> {
+fn status_of_help_cut(rt: &(impl Threads + Abort + Sync + AllocGlobal)) -> Option<u8> {
     const WORDS: [&str; 2] = ["keydir", "help"];
-    let help = run_of(rt, alloc, &WORDS, b"");
+    let help = run_of(rt, rt.alloc(), &WORDS, b"");
     let given = Given {
         words: &WORDS,
         input: b"",
         whole: help.output.bytes(),
     };
-    status_after_cuts(rt, alloc, &given, Way::Writes)
+    status_after_cuts(rt, &given, Way::Writes)
 }
 
 #[test]
 fn failing_writes_of_help(rt: HostRuntime) {
-    assert!(rt; status_of_help_cut(&rt, rt.alloc()) == Some(0));
+    assert!(rt; status_of_help_cut(&rt) == Some(0));
 }
 
 /// A standard error that fails changes no status.

@@ -4,4 +4,3 @@ mod program;
 mod refused;
 mod scripts;
 mod seals;
-mod streams;
