@@ -13,7 +13,6 @@ mod plan;
 mod provider;
 mod reading;
 mod rounds;
-mod watching;
 
 use crate::plan::plan_of;
 use crate::rounds::soak;

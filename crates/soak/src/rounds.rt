@@ -6,10 +6,11 @@ use crate::names::registrations;
 use crate::plan::Plan;
 use crate::provider::{Names, Provider, prepared};
 use crate::reading::wrong_lookups;
-use crate::watching::{Watch, looks_and_wrong, watch_each, watches_of};
 use anyhow::Result;
-use coniks_directory::{Op, Prepared};
+use coniks_chain::Entry;
+use coniks_directory::Op;
 use coniks_shared::Board;
+use coniks_test_support::{Watch, watch_each, watches_of};
 use std::alloc::{AllocError, Global};
 use std::sync::atomic::{AtomicU64, Ordering};
 use std::thread;
@@ -119,6 +120,20 @@ fn commit_watched<R: Threads + Sync>(
         },
     );
     wrong
+}
+
+/// Returns the number of looks of all watchers, and of wrong heads. A watcher that did not see the chain's last head counts
+/// as one more.
+fn looks_and_wrong(watches: &[Watch], chain: &[Entry]) -> (u64, u64) {
+    let (mut looks, mut wrong) = (0u64, 0u64);
+    for one in watches {
+        looks = looks.wrapping_add(one.looks);
+        let ends = one.answers.last().map(|head| head.epoch) == Some(chain.len() as u64);
+        wrong = wrong
+            .wrapping_add(one.wrong(chain))
+            .wrapping_add(!ends as u64);
+    }
+    (looks, wrong)
 }
 
 /// Commits the epochs of a plan beside its watchers and readers.

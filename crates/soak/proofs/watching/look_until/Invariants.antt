@@ -1,5 +1,0 @@
-use Rattle.std.proofs.Common.{◌≡◌}
-use Rattle.soak.proofs.watching.look_until.Given as goal
-
-abbrev pub invariant-loop : goal.invariant-loop
-invariant-loop l = l.watch.watcher.table ≡ l.fn.watch.watcher.table
