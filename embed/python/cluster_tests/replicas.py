@@ -5,7 +5,8 @@ from __future__ import annotations
 import tempfile
 import threading
 import time
-from contextlib import ExitStack
+from concurrent.futures import ThreadPoolExecutor
+from contextlib import ExitStack, suppress
 from pathlib import Path
 from typing import Any, Callable
 from unittest import mock
@@ -21,6 +22,7 @@ from coniks.replica import Replica
 
 # The processes of PostgreSQL that wait for a standby.
 WAITS = "SELECT pid FROM pg_stat_activity WHERE wait_event = 'SyncRep' AND application_name = 'coniks_log'"
+CANCEL = "SELECT pg_cancel_backend(pid) FROM pg_stat_activity WHERE wait_event = 'SyncRep'"
 
 
 def lost(log: PostgresLog, call: Callable[..., object]) -> Any:
@@ -47,6 +49,24 @@ def notified_early(log: PostgresLog, append: Callable[[], object]) -> Any:
         return found
 
     return mock.patch.object(log, "_rows", queried)
+
+
+def try_opens(tell: Tell, database: Database) -> None:
+    """Several logs are opened at once over a table that isn't there yet."""
+
+    def opened_at_once(number: int) -> bool:
+        barrier = threading.Barrier(8)
+
+        def opens(_: int) -> bool:
+            barrier.wait()
+            with suppress(LogFailed), PostgresLog(database.conninfo, f"new_{number}"):
+                return True
+            return False
+
+        with ThreadPoolExecutor(8) as pool:
+            return all([*pool.map(opens, range(8))])
+
+    tell("log: eight that are opened at once, thirty times", all([opened_at_once(it) for it in range(30)]))
 
 
 def try_appends(tell: Tell, mine: PostgresLog, other: PostgresLog, third: PostgresLog) -> None:
@@ -103,10 +123,22 @@ def try_waits(tell: Tell, database: Database, mine: PostgresLog, other: Postgres
     tell("log: an append that waits for PostgreSQL", [*mine.read(105)] == [b"after", b"later"])
 
 
+def commits_wait(database: Database) -> bool:
+    """Whether a commit waits for a standby. One that does is cancelled."""
+    commit = threading.Thread(target=database.execute, args=("SELECT pg_logical_emit_message(true, '', '')",))
+    commit.start()
+    waits = False
+    while commit.is_alive():
+        waits = bool(database.execute(CANCEL)) or waits
+    return waits
+
+
 def try_standby(tell: Tell, database: Database, mine: PostgresLog, other: PostgresLog) -> None:
     """A synchronous standby is named that isn't there. What was committed without it is neither acknowledged nor read."""
     database.execute("ALTER SYSTEM SET synchronous_standby_names = 'standby'")
     database.execute("SELECT pg_reload_conf()")
+    # The processes of PostgreSQL read it one after another.
+    tell("standby: PostgreSQL waits for it", soon(lambda: commits_wait(database)))
     read: list[bytes] = []
     waiting = [threading.Thread(target=other.append, args=(107, b"cut"))]
     waiting.append(threading.Thread(target=lambda: read.extend(mine.read(107))))
@@ -226,6 +258,7 @@ def try_replicas(tell: Tell, program: str) -> None:
     with tempfile.TemporaryDirectory() as folder, Database(Path(folder)) as database:
         mine, other = (PostgresLog(database.conninfo, patience=it) for it in (1, 60))
         third, empty = (PostgresLog(database.conninfo, it) for it in ("odd name", "empty"))
+        try_opens(tell, database)
         try_appends(tell, mine, other, third)
         try_waits(tell, database, mine, other)
         try_standby(tell, database, mine, other)

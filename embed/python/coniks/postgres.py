@@ -27,6 +27,7 @@ __all__ = ["PostgresLog"]
 
 Connection = psycopg.Connection[Any]
 Answer = TypeVar("Answer")
+_CREATED = psycopg.errors.UniqueViolation, psycopg.errors.DuplicateTable, psycopg.errors.DuplicateObject
 _SQL = {
     "state": """SELECT current_setting('fsync') = 'on' AND current_setting('synchronous_commit') <> 'off',
         to_regclass(quote_ident({name})) IS NOT NULL""",
@@ -104,8 +105,8 @@ class PostgresLog(Closing):
         if not is_durable:
             raise LogFailed("PostgreSQL can lose what it committed: fsync and synchronous_commit must be on")
         if not is_there:
-            # Another process may create the table at the same time.
-            with suppress(psycopg.errors.UniqueViolation):
+            # Another process may create the table at the same time. Which of these errors is raised depends on how far it is.
+            with suppress(*_CREATED):
                 connection.execute(self._sql["create"])
 
     def append(self, position: int, line: bytes) -> None:
