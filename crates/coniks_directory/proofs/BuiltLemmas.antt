@@ -14,7 +14,7 @@ use Rattle.coniks_tree.specs.Entries.{Lists}
 use Rattle.coniks_tree.proofs.Lemmas.{Extends-append, Lists-apart, Lists-stands}
 use Rattle.coniks_tree.specs.Counts.{new_nodes, new_within}
 use Rattle.coniks_directory.specs.Built.{IsCounted}
-use Rattle.coniks_directory.specs.Nodes.{places_of}
+use Rattle.coniks_directory.specs.Nodes.{index_entries}
 use Rattle.coniks_directory.specs.SuppliedBatches.{AreOf, indices_in}
 use Rattle.coniks_directory.proofs.GrowthLemmas.{no_more}
 use Rattle.coniks_directory.proofs.NodeLemmas.{AreAlike, changes_alike, count_same, mirrors_alike, nothing_alike}
@@ -246,7 +246,7 @@ module _ (hash index_of : List ℕ → List ℕ) (nonce latest : List ℕ) (t : 
         (rw (← many) (grind arith), λ none. made.empty (many ∙ none) ∙ ap unchanged kept.0)
 
     -- as many nodes as the indices of the old map and of the changes say
-    count_kept : anew ≡ false → 0 < length ops → node_count p ≡ new_nodes 0 (places_of index_of registry) (places_of index_of (map bound_by ops))
+    count_kept : anew ≡ false → 0 < length ops → node_count p ≡ new_nodes 0 (index_entries index_of registry) (index_entries index_of (map bound_by ops))
     unfolding changed old
     count_kept off some =
         let kept = grows.kept off in
@@ -255,11 +255,11 @@ module _ (hash index_of : List ℕ → List ℕ) (nonce latest : List ℕ) (t : 
         let many : length growth.changes.items ≡ length ops = ap length kept.1 ∙ as_many in
         made.many (omega (arith, many, some)) old.0 there (rw is (AreIncreasing-in_order (entries_of_changes changes) own c.increasing)) (rw is (IsMap-apart changed changed_map))
         ∙ ap (new_nodes 0 old.0) is
-        ∙ count_same old.0 (places_of index_of registry) (entries_of_changes changes) (places_of index_of (map bound_by ops)) (mirrors_alike hash index_of t.records old.0 registry old.2)
+        ∙ count_same old.0 (index_entries index_of registry) (entries_of_changes changes) (index_entries index_of (map bound_by ops)) (mirrors_alike hash index_of t.records old.0 registry old.2)
         (changes_alike hash index_of (length t.records) (map bound_by ops) new numbers (entries_of_changes changes) s c own)
 
     -- or as many as the whole changed map has
-    listed_alike : (on : anew ≡ true) → AreAlike (entries_of_changes growth.changes.items) (places_of index_of (after registry ops))
+    listed_alike : (on : anew ≡ true) → AreAlike (entries_of_changes growth.changes.items) (index_entries index_of (after registry ops))
     listed_alike on =
         let l = listed on in
         let m = mirrors_alike hash index_of (t.records ++ new) changed (after registry ops) mirrored in
@@ -270,11 +270,11 @@ module _ (hash index_of : List ℕ → List ℕ) (nonce latest : List ℕ) (t : 
           other = m.other;
         }
 
-    count_anew : anew ≡ true → node_count p ≡ new_nodes 0 [] (places_of index_of (after registry ops))
+    count_anew : anew ≡ true → node_count p ≡ new_nodes 0 [] (index_entries index_of (after registry ops))
     count_anew on =
         let l = listed on in
         let cs = growth.changes.items in
-        let alike = count_same [] [] (entries_of_changes cs) (places_of index_of (after registry ops)) nothing_alike (listed_alike on) in
+        let alike = count_same [] [] (entries_of_changes cs) (index_entries index_of (after registry ops)) nothing_alike (listed_alike on) in
         (elim cs as (λ xs. cs ≡ xs → node_count p ≡ new_nodes 0 [] (entries_of_changes xs)) [
           | [] ↦ λ is. rw (made.empty (ap length is), grows.none on) none_counted
           | x ∷ xs ↦ λ is.
@@ -287,7 +287,7 @@ module _ (hash index_of : List ℕ → List ℕ) (nonce latest : List ℕ) (t : 
     counts true on = count_anew on
     counts false off = (elim ops as (λ os. ops ≡ os → IsCounted false index_of root registry os p) [
       | [] ↦ λ is. (few_from_root off).1 (ap length is)
-      | x ∷ xs ↦ λ is. count_kept off (rw is (omega arith)) ∙ ap (λ os. new_nodes 0 (places_of index_of registry) (places_of index_of (map bound_by os))) is
+      | x ∷ xs ↦ λ is. count_kept off (rw is (omega arith)) ∙ ap (λ os. new_nodes 0 (index_entries index_of registry) (index_entries index_of (map bound_by os))) is
     ]) refl
 
     pub built : IsBuilt hash index_of nonce t root registry ops anew p new

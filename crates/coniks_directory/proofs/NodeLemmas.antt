@@ -4,7 +4,7 @@ use Rattle.coniks_proof.specs.Bits.{turns}
 use Rattle.coniks_proof.specs.Entries.{half}
 use Rattle.coniks_tree.specs.Counts.{new_nodes, new_unchanged, new_within}
 use Rattle.coniks_directory.proofs.Words.{AreChangesOf, ArePendingRecords, BTreeMap, Entry, IsIn, IsMap, IsNew, Mirrors, Numbered, Record, Registered, Registry, backed_by, entries_of, entry_of, entry_of_record, length-map, overwritten, registered_at, registered_of}
-use Rattle.coniks_directory.specs.Nodes.{place_of, places_of}
+use Rattle.coniks_directory.specs.Nodes.{index_entry, index_entries}
 use Rattle.coniks_directory.proofs.PendingLemmas.{in_records, record_in}
 use Rattle.coniks_directory.proofs.GrowthLemmas.{no_more}
 use Rattle.coniks_directory.proofs.HolderLemmas.{backed_in, in_backed}
@@ -118,33 +118,33 @@ count_same es fs cs ds old new = count_within 256 0 es fs cs ds old new
 pub nothing_alike : AreAlike [] []
 nothing_alike = record { there = λ e is. absurd is; back = λ e is. absurd is; one = tt; other = tt }
 
-place_in : (index_of : List ℕ → List ℕ) (b : Registered) (registry : Registry) → IsIn b registry → IsIn (place_of index_of b) (places_of index_of registry)
+place_in : (index_of : List ℕ → List ℕ) (b : Registered) (registry : Registry) → IsIn b registry → IsIn (index_entry index_of b) (index_entries index_of registry)
 place_in index_of b [] there = absurd there
-place_in index_of b (x ∷ xs) (inl here) = inl (ap (place_of index_of) here)
+place_in index_of b (x ∷ xs) (inl here) = inl (ap (index_entry index_of) here)
 place_in index_of b (x ∷ xs) (inr later) = inr (place_in index_of b xs later)
 
-in_places : (index_of : List ℕ → List ℕ) (e : Numbered) (registry : Registry) → IsIn e (places_of index_of registry) → (b : Registered) × IsIn b registry × (place_of index_of b ≡ e)
+in_places : (index_of : List ℕ → List ℕ) (e : Numbered) (registry : Registry) → IsIn e (index_entries index_of registry) → (b : Registered) × IsIn b registry × (index_entry index_of b ≡ e)
 in_places index_of e [] there = absurd there
 in_places index_of e (x ∷ xs) (inl here) = (x, inl refl, here)
 in_places index_of e (x ∷ xs) (inr later) = let k = in_places index_of e xs later in (k.0, inr k.1, k.2)
 
 module _ (hash index_of : List ℕ → List ℕ) where
-  places_new : (index : List ℕ) (registry : Registry) → IsNew index (entries_of hash index_of registry) → IsNew index (places_of index_of registry)
+  places_new : (index : List ℕ) (registry : Registry) → IsNew index (entries_of hash index_of registry) → IsNew index (index_entries index_of registry)
   places_new index [] new = tt
   places_new index (b ∷ bs) new = (new.0, places_new index bs new.1)
 
-  pub places_map : (registry : Registry) → IsMap (entries_of hash index_of registry) → IsMap (places_of index_of registry)
+  pub places_map : (registry : Registry) → IsMap (entries_of hash index_of registry) → IsMap (index_entries index_of registry)
   places_map [] own = tt
   places_map (b ∷ bs) own = (own.0, places_new (index_of b.name) bs own.1, places_map bs own.2)
 
   -- the entries of a tree stand where the names of its registry do
-  pub mirrors_alike : (records : List Record) (es : List Numbered) (registry : Registry) → Mirrors hash index_of records es registry → AreAlike es (places_of index_of registry)
+  pub mirrors_alike : (records : List Record) (es : List Numbered) (registry : Registry) → Mirrors hash index_of records es registry → AreAlike es (index_entries index_of registry)
   mirrors_alike records es registry m =
       let f = registered_at records in
       record {
         there = λ e is.
             let own = in_entries hash index_of (backed_by f e) registry (m.same.there (backed_by f e) (backed_in f es e is)) in
-            (place_of index_of (f e.behind), place_in index_of (f e.behind) registry own.1, ap (λ (x : Entry Registered). x.index) own.0);
+            (index_entry index_of (f e.behind), place_in index_of (f e.behind) registry own.1, ap (λ (x : Entry Registered). x.index) own.0);
         back = λ p is.
             let b = in_places index_of p registry is in
             let k = in_backed f es (entry_of hash index_of b.0) (m.same.back (entry_of hash index_of b.0) (entry_in hash index_of b.0 registry b.1)) in
@@ -156,12 +156,12 @@ module _ (hash index_of : List ℕ → List ℕ) where
   -- and so do the changes of a batch
   pub changes_alike : (base : ℕ) (bound : List Registered) (records : List Record) (numbers : BTreeMap (List ℕ) ℕ) (cs : List Numbered)
       → ArePendingRecords hash index_of bound records numbers → AreChangesOf base records cs → IsMap cs
-      → AreAlike cs (places_of index_of bound)
+      → AreAlike cs (index_entries index_of bound)
   changes_alike base bound records numbers cs s c own = record {
     there = λ e is.
         let r = c.only e is in
         let b = registered_of r.1 in (
-          place_of index_of b,
+          index_entry index_of b,
           place_in index_of b bound (subst (λ (bs : List Registered). IsIn b bs) s.binds (record_in records r.0 r.1 r.2)),
           sym (s.drafted r.0 r.1 r.2).indexed ∙ ap (λ (x : Numbered). x.index) r.3,
         );

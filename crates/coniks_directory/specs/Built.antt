@@ -17,7 +17,7 @@ use Rattle.coniks_tree.specs.declared.table.Root.{Root}
 use Rattle.coniks_work.specs.Grown.{IsOldMap, unchanged}
 use Rattle.coniks_directory.specs.Batches.{most_anew, most_nodes, operations}
 use Rattle.coniks_directory.specs.History.{latest_registry}
-use Rattle.coniks_directory.specs.Nodes.{epoch_nodes, places_of}
+use Rattle.coniks_directory.specs.Nodes.{epoch_nodes, index_entries}
 use Rattle.coniks_directory.specs.State.{Mirrors, State, history_of, registered_of}
 use Rattle.coniks_directory.specs.SuppliedBatches.{AreOf, indices_in, indices_of}
 use Rattle.coniks_directory.specs.Updates.{RotatesTo, IsUpdate, registry_after}
@@ -50,10 +50,10 @@ IsSmall true root ops registry part = (node_count part ≤ most_anew registry) �
 -- how many nodes the part takes: of the whole map, where it is made anew, or of
 -- what the operations change; without operations it is the old root
 abbrev pub IsCounted : Bool → (Octets → Octets) → Option Root → Registry → List Operation → Part → Type 0
-IsCounted true index_of root registry ops part = node_count part ≡ new_nodes 0 [] (places_of index_of (after registry ops))
+IsCounted true index_of root registry ops part = node_count part ≡ new_nodes 0 [] (index_entries index_of (after registry ops))
 IsCounted false index_of root registry [] part = part ≡ unchanged root
 IsCounted false index_of root registry (op ∷ ops) part = node_count part ≡ new_nodes
-    0 (places_of index_of registry) (places_of index_of (map bound_by (op ∷ ops)))
+    0 (index_entries index_of registry) (index_entries index_of (map bound_by (op ∷ ops)))
 
 -- the part and the new records are those of a batch on a registry, which the root shows, over the nodes and the records that there were
 pub record IsBuilt (hash index_of : Octets → Octets) (nonce : Octets) (t : Table)

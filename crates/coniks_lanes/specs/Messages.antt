@@ -14,7 +14,7 @@ pub record BeginWith (bytes message : List ℕ) (size : ℕ) : Type 0 where
   pub behind : drop size bytes ≡ replicate (128 - size) 0
 
 -- the bytes are the two blocks of the message of this length at their front
-pub record IsPadded (bytes : List ℕ) (size : ℕ) : Type 0 where
+pub record IsPaddedMessage (bytes : List ℕ) (size : ℕ) : Type 0 where
   pub least : 56 ≤ size
   pub most : size ≤ 119
   pub long : length bytes ≡ 128

@@ -21,13 +21,13 @@ pub struct TwoBlocks {
 
 impl Model for TwoBlocks {
     ghost use Rattle.std.specs.Prelude.{List, ℕ, take};
-    ghost use Rattle.coniks_lanes.specs.Messages.{IsPadded};
+    ghost use Rattle.coniks_lanes.specs.Messages.{IsPaddedMessage};
 
     ghost Value = { List ℕ };
 
     ghost view = { λ m. take m.length m.padded };
 
-    ghost invariant = { λ m. IsPadded m.padded m.length };
+    ghost invariant = { λ m. IsPaddedMessage m.padded m.length };
 }
 
 impl TwoBlocks {

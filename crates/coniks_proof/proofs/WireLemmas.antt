@@ -10,7 +10,7 @@ use Rattle.coniks_proof.specs.Hashing.{Hashing}
 use Rattle.coniks_proof.proofs.PreimageLemmas.{be2_same, commitment_same, split_same}
 use Rattle.coniks_proof.specs.ProofRefs.{digest_of}
 use Rattle.coniks_proof.specs.Proofs.{Accepts, EndFits}
-use Rattle.coniks_proof.specs.Wire.{AreSized, EndHas, FrontHas, HasRoom, IsEndOf, IsFirstFault, IsFront, IsWire, IsWritable, IsWritableEnd, WireHas, after_key, after_name, count_in, end_bytes, end_in, key_length, kind_of, long_length, name_length, order, short_length, sibling_bytes}
+use Rattle.coniks_proof.specs.Wire.{AreSized, EndHas, FrontHas, HasRoom, IsEndOf, IsFirstFault, IsFront, IsWire, IsWritable, IsWritableEnd, WireHas, after_key, after_name, count_in, end_bytes, after_siblings, key_length, kind_of, long_length, name_length, order, short_length, sibling_bytes}
 use Rattle.coniks_proof.specs.declared.values.Digest.{Digest}
 use Rattle.coniks_proof.specs.declared.paths.Proof.{Proof}
 use Rattle.coniks_proof.specs.declared.paths.End.{End}
@@ -140,7 +140,7 @@ front_whole xs r count r' sib s kind n chunks small known first cut is few split
 abbrev front_bytes : ℕ → List Digest → List ℕ → List ℕ
 front_bytes kind ds rest = kind ∷ to_be_bytes w16 (length ds) ++ sibling_bytes ds ++ rest
 
-front-end : (kind : ℕ) (ds : List Digest) (rest : List ℕ) → length ds < 2 ^ 16 → AreSized ds → end_in (front_bytes kind ds rest) ≡ rest
+front-end : (kind : ℕ) (ds : List Digest) (rest : List ℕ) → length ds < 2 ^ 16 → AreSized ds → after_siblings (front_bytes kind ds rest) ≡ rest
 front-end kind ds rest few sized =
     ap (λ n. drop (n * 32) (sibling_bytes ds ++ rest)) (from_be_bytes-to_be_bytes_2 (length ds) few)
     ∙ ap (λ n. drop n (sibling_bytes ds ++ rest)) (sym (length-sibling_bytes ds sized)) ∙ drop-append_seam (sibling_bytes ds) rest
@@ -163,13 +163,13 @@ front-none kind ds rest known few sized BytesFollow has = has
 -- what a front says of its bytes
 pub record FrontRead (xs : List ℕ) (kind : ℕ) (rest : List ℕ) : Type 0 where
   pub kind_is : slice_index xs 0 ≡ kind
-  pub end_is : end_in xs ≡ rest
+  pub end_is : after_siblings xs ≡ rest
   pub none : (fault : WireFault) → FrontHas xs fault → ⊥
 
 pub front_read : (xs : List ℕ) (kind : ℕ) (ds : List Digest) (rest : List ℕ) → IsFront xs kind ds rest → FrontRead xs kind rest
 front_read xs kind ds rest front = record {
   kind_is = ap (λ ys. slice_index ys 0) front.same;
-  end_is = ap end_in front.same ∙ front-end kind ds rest front.few front.sized;
+  end_is = ap after_siblings front.same ∙ front-end kind ds rest front.few front.sized;
   none = λ fault has. front-none kind ds rest front.known front.few front.sized fault (subst (λ ys. FrontHas ys fault) front.same has);
 }
 
@@ -300,11 +300,11 @@ wire_end : (proof : Proof) → IsWritable proof → EndRead (end_bytes proof.end
 wire_end proof writable = subst (λ ys. EndRead ys (kind_of proof.end) []) (append-nil (end_bytes proof.end)) (at_end proof.end [] writable.end)
 
 -- the error of an end, in the whole and in the end alone
-to_end : (bytes rest : List ℕ) (kind : ℕ) (fault : WireFault) → FrontRead bytes kind rest → EndHas (slice_index bytes 0) (end_in bytes) fault → EndHas kind rest fault
-to_end bytes rest kind fault front has = subst (λ ys. EndHas kind ys fault) front.end_is (subst (λ k. EndHas k (end_in bytes) fault) front.kind_is has)
+to_end : (bytes rest : List ℕ) (kind : ℕ) (fault : WireFault) → FrontRead bytes kind rest → EndHas (slice_index bytes 0) (after_siblings bytes) fault → EndHas kind rest fault
+to_end bytes rest kind fault front has = subst (λ ys. EndHas kind ys fault) front.end_is (subst (λ k. EndHas k (after_siblings bytes) fault) front.kind_is has)
 
-of_end : (bytes rest : List ℕ) (kind : ℕ) (fault : WireFault) → FrontRead bytes kind rest → EndHas kind rest fault → EndHas (slice_index bytes 0) (end_in bytes) fault
-of_end bytes rest kind fault front has = subst (λ k. EndHas k (end_in bytes) fault) (sym front.kind_is) (subst (λ ys. EndHas kind ys fault) (sym front.end_is) has)
+of_end : (bytes rest : List ℕ) (kind : ℕ) (fault : WireFault) → FrontRead bytes kind rest → EndHas kind rest fault → EndHas (slice_index bytes 0) (after_siblings bytes) fault
+of_end bytes rest kind fault front has = subst (λ k. EndHas k (after_siblings bytes) fault) (sym front.kind_is) (subst (λ ys. EndHas kind ys fault) (sym front.end_is) has)
 
 -- the bytes of a proof have no error
 pub wire-no_fault : (bytes : List ℕ) (proof : Proof) (fault : WireFault) → IsWire bytes proof → WireHas bytes fault → ⊥

@@ -94,8 +94,8 @@ abbrev pub count_in : Octets → ℕ
 count_in bytes = from_be_bytes w16 (take 2 (drop 1 bytes))
 
 -- what follows the siblings that the bytes give
-abbrev pub end_in : Octets → Octets
-end_in bytes = drop (count_in bytes * 32) (drop 2 (drop 1 bytes))
+abbrev pub after_siblings : Octets → Octets
+after_siblings bytes = drop (count_in bytes * 32) (drop 2 (drop 1 bytes))
 
 -- the length that two bytes give, and four
 abbrev pub short_length : Octets → ℕ
@@ -136,11 +136,11 @@ WireHas bytes NoBytes = FrontHas bytes NoBytes
 WireHas bytes UnknownKind = FrontHas bytes UnknownKind
 WireHas bytes CutInCount = FrontHas bytes CutInCount
 WireHas bytes CutInSiblings = FrontHas bytes CutInSiblings
-WireHas bytes CutInOther = EndHas (slice_index bytes 0) (end_in bytes) CutInOther
-WireHas bytes CutInOpening = EndHas (slice_index bytes 0) (end_in bytes) CutInOpening
-WireHas bytes CutInName = EndHas (slice_index bytes 0) (end_in bytes) CutInName
-WireHas bytes CutInKey = EndHas (slice_index bytes 0) (end_in bytes) CutInKey
-WireHas bytes BytesFollow = EndHas (slice_index bytes 0) (end_in bytes) BytesFollow
+WireHas bytes CutInOther = EndHas (slice_index bytes 0) (after_siblings bytes) CutInOther
+WireHas bytes CutInOpening = EndHas (slice_index bytes 0) (after_siblings bytes) CutInOpening
+WireHas bytes CutInName = EndHas (slice_index bytes 0) (after_siblings bytes) CutInName
+WireHas bytes CutInKey = EndHas (slice_index bytes 0) (after_siblings bytes) CutInKey
+WireHas bytes BytesFollow = EndHas (slice_index bytes 0) (after_siblings bytes) BytesFollow
 
 -- of these errors it is the first
 pub record IsFirstFault (has : WireFault → Type 0) (fault : WireFault) : Type 0 where

@@ -17,7 +17,7 @@ use Rattle.coniks_tree.specs.declared.part.Change.{Change}
 use Rattle.coniks_tree.specs.declared.part.Part.{Part}
 use Rattle.coniks_work.specs.Sides.{lefts, side}
 use Rattle.coniks_work.specs.Jobs.{in_range, jobs_below, job_of}
-use Rattle.coniks_work.specs.Grown.{IsOldMap, AllStored, IsGrown, AreGrown, AreDone, unchanged}
+use Rattle.coniks_work.specs.Grown.{IsOldMap, AllStored, IsNewPart, AreNewParts, AreDone, unchanged}
 use Rattle.coniks_work.specs.declared.jobs.Job.{Job}
 use Rattle.coniks_work.specs.Places.{AllFrom}
 use Rattle.coniks_work.proofs.SideLemmas.{lefts_few, length-left, length-right, side_is_half, side_in_order}
@@ -57,7 +57,7 @@ module _ (by : Hashing) (t : Table) (root : Option Root) where
   -- what was there is what no change makes
   pub old_grown : (p : List Bool) (part : Part) → is_made part ≡ false → Fits (length t.nodes) (length p) part
       → node_count part ≤ 1 → (root ≡ None → KeepsNone part) → ((all : List Record) → Extends t.records all → Placed all part)
-      → ((old : List Numbered) → IsOldMap by t root old → Stands by t part p (under p old)) → IsGrown by t root p [] part
+      → ((old : List Numbered) → IsOldMap by t root old → Stands by t part p (under p old)) → IsNewPart by t root p [] part
   old_grown p part unmade fits few keeps placed stands = record {
     fits = fits;
     count = omega arith;
@@ -79,7 +79,7 @@ module _ (by : Hashing) (t : Table) (root : Option Root) where
       → (KeepsNone before → KeepsNone after)
       → (is_made before ≡ false → 0 < length p + length cs → (entries : List Numbered) → AreInOrder (length p) (entries_in cs) → AreApart (length p) (overwritten entries (entries_in cs))
       → Stands by t before p entries → node_count after ≡ new_nodes (length p) entries (entries_in cs))
-      → IsGrown by t root p (entries_in cs) after
+      → IsNewPart by t root p (entries_in cs) after
   grown_from p cs before after old few none placed stood fits same places counts stands keeps news = record {
     fits = fits;
     count = subst (λ n. node_count after ≤ 1 + 2 * ((256 - length p) * n)) (sym (length-map cs entry_of_change)) (bound cs same counts);
@@ -99,7 +99,7 @@ module _ (by : Hashing) (t : Table) (root : Option Root) where
     stands : Stands by t part (child p b) (half b (length p) (overwritten (under p old) es))
     new : node_count part ≡ new_nodes (suc (length p)) (half b (length p) (under p old)) (half b (length p) es)
 
-  side_of : (b : Bool) (p : List Bool) (es old : List Numbered) (part : Part) → length p < 256 → IsGrown by t root (child p b) (side b (length p) es) part
+  side_of : (b : Bool) (p : List Bool) (es old : List Numbered) (part : Part) → length p < 256 → IsNewPart by t root (child p b) (side b (length p) es) part
       → IsOldMap by t root old → AreInOrder (length p) es → AreApart (length p) (overwritten (under p old) es) → IsSide b p es old part
   side_of b p es old part short g is ordered apart =
       let some = side b (length p) es in
@@ -116,7 +116,7 @@ module _ (by : Hashing) (t : Table) (root : Option Root) where
             ∙ ap (λ z. new_nodes (suc (length p)) z some) (under-child p b old) ∙ ap (new_nodes (suc (length p)) (half b (length p) (under p old))) some-is;
       }
 
-  side_count : (b : Bool) (p : List Bool) (es : List Numbered) (part : Part) → IsGrown by t root (child p b) (side b (length p) es) part
+  side_count : (b : Bool) (p : List Bool) (es : List Numbered) (part : Part) → IsNewPart by t root (child p b) (side b (length p) es) part
       → node_count part ≤ 1 + 2 * ((255 - length p) * length (side b (length p) es))
   side_count b p es part g =
       let deeper : 256 - length (child p b) ≡ 255 - length p = omega (arith, length-child p b) in
@@ -124,13 +124,13 @@ module _ (by : Hashing) (t : Table) (root : Option Root) where
 
   -- the parts of two neighbouring prefixes, joined
   pub joined_grown : (p : List Bool) (es : List Numbered) (left right part : Part) → length p < 256 → 0 < length es
-      → IsGrown by t root (child p false) (side false (length p) es) left → IsGrown by t root (child p true) (side true (length p) es) right
+      → IsNewPart by t root (child p false) (side false (length p) es) left → IsNewPart by t root (child p true) (side true (length p) es) right
       → Fits (length t.nodes) (length p) part → node_count part ≤ node_count left + node_count right + 1
       → node_count part ≡ joined_count left right → (KeepsNone left → KeepsNone right → KeepsNone part)
       → ((all : List Record) → Placed all left → Placed all right → Placed all part)
       → ((entries : List Numbered) → Stands by t left (child p false) (half false (length p) entries)
       → Stands by t right (child p true) (half true (length p) entries) → Stands by t part p entries)
-      → IsGrown by t root p es part
+      → IsNewPart by t root p es part
   joined_grown p es left right part short some gl gr fits few new keeps placed stands =
       let l = length (side false (length p) es) in
       let r = length (side true (length p) es) in
@@ -164,18 +164,18 @@ module _ (by : Hashing) (t : Table) (root : Option Root) where
   done_none all (x ∷ xs) h = absurd h
 
   done_one : (all : List Numbered) (j : Job) (xs : List Part) → AreDone by t root all (j ∷ []) xs
-      → (x : Part) × (xs ≡ x ∷ []) × IsGrown by t root j.prefix (in_range j all) x
+      → (x : Part) × (xs ≡ x ∷ []) × IsNewPart by t root j.prefix (in_range j all) x
   done_one all j [] h = absurd h
   done_one all j (x ∷ xs) h = (x, ap (λ l. x ∷ l) (done_none all xs h.1), h.0)
 
   -- the parts of the jobs are those of the prefixes
   pub done_grown : (h : ℕ) (p : List Bool) (from : ℕ) (all es : List Numbered) (xs : List Part) → IsAt all from es → AreDone by t root all (jobs_below h p from es) xs
-      → AreGrown by t root h p es xs
+      → AreNewParts by t root h p es xs
   done_grown zero p from all [] xs at d = done_none all xs d
   done_grown (suc h) p from all [] xs at d = done_none all xs d
   done_grown zero p from all (e ∷ es) xs at d =
       let one = done_one all (job_of p from (from + length (e ∷ es))) xs d in
-      (one.0, one.1, subst (λ z. IsGrown by t root p z one.0) (in_range-at p from all (e ∷ es) at) one.2)
+      (one.0, one.1, subst (λ z. IsNewPart by t root p z one.0) (in_range-at p from all (e ∷ es) at) one.2)
   done_grown (suc h) p from all (e ∷ es) xs at d =
       let both = done_append all (jobs_below h (child p false) from (side false (length p) (e ∷ es)))
       (jobs_below h (child p true) (from + lefts (length p) (e ∷ es)) (side true (length p) (e ∷ es))) xs d in (
@@ -186,17 +186,17 @@ module _ (by : Hashing) (t : Table) (root : Option Root) where
         done_grown h (child p true) (from + lefts (length p) (e ∷ es)) all (side true (length p) (e ∷ es)) both.1 (at_right all from (length p) (e ∷ es) at) both.4,
       )
 
-  pub grown_none : (h : ℕ) (p : List Bool) (xs : List Part) → AreGrown by t root h p [] xs → xs ≡ []
+  pub grown_none : (h : ℕ) (p : List Bool) (xs : List Part) → AreNewParts by t root h p [] xs → xs ≡ []
   grown_none zero p xs g = g
   grown_none (suc h) p xs g = g
 
   -- at the cutting depth there is one part
-  pub grown_one : (depth : ℕ) (p : List Bool) (es : List Numbered) (xs : List Part) → length p ≡ depth → 0 < length es → AreGrown by t root (depth - length p) p es xs
-      → (x : Part) × (xs ≡ x ∷ []) × IsGrown by t root p es x
+  pub grown_one : (depth : ℕ) (p : List Bool) (es : List Numbered) (xs : List Part) → length p ≡ depth → 0 < length es → AreNewParts by t root (depth - length p) p es xs
+      → (x : Part) × (xs ≡ x ∷ []) × IsNewPart by t root p es x
   grown_one depth p [] xs same some g = absurd (omega arith)
   grown_one depth p (e ∷ es) xs same some g =
       let none : depth - length p ≡ zero = omega arith in
-      subst (λ h. AreGrown by t root h p (e ∷ es) xs) none g
+      subst (λ h. AreNewParts by t root h p (e ∷ es) xs) none g
 
   -- the parts of a prefix above the cutting depth, after those before: those of its left side, and then those of its right side
   pub record OnSides (depth : ℕ) (p : List Bool) (es : List Numbered) (before mine : List Part) : Type 0 where
@@ -204,15 +204,15 @@ module _ (by : Hashing) (t : Table) (root : Option Root) where
     pub right : List Part
     pub above : length p < depth
     pub parts : before ++ mine ≡ before ++ left ++ right
-    pub on_left : AreGrown by t root (depth - length (child p false)) (child p false) (side false (length p) es) left
-    pub on_right : AreGrown by t root (depth - length (child p true)) (child p true) (side true (length p) es) right
+    pub on_left : AreNewParts by t root (depth - length (child p false)) (child p false) (side false (length p) es) left
+    pub on_right : AreNewParts by t root (depth - length (child p true)) (child p true) (side true (length p) es) right
 
   pub grown_sides : (depth : ℕ) (p : List Bool) (es : List Numbered) (before mine : List Part) → length p < depth → 0 < length es
-      → AreGrown by t root (depth - length p) p es mine → OnSides depth p es before mine
+      → AreNewParts by t root (depth - length p) p es mine → OnSides depth p es before mine
   grown_sides depth p [] before mine above some g = absurd (omega arith)
   grown_sides depth p (e ∷ es) before mine above some g =
       let here : depth - length p ≡ suc (depth - suc (length p)) = omega arith in
-      let s = subst (λ h. AreGrown by t root h p (e ∷ es) mine) here g in
+      let s = subst (λ h. AreNewParts by t root h p (e ∷ es) mine) here g in
       record {
         left = s.0;
         right = s.1;
@@ -225,14 +225,14 @@ module _ (by : Hashing) (t : Table) (root : Option Root) where
   -- the parts of a side, by the prefix and the entries that code has computed
   pub grown_as : (b : Bool) (depth : ℕ) (p : List Bool) (es : List Numbered) (xs : List Part) {level : ℕ} {q : List Bool} {some : List Numbered}
       → level ≡ length p → q ≡ child p b → some ≡ side b level es
-      → AreGrown by t root (depth - length (child p b)) (child p b) (side b (length p) es) xs → AreGrown by t root (depth - length q) q some xs
+      → AreNewParts by t root (depth - length (child p b)) (child p b) (side b (length p) es) xs → AreNewParts by t root (depth - length q) q some xs
   grown_as b depth p es xs {level} {q} {some} level-is q-is some-is g =
-      subst (λ z. AreGrown by t root (depth - length z) z some xs) (sym q-is)
-      (subst (λ l. AreGrown by t root (depth - length (child p b)) (child p b) l xs) (sym (some-is ∙ ap (λ k. side b k es) level-is)) g)
+      subst (λ z. AreNewParts by t root (depth - length z) z some xs) (sym q-is)
+      (subst (λ l. AreNewParts by t root (depth - length (child p b)) (child p b) l xs) (sym (some-is ∙ ap (λ k. side b k es) level-is)) g)
 
   -- the parts of the jobs, by their numbers
   module _ (cs : List Change) (jobs : List Job) (part : ℕ → Part → Type 0)
-      (each : (n : ℕ) (x : Part) → part n x → (job : Job) × (slice_get jobs n ≡ Some job) × IsGrown by t root job.prefix (entries_in (in_range job cs)) x) where
+      (each : (n : ℕ) (x : Part) → part n x → (job : Job) × (slice_get jobs n ≡ Some job) × IsNewPart by t root job.prefix (entries_in (in_range job cs)) x) where
     pub numbered_done : (k : ℕ) (before js : List Job) (xs : List Part) → jobs ≡ before ++ js → length before ≡ k
         → AllFrom part k xs → length xs ≡ length js → AreDone by t root (entries_in cs) js xs
     numbered_done k before [] [] is at h same = tt
@@ -247,20 +247,20 @@ module _ (by : Hashing) (t : Table) (root : Option Root) where
         there (b ∷ bs) zero e = absurd (omega arith)
         there (b ∷ bs) (suc n) e = there bs n (omega arith)
 
-        here : IsGrown by t root j.prefix (in_range j (entries_in cs)) x
+        here : IsNewPart by t root j.prefix (in_range j (entries_in cs)) x
         here = let f = each k x h.0 in
             let same_job : f.0 ≡ j = some_same (sym f.1 ∙ ap (λ l. slice_get l k) is ∙ there before k at) in
             let same_range : entries_in (in_range j cs) ≡ in_range j (entries_in cs) = range_of_entries j cs in
-            subst (λ es. IsGrown by t root j.prefix es x) same_range
-            (subst (λ (b : Job). IsGrown by t root b.prefix (entries_in (in_range b cs)) x) same_job f.2)
+            subst (λ es. IsNewPart by t root j.prefix es x) same_range
+            (subst (λ (b : Job). IsNewPart by t root b.prefix (entries_in (in_range b cs)) x) same_job f.2)
 
   -- the parts of all jobs, from the root on
   pub parts_ready : (depth : ℕ) (p : List Bool) (es : List Numbered) (js made : List Job) (xs : List Part)
       → p ≡ [] → js ≡ made → made ≡ jobs_below depth [] 0 es → AreDone by t root es js xs
-      → AreGrown by t root (depth - length p) p es xs
+      → AreNewParts by t root (depth - length p) p es xs
   parts_ready depth p es js made xs p-is js-is made-is done =
-      subst (λ z. AreGrown by t root (depth - length z) z es xs) (sym p-is)
-      (let whole : depth ≡ depth - 0 = omega arith in subst (λ h. AreGrown by t root h [] es xs) whole
+      subst (λ z. AreNewParts by t root (depth - length z) z es xs) (sym p-is)
+      (let whole : depth ≡ depth - 0 = omega arith in subst (λ h. AreNewParts by t root h [] es xs) whole
       (done_grown depth [] 0 es es xs (at_start es) (subst (λ l. AreDone by t root es l xs) (js-is ∙ made-is) done)))
 
   -- without changes

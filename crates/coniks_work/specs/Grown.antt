@@ -32,7 +32,7 @@ AllStored records (e ∷ es) = ((r : Record) × (slice_get records e.behind ≡ 
 
 module _ (by : Hashing) (t : Table) (root : Option Root) where
   -- the part is what the old map has under the prefix, overwritten by the entries, which are under the prefix
-  pub record IsGrown (prefix : List Bool) (entries : List Numbered) (part : Part) : Type 0 where
+  pub record IsNewPart (prefix : List Bool) (entries : List Numbered) (part : Part) : Type 0 where
     pub fits : Fits (length t.nodes) (length prefix) part
     pub count : node_count part ≤ 1 + 2 * ((256 - length prefix) * length entries)
     pub placed : (all : List Record) → Extends t.records all → AllStored all entries → Placed all part
@@ -45,16 +45,16 @@ module _ (by : Hashing) (t : Table) (root : Option Root) where
         → Stands by t part prefix (overwritten (under prefix old) entries)
 
   -- the parts are, from left to right, those of the prefixes that are `height` bits longer, as far as one of the entries is under them
-  abbrev pub AreGrown : ℕ → List Bool → List Numbered → List Part → Type 0
-  AreGrown height prefix [] parts = parts ≡ []
-  AreGrown zero prefix (e ∷ es) parts = (part : Part) × (parts ≡ part ∷ []) × IsGrown prefix (e ∷ es) part
-  AreGrown (suc height) prefix (e ∷ es) parts = (left : List Part) × (right : List Part) × (parts ≡ left ++ right)
-      × AreGrown height (child prefix false) (side false (length prefix) (e ∷ es)) left
-      × AreGrown height (child prefix true) (side true (length prefix) (e ∷ es)) right
+  abbrev pub AreNewParts : ℕ → List Bool → List Numbered → List Part → Type 0
+  AreNewParts height prefix [] parts = parts ≡ []
+  AreNewParts zero prefix (e ∷ es) parts = (part : Part) × (parts ≡ part ∷ []) × IsNewPart prefix (e ∷ es) part
+  AreNewParts (suc height) prefix (e ∷ es) parts = (left : List Part) × (right : List Part) × (parts ≡ left ++ right)
+      × AreNewParts height (child prefix false) (side false (length prefix) (e ∷ es)) left
+      × AreNewParts height (child prefix true) (side true (length prefix) (e ∷ es)) right
 
   -- the parts are, in order, those of the jobs, for each the entries of its range
   abbrev pub AreDone : List Numbered → List Job → List Part → Type 0
   AreDone entries [] [] = Unit {0}
   AreDone entries [] (part ∷ parts) = ⊥
   AreDone entries (job ∷ jobs) [] = ⊥
-  AreDone entries (job ∷ jobs) (part ∷ parts) = IsGrown job.prefix (in_range job entries) part × AreDone entries jobs parts
+  AreDone entries (job ∷ jobs) (part ∷ parts) = IsNewPart job.prefix (in_range job entries) part × AreDone entries jobs parts

@@ -8,7 +8,7 @@ ghost use Rattle.coniks_tree.specs.Trees.{table_of};
 ghost use Rattle.coniks_tree.specs.Table.{Extends, Numbered};
 ghost use Rattle.coniks_tree.specs.Parts.{entries_in, is_made, node_count, Fits, KeepsNone, Placed, Stands};
 ghost use Rattle.coniks_tree.specs.declared.table.Record.{Record};
-ghost use Rattle.coniks_work.specs.Grown.{IsGrown, IsOldMap};
+ghost use Rattle.coniks_work.specs.Grown.{IsNewPart, IsOldMap};
 ghost use Rattle.coniks_work.specs.Jobs.{in_range, LieWithin};
 
 use crate::jobs::Job;
@@ -52,7 +52,7 @@ pub(crate) fn grown_part<H: Hash32>(
     changes: &[Change],
 ) -> Result<Part, OutOfMemory>
     requires { IfSome old.now.root (λ r. r.0 < length old.now.tree.now.nodes.items) }
-    ensures { IfOk result (λ part. IsGrown (hashing (H.digest_of old.now.h.now) old.now.nonce.now.0)
+    ensures { IfOk result (λ part. IsNewPart (hashing (H.digest_of old.now.h.now) old.now.nonce.now.0)
         (table_of old.now.tree.now) old.now.root prefix.now (entries_in changes.now) part) }
 {
     let part = old_part(old.tree, old.root, prefix);
@@ -80,14 +80,14 @@ pub(crate) struct Growing<'a, H> {
 impl<'a, H: Hash32> Work for Growing<'a, H> {
     ghost use Rattle.std.specs.Prelude.{◌≡◌, length, slice_get, Some};
     ghost use Rattle.coniks_tree.specs.Parts.{entries_in};
-    ghost use Rattle.coniks_work.specs.Grown.{IsGrown};
+    ghost use Rattle.coniks_work.specs.Grown.{IsNewPart};
     ghost use Rattle.coniks_work.specs.Jobs.{in_range};
     ghost use Rattle.coniks_work.specs.declared.jobs.Job.{Job};
 
     ghost count = { λ w. length w.jobs.now };
 
     ghost part = { λ w number part. (job : Job) × (slice_get w.jobs.now number ≡ Some job)
-        × IsGrown (hashing (H.digest_of w.old.now.h.now) w.old.now.nonce.now.0) (table_of w.old.now.tree.now)
+        × IsNewPart (hashing (H.digest_of w.old.now.h.now) w.old.now.nonce.now.0) (table_of w.old.now.tree.now)
         w.old.now.root job.prefix (entries_in (in_range job w.changes.now)) part };
 
     fn run(&self, number: usize) -> Result<Part, OutOfMemory> {

@@ -5,7 +5,7 @@ ghost use Rattle.coniks_proof.specs.Hashing.{hashing};
 ghost use Rattle.coniks_tree.specs.Trees.{table_of};
 ghost use Rattle.coniks_tree.specs.Parts.{entries_in};
 ghost use Rattle.coniks_tree.specs.declared.part.Part.{Part};
-ghost use Rattle.coniks_work.specs.Grown.{IsGrown, AreGrown};
+ghost use Rattle.coniks_work.specs.Grown.{IsNewPart, AreNewParts};
 
 use crate::growing::{Old, old_part};
 use crate::jobs::MAX_DEPTH;
@@ -37,13 +37,13 @@ pub(crate) fn join_upwards<H: Hash32>(
     requires root { IfSome old.now.root (λ r. r.0 < length old.now.tree.now.nodes.items) }
     requires depth { (length prefix.now ≤ depth) × (depth ≤ MAX_DEPTH) }
     requires parts { (before : List Part) × (mine : List Part) × (parts.old.items ≡ before ++ mine)
-        × AreGrown (hashing (H.digest_of old.now.h.now) old.now.nonce.now.0) (table_of old.now.tree.now)
+        × AreNewParts (hashing (H.digest_of old.now.h.now) old.now.nonce.now.0) (table_of old.now.tree.now)
         old.now.root (depth - length prefix.now) prefix.now (entries_in changes.now) mine }
     ensures taken { OnOk result ((before mine : List Part) → parts.old.items ≡ before ++ mine
-        → AreGrown (hashing (H.digest_of old.now.h.now) old.now.nonce.now.0) (table_of old.now.tree.now)
+        → AreNewParts (hashing (H.digest_of old.now.h.now) old.now.nonce.now.0) (table_of old.now.tree.now)
         old.now.root (depth - length prefix.now) prefix.now (entries_in changes.now) mine
         → parts.new.items ≡ before) }
-    ensures grown { IfOk result (λ part. IsGrown (hashing (H.digest_of old.now.h.now) old.now.nonce.now.0)
+    ensures grown { IfOk result (λ part. IsNewPart (hashing (H.digest_of old.now.h.now) old.now.nonce.now.0)
         (table_of old.now.tree.now) old.now.root prefix.now (entries_in changes.now) part) }
 {
     if changes.is_empty() {

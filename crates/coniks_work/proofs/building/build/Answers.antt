@@ -4,7 +4,7 @@ use Rattle.coniks_proof.specs.Hashing.{hashing}
 use Rattle.coniks_tree.specs.Trees.{table_of}
 use Rattle.coniks_tree.specs.Parts.{entries_in}
 use Rattle.coniks_tree.specs.declared.part.Part.{Part}
-use Rattle.coniks_work.specs.Grown.{IsGrown}
+use Rattle.coniks_work.specs.Grown.{IsNewPart}
 use Rattle.coniks_work.specs.Jobs.{in_range}
 use Rattle.coniks_work.specs.declared.jobs.Job.{Job}
 use Rattle.coniks_work.proofs.GrownLemmas.{numbered_done, parts_ready, stored, unchanged_stands}
@@ -22,7 +22,7 @@ join_upwards-requires-clause-parts g c =
     let t = table_of c.args.tree.now in
     let jobs = c.deref.result.now in
     let parts = c.in_ok-parts.parts.items in
-    let part : ℕ → Part → Type 0 = λ n x. (job : Job) × (slice_get jobs n ≡ Some job) × IsGrown by t c.args.root job.prefix (entries_in (in_range job c.args.changes.now)) x in
+    let part : ℕ → Part → Type 0 = λ n x. (job : Job) × (slice_get jobs n ≡ Some job) × IsNewPart by t c.args.root job.prefix (entries_in (in_range job c.args.changes.now)) x in
     let done = numbered_done by t c.args.root c.args.changes.now jobs part (λ n x p. p) 0 [] jobs parts refl refl
     c.in_ok-parts.ensures.0 (c.in_ok-parts.ensures.1 ∙ c.len.ensures ∙ sym c.deref.ensures.len) in
     let ready = parts_ready by t c.args.root c.cut_for-depth.result c.root.result (entries_in c.args.changes.now) jobs c.in_ok-jobs.jobs.items parts

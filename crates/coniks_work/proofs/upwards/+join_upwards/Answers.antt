@@ -6,7 +6,7 @@ use Rattle.coniks_tree.specs.Trees.{table_of}
 use Rattle.coniks_proof.proofs.Lemmas.{length-child}
 use Rattle.coniks_tree.specs.Parts.{entries_in, entry_of_change}
 use Rattle.coniks_tree.specs.declared.part.Part.{Part}
-use Rattle.coniks_work.specs.Grown.{AreGrown, IsGrown}
+use Rattle.coniks_work.specs.Grown.{AreNewParts, IsNewPart}
 use Rattle.coniks_work.proofs.GrownLemmas.{OnSides, grown_as, grown_one, grown_sides, joined_grown, old_grown}
 use Rattle.coniks_work.proofs.upwards.+join_upwards.Given as given
 use Rattle.coniks_work.proofs.upwards.+join_upwards.Goals as goal
@@ -32,13 +32,13 @@ returns-then-level-depth-clause-grown g t c =
     let one = grown_one (hashing (g.H.Hash32.digest_of c.args.old.now.h.now) c.args.old.now.nonce.now.0) (table_of c.args.old.now.tree.now) c.args.old.now.root
     c.args.depth p (entries_in c.args.changes.now) r.1 same some r.3 in
     let last = same_from_push r.0 c.last_part.new.parts.items one.0 c.last_part.result (sym (r.2 ∙ ap (λ l. r.0 ++ l) one.1) ∙ c.last_part.ensures) in
-    subst (IsGrown (hashing (g.H.Hash32.digest_of c.args.old.now.h.now) c.args.old.now.nonce.now.0)
+    subst (IsNewPart (hashing (g.H.Hash32.digest_of c.args.old.now.h.now) c.args.old.now.nonce.now.0)
     (table_of c.args.old.now.tree.now) c.args.old.now.root p (entries_in c.args.changes.now)) last.1 one.2
 
 -- ---- above it: the parts of the right side are taken first, and then those of the left one
 
 on_sides : (g : given.Over) (t : ℕ) (c : goal.After-sides g t) (before mine : List Part)
-    → AreGrown (hashing (g.H.Hash32.digest_of c.args.old.now.h.now) c.args.old.now.nonce.now.0) (table_of c.args.old.now.tree.now) c.args.old.now.root
+    → AreNewParts (hashing (g.H.Hash32.digest_of c.args.old.now.h.now) c.args.old.now.nonce.now.0) (table_of c.args.old.now.tree.now) c.args.old.now.root
     (c.args.depth - length c.args.prefix.now) c.args.prefix.now (entries_in c.args.changes.now) mine
     → OnSides (hashing (g.H.Hash32.digest_of c.args.old.now.h.now) c.args.old.now.nonce.now.0) (table_of c.args.old.now.tree.now) c.args.old.now.root
     c.args.depth c.args.prefix.now (entries_in c.args.changes.now) before mine
