@@ -35,8 +35,8 @@ abbrev pub state_of : DirectoryState → State
 state_of h = record {
   nonce = h.nonce.0;
   policy = h.policy;
-  nodes = h.tree.nodes.items;
-  records = h.tree.records.items;
+  nodes = h.tree.nodes;
+  records = h.tree.records;
   epochs = h.epochs.items;
   chain = h.chain.items;
 }

@@ -14,7 +14,7 @@ use coniks_tree::{Record, Root, Tree};
 
 /// Returns the record of the name that has an index under a root, or `None` if there is no root.
 pub(crate) fn holder_at<'a>(tree: &'a Tree, root: Option<Root>, index: &Index) -> Option<&'a Record>
-    requires { IfSome root (λ r. r.0 < length tree.now.nodes.items) }
+    requires { IfSome root (λ r. r.0 < length tree.now.nodes) }
     ensures { (hash index_of : Octets → Octets) (nonce : Octets) (registry : Registry)
         → ShowsLatest hash index_of nonce (table_of tree.now) root registry → HolderIs index_of registry index.now.0 result }
 {

@@ -52,8 +52,8 @@ fn overlay(
 
 /// Returns the entries under a root, or none if there is no root.
 fn entries_under(alloc: Global, tree: &Tree, root: Option<Root>) -> Result<Vec<Change>, OutOfMemory>
-    requires { IfSome root (λ r. r.0 < length tree.now.nodes.items) }
-    ensures placed { IfOk result (λ entries. (all : List Record) → Extends tree.now.records.items all → AllPlaced all entries.items) }
+    requires { IfSome root (λ r. r.0 < length tree.now.nodes) }
+    ensures placed { IfOk result (λ entries. (all : List Record) → Extends tree.now.records all → AllPlaced all entries.items) }
     ensures lists { IfOk result (λ listed. (by : Hashing) (entries : List Numbered)
         → IsOldMap by (table_of tree.now) root entries → Lists listed.items entries) }
 {
@@ -73,7 +73,7 @@ pub(crate) fn growth_of(
     is_anew: bool,
     changes: Vec<Change>,
 ) -> Result<Growth, OutOfMemory>
-    requires { IfSome root (λ r. r.0 < length tree.now.nodes.items) }
+    requires { IfSome root (λ r. r.0 < length tree.now.nodes) }
     ensures { IfOk result (IsGrowth (table_of tree.now) root is_anew changes.items) }
 {
     if !is_anew {

@@ -61,10 +61,10 @@ pub(crate) fn last_link(publisher: &Publisher) -> Digest
 
 /// Reserves room for an update's nodes and records, and for one more epoch and entry.
 fn make_room(held: &mut DirectoryState, update: &Prepared) -> Result<(), OutOfMemory>
-    requires { Fits (length held.old.tree.nodes.items) 0 update.now.part }
+    requires { Fits (length held.old.tree.nodes) 0 update.now.part }
     ensures same { state_of held.new ≡ state_of held.old }
-    ensures nodes { OnOk result (length held.new.tree.nodes.items + node_count update.now.part ≤ vec_capacity held.new.tree.nodes) }
-    ensures records { OnOk result (length held.new.tree.records.items + length update.now.records.items ≤ vec_capacity held.new.tree.records) }
+    ensures nodes { OnOk result (length held.new.tree.nodes + node_count update.now.part ≤ held.new.tree.node_room) }
+    ensures records { OnOk result (length held.new.tree.records + length update.now.records.items ≤ held.new.tree.record_room) }
     ensures epochs { OnOk result (vec_len held.new.epochs < vec_capacity held.new.epochs) }
     ensures chain { OnOk result (vec_len held.new.chain < vec_capacity held.new.chain) }
 {
@@ -82,7 +82,7 @@ pub(crate) fn make_body<H: Hash32>(
     t: u64,
     previous: Digest,
 ) -> Body
-    requires { Fits (length held.now.tree.nodes.items) 0 update.now.part }
+    requires { Fits (length held.now.tree.nodes) 0 update.now.part }
     ensures { IsSigned (H.digest_of h.now) (state_of held.now) update.now t previous.0 result }
 {
     Body {
@@ -107,12 +107,12 @@ pub(crate) fn signed<H: Hash32, S: Sign>(
     previous: Digest,
     signer: &mut S,
 ) -> Result<Entry, InstallFault>
-    requires fits { Fits (length held.old.tree.nodes.items) 0 update.now.part }
+    requires fits { Fits (length held.old.tree.nodes) 0 update.now.part }
     requires made_below { S.made_of signer.old < 2 ^ 64 - 1 }
     requires refused_below { S.refused_of signer.old < 2 ^ 64 - 1 }
     ensures same { state_of held.new ≡ state_of held.old }
-    ensures nodes { OnOk result (length held.new.tree.nodes.items + node_count update.now.part ≤ vec_capacity held.new.tree.nodes) }
-    ensures records { OnOk result (length held.new.tree.records.items + length update.now.records.items ≤ vec_capacity held.new.tree.records) }
+    ensures nodes { OnOk result (length held.new.tree.nodes + node_count update.now.part ≤ held.new.tree.node_room) }
+    ensures records { OnOk result (length held.new.tree.records + length update.now.records.items ≤ held.new.tree.record_room) }
     ensures epochs { OnOk result (vec_len held.new.epochs < vec_capacity held.new.epochs) }
     ensures chain { OnOk result (vec_len held.new.chain < vec_capacity held.new.chain) }
     ensures body { IfOk result (λ entry. IsSigned (H.digest_of h.now) (state_of held.old) update.now t previous.0 entry.body) }
@@ -184,13 +184,13 @@ pub(crate) fn enter<H: Hash32>(
     t: u64,
     entry: Entry,
 )
-    requires fits { Fits (length held.old.tree.nodes.items) 0 update.part }
-    requires placed { Placed (held.old.tree.records.items ++ update.records.items) update.part }
-    requires nodes { length held.old.tree.nodes.items + node_count update.part ≤ vec_capacity held.old.tree.nodes }
-    requires records { length held.old.tree.records.items + length update.records.items ≤ vec_capacity held.old.tree.records }
+    requires fits { Fits (length held.old.tree.nodes) 0 update.part }
+    requires placed { Placed (held.old.tree.records ++ update.records.items) update.part }
+    requires nodes { length held.old.tree.nodes + node_count update.part ≤ held.old.tree.node_room }
+    requires records { length held.old.tree.records + length update.records.items ≤ held.old.tree.record_room }
     requires epochs { vec_len held.old.epochs < vec_capacity held.old.epochs }
     requires chain { vec_len held.old.chain < vec_capacity held.old.chain }
-    ensures count { length held.new.tree.nodes.items ≡ length held.old.tree.nodes.items + nodes_added update }
+    ensures count { length held.new.tree.nodes ≡ length held.old.tree.nodes + nodes_added update }
     ensures last { held.new.chain.items ≡ held.old.chain.items ++ entry ∷ [] }
     ensures entered { (s : State) → state_of held.old ≡ s → IsEntered (H.digest_of h.now) s (state_of held.new) update t entry }
 {

@@ -27,7 +27,7 @@ fn judge_one<X: IndexSource>(
     pending: &mut PendingRecords,
     op: &Op,
 ) -> Result<Option<OpFault>, AllocError>
-    requires { IfSome root (λ r. r.0 < length tree.now.nodes.items) }
+    requires { IfSome root (λ r. r.0 < length tree.now.nodes) }
     ensures fault { IfOk result (λ fault. (hash : Octets → Octets) (nonce : Octets) (registry : Registry) (bound : List Registered)
         → ShowsLatest hash (X.index_of source.now) nonce (table_of tree.now) root registry
         → ArePendingRecords hash (X.index_of source.now) bound pending.old.records.items pending.old.numbers
@@ -63,7 +63,7 @@ pub(crate) fn judged<H: Hash32, X: IndexSource>(
     root: Option<Root>,
     ops: &[Op],
 ) -> Result<PendingRecords, BatchFault>
-    requires { IfSome root (λ r. r.0 < length tree.now.nodes.items) }
+    requires { IfSome root (λ r. r.0 < length tree.now.nodes) }
     ensures pending { IfOk result (λ pending. ArePendingRecords (H.digest_of h.now)
         (X.index_of source.now) (map bound_by (operations ops.now)) pending.records.items pending.numbers) }
     ensures sealed { IfOk result (λ pending. AreSealed (H.digest_of h.now) pending.records.items) }

@@ -79,7 +79,7 @@ fn part_of<H: Hash32 + Sync, X: IndexSource, G: Gate + Sync, R: Threads + Sync>(
     nonce: &Nonce,
 ) -> Result<Part, OutOfMemory>
     requires numbered { All (λ n. n < length pending.now.records.items) (values pending.now.numbers) }
-    requires root { IfSome root (λ r. r.0 < length origin.now.held.now.tree.nodes.items) }
+    requires root { IfSome root (λ r. r.0 < length origin.now.held.now.tree.nodes) }
     requires depth { build.now.depth ≤ MAX_DEPTH }
     requires workers { AreWorkers build.now.workers }
     ensures { IfOk result (λ part. (index_of : Octets → Octets) (latest : Octets) (registry : Registry) (ops : List Operation)
@@ -115,7 +115,7 @@ fn update_of(
     part: Part,
     pending: PendingRecords,
 ) -> Result<Prepared, OutOfMemory>
-    requires fits { Fits (length held.now.tree.nodes.items) 0 part }
+    requires fits { Fits (length held.now.tree.nodes) 0 part }
     ensures base { IfOk result (λ p. p.base ≡ length (state_of held.now).epochs) }
     ensures version { IfOk result (λ p. p.version ≡ version) }
     ensures nonce { IfOk result (λ p. p.nonce ≡ nonce) }

@@ -21,8 +21,8 @@ fn grown_at<H: Hash32>(
     depth: usize,
     changes: &[Change],
 ) -> Result<Part, OutOfMemory>
-    ensures fits { IfOk result (λ part. Fits (length tree.now.nodes.items) (length prefix.now) part) }
-    ensures placed { IfOk result (λ part. (all : List Record) → Extends tree.now.records.items all → AllPlaced all changes.now → Placed all part) }
+    ensures fits { IfOk result (λ part. Fits (length tree.now.nodes) (length prefix.now) part) }
+    ensures placed { IfOk result (λ part. (all : List Record) → Extends tree.now.records all → AllPlaced all changes.now → Placed all part) }
 {
     if depth == 0 || changes.is_empty() || prefix.len() == MAX_LEVEL {
         let part = part_before(tree, older, prefix);
@@ -36,8 +36,8 @@ fn grown_at<H: Hash32>(
 
 /// Returns what an older root shows under a prefix, and nothing if the tree has no such root.
 pub fn part_before(tree: &Tree, older: Option<Root>, prefix: &Prefix) -> Part
-    ensures fits { Fits (length tree.now.nodes.items) (length prefix.now) result }
-    ensures placed { (all : List Record) → Extends tree.now.records.items all → Placed all result }
+    ensures fits { Fits (length tree.now.nodes) (length prefix.now) result }
+    ensures placed { (all : List Record) → Extends tree.now.records all → Placed all result }
 {
     let _level = prefix.len();
     match older {

@@ -78,7 +78,7 @@ pub fn changes_to(
 
 /// Returns a root if the tree has it.
 pub fn known(tree: &Tree, root: Option<Root>) -> Option<Root>
-    ensures { IfSome result (λ r. r.0 < length tree.now.nodes.items) }
+    ensures { IfSome result (λ r. r.0 < length tree.now.nodes) }
 {
     match root {
         Some(root) if root.0 < tree.nodes() => Some(root),
@@ -104,9 +104,9 @@ pub fn add<H: Hash32>(
     part: Part,
     records: Vec<Record>,
 ) -> Result<Added, OutOfMemory>
-    requires fits { Fits (length tree.old.nodes.items) 0 part }
-    requires placed { Placed (tree.old.records.items ++ records.items) part }
-    ensures { IfOk result (λ added. added.root.0 < length tree.new.nodes.items) }
+    requires fits { Fits (length tree.old.nodes) 0 part }
+    requires placed { Placed (tree.old.records ++ records.items) part }
+    ensures { IfOk result (λ added. added.root.0 < length tree.new.nodes) }
 {
     let nodes = tree.new_nodes(&part);
     tree.reserve(&part, records.len())?;

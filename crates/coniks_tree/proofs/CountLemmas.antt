@@ -1,4 +1,4 @@
--- How many nodes of a changed map are new.
+-- The number of new nodes of a changed map.
 use Rattle.std.proofs.Common.{◌≡◌, ℕ, zero, suc, ◌+◌, ◌-◌, ◌<◌, ◌≤◌, nat_lt, List, [], ◌∷◌, length, Bool, true, false, refl, sym, ap, ◌∙◌, arith}
 use Rattle.std.proofs.Common.{inl, inr}
 use Rattle.std.proofs.lemmas.Bool.{cases_lt}
@@ -14,7 +14,7 @@ use Rattle.coniks_tree.specs.Parts.{Stands, is_made, node_count, weight_of}
 use Rattle.coniks_tree.proofs.PartLemmas.{join_many}
 use Rattle.coniks_tree.specs.declared.part.Part.{Part, Nothing, Entry, Kept, Made'}
 
--- a part of at most one entry takes one node
+-- a part of weight at most one takes one node
 pub light-count : (part : Part) → weight_of part ≤ 1 → node_count part ≡ 1
 light-count Nothing light = refl
 light-count (Entry c) light = refl
@@ -31,7 +31,7 @@ unchanged-many [] many = absurd (omega arith)
 unchanged-many (e ∷ []) many = absurd (omega arith)
 unchanged-many (e ∷ f ∷ es) many = refl
 
--- below the root a part that nothing changes takes a node where it has at most one entry
+-- below the root, an unchanged part takes one node if it has at most one entry, and else none
 unchanged-count : (by : Hashing) (t : Table) (part : Part) (p : List Bool) (es : List Numbered) → is_made part ≡ false → 0 < length p
     → Stands by t part p es → node_count part ≡ new_unchanged es
 unchanged-count by t Nothing p es old below s = sym (unchanged-few es (omega (arith, ap length s)))
@@ -52,7 +52,7 @@ one-within height level es [] few = unchanged-few es (omega (arith, few, ap leng
 one-within zero level es (c ∷ cs) few = refl
 one-within (suc height) level es (c ∷ cs) few = let yes : nat_lt (length (overwritten es (c ∷ cs))) 2 ≡ true = grind (arith, nat_tests, few) in rw yes refl
 
--- what is left with one entry takes one node
+-- a map with at most one entry after the changes takes one node
 pub new-one : (level : ℕ) (es cs : List Numbered) → length (overwritten es cs) ≤ 1 → new_nodes level es cs ≡ 1
 unfolding new_nodes
 new-one level es cs few = one-within (256 - level) level es cs few
@@ -72,7 +72,7 @@ new-many level es cs short some many =
     ap (λ h. new_within h level es cs) here ∙ many-within (255 - level) level es cs some many
     ∙ ap (λ h. new_within h (suc level) (half false level es) (half false level cs) + new_within h (suc level) (half true level es) (half true level cs) + 1) below
 
--- a part of at most one entry has as many as its weight
+-- a part of weight at most one has as many entries as its weight
 light-Stands : (by : Hashing) (t : Table) (part : Part) (p : List Bool) (es : List Numbered)
     → weight_of part ≤ 1 → Stands by t part p es → length es ≡ weight_of part
 light-Stands by t Nothing p es light s = ap length s
@@ -86,7 +86,7 @@ joined-light left right light = let yes : nat_lt (weight_of left + weight_of rig
 pub joined-heavy : (left right : Part) → 2 ≤ weight_of left + weight_of right → joined_count left right ≡ node_count left + node_count right + 1
 joined-heavy left right heavy = let no : nat_lt (weight_of left + weight_of right) 2 ≡ false = grind (arith, nat_tests, heavy) in rw no refl
 
--- two sides with their new nodes, as the part above with its own
+-- the number of new nodes of a part, from those of its two sides
 pub new_joined : (by : Hashing) (t : Table) (left right : Part) (n : ℕ) (p : List Bool) (es cs : List Numbered)
     → length p < 256 → 0 < length cs
     → node_count left ≡ new_nodes (suc (length p)) (half false (length p) es) (half false (length p) cs)

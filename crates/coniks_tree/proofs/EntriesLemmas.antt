@@ -38,7 +38,7 @@ within-few (suc h) k es few =
     let right = within-few h (suc k) (half true k es) (omega (arith, all, few)) in
     ap (λ xs. xs ++ in_order_within h (suc k) (half true k es)) left ∙ ap (λ xs. half false k es ++ xs) right ∙ halves-few k es few
 
--- one entry or none is its own list
+-- a map of at most one entry is its own list
 in_order-few : (k : ℕ) (es : List Numbered) → length es ≤ 1 → in_order k es ≡ es
 unfolding in_order
 in_order-few k es few = within-few (256 - k) k es few
@@ -50,12 +50,12 @@ within-same (suc h) k es order =
     ap (λ xs. xs ++ in_order_within h (suc k) (half true k es)) (within-same h (suc k) (half false k es) order.1)
     ∙ ap (λ xs. half false k es ++ xs) (within-same h (suc k) (half true k es) order.2) ∙ sym order.0
 
--- entries in order are their own list
+-- entries that are in order are their own list
 pub in_order-same : (k : ℕ) (es : List Numbered) → AreInOrder k es → in_order k es ≡ es
 unfolding AreInOrder in_order
 in_order-same k es order = within-same (256 - k) k es order
 
--- the list of the left side, and then that of the right one
+-- the list of the left side, then that of the right side
 in_order-inner : (k : ℕ) (es : List Numbered) → k < 256 → in_order k es ≡ in_order (k + 1) (half false k es) ++ in_order (k + 1) (half true k es)
 unfolding in_order in_order_within
 in_order-inner k es short =
@@ -68,7 +68,7 @@ in_order-inner k es short =
 
 -- ---- the list of what a node shows
 
--- what an interior node shows lies under its two nodes
+-- what an interior node shows is what its two nodes show
 pub record ShowsBelow (by : Hashing) (t : Table) (l r : ℕ) (p : List Bool) (es : List Numbered) : Type 0 where
   pub short : length p < 256
   pub left : Shows by t l (child p false) (half false (length p) es)
@@ -117,7 +117,7 @@ pub AreStored-push : (n : ℕ) (ps : List RecordNo) (p : RecordNo) → AreStored
 AreStored-push n [] p stored here = (here, tt)
 AreStored-push n (q ∷ ps) p stored here = (stored.0, AreStored-push n ps p stored.1 here)
 
--- a place whose record's entry is a change's
+-- the entry at a place, if it is that of the place's record
 stored_entry : (records : List Record) (n : ℕ) (e : Numbered) → n < length records → ((r : Record) → slice_get records n ≡ Some r → e ≡ entry_of_record n r)
     → entry_at n (slice_get records n) ≡ e ∷ []
 stored_entry records n e within is = elim (slice_get_cases records n).1 [
@@ -125,7 +125,7 @@ stored_entry records n e within is = elim (slice_get_cases records n).1 [
   | inr past ↦ absurd (omega (arith, past.0, within))
 ]
 
--- the changes go on with the entry of a place
+-- one more change, with the entry at a place
 pub listed_change : (records : List Record) (cs new : List Change) (c : Change) (n : ℕ) → new ≡ cs ++ c ∷ [] → n < length records
     → ((r : Record) → slice_get records n ≡ Some r → entry_of_change c ≡ entry_of_record n r) → entries_in new ≡ entries_in cs ++ entry_at n (slice_get records n)
 listed_change records cs new c n new-is within is =
@@ -133,20 +133,20 @@ listed_change records cs new c n new-is within is =
 
 -- ---- the list, one part after another
 
--- the list goes on with nothing
+-- the list continues with no entries
 pub listed-none : (old : List Numbered) (k : ℕ) (es : List Numbered) → es ≡ [] → old ≡ old ++ in_order k es
 listed-none old k es none =
     let nothing : in_order k es ≡ [] = in_order-few k es (omega (arith, ap length none)) ∙ none in
     sym (append-nil old) ∙ ap (λ xs. old ++ xs) (sym nothing)
 
--- the list goes on with the entry of a place
+-- the list continues with the entry at a place
 pub listed-one : (records : List Record) (ps new : List RecordNo) (place : RecordNo) (k : ℕ) (es : List Numbered) → new ≡ ps ++ place ∷ []
     → length es ≤ 1 → es ≡ entry_at place.0 (slice_get records place.0) → entries_at records new ≡ entries_at records ps ++ in_order k es
 listed-one records ps new place k es new-is few one =
     ap (entries_at records) new-is ∙ entries_at-append records ps (place ∷ [])
     ∙ ap (λ xs. entries_at records ps ++ xs) (append-nil (entry_at place.0 (slice_get records place.0)) ∙ sym one ∙ sym (in_order-few k es few))
 
--- the list goes on with two sides
+-- the list continues with the lists of two sides
 pub listed-both : (old middle new : List Numbered) (k : ℕ) (es : List Numbered) → k < 256
     → middle ≡ old ++ in_order (k + 1) (half false k es) → new ≡ middle ++ in_order (k + 1) (half true k es) → new ≡ old ++ in_order k es
 listed-both old middle new k es short left right =
@@ -156,7 +156,7 @@ listed-both old middle new k es short left right =
 
 -- ---- the whole list
 
--- nothing goes both ways
+-- no entry is on both sides
 neither : (k : ℕ) (es : List Numbered) → (half false k (half true k es) ≡ []) × (half true k (half false k es) ≡ [])
 neither k [] = (refl, refl)
 neither k (e ∷ es) =
@@ -208,7 +208,7 @@ within-ordered (suc h) k es apart =
       subst (InOrderWithin h (suc k)) (sym sides.1) (within-ordered h (suc k) (half true k es) apart.1),
     )
 
--- the list has the entries of the map
+-- the list contains the entries of the map
 within-there : (h k : ℕ) (es : List Numbered) (e : Numbered) → IsIn e es → IsIn e (in_order_within h k es)
 unfolding in_order_within
 within-there zero k es e there = there
@@ -221,7 +221,7 @@ within-there (suc h) k es e there =
           (within-there h (suc k) (half false k es) e (IsIn-filter e (λ x. turns false k x.index) es (ap not left) there))
     ]) refl
 
--- and no others
+-- the list contains no other entries
 within-back : (h k : ℕ) (es : List Numbered) (e : Numbered) → IsIn e (in_order_within h k es) → IsIn e es
 unfolding in_order_within
 within-back zero k es e there = there
@@ -232,7 +232,7 @@ within-back (suc h) k es e there =
       | inr right ↦ of_filter e (λ x. turns true k x.index) es (within-back h (suc k) (half true k es) e right)
     ]
 
--- those of the two sides have different indices
+-- entries of different sides have different indices
 sides_part : (k : ℕ) (es : List Numbered) (e f : Numbered) → IsIn e (half false k es) → IsIn f (half true k es) → e.index ≢ f.index
 sides_part k es e f left right same =
     let on : bit_at e.index k ≡ true = ap (λ i. bit_at i k) same ∙ passes f (λ x. turns true k x.index) es right in
@@ -267,12 +267,12 @@ unfolding ApartWithin InOrderWithin
 ordered-apart zero k es order = order
 ordered-apart (suc h) k es order = (ordered-apart h (suc k) (half false k es) order.1, ordered-apart h (suc k) (half true k es) order.2)
 
--- the changes part within the bits of an index
+-- the changes differ within the bits of an index
 pub Lists-apart : (changes : List Change) (es : List Numbered) → Lists changes es → AreApart 0 (overwritten [] (entries_in changes))
 unfolding AreApart AreInOrder
 Lists-apart changes es lists = subst (AreApart 0) (sym (overwritten-empty (entries_in changes))) (ordered-apart 256 0 (entries_in changes) lists.order)
 
--- what stands for the changes alone stands for the map
+-- a part that represents only the changes represents the map
 pub Lists-stands : (by : Hashing) (t : Table) (part : Part) (changes : List Change) (es : List Numbered)
     → IsMap es → Lists changes es → Stands by t part [] (overwritten [] (entries_in changes)) → Stands by t part [] es
 Lists-stands by t part changes es map lists s =

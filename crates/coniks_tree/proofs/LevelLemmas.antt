@@ -26,11 +26,6 @@ pub AllOpen-append : (n level : ℕ) (gs hs : List Growing) → AllOpen n level 
 AllOpen-append n level [] hs one two = two
 AllOpen-append n level (g ∷ gs) hs one two = (one.0, AllOpen-append n level gs hs one.1 two)
 
--- where one is to be opened there is a level below
-pub level-short : (n level : ℕ) (gs : List Growing) → 0 < length gs → AllOpen n level gs → level < 256
-level-short n level [] some all = absurd (omega arith)
-level-short n level (g ∷ gs) some all = all.0.short
-
 -- the parts of two lists, one after the other
 pub record IsSplit (by : Hashing) (t : Table) (gs hs : List Growing) (parts : List Part) : Type 0 where
   pub front : List Part
@@ -52,7 +47,7 @@ AllGrown-none by t (part ∷ parts) all = absurd all
 
 -- ---- a side
 
--- without changes a part stays
+-- without changes a part is unchanged
 pub grown-same : (by : Hashing) (t : Table) (p : List Bool) (part : Part) (cs : List Change)
     → cs ≡ [] → Fits (length t.nodes) (length p) part → IsGrown by t p part cs part
 grown-same by t p part cs none fits = record {
@@ -90,7 +85,7 @@ side_done by t p part cs done grown = λ below rest all. (grown, ap (λ xs. xs +
 
 -- ---- a part with its two sides
 
--- a part and its changes, cut in two
+-- a part and its changes, split in two
 pub record IsCut (by : Hashing) (t : Table) (p : List Bool) (part : Part) (cs : List Change) (l r : Part) (csl csr : List Change) :
     Type 0 where
   pub short : length p < 256
@@ -115,7 +110,7 @@ grown-count p l r all a b joined short all-is some ha hb join =
     subst (λ z. joined ≤ 1 + 2 * (z * all)) here (subst (λ z. joined ≤ 1 + 2 * (((255 - length p) + 1) * z)) all-is
     (count_sum (255 - length p) l r a b joined (grown-height p false l a ha) (grown-height p true r b hb) join (omega arith)))
 
--- the two sides, grown, are those of the part that grows
+-- the two grown sides are the sides of the part that grows
 pub divided : (by : Hashing) (t : Table)
     → (p : List Bool) (part : Part) (cs : List Change) (l r : Part) (csl csr : List Change) (l' r' : Part)
     → IsCut by t p part cs l r csl csr
@@ -151,7 +146,7 @@ divided by t p part cs l r csl csr l' r' cut left right = record {
     keeps = λ none. let both = cut.keeps none in j.keeps (left.keeps both.0) (right.keeps both.1);
     stands = λ entries ordered apart s.
         let both = cut.stands entries s in
-        j.stands t.records (overwritten entries (entries_in cs))
+        j.stands (overwritten entries (entries_in cs))
         (grown_side by t l l' false p (child p false) entries (entries_in cs) (entries_in csl) refl cut.short
         (cut.on_left ordered) ordered apart (left.stands (half false (length p) entries)) both.0)
         (grown_side by t r r' true p (child p true) entries (entries_in cs) (entries_in csr) refl cut.short
@@ -204,16 +199,16 @@ divided-fit by t (g ∷ gs) (pair ∷ pairs) all =
       divided-fit by t gs pairs all.2,
     )
 
--- the joined pairs are what grows
+-- the joined pairs are the grown parts
 pub joined-grown : (by : Hashing) (t : Table) (gs : List Growing) (pairs : List Pair) (parts : List Part)
-    → AllDivided by t gs pairs → AllJoined by t.nodes pairs parts → AllGrown by t gs parts
+    → AllDivided by t gs pairs → AllJoined by t pairs parts → AllGrown by t gs parts
 joined-grown by t [] [] [] all js = tt
 joined-grown by t [] [] (part ∷ parts) all js = absurd js
 joined-grown by t [] (pair ∷ pairs) parts all js = absurd all
 joined-grown by t (g ∷ gs) [] parts all js = absurd all
 joined-grown by t (g ∷ gs) (pair ∷ pairs) [] all js = absurd js
 joined-grown by t (g ∷ gs) (pair ∷ pairs) (part ∷ parts) all js =
-    (all.1.joined part (subst (λ q. IsJoined by t.nodes q pair.left pair.right part) (sym all.0) js.0), joined-grown by t gs pairs parts all.2 js.1)
+    (all.1.joined part (subst (λ q. IsJoined by t q pair.left pair.right part) (sym all.0) js.0), joined-grown by t gs pairs parts all.2 js.1)
 
 -- all of the parts that grow are opened
 pub AllDivide-end : (by : Hashing) (t : Table) (all gs : List Growing) (os : List Opened) (next : List Growing)
@@ -222,7 +217,7 @@ AllDivide-end by t all gs os next none closing =
     let nothing : AllDivide by t gs [] [] = λ below grown. subst (λ xs. AllDivided by t xs []) (sym none) tt in
     subst (λ xs. AllDivide by t all xs next) (append-nil os) (subst (AllDivide by t all (os ++ [])) (append-nil next) (closing nothing))
 
--- the two sides of one part, where nothing else grows below
+-- the two sides of one part, if nothing else grows below
 pub divided_by : (by : Hashing) (t : Table) (p : List Bool) (part : Part) (cs : List Change) (left right : Option Part)
     (none more next : List Growing) (below after : List Part) (l r : Part)
     → none ≡ [] → next ≡ none ++ more → Divides by t p part cs left right more → AllGrown by t next below

@@ -13,7 +13,7 @@ use Rattle.std.proofs.lemmas.Option.{slice_get_within, get_or_from_slice_get}
 use Rattle.coniks_proof.specs.Changes.{overwritten, AreInOrder, AreApart}
 use Rattle.coniks_proof.specs.Hashing.{Hashing}
 use Rattle.coniks_tree.specs.Table.{Numbered, hash_of_node, Table}
-use Rattle.coniks_tree.specs.Parts.{Stands, Fits, node_count, entry_of_change, weight_of, entries_in, is_made, Placed, AllPlaced}
+use Rattle.coniks_tree.specs.Parts.{Stands, node_count, entry_of_change, weight_of, entries_in, is_made, Placed, AllPlaced}
 use Rattle.coniks_tree.specs.Counts.{new_nodes}
 use Rattle.coniks_tree.proofs.TableLemmas.{Shows-hash}
 use Rattle.coniks_tree.specs.declared.table.Node.{Node}
@@ -22,7 +22,7 @@ use Rattle.coniks_tree.specs.declared.table.Record.{Record}
 use Rattle.coniks_tree.specs.declared.part.Change.{Change}
 use Rattle.coniks_tree.specs.declared.part.Part.{Part, Nothing, Entry, Kept, Made'}
 
--- the hash of a part is that of its node: of a part without entries, of one entry, and of a node of the tree
+-- the hash of a part is that of its node: a part without entries, one with one entry, and a kept node of the tree
 pub hash_nothing : (by : Hashing) (t : Table) (part : Part) (p : List Bool) (es : List Numbered) (x : List ℕ)
     → part ≡ Nothing → x ≡ by.hash (empty_preimage by.nonce p) → Stands by t part p es → x ≡ node by p es
 hash_nothing by t part p es x is x-is s =
@@ -87,13 +87,6 @@ join_right by t (Entry c) right p es none few sl sr = absurd (omega arith)
 join_right by t (Kept root) right p es none few sl sr = absurd (omega arith)
 join_right by t (Made' ptr d lh rh count l r) right p es none few sl sr = absurd (omega arith)
 
--- a part of no more than one entry fits above
-pub Fits-above : (n level : ℕ) (part : Part) → level < 256 → weight_of part ≤ 1 → Fits n level part
-Fits-above n level Nothing short few = omega arith
-Fits-above n level (Entry c) short few = omega arith
-Fits-above n level (Kept root) short few = absurd (omega arith)
-Fits-above n level (Made' ptr d lh rh count l r) short few = absurd (omega arith)
-
 -- a change that leaves no other entry
 pub replaced-Nothing : (by : Hashing) (t : Table) (part : Part) (p : List Bool) (es : List Numbered) (new : Numbered)
     → part ≡ Nothing → Stands by t part p es → overwritten es (new ∷ []) ≡ new ∷ []
@@ -108,7 +101,7 @@ replaced-Entry by t part p es new c index same is s new-is same-is true-is =
     let one : es ≡ entry_of_change c ∷ [] = subst (λ q. Stands by t q p es) is s in
     ap (λ xs. overwritten xs (new ∷ [])) one ∙ overwritten-same (entry_of_change c) new (ap (λ i. bytes_eq i c.index.0) new-is ∙ sym same-is ∙ true-is)
 
--- the changes with the first one named
+-- the changes as the first one and the rest
 pub with_first : (cs : List Change) (first : Change) → slice_get cs 0 ≡ Some first → (rest : List Change) × (cs ≡ first ∷ rest)
 with_first [] first at = cc
 with_first (c ∷ cs) first at = let same : c ≡ first = cc in (cs, ap (λ x. x ∷ cs) same)
@@ -130,7 +123,7 @@ only_first cs first at one =
     let rest : named.0 ≡ [] = nil_from_length named.0 (omega (arith, ap length named.1)) in
     ap entries_in named.1 ∙ ap (λ xs. entry_of_change first ∷ entries_in xs) rest
 
--- the changes that go left come first
+-- the changes of the left side come first
 pub changes_left : (cs : List Change) (k cut : ℕ) → k < 256 → AreInOrder k (entries_in cs) → cut ≡ length (half false k (entries_in cs)) → entries_in (take cut cs) ≡ half false k (entries_in cs)
 changes_left cs k cut short ordered cut-is =
     let parts = (in_order-split k (entries_in cs) short ordered).parts in
@@ -147,7 +140,7 @@ split_side : (b : Bool) (k : ℕ) (es : List Numbered) → IsSplit k es → AreI
 split_side true k es s = s.right
 split_side false k es s = s.left
 
--- one side of what grows: its changes and what it becomes
+-- one side of a part that grows: its changes and its entries after them
 record IsReady (by : Hashing) (t : Table) (before : Part) (b : Bool) (p q : List Bool) (es cs some : List Numbered) : Type 0 where
   deeper : suc (length p) ≡ length q
   whole : half b (length p) (overwritten es cs) ≡ overwritten (half b (length p) es) some
@@ -170,7 +163,7 @@ ready by t before b p q es cs some q-is short some-is ordered apart s =
       stands = subst (λ z. Stands by t before z (half b (length p) es)) (sym q-is) s;
     }
 
--- one side of a part that grew
+-- one side of a grown part
 pub grown_side : (by : Hashing) (t : Table) (before after : Part) (b : Bool) (p q : List Bool) (es cs : List Numbered) (some : List Numbered)
     → q ≡ child p b → length p < 256 → some ≡ half b (length p) cs → AreInOrder (length p) cs → AreApart (length p) (overwritten es cs)
     → (AreInOrder (length q) some → AreApart (length q) (overwritten (half b (length p) es) some)
@@ -182,7 +175,7 @@ grown_side by t before after b p q es cs some q-is short some-is ordered apart g
     subst (λ z. Stands by t after z (half b (length p) (overwritten es cs))) q-is
     (subst (Stands by t after q) (sym side.whole) (grown side.ordered side.apart side.stands))
 
--- how many nodes of one side are new
+-- the number of new nodes of one side
 pub new_side : (by : Hashing) (t : Table) (before : Part) (n : ℕ) (b : Bool) (p q : List Bool) (es cs some : List Numbered)
     → q ≡ child p b → length p < 256 → some ≡ half b (length p) cs → AreInOrder (length p) cs → AreApart (length p) (overwritten es cs)
     → (AreInOrder (length q) some → AreApart (length q) (overwritten (half b (length p) es) some)
@@ -194,14 +187,14 @@ new_side by t before n b p q es cs some q-is short some-is ordered apart new s =
     subst (λ xs. n ≡ new_nodes (suc (length p)) (half b (length p) es) xs) some-is
     (subst (λ k. n ≡ new_nodes k (half b (length p) es) some) (sym side.deeper) (new side.ordered side.apart side.stands))
 
--- a part that is no new subtree takes one node at most
+-- a part that is not a new subtree takes at most one node
 pub count-unmade : (part : Part) → is_made part ≡ false → node_count part ≤ 1
 count-unmade Nothing old = omega arith
 count-unmade (Entry c) old = omega arith
 count-unmade (Kept root) old = omega arith
 count-unmade (Made' ptr d lh rh count l r) old = cc
 
--- how many nodes one side takes that grew
+-- the number of nodes of a grown side
 count_side : (before after : Part) (h n : ℕ) → is_made before ≡ false → (n ≡ 0 → after ≡ before)
     → (is_made before ≡ false → 0 < n → node_count after ≤ 1 + 2 * (h * n)) → node_count after ≤ 1 + 2 * (h * n)
 count_side before after h zero old same more = omega (arith, count-unmade before old, ap node_count (same refl))
@@ -210,7 +203,7 @@ count_side before after h (suc n) old same more = more old (omega arith)
 pub count_sum : (h l r a b joined : ℕ) → a ≤ 1 + 2 * (h * l) → b ≤ 1 + 2 * (h * r) → joined ≤ a + b + 1 → 0 < l + r → joined ≤ 1 + 2 * ((h + 1) * (l + r))
 count_sum h l r a b joined ha hb hj some = omega arith
 
--- how many nodes a part takes that grew
+-- the number of nodes of a grown part
 pub count_grown : (left left' right right' : Part) (level l r all joined : ℕ) → level < 256 → is_made left ≡ false → is_made right ≡ false → l + r ≡ all → 0 < all
     → (l ≡ 0 → left' ≡ left) → (is_made left ≡ false → 0 < l → node_count left' ≤ 1 + 2 * ((255 - level) * l))
     → (r ≡ 0 → right' ≡ right) → (is_made right ≡ false → 0 < r → node_count right' ≤ 1 + 2 * ((255 - level) * r))
@@ -256,13 +249,13 @@ AllPlaced-append all (c ∷ cs) ds one two = (one.0, AllPlaced-append all cs ds 
 pub AllPlaced-push : (all : List Record) (cs : List Change) (c : Change) → AllPlaced all cs → Placed all (Entry c) → AllPlaced all (cs ++ c ∷ [])
 AllPlaced-push all cs c placed here = AllPlaced-append all cs (c ∷ []) placed (here, tt)
 
--- what stands in a list stands that much further on where it follows another
+-- the positions in a list after another list are shifted by the other's length
 get-behind : (old new : List Record) (n k : ℕ) → n ≡ length old + k → slice_get (old ++ new) n ≡ slice_get new k
 get-behind [] new n k is = ap (slice_get new) (omega (arith, is))
 get-behind (r ∷ old) new zero k is = absurd (omega (arith, is))
 get-behind (r ∷ old) new (suc n) k is = get-behind old new n k (omega (arith, is))
 
--- one more of the changes for records that follow others
+-- one more change, for a record that follows the old ones
 pub AllPlaced-next : (old new : List Record) (cs : List Change) (c : Change) (n k : ℕ) (r : Record) → n ≡ length old + k → slice_get new k ≡ Some r
     → ((all : List Record) → slice_get all n ≡ Some r → Placed all (Entry c)) → AllPlaced (old ++ new) cs → AllPlaced (old ++ new) (cs ++ c ∷ [])
 AllPlaced-next old new cs c n k r is at placed each = AllPlaced-push (old ++ new) cs c each (placed (old ++ new) (get-behind old new n k is ∙ at))

@@ -1,4 +1,4 @@
--- Paths.
+-- Authentication paths.
 use Rattle.std.proofs.Common.{◌≡◌, ℕ, zero, suc, ◌+◌, ◌≤◌, List, [], ◌∷◌, ◌++◌, length, Bool, true, false, refl, sym, ap, subst, ◌∙◌, arith, Option, Some, None, slice_get, map, append_assoc, append-nil}
 use Rattle.coniks_proof.specs.Bits.{bit_at, child}
 use Rattle.coniks_proof.specs.Entries.{Entry, backed_by, half}
@@ -32,7 +32,7 @@ step_left by t b _ _ _ l r d x v b-is at beside x-is (shows_inner n p es d' l' r
       shows = subst (λ k. Shows by t k (child p false) (half false (length p) es)) l-is left;
     })
 
--- the record behind a leaf
+-- the record of a leaf
 pub Shows-record : (by : Hashing) (t : Table) (p : List Bool) (es : List Numbered) (n : ℕ) (place : RecordNo) (d : Digest) (r : Record)
     → slice_get t.nodes n ≡ Some (Leaf place d) → slice_get t.records place.0 ≡ Some r → Shows by t n p es → es ≡ entry_of_record place.0 r ∷ []
 Shows-record by t _ _ _ place d r at here (shows_empty n p es d' at' none is) = cc
@@ -43,7 +43,7 @@ Shows-record by t _ _ _ place d r at here (shows_leaf n p es d' place' r' at' st
     let same : r' ≡ r = cc in
     one ∙ ap (λ (q : RecordNo). entry_of_record q.0 r' ∷ []) place-is ∙ ap (λ q. entry_of_record place.0 q ∷ []) same
 
--- a way from the root, as far as it has come
+-- a way from the root towards an index, up to the node it has reached
 pub record OnWay (by : Hashing) (t : Table) (index : List ℕ) (entries : List Numbered) (so_far : List (List ℕ)) (number level : ℕ) : Type 0 where
   pub prefix : List Bool
   pub below : List Numbered
@@ -84,7 +84,7 @@ end_of-few p j [] few = end_of-empty p j
 end_of-few p j (e ∷ []) few = end_of-leaf p j e
 end_of-few p j (e ∷ f ∷ es) few = absurd (omega arith)
 
--- at the end of the way the path is whole
+-- at the end of the way the siblings are complete
 pub way_told : (by : Hashing) (t : Table) (index : List ℕ) (entries : List Numbered) (so_far : List (List ℕ)) (number level : ℕ)
     → (w : OnWay by t index entries so_far number level) → length w.below ≤ 1 → so_far ≡ siblings by [] index entries
 way_told by t index entries so_far number level w few =
@@ -101,7 +101,7 @@ way_last by t index entries so_far number level w few =
     let same = way_ends by t index entries so_far number level w few in
     (w.prefix, subst (Shows by t number w.prefix) same w.shows, subst (λ es. length es ≤ 1) same few)
 
--- what the end of a path shows of a record
+-- the entry that the end of a path shows, with its record's name and key
 pub here_shown : (records : List Record) (index : List ℕ) (entries : List Numbered) (place : RecordNo) (found : Record) (name key : List ℕ)
     → slice_get records place.0 ≡ Some found → name ≡ found.binding.name → key ≡ found.binding.key → IsAt records index place entries
     → (c : List ℕ) × (map (backed_by (registered_at records)) entries ≡ record { index = index; commitment = c; behind = record { name = name; key = key; opening = found.opening.0 } } ∷ [])
@@ -121,7 +121,7 @@ apart-few (suc h) k es few =
     let all = length-halves k es in
     (apart-few h (suc k) (half false k es) (omega (arith, all, few)), apart-few h (suc k) (half true k es) (omega (arith, all, few)))
 
--- the entries that a node shows part within the bits below it
+-- the entries that a node shows differ in the bits below it
 shown_within : (by : Hashing) (t : Table) (h n : ℕ) (p : List Bool) (es : List Numbered) → length p + h ≡ 256 → Shows by t n p es → ApartWithin h (length p) es
 unfolding ApartWithin
 shown_within by t h _ _ _ full (shows_empty n p es d at none is) = apart-few h (length p) es (omega (arith, ap length none))
@@ -138,13 +138,13 @@ pub Shows-apart : (by : Hashing) (t : Table) (n : ℕ) (es : List Numbered) → 
 unfolding AreApart
 Shows-apart by t n es s = shown_within by t 256 n [] es refl s
 
--- the record that the way stops at
+-- the record at which the way stops
 abbrev pub found_at : Stop → Option RecordNo
 found_at Empty = None
 found_at (Other i c) = None
 found_at (Here place) = Some place
 
--- what the way to an index stops at is what the whole map has there
+-- the record at which the way to an index stops is the one that the whole map has there
 pub stop_found : (records : List Record) (index : List ℕ) (entries : List Numbered) (stop : Stop)
     → AreApart 0 entries → PathStopsAt records index stop (end_of [] index entries) → Finds records index (found_at stop) entries
 stop_found records index entries Empty apart none = λ e there same.

@@ -16,7 +16,7 @@ use Rattle.coniks_tree.specs.declared.table.Record.{Record}
 use Rattle.coniks_tree.specs.declared.part.Subtree.{Subtree}
 use Rattle.coniks_tree.specs.declared.part.Part.{Part, Nothing, Entry, Kept, Made'}
 
--- a table with more nodes at its end has what it had
+-- a list with more elements at its end extends the list
 pub Extends-append : {T : Type 0} (xs ys : List T) → Extends xs (xs ++ ys)
 Extends-append [] ys k v at = cc
 Extends-append (x ∷ xs) ys zero v at = at
@@ -48,7 +48,7 @@ Stands-extended by nodes nodes' records more (Made' ptr d lh rh count l r) p es 
       right = record { is_hash = s.right.is_hash; stands = Stands-extended by nodes nodes' records more r (child p true) _ s.right.stands };
     }
 
--- what stands in a list with one more at its end
+-- the elements of a list with one more at its end
 pub get-push : {T : Type 0} (xs : List T) (x : T) (k : ℕ) (v : T) → slice_get (xs ++ x ∷ []) k ≡ Some v → (slice_get xs k ≡ Some v) ⊎ ((k ≡ length xs) × (x ≡ v))
 get-push [] x zero v at = inr (refl, cc)
 get-push [] x (suc k) v at = cc
@@ -67,7 +67,7 @@ IsLinked-push t new fits table = record {
   ];
 }
 
--- what a new subtree stands for
+-- the entries that a new subtree represents
 abbrev pub StandsMade : Hashing → Table → Subtree → List Bool → List Numbered → Type 0
 StandsMade by t m p es = IsSubtree by p es m.hash m.left_hash m.right_hash (Stands by t m.left) (Stands by t m.right)
 
@@ -88,7 +88,7 @@ made_shown by nodes0 nodes1 nodes2 nodes3 records p es m left right n e01 e12 e2
     let r3 = Shows-extended by (table nodes2 records) (table nodes3 records) e23 (λ k v h. h) right (child p true) _ r2 in
     shows_inner n p es m.hash left right at short s.many s.is_hash l3 r3
 
--- a part stands for what it stood for once there are more records
+-- a part represents the same entries when records are added
 pub Stands-records : (by : Hashing) (t : Table) (records' : List Record) → Extends t.records records' → (part : Part) (p : List Bool) (es : List Numbered)
     → Stands by t part p es → Stands by (table t.nodes records') part p es
 Stands-records by t records' more Nothing p es s = s
@@ -108,7 +108,7 @@ half_map b k es map = IsMap-filter (λ e. turns b k e.index) es map
 half_same : (b : Bool) (k : ℕ) (es fs : List Numbered) → SameEntries es fs → SameEntries (half b k es) (half b k fs)
 half_same b k es fs same = SameEntries-filter (λ e. turns b k e.index) es fs same
 
--- a part stands for a map and not an order of its entries
+-- what a part represents does not depend on the order of the map's entries
 pub Stands-same : (by : Hashing) (t : Table) (part : Part) (p : List Bool) (es fs : List Numbered)
     → IsMap es → IsMap fs → SameEntries es fs → Stands by t part p es → Stands by t part p fs
 Stands-same by t Nothing p es fs me mf same s = same_as_none fs (subst (λ xs. SameEntries xs fs) s same)

@@ -1,4 +1,4 @@
--- What a table shows: its hashes, and that it shows the same once it is extended.
+-- What a table shows: its hashes, and that an extended table shows the same.
 use Rattle.std.proofs.Common.{◌≡◌, ℕ, ◌≤◌, List, [], ◌∷◌, length, Bool, true, false, ap, subst, ◌∙◌, arith, Some, slice_get}
 use Rattle.coniks_proof.specs.Entries.{half}
 use Rattle.coniks_proof.specs.Tree.{node}
@@ -10,7 +10,7 @@ use Rattle.coniks_tree.specs.Table.{Numbered, Shows, shows_empty, shows_leaf, sh
 use Rattle.coniks_tree.specs.declared.table.Node.{Node}
 use Rattle.coniks_tree.specs.declared.table.Node.TheVariants.{Empty, Leaf, Inner}
 
--- the hash of a node that stands at a prefix
+-- the hash of a node at a prefix
 pub Shows-hash : (by : Hashing) (t : Table) (n : ℕ) (p : List Bool) (es : List Numbered) (v : Node)
     → Shows by t n p es → slice_get t.nodes n ≡ Some v → (hash_of_node v).0 ≡ node by p es
 Shows-hash by t _ _ _ v (shows_empty n p es d at none is) here =
@@ -20,7 +20,7 @@ Shows-hash by t _ _ _ v (shows_leaf n p es d place r at stored one is) here =
 Shows-hash by t _ _ _ v (shows_inner n p es d l r at short many is left right) here =
     let same : v ≡ Inner l r d = cc in ap (λ w. (hash_of_node w).0) same ∙ is
 
--- each older root shows what it showed
+-- a node shows the same in an extended table
 pub Shows-extended : (by : Hashing) (t further : Table) → Extends t.nodes further.nodes → Extends t.records further.records
     → (n : ℕ) (p : List Bool) (es : List Numbered) → Shows by t n p es → Shows by further n p es
 Shows-extended by t further more more' _ _ _ (shows_empty n p es d at none is) =
@@ -37,7 +37,7 @@ many_in es [] me mf same many = absurd (omega (arith, ap length (same_as_none es
 many_in es (f ∷ []) me mf same many = absurd (omega (arith, ap length (same_as_one f es me (SameEntries-sym es (f ∷ []) same)), many))
 many_in es (f ∷ g ∷ fs) me mf same many = omega arith
 
--- a root shows a map and not an order of its entries
+-- what a root shows does not depend on the order of the map's entries
 pub Shows-same : (by : Hashing) (t : Table) (n : ℕ) (p : List Bool) (es fs : List Numbered)
     → IsMap es → IsMap fs → SameEntries es fs → Shows by t n p es → Shows by t n p fs
 Shows-same by t _ _ _ fs me mf same (shows_empty n p es d at none is) =

@@ -103,7 +103,7 @@ module _ (by : Hashing) (t : Table) where
     pub short : length prefix < 256
     pub left_fits : Fits (length t.nodes) (length prefix + 1) left
     pub right_fits : Fits (length t.nodes) (length prefix + 1) right
-    pub joined : (whole : Part) → IsJoined by t.nodes prefix left right whole → IsGrown prefix part changes whole
+    pub joined : (whole : Part) → IsJoined by t prefix left right whole → IsGrown prefix part changes whole
 
   -- the pairs are, in order, those of the parts that grow
   abbrev pub AllDivided : List Growing → List Pair → Type 0

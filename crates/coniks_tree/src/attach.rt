@@ -1,6 +1,6 @@
 //! Makes nodes at the end of the table from a part.
 
-ghost use Rattle.std.specs.Prelude.{◌≡◌, ◌++◌, ◌∷◌, [], ◌<◌, ◌≤◌, ◌+◌, ◌*◌, ◌-◌, List, length, slice_get, vec_len, vec_capacity, Bool};
+ghost use Rattle.std.specs.Prelude.{◌≡◌, ◌++◌, ◌∷◌, [], ◌<◌, ◌≤◌, ◌+◌, ◌*◌, ◌-◌, List, length, slice_get, vec_capacity, Bool};
 ghost use Rattle.coniks_proof.specs.Hashing.{Hashing};
 ghost use Rattle.coniks_proof.specs.Tree.{node};
 ghost use Rattle.coniks_tree.specs.Table.{Extends, IsLinked, NodeFits, Numbered, Shows, table};

@@ -4,7 +4,8 @@ ghost use Rattle.std.specs.Prelude.{◌≡◌, ◌∷◌, [], ◌<◌, ◌≤◌
 ghost use Rattle.coniks_proof.specs.Entries.{half};
 ghost use Rattle.coniks_proof.specs.Changes.{overwritten, AreApart, AreInOrder};
 ghost use Rattle.coniks_proof.specs.Hashing.{Hashing, hashing};
-ghost use Rattle.coniks_tree.specs.Table.{Extends, IsLinked, Numbered, Table, table};
+ghost use Rattle.coniks_tree.specs.Table.{Extends, Numbered, Table};
+ghost use Rattle.coniks_tree.specs.Trees.{table_of};
 ghost use Rattle.coniks_tree.specs.declared.part.Part.{Entry};
 ghost use Rattle.coniks_tree.specs.Counts.{new_nodes};
 ghost use Rattle.coniks_tree.specs.Parts.{Stands, Fits, KeepsNone, Placed, AllPlaced, node_count, is_made, entries_in, entry_of_change};
@@ -12,9 +13,10 @@ ghost use Rattle.coniks_tree.specs.Parts.{Stands, Fits, KeepsNone, Placed, AllPl
 use crate::halving::opened;
 use crate::levels::grow_by_levels;
 use crate::part::{Change, Part, join_parts, lefts};
-use crate::table::{Base, Record};
+use crate::table::Record;
+use crate::tree::Base;
 use coniks_proof::{Hash32, Index, MAX_LEVEL, Prefix};
-use std::alloc::{AllocError, Global};
+use std::alloc::AllocError;
 
 /// The fewest changes for which a part is grown level by level.
 const FEWEST_BY_LEVELS: usize = 8;
@@ -85,31 +87,29 @@ pub(crate) fn only_change(level: usize, part: &Part, changes: &[Change]) -> Opti
 
 /// Returns the part overwritten by the changes.
 pub(crate) fn grow_part<H: Hash32>(
-    alloc: Global,
     base: &Base<'_, H>,
     part: Part,
     prefix: &Prefix,
     changes: &[Change],
 ) -> Result<Part, AllocError>
-    requires table { IsLinked (table base.now.nodes.now base.now.records.now) }
-    requires fits { Fits (length base.now.nodes.now) (length prefix.now) part }
-    ensures fits { IfOk result (λ grown. Fits (length base.now.nodes.now) (length prefix.now) grown) }
+    requires { Fits (length base.now.tree.now.nodes) (length prefix.now) part }
+    ensures fits { IfOk result (λ grown. Fits (length base.now.tree.now.nodes) (length prefix.now) grown) }
     ensures same { IfOk result (λ grown. length changes.now ≡ 0 → grown ≡ part) }
-    ensures placed { IfOk result (λ grown. (all : List Record) → Extends base.now.records.now all
+    ensures placed { IfOk result (λ grown. (all : List Record) → Extends base.now.tree.now.records all
         → Placed all part → AllPlaced all changes.now → Placed all grown) }
     ensures count { IfOk result (λ grown. is_made part ≡ false → 0 < length changes.now
         → node_count grown ≤ 1 + 2 * ((256 - length prefix.now) * length changes.now)) }
     ensures new { IfOk result (λ grown. is_made part ≡ false → 0 < length prefix.now + length changes.now → (entries : List Numbered)
         → AreInOrder (length prefix.now) (entries_in changes.now)
         → AreApart (length prefix.now) (overwritten entries (entries_in changes.now))
-        → Stands (hashing (H.digest_of base.now.h.now) base.now.nonce.now.0) (table base.now.nodes.now base.now.records.now) part prefix.now entries
+        → Stands (hashing (H.digest_of base.now.h.now) base.now.nonce.now.0) (table_of base.now.tree.now) part prefix.now entries
         → node_count grown ≡ new_nodes (length prefix.now) entries (entries_in changes.now)) }
     ensures keeps { IfOk result (λ grown. KeepsNone part → KeepsNone grown) }
     ensures stands { IfOk result (λ grown. (entries : List Numbered)
         → AreInOrder (length prefix.now) (entries_in changes.now)
         → AreApart (length prefix.now) (overwritten entries (entries_in changes.now))
-        → Stands (hashing (H.digest_of base.now.h.now) base.now.nonce.now.0) (table base.now.nodes.now base.now.records.now) part prefix.now entries
-        → Stands (hashing (H.digest_of base.now.h.now) base.now.nonce.now.0) (table base.now.nodes.now base.now.records.now)
+        → Stands (hashing (H.digest_of base.now.h.now) base.now.nonce.now.0) (table_of base.now.tree.now) part prefix.now entries
+        → Stands (hashing (H.digest_of base.now.h.now) base.now.nonce.now.0) (table_of base.now.tree.now)
         grown prefix.now (overwritten entries (entries_in changes.now))) }
 {
     if changes.is_empty() {
@@ -120,11 +120,11 @@ pub(crate) fn grow_part<H: Hash32>(
         return Ok(Part::Entry(change));
     }
     if changes.len() >= FEWEST_BY_LEVELS && changes.len() <= MOST_BY_LEVELS {
-        return grow_by_levels(alloc, base, part, prefix, changes);
+        return grow_by_levels(base, part, prefix, changes);
     }
-    let (left, right) = opened(base.nodes, base.records, level, part);
+    let (left, right) = opened(base.tree, level, part);
     let (changes_left, changes_right) = sides(changes, level);
-    let left = grow_part(alloc, base, left, &prefix.child(false), changes_left)?;
-    let right = grow_part(alloc, base, right, &prefix.child(true), changes_right)?;
-    Ok(join_parts(alloc, base, prefix, left, right)?)
+    let left = grow_part(base, left, &prefix.child(false), changes_left)?;
+    let right = grow_part(base, right, &prefix.child(true), changes_right)?;
+    Ok(join_parts(base, prefix, left, right)?)
 }

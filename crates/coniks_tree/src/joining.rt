@@ -7,13 +7,15 @@ ghost use Rattle.coniks_proof.specs.Entries.{half};
 ghost use Rattle.coniks_proof.specs.Hashing.{Hashing, hashing};
 ghost use Rattle.coniks_proof.specs.Octets.{Octets};
 ghost use Rattle.coniks_tree.specs.Table.{Numbered, Table};
+ghost use Rattle.coniks_tree.specs.Trees.{table_of};
 ghost use Rattle.coniks_tree.specs.Counts.{joined_count};
 ghost use Rattle.coniks_tree.specs.Parts.{Stands, Fits, KeepsNone, Placed, node_count};
-ghost use Rattle.coniks_tree.specs.Joins.{asked_at, asked_of, inner_of, AllHalved, AllJoined, IsHashAt, IsHalved, IsJoined, PairFits, PairsFit};
+ghost use Rattle.coniks_tree.specs.Joins.{asked_at, asked_of, inner_of, AllHalved, AllJoined, IsHashAt, IsHalved, PairFits, PairsFit};
 
 use crate::part::{Part, made, weight};
-use crate::table::{Node, Record, node_of};
-use coniks_proof::{Digest, Hash32, Message, Nonce, Prefix, empty_message, hash_all, leaf_message};
+use crate::table::Record;
+use crate::tree::{Base, Tree};
+use coniks_proof::{Digest, Hash32, Message, Prefix, empty_message, hash_all, leaf_message};
 use std::alloc::{AllocError, Global};
 use std::collections::VecDeque;
 
@@ -82,35 +84,35 @@ fn first_hash(hashes: &mut VecDeque<Digest>) -> Digest
 }
 
 /// Returns the hash of a side: its own, or else the first of the hashes that were asked for.
-fn side_hash(nodes: &[Node], part: &Part, hashes: &mut VecDeque<Digest>) -> Digest
-    requires fits { (level : ℕ) × Fits (length nodes.now) level part.now }
+fn side_hash(tree: &Tree, part: &Part, hashes: &mut VecDeque<Digest>) -> Digest
+    requires fits { (level : ℕ) × Fits (length tree.now.nodes) level part.now }
     requires some { length (asked_at [] [] part.now) ≤ length hashes.old.items }
     ensures len { length hashes.new.items + length (asked_at [] [] part.now) ≡ length hashes.old.items }
     ensures hash { (by : Hashing) (prefix : List Bool) (rest : List Octets)
         → map (λ d. d.0) hashes.old.items ≡ map by.hash (asked_at by.nonce prefix part.now ++ rest)
-        → IsHashAt by nodes.now prefix part.now result × (map (λ d. d.0) hashes.new.items ≡ map by.hash rest) }
+        → IsHashAt by (table_of tree.now) prefix part.now result × (map (λ d. d.0) hashes.new.items ≡ map by.hash rest) }
 {
     match part {
         Part::Nothing => first_hash(hashes),
         Part::Entry(_) => first_hash(hashes),
-        Part::Kept(root) => node_of(nodes, root.0).hash(),
+        Part::Kept(root) => tree.node(root.0).hash(),
         Part::Made(made) => made.hash,
     }
 }
 
 /// Returns a pair with the hashes of its two parts. Those that were asked for are the first of the hashes.
-fn halve(nodes: &[Node], pair: Pair, hashes: &mut VecDeque<Digest>) -> Halved
-    requires fits { PairFits (length nodes.now) pair }
+fn halve(tree: &Tree, pair: Pair, hashes: &mut VecDeque<Digest>) -> Halved
+    requires fits { PairFits (length tree.now.nodes) pair }
     requires some { length (asked_at [] [] pair.left) + length (asked_at [] [] pair.right) ≤ length hashes.old.items }
     ensures same { result.pair ≡ pair }
     ensures len { length hashes.new.items + length (asked_at [] [] pair.left) + length (asked_at [] [] pair.right) ≡ length hashes.old.items }
     ensures halved { (by : Hashing) (rest : List Octets)
         → map (λ d. d.0) hashes.old.items ≡ map by.hash
         (asked_at by.nonce (child pair.prefix false) pair.left ++ (asked_at by.nonce (child pair.prefix true) pair.right ++ rest))
-        → IsHalved by nodes.now result × (map (λ d. d.0) hashes.new.items ≡ map by.hash rest) }
+        → IsHalved by (table_of tree.now) result × (map (λ d. d.0) hashes.new.items ≡ map by.hash rest) }
 {
-    let left_hash = side_hash(nodes, &pair.left, hashes);
-    let right_hash = side_hash(nodes, &pair.right, hashes);
+    let left_hash = side_hash(tree, &pair.left, hashes);
+    let right_hash = side_hash(tree, &pair.right, hashes);
     Halved {
         pair,
         left_hash,
@@ -120,23 +122,22 @@ fn halve(nodes: &[Node], pair: Pair, hashes: &mut VecDeque<Digest>) -> Halved
 
 /// Returns the pairs with the hashes of their parts, and the messages of the nodes over them.
 fn halve_all(
-    alloc: Global,
-    nodes: &[Node],
+    tree: &Tree,
     pairs: Vec<Pair>,
     mut hashes: VecDeque<Digest>,
 ) -> Result<(VecDeque<Halved>, Vec<Message>), AllocError>
-    requires fits { PairsFit (length nodes.now) pairs.items }
+    requires fits { PairsFit (length tree.now.nodes) pairs.items }
     requires some { length (asked_of [] pairs.items) ≤ length hashes.items }
     ensures same { IfOk result (λ all. map (λ h. h.pair) all.0.items ≡ pairs.items) }
     ensures inner { IfOk result (λ all. (nonce : Octets) → map (preimage_of nonce) all.1.items ≡ map inner_of all.0.items) }
     ensures halved { IfOk result (λ all. (by : Hashing)
-        → map (λ d. d.0) hashes.items ≡ map by.hash (asked_of by.nonce pairs.items) → AllHalved by nodes.now all.0.items) }
+        → map (λ d. d.0) hashes.items ≡ map by.hash (asked_of by.nonce pairs.items) → AllHalved by (table_of tree.now) all.0.items) }
 {
-    let mut halved = VecDeque::with_capacity(alloc, pairs.len())?;
-    let mut messages = Vec::with_capacity(alloc, pairs.len())?;
+    let mut halved = VecDeque::with_capacity(tree.alloc(), pairs.len())?;
+    let mut messages = Vec::with_capacity(tree.alloc(), pairs.len())?;
     let mut rest = VecDeque::from(pairs);
     while let Some(pair) = rest.pop_front() {
-        let one = halve(nodes, pair, &mut hashes);
+        let one = halve(tree, pair, &mut hashes);
         messages.push(Message::Inner(one.left_hash, one.right_hash))?;
         halved.push_back(one)?;
     }
@@ -151,7 +152,7 @@ fn joined(alloc: Global, halved: Halved, hash: Digest) -> Result<Part, AllocErro
     ensures keeps { IfOk result (λ part. KeepsNone halved.pair.left → KeepsNone halved.pair.right → KeepsNone part) }
     ensures placed { IfOk result (λ part. (all : List Record) → Placed all halved.pair.left → Placed all halved.pair.right → Placed all part) }
     ensures stands { IfOk result (λ part. (by : Hashing) (t : Table) (entries : List Numbered)
-        → length halved.pair.prefix < 256 → IsHalved by t.nodes halved → hash.0 ≡ by.hash (inner_of halved)
+        → length halved.pair.prefix < 256 → IsHalved by t halved → hash.0 ≡ by.hash (inner_of halved)
         → Stands by t halved.pair.left (child halved.pair.prefix false) (half false (length halved.pair.prefix) entries)
         → Stands by t halved.pair.right (child halved.pair.prefix true) (half true (length halved.pair.prefix) entries)
         → Stands by t part halved.pair.prefix entries) }
@@ -179,10 +180,10 @@ fn joined_all(
     mut hashes: VecDeque<Digest>,
 ) -> Result<VecDeque<Part>, AllocError>
     requires { length halved.items ≡ length hashes.items }
-    ensures { IfOk result (λ parts. (by : Hashing) (nodes : List Node)
-        → PairsFit (length nodes) (map (λ h. h.pair) halved.items)
-        → AllHalved by nodes halved.items → map (λ d. d.0) hashes.items ≡ map (λ h. by.hash (inner_of h)) halved.items
-        → AllJoined by nodes (map (λ h. h.pair) halved.items) parts.items) }
+    ensures { IfOk result (λ parts. (by : Hashing) (t : Table)
+        → PairsFit (length t.nodes) (map (λ h. h.pair) halved.items)
+        → AllHalved by t halved.items → map (λ d. d.0) hashes.items ≡ map (λ h. by.hash (inner_of h)) halved.items
+        → AllJoined by t (map (λ h. h.pair) halved.items) parts.items) }
 {
     let mut parts = VecDeque::with_capacity(alloc, halved.len())?;
     while let Some(one) = halved.pop_front() {
@@ -196,18 +197,16 @@ fn joined_all(
 ///
 /// The missing hashes of the sides are computed four at a time, and then those of the nodes above them.
 pub(crate) fn join_all<H: Hash32>(
-    alloc: Global,
-    nodes: &[Node],
-    h: &H,
-    nonce: &Nonce,
+    base: &Base<'_, H>,
     pairs: Vec<Pair>,
 ) -> Result<VecDeque<Part>, AllocError>
-    requires { PairsFit (length nodes.now) pairs.items }
-    ensures { IfOk result (λ parts. AllJoined (hashing (H.digest_of h.now) nonce.now.0) nodes.now pairs.items parts.items) }
+    requires { PairsFit (length base.now.tree.now.nodes) pairs.items }
+    ensures { IfOk result (λ parts. AllJoined (hashing (H.digest_of base.now.h.now) base.now.nonce.now.0) (table_of base.now.tree.now) pairs.items parts.items) }
 {
+    let alloc = base.tree.alloc();
     let messages = asked(alloc, &pairs)?;
-    let hashes = hash_all(alloc, h, nonce, &messages)?;
-    let (halved, messages) = halve_all(alloc, nodes, pairs, hashes)?;
-    let hashes = hash_all(alloc, h, nonce, &messages)?;
+    let hashes = hash_all(alloc, base.h, base.nonce, &messages)?;
+    let (halved, messages) = halve_all(base.tree, pairs, hashes)?;
+    let hashes = hash_all(alloc, base.h, base.nonce, &messages)?;
     Ok(joined_all(alloc, halved, hashes)?)
 }

@@ -1,17 +1,19 @@
 //! Overwrites a part with many changes, level by level.
 
-ghost use Rattle.std.specs.Prelude.{◌≡◌, ◌++◌, ◌∷◌, ◌<◌, ◌≤◌, ◌+◌, ◌-◌, ◌^◌, [], List, length, slice_get, min, IfOk, Bool, false, true};
+ghost use Rattle.std.specs.Prelude.{◌≡◌, ◌++◌, ◌∷◌, ◌<◌, ◌≤◌, ◌+◌, ◌-◌, ◌^◌, [], List, length, slice_get, min, IfOk, false, true};
 ghost use Rattle.coniks_proof.specs.Bits.{child};
 ghost use Rattle.coniks_proof.specs.Hashing.{Hashing, hashing};
-ghost use Rattle.coniks_tree.specs.Table.{IsLinked, Table, table};
+ghost use Rattle.coniks_tree.specs.Table.{Table};
+ghost use Rattle.coniks_tree.specs.Trees.{table_of};
 ghost use Rattle.coniks_tree.specs.Parts.{Fits};
-ghost use Rattle.coniks_tree.specs.Levels.{AllDivide, AllGrown, AllOpen, Divides, IsGrown, IsOpen, SideGrows, all_interior_below, filled, interior_below, is_interior, left_by, side_from};
+ghost use Rattle.coniks_tree.specs.Levels.{AllDivide, AllGrown, AllOpen, Divides, IsGrown, SideGrows, all_interior_below, filled, interior_below, is_interior, left_by, side_from};
 
 use crate::growth::{only_change, sides};
 use crate::halving::opened;
 use crate::joining::{Pair, join_all};
 use crate::part::{Change, Part, join_parts};
-use crate::table::{Base, Node, Record};
+use crate::table::Node;
+use crate::tree::{Base, Tree};
 use coniks_proof::{Hash32, Prefix};
 use std::alloc::{AllocError, Global};
 use std::cmp::max;
@@ -61,23 +63,21 @@ fn settle<'a>(
 
 /// Opens a part for its changes. The parts below that are left to grow are appended to the parts that grow.
 fn divide<'a>(
-    nodes: &[Node],
-    records: &[Record],
+    tree: &Tree,
     part: Part,
     prefix: &Prefix,
     changes: &'a [Change],
     next: &mut VecDeque<Growing<'a>>,
 ) -> Result<(Option<Part>, Option<Part>), AllocError>
-    requires table { IsLinked (table nodes.now records.now) }
     requires short { length prefix.now < 256 }
     requires some { 0 < length changes.now }
-    requires fits { Fits (length nodes.now) (length prefix.now) part }
+    requires fits { Fits (length tree.now.nodes) (length prefix.now) part }
     ensures { IfOk result (λ both. (by : Hashing)
-        → (more : List Growing) × (next.new.items ≡ next.old.items ++ more) × AllOpen (length nodes.now) (length prefix.now + 1) more
-        × Divides by (table nodes.now records.now) prefix.now part changes.now both.0 both.1 more) }
+        → (more : List Growing) × (next.new.items ≡ next.old.items ++ more) × AllOpen (length tree.now.nodes) (length prefix.now + 1) more
+        × Divides by (table_of tree.now) prefix.now part changes.now both.0 both.1 more) }
 {
     let level = prefix.len();
-    let (left, right) = opened(nodes, records, level, part);
+    let (left, right) = opened(tree, level, part);
     let (on_left, on_right) = sides(changes, level);
     let left = settle(left, prefix.child(false), on_left, next)?;
     let right = settle(right, prefix.child(true), on_right, next)?;
@@ -117,29 +117,26 @@ fn all_inner_below(nodes: &[Node], growing: &VecDeque<Growing>) -> usize
 
 /// Opens the parts of a level for their changes, and returns those that are left to grow at the next level.
 fn divide_all<'a>(
-    alloc: Global,
-    nodes: &[Node],
-    records: &[Record],
+    tree: &Tree,
     level: usize,
     mut growing: VecDeque<Growing<'a>>,
 ) -> Result<(VecDeque<Opened>, VecDeque<Growing<'a>>), AllocError>
-    requires table { IsLinked (table nodes.now records.now) }
-    requires growing { AllOpen (length nodes.now) level growing.items }
-    ensures below { IfOk result (λ both. AllOpen (length nodes.now) (level + 1) both.1.items) }
-    ensures divide { IfOk result (λ both. (by : Hashing) → AllDivide by (table nodes.now records.now) growing.entry.items both.0.items both.1.items) }
+    requires { AllOpen (length tree.now.nodes) level growing.items }
+    ensures below { IfOk result (λ both. AllOpen (length tree.now.nodes) (level + 1) both.1.items) }
+    ensures divide { IfOk result (λ both. (by : Hashing) → AllDivide by (table_of tree.now) growing.entry.items both.0.items both.1.items) }
 {
     // Read for the contract alone.
     let _ = level;
-    let mut opened = VecDeque::with_capacity(alloc, growing.len())?;
-    let room = max(growing.len(), all_inner_below(nodes, &growing));
-    let mut next = VecDeque::with_capacity(alloc, room)?;
+    let mut opened = VecDeque::with_capacity(tree.alloc(), growing.len())?;
+    let room = max(growing.len(), all_inner_below(&tree.nodes, &growing));
+    let mut next = VecDeque::with_capacity(tree.alloc(), room)?;
     while let Some(one) = growing.pop_front() {
         let Growing {
             part,
             prefix,
             changes,
         } = one;
-        let (left, right) = divide(nodes, records, part, &prefix, changes, &mut next)?;
+        let (left, right) = divide(tree, part, &prefix, changes, &mut next)?;
         opened.push_back(Opened {
             prefix,
             left,
@@ -189,23 +186,21 @@ fn fill(
 /// Returns the parts of a level, overwritten by their changes: opened, grown at the next level, and joined four at a
 /// time.
 fn grow_level<H: Hash32>(
-    alloc: Global,
     base: &Base<'_, H>,
     level: usize,
     growing: VecDeque<Growing>,
 ) -> Result<VecDeque<Part>, AllocError>
-    requires table { IsLinked (table base.now.nodes.now base.now.records.now) }
-    requires growing { AllOpen (length base.now.nodes.now) level growing.items }
+    requires { AllOpen (length base.now.tree.now.nodes) level growing.items }
     ensures { IfOk result (λ parts. AllGrown (hashing (H.digest_of base.now.h.now) base.now.nonce.now.0)
-        (table base.now.nodes.now base.now.records.now) growing.entry.items parts.items) }
+        (table_of base.now.tree.now) growing.entry.items parts.items) }
 {
     if growing.is_empty() {
-        return Ok(VecDeque::new(alloc));
+        return Ok(VecDeque::new(base.tree.alloc()));
     }
-    let (opened, next) = divide_all(alloc, base.nodes, base.records, level, growing)?;
-    let below = grow_level(alloc, base, level + 1, next)?;
-    let pairs = fill(alloc, opened, below)?;
-    Ok(join_all(alloc, base.nodes, base.h, base.nonce, pairs)?)
+    let (opened, next) = divide_all(base.tree, level, growing)?;
+    let below = grow_level(base, level + 1, next)?;
+    let pairs = fill(base.tree.alloc(), opened, below)?;
+    Ok(join_all(base, pairs)?)
 }
 
 /// Returns the part overwritten by changes, for which it has to be opened, level by level.
@@ -213,23 +208,21 @@ fn grow_level<H: Hash32>(
 /// It is not part of its caller's stack frame, which a recursion has once for each level.
 #[inline(never)]
 pub(crate) fn grow_by_levels<H: Hash32>(
-    alloc: Global,
     base: &Base<'_, H>,
     part: Part,
     prefix: &Prefix,
     changes: &[Change],
 ) -> Result<Part, AllocError>
-    requires table { IsLinked (table base.now.nodes.now base.now.records.now) }
     requires short { length prefix.now < 256 }
     requires some { 0 < length changes.now }
-    requires fits { Fits (length base.now.nodes.now) (length prefix.now) part }
+    requires fits { Fits (length base.now.tree.now.nodes) (length prefix.now) part }
     ensures { IfOk result (λ grown. IsGrown (hashing (H.digest_of base.now.h.now) base.now.nonce.now.0)
-        (table base.now.nodes.now base.now.records.now) prefix.now part changes.now grown) }
+        (table_of base.now.tree.now) prefix.now part changes.now grown) }
 {
-    let mut next = VecDeque::with_capacity(alloc, 2)?;
-    let (left, right) = divide(base.nodes, base.records, part, prefix, changes, &mut next)?;
-    let mut below = grow_level(alloc, base, prefix.len() + 1, next)?;
+    let mut next = VecDeque::with_capacity(base.tree.alloc(), 2)?;
+    let (left, right) = divide(base.tree, part, prefix, changes, &mut next)?;
+    let mut below = grow_level(base, prefix.len() + 1, next)?;
     let left = side_or_first(left, &mut below);
     let right = side_or_first(right, &mut below);
-    Ok(join_parts(alloc, base, prefix, left, right)?)
+    Ok(join_parts(base, prefix, left, right)?)
 }

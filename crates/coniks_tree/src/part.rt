@@ -5,11 +5,13 @@ ghost use Rattle.coniks_proof.specs.Bits.{child};
 ghost use Rattle.coniks_proof.specs.Entries.{half};
 ghost use Rattle.coniks_proof.specs.Hashing.{Hashing, hashing};
 ghost use Rattle.coniks_proof.specs.Tree.{node};
-ghost use Rattle.coniks_tree.specs.Table.{Numbered, Table, table};
+ghost use Rattle.coniks_tree.specs.Table.{Numbered, Table};
+ghost use Rattle.coniks_tree.specs.Trees.{table_of};
 ghost use Rattle.coniks_tree.specs.Counts.{joined_count};
 ghost use Rattle.coniks_tree.specs.Parts.{Stands, Fits, KeepsNone, Placed, IsSubtree, entries_in, node_count, weight_of};
 
-use crate::table::{Base, Node, Record, RecordNo, Root, node_of};
+use crate::table::{Record, RecordNo, Root};
+use crate::tree::{Base, Tree};
 use coniks_proof::{Digest, Hash32, Index, Nonce, Prefix, bit, empty_hash, inner_hash, leaf_hash};
 use std::alloc::{AllocError, Global};
 
@@ -65,21 +67,21 @@ pub struct Subtree {
 
 /// Returns the hash of a part of this prefix.
 pub(crate) fn hash_at<H: Hash32>(
-    nodes: &[Node],
+    tree: &Tree,
     h: &H,
     nonce: &Nonce,
     prefix: &Prefix,
     part: &Part,
 ) -> Digest
-    requires { Fits (length nodes.now) (length prefix.now) part.now }
-    ensures { (records : List Record) (entries : List Numbered)
-        → Stands (hashing (H.digest_of h.now) nonce.now.0) (table nodes.now records) part.now prefix.now entries
+    requires { Fits (length tree.now.nodes) (length prefix.now) part.now }
+    ensures { (entries : List Numbered)
+        → Stands (hashing (H.digest_of h.now) nonce.now.0) (table_of tree.now) part.now prefix.now entries
         → result.0 ≡ node (hashing (H.digest_of h.now) nonce.now.0) prefix.now entries }
 {
     match part {
         Part::Nothing => empty_hash(h, nonce, prefix),
         Part::Entry(change) => leaf_hash(h, nonce, &change.index, prefix.len(), &change.commitment),
-        Part::Kept(root) => node_of(nodes, root.0).hash(),
+        Part::Kept(root) => tree.node(root.0).hash(),
         Part::Made(made) => made.hash,
     }
 }
@@ -146,26 +148,25 @@ pub(crate) fn made(
 
 /// Joins two parts of neighbouring prefixes to the part of the prefix above.
 pub(crate) fn join_parts<H: Hash32>(
-    alloc: Global,
     base: &Base<'_, H>,
     prefix: &Prefix,
     left: Part,
     right: Part,
 ) -> Result<Part, AllocError>
     requires short { length prefix.now < 256 }
-    requires left { Fits (length base.now.nodes.now) (length prefix.now + 1) left }
-    requires right { Fits (length base.now.nodes.now) (length prefix.now + 1) right }
-    ensures fits { IfOk result (λ part. Fits (length base.now.nodes.now) (length prefix.now) part) }
+    requires left { Fits (length base.now.tree.now.nodes) (length prefix.now + 1) left }
+    requires right { Fits (length base.now.tree.now.nodes) (length prefix.now + 1) right }
+    ensures fits { IfOk result (λ part. Fits (length base.now.tree.now.nodes) (length prefix.now) part) }
     ensures count { IfOk result (λ part. node_count part ≤ node_count left + node_count right + 1) }
     ensures new { IfOk result (λ part. node_count part ≡ joined_count left right) }
     ensures keeps { IfOk result (λ part. KeepsNone left → KeepsNone right → KeepsNone part) }
     ensures placed { IfOk result (λ part. (all : List Record) → Placed all left → Placed all right → Placed all part) }
-    ensures stands { IfOk result (λ part. (records : List Record) (entries : List Numbered)
-        → Stands (hashing (H.digest_of base.now.h.now) base.now.nonce.now.0) (table base.now.nodes.now records)
+    ensures stands { IfOk result (λ part. (entries : List Numbered)
+        → Stands (hashing (H.digest_of base.now.h.now) base.now.nonce.now.0) (table_of base.now.tree.now)
         left (child prefix.now false) (half false (length prefix.now) entries)
-        → Stands (hashing (H.digest_of base.now.h.now) base.now.nonce.now.0) (table base.now.nodes.now records)
+        → Stands (hashing (H.digest_of base.now.h.now) base.now.nonce.now.0) (table_of base.now.tree.now)
         right (child prefix.now true) (half true (length prefix.now) entries)
-        → Stands (hashing (H.digest_of base.now.h.now) base.now.nonce.now.0) (table base.now.nodes.now records) part prefix.now entries) }
+        → Stands (hashing (H.digest_of base.now.h.now) base.now.nonce.now.0) (table_of base.now.tree.now) part prefix.now entries) }
 {
     let weight_left = weight(&left);
     if weight_left + weight(&right) < 2 {
@@ -174,8 +175,8 @@ pub(crate) fn join_parts<H: Hash32>(
         }
         return Ok(right);
     }
-    let left_hash = hash_at(base.nodes, base.h, base.nonce, &prefix.child(false), &left);
-    let right_hash = hash_at(base.nodes, base.h, base.nonce, &prefix.child(true), &right);
+    let left_hash = hash_at(base.tree, base.h, base.nonce, &prefix.child(false), &left);
+    let right_hash = hash_at(base.tree, base.h, base.nonce, &prefix.child(true), &right);
     let hash = inner_hash(base.h, &left_hash, &right_hash);
-    Ok(made(alloc, left, right, left_hash, right_hash, hash)?)
+    Ok(made(base.tree.alloc(), left, right, left_hash, right_hash, hash)?)
 }

@@ -1,6 +1,6 @@
-//! The calls of a tree.
+//! The tree.
 
-ghost use Rattle.std.specs.Prelude.{◌≡◌, ◌++◌, ◌∷◌, [], ◌<◌, ◌≤◌, ◌+◌, ◌*◌, ◌-◌, ◌^◌, List, ℕ, length, slice_get, IfOk, IfSome, Some, OnOk, OnErr, vec_capacity, Bool, false, true, map, min};
+ghost use Rattle.std.specs.Prelude.{◌≡◌, ◌++◌, ◌∷◌, [], ◌<◌, ◌≤◌, ◌+◌, ◌*◌, ◌-◌, ◌^◌, List, ℕ, length, slice_get, IfOk, IfSome, Some, OnOk, Bool, false, true, map, min};
 ghost use Rattle.coniks_proof.specs.Bits.{child};
 ghost use Rattle.coniks_proof.specs.Entries.{backed_by, half, under};
 ghost use Rattle.coniks_proof.specs.Changes.{overwritten, AreApart, AreInOrder};
@@ -9,26 +9,66 @@ ghost use Rattle.coniks_proof.specs.Paths.{IsPath};
 ghost use Rattle.coniks_proof.specs.Tree.{node};
 ghost use Rattle.coniks_tree.specs.Trees.{table_of};
 ghost use Rattle.coniks_tree.specs.Entries.{Lists};
-ghost use Rattle.coniks_tree.specs.Table.{Extends, Numbered, Shows, registered_at};
+ghost use Rattle.coniks_tree.specs.Table.{Extends, NodeFits, Numbered, Shows, registered_at};
 ghost use Rattle.coniks_tree.specs.Counts.{joined_count, new_nodes};
 ghost use Rattle.coniks_tree.specs.Parts.{Stands, Fits, KeepsNone, Placed, AllPlaced, node_count, is_made, entries_in};
 ghost use Rattle.coniks_tree.specs.Paths.{Finds};
 
 use crate::attach::append;
-use crate::entries::entries_from;
+use crate::entries::{changes_at, list_places};
 use crate::growth::grow_part;
+use crate::halving::side;
 use crate::part::{Change, Part, hash_at, join_parts, new_nodes};
-use crate::part_at::part_under;
-use crate::path::{find_from, path_from};
-use crate::table::{Base, Record, RecordNo, Root, Tree, node_of, record_of};
+use crate::path::{Stop, last_number, path_from, stop_at};
+use crate::table::{Node, Record, RecordNo, Root};
 use coniks_proof::{Digest, Hash32, Index, Nonce, OutOfMemory, Prefix, Proof};
 use std::alloc::Global;
+use std::marker::Model;
+
+/// The nodes that epochs share, and the records of their leaves. Both lists only grow, at their ends.
+///
+/// A part or a root belongs to the tree that returned it, and to the hash and the nonce that it was made with. The
+/// postconditions are for a part that stands for a map, or a root that shows one. With another tree, hash or nonce a call
+/// is memory-safe and terminates, but returns something else.
+///
+/// Contracts see a tree as its nodes, its records, and how many of each its memory holds.
+#[derive(Drop)]
+pub struct Tree {
+    pub(crate) nodes: Vec<Node>,
+    records: Vec<Record>,
+    alloc: Global,
+}
+
+impl Model for Tree {
+    ghost use Rattle.std.specs.Prelude.{vec_capacity};
+    ghost use Rattle.coniks_tree.specs.Table.{IsLinked, table};
+    ghost use Rattle.coniks_tree.specs.Trees.{TreeView};
+
+    ghost Value = { TreeView };
+
+    ghost view = { λ t. record {
+      nodes = t.nodes.items;
+      records = t.records.items;
+      node_room = vec_capacity t.nodes;
+      record_room = vec_capacity t.records;
+    } };
+
+    ghost invariant = { λ t. IsLinked (table t.nodes.items t.records.items) };
+}
+
+/// What new parts are made over: a tree, and the hash and nonce of the new nodes.
+#[derive(Clone, Copy)]
+pub(crate) struct Base<'a, H> {
+    pub(crate) tree: &'a Tree,
+    pub(crate) h: &'a H,
+    pub(crate) nonce: &'a Nonce,
+}
 
 impl Tree {
     /// Returns a tree without nodes and records.
     pub fn new(alloc: Global) -> Tree
-        ensures nodes { result.nodes.items ≡ [] }
-        ensures records { result.records.items ≡ [] }
+        ensures nodes { result.nodes ≡ [] }
+        ensures records { result.records ≡ [] }
     {
         Tree {
             nodes: Vec::new(alloc),
@@ -37,47 +77,66 @@ impl Tree {
         }
     }
 
+    /// Returns the allocator of the tree.
+    pub(crate) fn alloc(&self) -> Global {
+        self.alloc
+    }
+
     /// Returns the number of nodes that the tree holds.
     pub fn nodes(&self) -> usize
-        ensures { result ≡ length self.now.nodes.items }
+        ensures { result ≡ length self.now.nodes }
     {
         self.nodes.len()
     }
 
-    /// Returns the number of records that the tree holds.
+    /// Returns the number of records that the tree holds, which is less than 2^63.
     pub fn records(&self) -> usize
-        ensures { result ≡ length self.now.records.items }
+        ensures count { result ≡ length self.now.records }
+        ensures few { result < 2 ^ 63 }
     {
         self.records.len()
     }
 
     /// Returns the record of this number.
     pub fn record(&self, place: RecordNo) -> &Record
-        requires { place.0 < length self.now.records.items }
-        ensures { slice_get self.now.records.items place.0 ≡ Some result.now }
+        requires { place.0 < length self.now.records }
+        ensures { slice_get self.now.records place.0 ≡ Some result.now }
     {
-        record_of(&self.records, place)
+        &self.records[place.0]
+    }
+
+    /// Returns the node of this number.
+    pub(crate) fn node(&self, number: usize) -> Node
+        requires { number < length self.now.nodes }
+        ensures at { slice_get self.now.nodes number ≡ Some result }
+        ensures linked { NodeFits number self.now.records result }
+    {
+        self.nodes[number]
     }
 
     /// Returns the hash of a node, which is stored in the node. Computes no hash.
     pub fn node_hash(&self, root: Root) -> Digest
-        requires { root.0 < length self.now.nodes.items }
+        requires { root.0 < length self.now.nodes }
         ensures { (by : Hashing) (prefix : List Bool) (entries : List Numbered)
             → Shows by (table_of self.now) root.0 prefix entries → result.0 ≡ node by prefix entries }
     {
-        node_of(&self.nodes, root.0).hash()
+        self.node(root.0).hash()
     }
 
     /// Returns the number of the record at an index, or `None` if the root shows no entry there.
     ///
     /// Allocates nothing and computes no hash.
     pub fn find(&self, root: Root, index: &Index) -> Option<RecordNo>
-        requires { root.0 < length self.now.nodes.items }
-        ensures known { IfSome result (λ place. place.0 < length self.now.records.items) }
+        requires { root.0 < length self.now.nodes }
+        ensures known { IfSome result (λ place. place.0 < length self.now.records) }
         ensures finds { (by : Hashing) (entries : List Numbered)
-            → Shows by (table_of self.now) root.0 [] entries → Finds self.now.records.items index.now.0 result entries }
+            → Shows by (table_of self.now) root.0 [] entries → Finds self.now.records index.now.0 result entries }
     {
-        find_from(&self.nodes, &self.records, root.0, index)
+        match stop_at(self, last_number(self, root, index), index) {
+            Stop::Empty => None,
+            Stop::Other(_, _) => None,
+            Stop::Here(place) => Some(place),
+        }
     }
 
     /// Returns the authentication path to an index, present or not (CONIKS, section 3.1).
@@ -89,12 +148,12 @@ impl Tree {
     ///
     /// `OutOfMemory` if an allocation fails.
     pub fn path(&self, root: Root, index: &Index) -> Result<Proof, OutOfMemory>
-        requires { root.0 < length self.now.nodes.items }
+        requires { root.0 < length self.now.nodes }
         ensures { IfOk result (λ path. (by : Hashing) (entries : List Numbered)
             → Shows by (table_of self.now) root.0 [] entries
-            → IsPath by (map (backed_by (registered_at self.now.records.items)) entries) index.now.0 path) }
+            → IsPath by (map (backed_by (registered_at self.now.records)) entries) index.now.0 path) }
     {
-        Ok(path_from(self.alloc, &self.nodes, &self.records, root.0, index)?)
+        Ok(path_from(self, root, index)?)
     }
 
     /// Returns the map that a root shows, as the changes that build it from the empty map.
@@ -105,40 +164,46 @@ impl Tree {
     ///
     /// `OutOfMemory` if an allocation fails.
     pub fn entries(&self, root: Root) -> Result<Vec<Change>, OutOfMemory>
-        requires { root.0 < length self.now.nodes.items }
-        ensures placed { IfOk result (λ changes. (all : List Record) → Extends self.now.records.items all → AllPlaced all changes.items) }
+        requires { root.0 < length self.now.nodes }
+        ensures placed { IfOk result (λ changes. (all : List Record) → Extends self.now.records all → AllPlaced all changes.items) }
         ensures lists { IfOk result (λ changes. (by : Hashing) (entries : List Numbered)
             → Shows by (table_of self.now) root.0 [] entries → Lists changes.items entries) }
     {
-        Ok(entries_from(self.alloc, &self.nodes, &self.records, root.0)?)
+        let mut places = Vec::new(self.alloc());
+        list_places(self, 0, root.0, &mut places)?;
+        Ok(changes_at(self, &places)?)
     }
 
     /// Returns the part of the entries that a root shows under a prefix. At the empty prefix it is the root itself, kept.
     ///
     /// Allocates nothing and computes no hash.
     pub fn part_at(&self, root: Root, prefix: &Prefix) -> Part
-        requires { root.0 < length self.now.nodes.items }
-        ensures fits { Fits (length self.now.nodes.items) (length prefix.now) result }
+        requires { root.0 < length self.now.nodes }
+        ensures fits { Fits (length self.now.nodes) (length prefix.now) result }
         ensures unmade { is_made result ≡ false }
         ensures count { node_count result ≤ 1 }
         ensures whole { length prefix.now ≡ 0 → node_count result ≡ 0 }
-        ensures placed { (all : List Record) → Extends self.now.records.items all → Placed all result }
+        ensures placed { (all : List Record) → Extends self.now.records all → Placed all result }
         ensures stands { (by : Hashing) (entries : List Numbered)
             → Shows by (table_of self.now) root.0 [] entries
             → Stands by (table_of self.now) result prefix.now (under prefix.now entries) }
     {
-        part_under(&self.nodes, &self.records, root.0, prefix)
+        let mut part = Part::Kept(root);
+        for level in 0..prefix.len() {
+            part = side(self, level, part, prefix.at(level));
+        }
+        part
     }
 
     /// Returns the hash of the root that a part of the empty prefix becomes.
     ///
     /// Computes a hash only for a single entry or an empty part, and only one.
     pub fn part_hash<H: Hash32>(&self, h: &H, nonce: &Nonce, part: &Part) -> Digest
-        requires { Fits (length self.now.nodes.items) 0 part.now }
+        requires { Fits (length self.now.nodes) 0 part.now }
         ensures { (entries : List Numbered) → Stands (hashing (H.digest_of h.now) nonce.now.0) (table_of self.now) part.now [] entries
             → result.0 ≡ node (hashing (H.digest_of h.now) nonce.now.0) [] entries }
     {
-        hash_at(&self.nodes, h, nonce, &Prefix::root(), part)
+        hash_at(self, h, nonce, &Prefix::root(), part)
     }
 
     /// Joins two parts of neighbouring prefixes, the left one first, to the part of the prefix above, which is an
@@ -158,9 +223,9 @@ impl Tree {
         right: Part,
     ) -> Result<Part, OutOfMemory>
         requires short { length prefix.now < 256 }
-        requires left { Fits (length self.now.nodes.items) (length prefix.now + 1) left }
-        requires right { Fits (length self.now.nodes.items) (length prefix.now + 1) right }
-        ensures fits { IfOk result (λ part. Fits (length self.now.nodes.items) (length prefix.now) part) }
+        requires left { Fits (length self.now.nodes) (length prefix.now + 1) left }
+        requires right { Fits (length self.now.nodes) (length prefix.now + 1) right }
+        ensures fits { IfOk result (λ part. Fits (length self.now.nodes) (length prefix.now) part) }
         ensures count { IfOk result (λ part. node_count part ≤ node_count left + node_count right + 1) }
         ensures new { IfOk result (λ part. node_count part ≡ joined_count left right) }
         ensures keeps { IfOk result (λ part. KeepsNone left → KeepsNone right → KeepsNone part) }
@@ -173,12 +238,11 @@ impl Tree {
             → Stands (hashing (H.digest_of h.now) nonce.now.0) (table_of self.now) part prefix.now entries) }
     {
         let base = Base {
-            nodes: &self.nodes,
-            records: &self.records,
+            tree: self,
             h,
             nonce,
         };
-        Ok(join_parts(self.alloc, &base, prefix, left, right)?)
+        Ok(join_parts(&base, prefix, left, right)?)
     }
 
     /// Overwrites the part of a prefix, which is an argument, with changes, and returns the new part.
@@ -197,10 +261,10 @@ impl Tree {
         prefix: &Prefix,
         changes: &[Change],
     ) -> Result<Part, OutOfMemory>
-        requires { Fits (length self.now.nodes.items) (length prefix.now) part }
-        ensures fits { IfOk result (λ grown. Fits (length self.now.nodes.items) (length prefix.now) grown) }
+        requires { Fits (length self.now.nodes) (length prefix.now) part }
+        ensures fits { IfOk result (λ grown. Fits (length self.now.nodes) (length prefix.now) grown) }
         ensures same { IfOk result (λ grown. length changes.now ≡ 0 → grown ≡ part) }
-        ensures placed { IfOk result (λ grown. (all : List Record) → Extends self.now.records.items all
+        ensures placed { IfOk result (λ grown. (all : List Record) → Extends self.now.records all
             → Placed all part → AllPlaced all changes.now → Placed all grown) }
         ensures count { IfOk result (λ grown. is_made part ≡ false → 0 < length changes.now
             → node_count grown ≤ 1 + 2 * ((256 - length prefix.now) * length changes.now)) }
@@ -218,19 +282,18 @@ impl Tree {
             grown prefix.now (overwritten entries (entries_in changes.now))) }
     {
         let base = Base {
-            nodes: &self.nodes,
-            records: &self.records,
+            tree: self,
             h,
             nonce,
         };
-        Ok(grow_part(self.alloc, &base, part, prefix, changes)?)
+        Ok(grow_part(&base, part, prefix, changes)?)
     }
 
     /// Returns the number of nodes that an attach of a part adds, its empty nodes and its topmost one included.
     ///
     /// Returns `usize::MAX` if there are more.
     pub fn new_nodes(&self, part: &Part) -> usize
-        ensures { (level : ℕ) → Fits (length self.now.nodes.items) level part.now → result ≡ min (node_count part.now) (2 ^ 64 - 1) }
+        ensures { (level : ℕ) → Fits (length self.now.nodes) level part.now → result ≡ min (node_count part.now) (2 ^ 64 - 1) }
     {
         new_nodes(part)
     }
@@ -243,11 +306,11 @@ impl Tree {
     ///
     /// `OutOfMemory` if an allocation fails.
     pub fn reserve(&mut self, part: &Part, records: usize) -> Result<(), OutOfMemory>
-        requires { Fits (length self.old.nodes.items) 0 part.now }
-        ensures nodes { self.new.nodes.items ≡ self.old.nodes.items }
-        ensures records { self.new.records.items ≡ self.old.records.items }
-        ensures room_nodes { OnOk result (length self.new.nodes.items + node_count part.now ≤ vec_capacity self.new.nodes) }
-        ensures room_records { OnOk result (length self.new.records.items + records ≤ vec_capacity self.new.records) }
+        requires { Fits (length self.old.nodes) 0 part.now }
+        ensures nodes { self.new.nodes ≡ self.old.nodes }
+        ensures records { self.new.records ≡ self.old.records }
+        ensures room_nodes { OnOk result (length self.new.nodes + node_count part.now ≤ self.new.node_room) }
+        ensures room_records { OnOk result (length self.new.records + records ≤ self.new.record_room) }
     {
         let count = new_nodes(part);
         if count == usize::MAX {
@@ -270,19 +333,19 @@ impl Tree {
         part: Part,
         records: Vec<Record>,
     ) -> Root
-        requires fits { Fits (length self.old.nodes.items) 0 part }
-        requires room_nodes { length self.old.nodes.items + node_count part ≤ vec_capacity self.old.nodes }
-        requires room_records { length self.old.records.items + length records.items ≤ vec_capacity self.old.records }
-        requires placed { Placed (self.old.records.items ++ records.items) part }
-        ensures nodes { length self.new.nodes.items ≡ length self.old.nodes.items + node_count part }
-        ensures records { self.new.records.items ≡ self.old.records.items ++ records.items }
-        ensures known { result.0 < length self.new.nodes.items }
-        ensures older { Extends self.old.nodes.items self.new.nodes.items }
+        requires fits { Fits (length self.old.nodes) 0 part }
+        requires room_nodes { length self.old.nodes + node_count part ≤ self.old.node_room }
+        requires room_records { length self.old.records + length records.items ≤ self.old.record_room }
+        requires placed { Placed (self.old.records ++ records.items) part }
+        ensures nodes { length self.new.nodes ≡ length self.old.nodes + node_count part }
+        ensures records { self.new.records ≡ self.old.records ++ records.items }
+        ensures known { result.0 < length self.new.nodes }
+        ensures older { Extends self.old.nodes self.new.nodes }
         ensures shows { (entries : List Numbered)
             → Stands (hashing (H.digest_of h.now) nonce.now.0) (table_of self.old) part [] entries
             → Shows (hashing (H.digest_of h.now) nonce.now.0) (table_of self.new) result.0 [] entries }
     {
-        let hash = hash_at(&self.nodes, h, nonce, &Prefix::root(), &part);
+        let hash = hash_at(self, h, nonce, &Prefix::root(), &part);
         let mut added = records;
         let _ = self.records.append(&mut added);
         Root(append(&mut self.nodes, 0, &hash, &part))

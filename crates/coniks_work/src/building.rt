@@ -87,13 +87,13 @@ pub fn build<H: Hash32 + Sync, G: Gate + Sync, R: Threads + Sync>(
     workers: usize,
     gate: &G,
 ) -> Result<Part, OutOfMemory>
-    requires root { IfSome root (λ r. r.0 < length tree.now.nodes.items) }
+    requires root { IfSome root (λ r. r.0 < length tree.now.nodes) }
     requires depth { depth ≤ MAX_DEPTH }
     requires workers { (1 ≤ workers) × (workers ≤ MAX_WORKERS) }
-    ensures fits { IfOk result (λ part. Fits (length tree.now.nodes.items) 0 part) }
+    ensures fits { IfOk result (λ part. Fits (length tree.now.nodes) 0 part) }
     ensures same { IfOk result (λ part. length changes.now ≡ 0 → part ≡ unchanged root) }
     ensures count { IfOk result (λ part. 0 < length changes.now → node_count part ≤ 512 * length changes.now + 1) }
-    ensures placed { IfOk result (λ part. (all : List Record) → Extends tree.now.records.items all → AllPlaced all changes.now → Placed all part) }
+    ensures placed { IfOk result (λ part. (all : List Record) → Extends tree.now.records all → AllPlaced all changes.now → Placed all part) }
     ensures keeps { IfOk result (λ part. root ≡ None → KeepsNone part) }
     ensures new { IfOk result (λ part. 0 < length changes.now → (entries : List Numbered)
         → IsOldMap (hashing (H.digest_of h.now) nonce.now.0) (table_of tree.now) root entries

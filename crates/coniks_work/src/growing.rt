@@ -18,11 +18,11 @@ use coniks_tree::{Change, OutOfMemory, Part, Root, Tree};
 
 /// Returns the part that the old root shows under a prefix, or nothing if there is no root.
 pub(crate) fn old_part(tree: &Tree, root: Option<Root>, prefix: &Prefix) -> Part
-    requires { IfSome root (λ r. r.0 < length tree.now.nodes.items) }
+    requires { IfSome root (λ r. r.0 < length tree.now.nodes) }
     ensures unmade { is_made result ≡ false }
-    ensures fits { Fits (length tree.now.nodes.items) (length prefix.now) result }
+    ensures fits { Fits (length tree.now.nodes) (length prefix.now) result }
     ensures count { node_count result ≤ 1 }
-    ensures placed { (all : List Record) → Extends tree.now.records.items all → Placed all result }
+    ensures placed { (all : List Record) → Extends tree.now.records all → Placed all result }
     ensures keeps { root ≡ None → KeepsNone result }
     ensures stands { (by : Hashing) (old : List Numbered)
         → IsOldMap by (table_of tree.now) root old
@@ -51,7 +51,7 @@ pub(crate) fn grown_part<H: Hash32>(
     prefix: &Prefix,
     changes: &[Change],
 ) -> Result<Part, OutOfMemory>
-    requires { IfSome old.now.root (λ r. r.0 < length old.now.tree.now.nodes.items) }
+    requires { IfSome old.now.root (λ r. r.0 < length old.now.tree.now.nodes) }
     ensures { IfOk result (λ part. IsNewPart (hashing (H.digest_of old.now.h.now) old.now.nonce.now.0)
         (table_of old.now.tree.now) old.now.root prefix.now (entries_in changes.now) part) }
 {
@@ -73,7 +73,7 @@ pub(crate) struct Growing<'a, H> {
     pub(crate) old: &'a Old<'a, H>,
     pub(crate) changes: &'a [Change],
     pub(crate) jobs: &'a [Job],
-    pub(crate) ghost known: { IfSome old.now.root (λ r. r.0 < length old.now.tree.now.nodes.items) } by { Prim.hlevel props },
+    pub(crate) ghost known: { IfSome old.now.root (λ r. r.0 < length old.now.tree.now.nodes) } by { Prim.hlevel props },
     pub(crate) ghost within: { LieWithin (length changes.now) jobs.now },
 }
 

@@ -34,7 +34,7 @@ pub(crate) fn join_upwards<H: Hash32>(
     changes: &[Change],
     parts: &mut Vec<Part>,
 ) -> Result<Part, OutOfMemory>
-    requires root { IfSome old.now.root (λ r. r.0 < length old.now.tree.now.nodes.items) }
+    requires root { IfSome old.now.root (λ r. r.0 < length old.now.tree.now.nodes) }
     requires depth { (length prefix.now ≤ depth) × (depth ≤ MAX_DEPTH) }
     requires parts { (before : List Part) × (mine : List Part) × (parts.old.items ≡ before ++ mine)
         × AreNewParts (hashing (H.digest_of old.now.h.now) old.now.nonce.now.0) (table_of old.now.tree.now)

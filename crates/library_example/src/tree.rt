@@ -95,7 +95,7 @@ fn hash_by_workers<R: Threads + Sync + AllocGlobal>(
     root: Root,
     changes: &[Change],
 ) -> Result<String>
-    requires { root.0 < length tree.now.nodes.items }
+    requires { root.0 < length tree.now.nodes }
 {
     // Indices that differ in their first bit are jobs of their own, and two workers draw them.
     let (depth, workers) = (1, 2);

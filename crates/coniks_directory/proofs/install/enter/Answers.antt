@@ -11,7 +11,7 @@ returns-clause-entered g c = λ s is index_of whole u after body.
     let root = c.attach-root.result in
     let e = c.attach-root.ensures in
     let later = state_of (record held { tree = c.attach-root.new.self; epochs = c.put_epoch.new.epochs; chain = c.put_entry.new.chain }) in
-    let same = installed_is (state_of held) p root c.args.t _ c.args.entry later.nodes later.records later.epochs later.chain e.records c.records-count.ensures c.put_epoch.ensures
+    let same = installed_is (state_of held) p root c.args.t _ c.args.entry later.nodes later.records later.epochs later.chain e.records c.records-count.ensures.count c.put_epoch.ensures
     c.put_entry.ensures in
     let entered : IsEntered hash (state_of held) later p c.args.t c.args.entry = λ index_of whole u after
     body. subst (λ (z : State). Leaves hash index_of (state_of held) z p c.args.t c.args.entry) (sym same)

@@ -7,9 +7,9 @@ use Rattle.coniks_tree.proofs.entries.changes_at.Given as goal
 
 abbrev pub invariant-loop-rest : goal.invariant-loop-rest
 invariant-loop-rest l = record {
-  stored : AreStored (length l.records) l.rest;
-  placed : (all : List Record) → Extends l.records all → AllPlaced all l.changes.items;
-  so_far : entries_in l.changes.items ++ entries_at l.records l.rest ≡ entries_at l.records l.places;
+  stored : AreStored (length l.tree.records) l.rest;
+  placed : (all : List Record) → Extends l.tree.records all → AllPlaced all l.changes.items;
+  so_far : entries_in l.changes.items ++ entries_at l.tree.records l.rest ≡ entries_at l.tree.records l.places;
 }
 
 abbrev pub decreases-loop-rest : goal.decreases-loop-rest

@@ -11,5 +11,5 @@ returns-clause-placed c = λ all more placed.
 
 pub returns-clause-entry : goal.returns-clause-entry
 returns-clause-entry c =
-    listed_change c.args.records.now c.args.changes.now.items c.push.new.self.items c.change_at.result c.args.place.0
+    listed_change c.args.tree.now.records c.args.changes.now.items c.push.new.self.items c.change_at.result c.args.place.0
     c.in_ok-push.ensures.items c.requires c.change_at.ensures.same

@@ -3,6 +3,7 @@ use Rattle.std.proofs.lemmas.List.{map-append}
 use Rattle.coniks_proof.specs.Messages.{preimage_of}
 use Rattle.coniks_proof.specs.declared.messages.Message.TheVariants.{Inner}
 use Rattle.coniks_tree.specs.Joins.{AllHalved, PairsFit, asked_of, inner_of}
+use Rattle.coniks_tree.specs.Trees.{table_of}
 use Rattle.coniks_tree.proofs.JoinLemmas.{AllHalved-push, asked-fewer, same-more}
 use Rattle.coniks_tree.proofs.joining.halve_all.Goals as goal
 
@@ -14,7 +15,7 @@ loop-pair-preserved c =
     let pushed : c.push_back.new.self.items ≡ c.loop-pair.halved.items ++ one ∷ [] = c.in_ok-push_back.ensures.items in
     let asked : c.push.new.self.items ≡ c.loop-pair.messages.items ++ Inner one.left_hash one.right_hash ∷ [] = c.in_ok-push.ensures.items in
     record {
-      fits = (subst (PairsFit (length c.args.nodes.now)) popped c.loop-pair.invariant.fits).1;
+      fits = (subst (PairsFit (length c.args.tree.now.nodes)) popped c.loop-pair.invariant.fits).1;
       some = asked-fewer c.loop-pair.rest.items rest c.in-Some.pair (length c.loop-pair.hashes.items) (length c.halve-one.new.hashes.items) popped c.loop-pair.invariant.some c.halve-one.ensures.len;
       same = same-more _ c.loop-pair.rest.items rest c.in-Some.pair c.loop-pair.halved.items c.push_back.new.self.items one popped pushed c.halve-one.ensures.same c.loop-pair.invariant.same;
       inner = λ nonce. ap (map (preimage_of nonce)) asked ∙ map-append (preimage_of nonce) c.loop-pair.messages.items (Inner one.left_hash one.right_hash ∷ [])
@@ -22,5 +23,5 @@ loop-pair-preserved c =
       halved = λ by all.
           let before = c.loop-pair.invariant.halved by all in
           let now = c.halve-one.ensures.halved by (asked_of by.nonce rest) (before.1 ∙ ap (λ ps. map by.hash (asked_of by.nonce ps)) popped) in
-          (subst (AllHalved by c.args.nodes.now) (sym pushed) (AllHalved-push by c.args.nodes.now c.loop-pair.halved.items one before.0 now.0), now.1);
+          (subst (AllHalved by (table_of c.args.tree.now)) (sym pushed) (AllHalved-push by (table_of c.args.tree.now) c.loop-pair.halved.items one before.0 now.0), now.1);
     }

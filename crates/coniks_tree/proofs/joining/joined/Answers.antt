@@ -21,8 +21,8 @@ returns-clause-stands c = λ by t entries short halved is sl sr.
     let p = pair.prefix in
     let heavy : 2 ≤ weight_of pair.left + weight_of pair.right = omega arith in
     let many = join_many by t pair.left pair.right p entries heavy sl sr in
-    let left = halved.left t.records _ sl in
-    let right = halved.right t.records _ sr in
+    let left = halved.left _ sl in
+    let right = halved.right _ sr in
     c.in_ok-made.ensures.stands by t p entries
     (record {
       many = many;

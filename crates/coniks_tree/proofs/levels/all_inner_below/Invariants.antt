@@ -2,7 +2,7 @@ use Rattle.std.proofs.Common.{◌≡◌, ◌++◌, ◌+◌, ◌-◌, ◌≤◌, 
 use Rattle.coniks_tree.specs.Levels.{all_interior_below}
 use Rattle.coniks_tree.proofs.levels.all_inner_below.Given as goal
 
--- the count so far, and that of what is left
+-- the count so far, and the count of the rest
 abbrev pub invariant-loop-one : goal.invariant-loop-one
 invariant-loop-one l = record {
   small : l.count ≤ 2 ^ 64 - 1;

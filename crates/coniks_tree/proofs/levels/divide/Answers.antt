@@ -2,7 +2,7 @@ use Rattle.std.proofs.Common.{◌≡◌, ◌++◌, ◌+◌, ◌∙◌, length, t
 use Rattle.coniks_proof.specs.Bits.{child}
 use Rattle.coniks_proof.specs.Changes.{AreInOrder}
 use Rattle.coniks_proof.specs.Entries.{half}
-use Rattle.coniks_tree.specs.Table.{table}
+use Rattle.coniks_tree.specs.Trees.{table_of}
 use Rattle.coniks_proof.proofs.Lemmas.{length-child}
 use Rattle.coniks_tree.specs.Levels.{AllOpen, SideGrows}
 use Rattle.coniks_tree.specs.Parts.{Fits, Stands, entries_in}
@@ -13,7 +13,7 @@ pub returns : goal.returns
 returns c = λ by.
     let p = c.args.prefix.now in
     let cs = c.args.changes.now in
-    let t = table c.args.nodes.now c.args.records.now in
+    let t = table_of c.args.tree.now in
     let at = c.len-level.ensures.len in
     let l = c.opened-left.result.0 in
     let r = c.opened-left.result.1 in

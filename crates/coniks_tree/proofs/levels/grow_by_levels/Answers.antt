@@ -4,12 +4,12 @@ use Rattle.coniks_tree.specs.Levels.{AllOpen}
 use Rattle.coniks_tree.proofs.LevelLemmas.{divided_by}
 use Rattle.coniks_tree.proofs.levels.grow_by_levels.Goals as goal
 
-pub grow_level-requires-clause-growing : goal.grow_level-requires-clause-growing
-grow_level-requires-clause-growing g c =
+pub grow_level-requires : goal.grow_level-requires
+grow_level-requires g c =
     let more = c.in_ok-left.ensures (hashing (g.H.Hash32.digest_of c.args.base.now.h.now) c.args.base.now.nonce.now.0) in
     let next = more.1 ∙ ap (λ xs. xs ++ more.0) c.in_ok-next.ensures.items in
-    subst (λ k. AllOpen (length c.args.base.now.nodes.now) (k + 1) c.divide.new.next.items) (sym c.len.ensures.len)
-    (subst (AllOpen (length c.args.base.now.nodes.now) (length c.args.prefix.now + 1)) (sym next) more.2)
+    subst (λ k. AllOpen (length c.args.base.now.tree.now.nodes) (k + 1) c.divide.new.next.items) (sym c.len.ensures.len)
+    (subst (AllOpen (length c.args.base.now.tree.now.nodes) (length c.args.prefix.now + 1)) (sym next) more.2)
 
 pub join_parts-requires-clause-left : goal.join_parts-requires-clause-left
 join_parts-requires-clause-left g c =

@@ -1,14 +1,15 @@
 use Rattle.std.proofs.Common.{ℕ, ◌<◌, ◌-◌, length, List, []}
 use Rattle.coniks_proof.specs.Hashing.{Hashing}
-use Rattle.coniks_tree.specs.Table.{Numbered, Shows, table}
+use Rattle.coniks_tree.specs.Table.{Numbered, Shows}
+use Rattle.coniks_tree.specs.Trees.{table_of}
 use Rattle.coniks_tree.proofs.PathLemmas.{OnWay}
 use Rattle.coniks_tree.proofs.path.last_number.Given as goal
 
 abbrev pub invariant-loop-near : goal.invariant-loop-near
 invariant-loop-near l = record {
-  known : l.number < length l.nodes;
-  way : (by : Hashing) (entries : List Numbered) → Shows by (table l.nodes l.records) l.fn.root [] entries
-      → (so_far : List (List ℕ)) × OnWay by (table l.nodes l.records) l.index.0 entries so_far l.number l.level;
+  known : l.number < length l.tree.nodes;
+  way : (by : Hashing) (entries : List Numbered) → Shows by (table_of l.tree) l.fn.root.0 [] entries
+      → (so_far : List (List ℕ)) × OnWay by (table_of l.tree) l.index.0 entries so_far l.number l.level;
 }
 
 abbrev pub decreases-loop-near : goal.decreases-loop-near

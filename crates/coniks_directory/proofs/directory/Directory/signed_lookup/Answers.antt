@@ -23,7 +23,7 @@ path-requires g c =
 
 -- the path is that of the name's index in the tree of the epoch's registry
 path_in : (g : given.Over) (c : goal.In-Ok g) → (let hash = g.H.Hash32.digest_of c.self.inside.h in let index_of = g.X.IndexSource.index_of c.self.inside.source in
-    IsPath (hashing hash c.in-Some.epoch.nonce.0) (entries_of hash index_of (shown_of c.self.inside.held.tree.records.items c.in-Some.epoch).registry) (index_of c.args.name.now) c.in-Ok.proof)
+    IsPath (hashing hash c.in-Some.epoch.nonce.0) (entries_of hash index_of (shown_of c.self.inside.held.tree.records c.in-Some.epoch).registry) (index_of c.args.name.now) c.in-Ok.proof)
 path_in g c =
     let d = c.self.inside in
     let hash = g.H.Hash32.digest_of d.h in

@@ -34,12 +34,12 @@ whole_in g c index_of agree =
 -- the path is that of the index in the tree of the epoch's registry
 path_in : (g : given.Over) (c : goal.In-Ok g) → (let hash = g.H.Hash32.digest_of c.self.inside.h in (index_of : List ℕ → List ℕ)
     → AgreeOn (g.X.IndexSource.index_of c.self.inside.source) index_of (latest_registry (history_of (state_of c.self.inside.held))) → index_of c.args.name.now ≡ c.args.supplied.0
-    → IsPath (hashing hash c.in-Some.epoch.nonce.0) (entries_of hash index_of (shown_of c.self.inside.held.tree.records.items c.in-Some.epoch).registry) (index_of c.args.name.now) c.in-Ok.proof)
+    → IsPath (hashing hash c.in-Some.epoch.nonce.0) (entries_of hash index_of (shown_of c.self.inside.held.tree.records c.in-Some.epoch).registry) (index_of c.args.name.now) c.in-Ok.proof)
 path_in g c index_of agree at =
     let d = c.self.inside in
     let hash = g.H.Hash32.digest_of d.h in
     let e = c.in-Some.epoch in
-    subst (λ i. IsPath (hashing hash e.nonce.0) (entries_of hash index_of (shown_of d.held.tree.records.items e).registry) i c.in-Ok.proof) (sym at)
+    subst (λ i. IsPath (hashing hash e.nonce.0) (entries_of hash index_of (shown_of d.held.tree.records e).registry) i c.in-Ok.proof) (sym at)
     (pathed hash index_of (state_of d.held) c.args.t e _ (c.in-Some.ensures hash index_of (whole_in g c index_of agree))
     c.args.supplied.0 c.in-Ok.proof (λ entries shows. c.in-Ok.ensures (hashing hash e.nonce.0) entries shows))
 

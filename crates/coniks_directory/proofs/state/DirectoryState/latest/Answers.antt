@@ -4,4 +4,4 @@ use Rattle.coniks_directory.proofs.state.DirectoryState.latest.Goals as goal
 pub returns : goal.returns
 returns c =
     let held = c.args.self.now in
-    rw (map-map (λ (x : Shown). x.t) (shown_of held.tree.records.items) held.epochs.items, ← c.deref.ensures.value) c.latest.ensures
+    rw (map-map (λ (x : Shown). x.t) (shown_of held.tree.records) held.epochs.items, ← c.deref.ensures.value) c.latest.ensures

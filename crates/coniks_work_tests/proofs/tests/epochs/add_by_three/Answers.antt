@@ -4,5 +4,5 @@ use Rattle.coniks_work_tests.proofs.tests.epochs.add_by_three.Goals as goal
 
 pub add-requires-clause-placed : goal.add-requires-clause-placed
 add-requires-clause-placed g c =
-    let old = c.args.epochs.now.tree.records.items in
-    part_placed old _ _ _ _ _ c.deref.ensures.value c.deref-2.ensures.value (c.in_ok-changes.ensures old (sym c.records.ensures)) c.in_ok-part.ensures.placed
+    let old = c.args.epochs.now.tree.records in
+    part_placed old _ _ _ _ _ c.deref.ensures.value c.deref-2.ensures.value (c.in_ok-changes.ensures old (sym c.records.ensures.count)) c.in_ok-part.ensures.placed
