@@ -200,7 +200,7 @@ class Directory(Lines[Operation, Epoch]):
         body = body_after(before.entry if before else None, self.version, number, root, self.nonce, self.policy)
         return Entry(body + demonstration_seal(self.key, body))
 
-    def tree_after(self, before: Optional[Epoch], registry: Registry, changed: Registry, is_renewed: bool) -> Any:
+    def tree_after(self, before: Optional[Epoch], registry: Registry, changed: Registry, is_rotated: bool) -> Any:
         """An epoch's tree: here all entries of its registry."""
         return self.entries(registry)
 

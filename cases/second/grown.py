@@ -81,8 +81,8 @@ def nodes_under(changes: Entries, node: Node, level: int) -> int:
 class GrownDirectory(Directory):
     """As `Directory`, but an epoch's tree grows from the one before, if the nonce stays."""
 
-    def tree_after(self, before: Optional[Epoch], registry: Registry, changed: Registry, is_renewed: bool) -> Node:
-        if before is None or is_renewed:
+    def tree_after(self, before: Optional[Epoch], registry: Registry, changed: Registry, is_rotated: bool) -> Node:
+        if before is None or is_rotated:
             return built(self.nonce, (), self.entries(registry))
         return grown(before.tree, self.nonce, (), self.entries(changed))
 

@@ -103,18 +103,18 @@ class SuppliedDirectory(Lines[SuppliedOperation, Epoch]):
         self.must_be_open()
         self.judge_batch(ops, self.indices)
         self.must_be_next(number)
-        is_renewed = later_nonce is not None
+        is_rotated = later_nonce is not None
         version, nonce = (self.version, self.nonce) if later_nonce is None else (2, later_nonce)
         before = self.epochs.get(self.latest)
-        tree, nodes = self.tree_after(before, nonce, ops, is_renewed)
+        tree, nodes = self.tree_after(before, nonce, ops, is_rotated)
         body = body_after(before.entry if before else None, version, number, tree.hash, nonce, self.policy)
         self.pending = Update(body, version, nonce, ops, tree, nodes)
         return {"body": body.hex(), "epoch": number, "nodes": nodes, "ok": "prepare", "root": tree.hash.hex()}
 
-    def tree_after(self, before: Optional[Epoch], nonce: bytes, ops: list[SuppliedOperation], is_renewed: bool) -> tuple[Node, int]:
+    def tree_after(self, before: Optional[Epoch], nonce: bytes, ops: list[SuppliedOperation], is_rotated: bool) -> tuple[Node, int]:
         """The tree of an epoch, and how many of its nodes are new."""
         changes = sorted(it.entry for it in ops)
-        if before is None or is_renewed:
+        if before is None or is_rotated:
             entries = sorted((dict(self.entries()) | dict(changes)).items())
             tree = built(nonce, (), entries)
             return tree, nodes_under(entries, tree, 0)

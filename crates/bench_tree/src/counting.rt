@@ -1,4 +1,4 @@
-//! A hash that counts how often it is called.
+//! A hash that counts its calls.
 
 ghost use Rattle.sha2.specs.Sha256.{sha256};
 

@@ -3,10 +3,10 @@
 //! The program registers pseudo-random indices in batches. It prints the numbers of nodes and hashes, and those of a
 //! rotation of the nonce, which rehashes the tree.
 //!
-//! Without arguments it registers 1,000 indices in batches of 64, and prints the same each time. The arguments INDICES and
-//! BATCH set both numbers; seconds and resident memory are printed too. With the arguments WORKERS and DEPTH after them it
-//! also times one more batch and a rotation of the nonce, each by one worker and by WORKERS workers at the split depth
-//! DEPTH, and searches of authentication paths.
+//! Without arguments it registers 1,000 indices in batches of 64, and prints the same each time. The arguments INDICES
+//! and BATCH set both numbers. Seconds and resident memory are then printed too. With the arguments WORKERS and DEPTH
+//! after them it also times one more batch, a rotation of the nonce, and searches of authentication paths. The batch
+//! and the rotation are timed with one worker and with WORKERS workers at the split depth DEPTH.
 #![tactic(auto)]
 
 mod counting;
@@ -18,7 +18,7 @@ mod timing;
 use crate::measure::print_cost;
 use crate::plan::plan_of;
 use crate::registering::Registry;
-use crate::timing::{print_builds, print_lookups, print_renewals};
+use crate::timing::{print_builds, print_lookups, print_rotations};
 use anyhow::Result;
 use std::env;
 use std::time::Instant;
@@ -33,14 +33,14 @@ fn main(rt: HostRuntime) -> Result<()> {
     println!(rt; "indices: {}", plan.indices)?;
     println!(rt; "batches: {}", plan.batches())?;
     println!(rt; "{counts}")?;
-    println!(rt; "{}", registry.renewal()?)?;
+    println!(rt; "{}", registry.rotation()?)?;
     if plan.is_measured {
         print_cost(&rt, start.elapsed(&rt)?)?;
     }
     if let Some(parallelism) = &plan.parallelism {
         print_builds(&rt, &registry, &plan, parallelism)?;
         print_lookups(&rt, &registry)?;
-        print_renewals(&rt, &registry, parallelism)?;
+        print_rotations(&rt, &registry, parallelism)?;
     }
     Ok(())
 }

@@ -45,7 +45,7 @@ fn number_of(word: &str) -> Result<u64> {
         .context(format_args!("reading {word:?}"))
 }
 
-/// Parses a number in decimal digits, at most this large.
+/// Parses a number in decimal digits, at most `most`.
 fn bounded(word: &str, most: usize) -> Result<usize>
     ensures { IfOk result (λ number. number ≤ most) }
 {

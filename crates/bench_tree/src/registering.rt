@@ -3,7 +3,7 @@
 use crate::counting::Counting;
 use crate::plan::{Parallelism, Plan};
 use coniks_proof::{Digest, Hash32, Index, Prefix, Proof, Sha256Hash};
-use coniks_test_support::{NONCE, RENEWED, add, changes_to, known, part_before, record_of};
+use coniks_test_support::{NEW_NONCE, NONCE, add, changes_to, known, part_before, record_of};
 use coniks_tree::{Change, OutOfMemory, Part, Record, Root, Tree};
 use coniks_work::{Open, build};
 use std::alloc::{AllocError, Global};
@@ -29,14 +29,14 @@ impl fmt::Display for Counts {
 
 /// The numbers of nodes and hashes of a rotation.
 #[derive(Drop)]
-pub struct Renewal {
+pub struct Rotation {
     nodes: usize,
     hashes: u64,
 }
 
-impl fmt::Display for Renewal {
+impl fmt::Display for Rotation {
     fn fmt<W: fmt::Write>(&self, f: &mut fmt::Formatter<W>) -> fmt::Result {
-        let Renewal { nodes, hashes } = self;
+        let Rotation { nodes, hashes } = self;
         write!(
             f,
             "nodes under another nonce: {nodes}\nhashes for them: {hashes}"
@@ -59,8 +59,8 @@ fn indices_of(alloc: Global, from: u64, to: u64) -> Result<Vec<(Index, u64)>, Al
     Ok(indices)
 }
 
-/// Returns the records of these numbers, in the order of their indices. A name has 8 bytes, the number, and a key 32, the
-/// index.
+/// Returns the records of these numbers, in the order of their indices. A name is the 8 bytes of its number, and a key
+/// the 32 bytes of its index.
 fn records_of<H: Hash32>(
     alloc: Global,
     h: &H,
@@ -162,7 +162,7 @@ impl Registry {
     }
 
     /// Builds the part of all entries under another nonce with several workers. The registry is unchanged.
-    pub fn renewed<R: Threads + Sync>(
+    pub fn rotated<R: Threads + Sync>(
         &self,
         rt: &R,
         entries: &[Change],
@@ -172,7 +172,7 @@ impl Registry {
             rt,
             self.alloc,
             &Sha256Hash,
-            &RENEWED,
+            &NEW_NONCE,
             &self.tree,
             None,
             entries,
@@ -183,13 +183,11 @@ impl Registry {
     }
 
     /// Returns the numbers of nodes and hashes of a rotation of the nonce.
-    pub fn renewal(&self) -> Result<Renewal, OutOfMemory> {
+    pub fn rotation(&self) -> Result<Rotation, OutOfMemory> {
         let hash = Counting::new();
         let entries = self.entries()?;
-        let part = self
-            .tree
-            .grow(&hash, &RENEWED, Part::Nothing, &Prefix::root(), &entries)?;
-        Ok(Renewal {
+        let part = self.tree.grow(&hash, &NEW_NONCE, Part::Nothing, &Prefix::root(), &entries)?;
+        Ok(Rotation {
             nodes: self.tree.new_nodes(&part),
             hashes: hash.calls(),
         })

@@ -1,4 +1,4 @@
-//! The times of one more batch, of a rotation of the nonce, and of a search of a path.
+//! The times of one more batch, of a rotation of the nonce, and of searches of authentication paths.
 
 use crate::plan::{Parallelism, Plan};
 use crate::registering::{Registry, index_of};
@@ -10,11 +10,11 @@ use std::rt::Clock;
 use std::thread::Threads;
 use std::time::{Duration, Instant};
 
-/// The number of builds of a batch by each of the two, in turn.
+/// The number of times that one worker and several workers build a batch, in turn.
 const REPEATS: usize = 51;
 
-/// The number of rotations by each of the two, in turn.
-const RENEWALS: usize = 7;
+/// The number of times that one worker and several workers rotate the nonce, in turn.
+const ROTATIONS: usize = 7;
 
 /// The number of paths of a round, and the number of rounds.
 const LOOKUPS: u64 = 10_000;
@@ -107,31 +107,31 @@ pub fn print_builds<R: Threads + Sync + Clock + Print + AllocGlobal>(
 }
 
 /// Returns how long these workers take to list all entries and build them under another nonce.
-fn renewal_time<R: Threads + Sync + Clock>(
+fn rotation_time<R: Threads + Sync + Clock>(
     rt: &R,
     registry: &Registry,
     parallelism: &Parallelism,
 ) -> Result<Duration> {
     let start = Instant::now(rt)?;
     let entries = registry.entries()?;
-    let part = registry.renewed(rt, &entries, parallelism)?;
+    let part = registry.rotated(rt, &entries, parallelism)?;
     let time = start.elapsed(rt)?;
     drop(part);
     Ok(time)
 }
 
 /// Prints the times of a rotation.
-pub fn print_renewals<R: Threads + Sync + Clock + Print + AllocGlobal>(
+pub fn print_rotations<R: Threads + Sync + Clock + Print + AllocGlobal>(
     rt: &R,
     registry: &Registry,
     parallelism: &Parallelism,
 ) -> Result<()> {
     print_in_turn(
         rt,
-        "renewal",
-        RENEWALS,
+        "rotation",
+        ROTATIONS,
         parallelism,
-        &|by: &Parallelism| renewal_time(rt, registry, by),
+        &|by: &Parallelism| rotation_time(rt, registry, by),
     )
 }
 

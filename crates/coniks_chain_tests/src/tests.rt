@@ -14,8 +14,8 @@ use coniks_test_support::{NONCE, OPENING, Only, POLICY, Yes, bytes_of, digest};
 use std::alloc::Global;
 use std::process::Abort;
 
-/// The entries of a directory in which `a` is registered with the key `k` at epoch 1 and changed to `l` at epoch 4: body
-/// and signature, in hexadecimal.
+/// The entries of a directory, as body and signature in hexadecimal. `a` is registered with the key `k` at epoch 1 and
+/// changed to `l` at epoch 4.
 const ENTRIES: [(&str, &str); 2] = [
     (
         "0100000000000000010000000000000000042fd8b84dddf51f9702df23af5d7b8085d9e48571804622630a4fdab7481c17000000000000000000000000000000000000000000000000000000000000000011111111111111111111111111111111111111111111111111111111111111113333333333333333333333333333333333333333333333333333333333333333",
@@ -27,7 +27,7 @@ const ENTRIES: [(&str, &str); 2] = [
     ),
 ];
 
-/// Their links under SHA-256, and that of `third_entry`.
+/// Their links under SHA-256, and that of the third entry of `good_chain`.
 const LINKS: [&str; 3] = [
     "10b77bd8c5b9c4085b97e77e31ad14418c96227fa397e9e41ce717b49122ccdf",
     "1145bc5b9cba19a0d06065c98e8599bf9517b1c70da22189706c67979ad6dac1",
@@ -40,15 +40,15 @@ const ROOT_OF_A: &str = "042fd8b84dddf51f9702df23af5d7b8085d9e48571804622630a4fd
 /// The root of a tree with no names.
 const EMPTY_ROOT: &str = "1aa9b40c9d34d625d7329003c097925b7d4c7809b864b047b71defb140aca216";
 
-/// What is hashed to the links of two first entries that differ in the first byte of the root, and of one that follows
-/// them at epoch 2 where the hash is 32 zero bytes.
+/// The preimages of the links of `flat_entries`: two first entries that differ in the first byte of the root, and one
+/// that follows both.
 const PREIMAGES: [&str; 3] = [
     "530100000000000000010000000000000000000000000000000000000000000000000000000000000000000000000000000000000000000000000000000000000000000000000000000000000000000000001111111111111111111111111111111111111111111111111111111111111111333333333333333333333333333333333333333333333333333333333333333300000000000000000000000000000000000000000000000000000000000000000000000000000000000000000000000000000000000000000000000000000000",
     "530100000000000000010000000000000000010000000000000000000000000000000000000000000000000000000000000000000000000000000000000000000000000000000000000000000000000000001111111111111111111111111111111111111111111111111111111111111111333333333333333333333333333333333333333333333333333333333333333300000000000000000000000000000000000000000000000000000000000000000000000000000000000000000000000000000000000000000000000000000000",
     "530100000000000000020000000000000001000000000000000000000000000000000000000000000000000000000000000000000000000000000000000000000000000000000000000000000000000000001111111111111111111111111111111111111111111111111111111111111111333333333333333333333333333333333333333333333333333333333333333300000000000000000000000000000000000000000000000000000000000000000000000000000000000000000000000000000000000000000000000000000000",
 ];
 
-/// The entry of one of the two epochs.
+/// Returns the entry of one of the two epochs.
 fn entry_at(rt: &impl Abort, place: usize) -> Entry {
     let (body, signature) = ENTRIES.get(place).expect(rt, "an entry");
     Entry {
@@ -57,12 +57,12 @@ fn entry_at(rt: &impl Abort, place: usize) -> Entry {
     }
 }
 
-/// The link of one of the three.
+/// Returns one of the three links.
 fn link_at(rt: &impl Abort, place: usize) -> Digest {
     digest(LINKS.get(place).expect(rt, "a link"))
 }
 
-/// The two entries, and one at epoch 5 that follows them.
+/// Returns the two entries, and one at epoch 5 that follows them.
 fn good_chain(rt: &impl Abort) -> [Entry; 3] {
     let second = entry_at(rt, 1);
     let mut third = second;
@@ -72,7 +72,7 @@ fn good_chain(rt: &impl Abort) -> [Entry; 3] {
     [entry_at(rt, 0), second, third]
 }
 
-/// The head at one of the three.
+/// Returns the head of an epoch with one of the three links.
 fn head_at(rt: &impl Abort, epoch: u64, place: usize) -> Head {
     Head {
         epoch,
@@ -80,7 +80,7 @@ fn head_at(rt: &impl Abort, epoch: u64, place: usize) -> Head {
     }
 }
 
-/// An entry for the flat hash, by its epochs and the first byte of its root.
+/// Returns an entry for the flat hash, with these epochs and this first byte of the root.
 pub fn flat_entry(t: u64, t_prev: u64, root: u8) -> Entry {
     let mut bytes = [0; 32];
     bytes[0] = root;
@@ -98,7 +98,7 @@ pub fn flat_entry(t: u64, t_prev: u64, root: u8) -> Entry {
     }
 }
 
-/// Two first entries under the flat hash, and one that follows both.
+/// Returns two first entries under the flat hash, and one that follows both.
 fn flat_entries() -> [Entry; 3] {
     [
         flat_entry(1, 0, 0),
@@ -107,12 +107,12 @@ fn flat_entries() -> [Entry; 3] {
     ]
 }
 
-/// A copy of a name or a key.
+/// Copies a name or a key.
 fn copied(rt: &impl Abort, alloc: Global, bytes: &[u8]) -> Bytes {
     Bytes::copy_of(alloc, bytes).expect(rt, "memory")
 }
 
-/// The proof of a tree with one name, `a`, which has this key.
+/// Returns the proof of a tree with one name, `a`, which has this key.
 fn proof_of(rt: &impl Abort, alloc: Global, key: &[u8]) -> Proof {
     Proof {
         siblings: Digests::new(Vec::new(alloc)),
@@ -124,7 +124,7 @@ fn proof_of(rt: &impl Abort, alloc: Global, key: &[u8]) -> Proof {
     }
 }
 
-/// The proof of a tree with no names.
+/// Returns the proof of a tree with no names.
 fn proof_of_none(alloc: Global) -> Proof {
     Proof {
         siblings: Digests::new(Vec::new(alloc)),
@@ -132,7 +132,7 @@ fn proof_of_none(alloc: Global) -> Proof {
     }
 }
 
-/// A monitor of a name, whose index is 32 zero bytes.
+/// Returns a monitor of a name whose index is 32 zero bytes.
 fn watch(
     rt: &impl Abort,
     alloc: Global,
@@ -212,12 +212,12 @@ fn refused_chains(rt: HostRuntime) {
     assert!(rt; refused == Err((1, AuditFault::Verdict)));
 }
 
-/// Where a chain is refused under any signature, and why.
+/// Returns the place and the error at which `audit` refuses a chain if it accepts every signature.
 fn refusal(chain: &[Entry]) -> Option<(usize, AuditFault)> {
     audit(&Sha256Hash, chain, &Yes).err()
 }
 
-/// A good chain with its entries exchanged, doubled or left out, or the first of them as another signer signs it.
+/// `audit` refuses a chain whose entries are swapped, repeated or left out, or whose first entry has another signature.
 #[test]
 fn hostile_chains(rt: HostRuntime) {
     let [one, two, three] = good_chain(&rt);
@@ -234,7 +234,7 @@ fn hostile_chains(rt: HostRuntime) {
     assert!(rt; refusal(&[other, two, three]) == Some((1, AuditFault::PreviousLink)));
 }
 
-/// What an auditor says of an entry whose signature is taken, or isn't.
+/// Feeds an auditor an entry, whose signature is accepted if `is_signed`.
 fn fed<H: Hash32 + Drop>(
     auditor: &mut Auditor<H>,
     entry: &Entry,
@@ -247,7 +247,7 @@ fn fed<H: Hash32 + Drop>(
     }
 }
 
-/// What is said of three entries that are fed in an order.
+/// Returns the results of feeding an auditor three entries in this order.
 fn answers(rt: &impl Abort, order: [usize; 3], is_signed: bool) -> [Result<(), AuditFault>; 3] {
     let good = good_chain(rt);
     let mut auditor = Auditor::new(Sha256Hash);
@@ -273,7 +273,7 @@ fn orders_of_feeding(rt: HostRuntime) {
     assert!(rt; answers(&rt, [0, 1, 2], false) == [unsigned, early, early]);
 }
 
-/// The head after each entry, and after one that is refused.
+/// `head` returns the head of the latest accepted entry, also after a refused one.
 #[test]
 fn heads_of_an_auditor(rt: HostRuntime) {
     let good = good_chain(&rt);
@@ -292,7 +292,8 @@ fn heads_of_an_auditor(rt: HostRuntime) {
     }
 }
 
-/// A step over a proof of `a` with this key, by what a client stored, which expects the key `k`; and what it stores then.
+/// Watches an entry from a stored state, with the expected key `k` and a proof of `a` with this key. Returns the result
+/// and the new state.
 fn stored_step(
     rt: &impl Abort,
     alloc: Global,
@@ -311,7 +312,7 @@ fn stored_step(
     (seen, auditor.state())
 }
 
-/// A client that keeps nothing but what it stores takes the steps of one that goes on.
+/// An auditor that is resumed from its stored state before each step continues the chain.
 #[test]
 fn steps_of_a_stored_state(rt: HostRuntime) {
     let alloc = rt.alloc();
@@ -340,7 +341,7 @@ fn steps_of_a_stored_state(rt: HostRuntime) {
     assert!(rt; stored.map(|before| before.link) == Some(link_at(&rt, 1)));
 }
 
-/// A monitor goes on from where another one stood.
+/// A monitor that is resumed from another one's state continues from there.
 #[test]
 fn resumed_monitor(rt: HostRuntime) {
     let alloc = rt.alloc();
@@ -352,7 +353,7 @@ fn resumed_monitor(rt: HostRuntime) {
     assert!(rt; step_to(&rt, alloc, &mut next, 1, b'l') == Ok(Seen::Changed));
 }
 
-/// Each fault of a first entry, together with the next one that can stand beside it.
+/// `feed` returns each error of a first entry before the next one that can occur with it.
 #[test]
 fn first_faults(rt: HostRuntime) {
     let mut entry = entry_at(&rt, 0);
@@ -373,15 +374,15 @@ fn first_faults(rt: HostRuntime) {
     }
 }
 
-/// An auditor that has seen the first entry.
+/// Returns an auditor that has accepted the first entry.
 fn auditor_of_one(rt: &impl Abort) -> Auditor<Sha256Hash> {
     let mut auditor = Auditor::new(Sha256Hash);
     assert!(rt; auditor.feed(&entry_at(rt, 0), &Yes) == Ok(()));
     auditor
 }
 
-/// Each fault of a later entry, together with the next one that can stand beside it. A bent link or nonce has another
-/// first byte.
+/// `feed` returns each error of a later entry before the next one that can occur with it. A wrong link or nonce differs
+/// in its first byte.
 #[test]
 fn later_faults(rt: HostRuntime) {
     let mut auditor = auditor_of_one(&rt);
@@ -406,14 +407,14 @@ fn later_faults(rt: HostRuntime) {
     }
 }
 
-/// An entry, as another version has it, with a nonce of this first byte.
+/// Returns an entry with this version and this first byte of the nonce.
 fn under(mut entry: Entry, version: u8, nonce: u8) -> Entry {
     entry.body.version = version;
     entry.body.nonce.0[0] = nonce;
     entry
 }
 
-/// What is said of an entry at epoch 2, after one at epoch 1 of a version and a nonce.
+/// Returns the result of feeding an entry after one at epoch 1 with this version and nonce.
 fn after_one(
     rt: &impl Abort,
     version: u8,
@@ -427,7 +428,7 @@ fn after_one(
     fed(&mut auditor, entry, is_signed)
 }
 
-/// Which version and nonce may follow which: version 2 from then on, and another nonce in version 2 alone.
+/// After version 2 only version 2 follows, and only an entry of version 2 may change the nonce.
 #[test]
 fn versions_and_nonces(rt: HostRuntime) {
     let back = Err(AuditFault::VersionBack);
@@ -449,7 +450,7 @@ fn versions_and_nonces(rt: HostRuntime) {
     }
 }
 
-/// A version that goes back is told before all that can stand beside it, and a changed nonce after all but the verdict.
+/// `VersionBack` comes before each error that can occur with it, and `NonceChanged` before `Verdict`.
 #[test]
 fn order_of_versions_and_nonces(rt: HostRuntime) {
     let mut entry = under(flat_entry(2, 1, 0), 1, 8);
@@ -516,7 +517,7 @@ fn told_of_a_change(rt: HostRuntime) {
     assert!(rt; step_to(&rt, alloc, &mut told, 1, b'l') == Ok(Seen::Same));
 }
 
-/// What is seen of a name in an epoch with no names.
+/// Returns what a monitor sees of a name in an epoch with no names.
 fn seen_of_none(
     rt: &impl Abort,
     alloc: Global,
@@ -547,7 +548,7 @@ fn unexpected_key(rt: HostRuntime) {
     assert!(rt; seen == Ok(Seen::Changed));
 }
 
-/// What a run over the two entries, each with its proof, gives.
+/// Runs a monitor over the two entries, each with its proof.
 fn run_over_two<V: Verify>(
     rt: &impl Abort,
     alloc: Global,
@@ -591,19 +592,19 @@ fn refused_runs(rt: HostRuntime) {
     assert!(rt; seen == Ok(Seen::Changed));
 }
 
-/// Whether two texts are the 210 bytes each that hexadecimal digits write.
+/// Returns whether a collision consists of these two texts of 210 bytes each, in hexadecimal.
 fn are(found: &Collision, x: &str, y: &str) -> bool {
     let (x, y): ([u8; 210], [u8; 210]) = (bytes_of(x), bytes_of(y));
     found.x.as_slice() == x.as_slice() && found.y.as_slice() == y.as_slice()
 }
 
-/// Whether two histories under the flat hash give what is hashed to two links.
+/// Returns whether two histories under the flat hash give these two preimages.
 fn give(rt: &impl Abort, alloc: Global, a: &[Entry], b: &[Entry], x: &str, y: &str) -> bool {
     let found = extract_history(alloc, &Flat, a, b).expect(rt, "memory");
     are(&found.expect(rt, "two texts"), x, y)
 }
 
-/// Whether two histories give nothing.
+/// Returns whether two histories give no collision.
 fn give_nothing<H: Hash32>(
     rt: &impl Abort,
     alloc: Global,
@@ -616,7 +617,7 @@ fn give_nothing<H: Hash32>(
         .is_none()
 }
 
-/// Histories under the flat hash, and what their ends tell.
+/// `extract_history` returns the two link preimages that collide, for histories of the same and of different lengths.
 #[test]
 fn histories(rt: HostRuntime) {
     let alloc = rt.alloc();
@@ -627,7 +628,8 @@ fn histories(rt: HostRuntime) {
     assert!(rt; give(&rt, alloc, &[one], &[one, two], of_one, of_two));
 }
 
-/// Whether two histories under the flat hash were refused memory, and then gave what they give without.
+/// Asserts the collision of two histories under the flat hash, after one retry if an allocation fails. Returns whether
+/// one failed.
 fn refused_once(
     rt: &impl Abort,
     alloc: Global,
@@ -648,8 +650,8 @@ fn refused_once(
     }
 }
 
-/// What histories give, whether or not memory is refused; where they give nothing, none is asked for. `faults/run` refuses
-/// each request for memory in turn, and is told by what the test writes whether it was one of `extract_history`.
+/// `extract_history` returns the same collisions after a failed allocation, and allocates nothing if there is none.
+/// `faults/run` makes each allocation fail in turn, and reads from the output whether it was one of `extract_history`.
 #[test]
 fn refused_in_turn(rt: HostRuntime) {
     let alloc = rt.alloc();
@@ -664,7 +666,7 @@ fn refused_in_turn(rt: HostRuntime) {
     let _ = println!(rt; "{}", if is_refused { "refused" } else { "answered" });
 }
 
-/// Histories that are the same, or of which one has no entry, or under SHA-256, of which no collision is known.
+/// `extract_history` returns no collision if the histories are equal, if one is empty, or under SHA-256.
 #[test]
 fn histories_without_a_collision(rt: HostRuntime) {
     let alloc = rt.alloc();
@@ -676,7 +678,7 @@ fn histories_without_a_collision(rt: HostRuntime) {
     assert!(rt; give_nothing(&rt, alloc, &Sha256Hash, &good, &good[..2]));
 }
 
-/// A first entry, and those of the epochs after it up to the 65,536th, as many as a board has heads.
+/// Returns a first entry and those of the epochs 2 to 65,536, as many entries as a board has heads.
 fn long(rt: &impl Abort, alloc: Global, first: Entry) -> Vec<Entry> {
     let mut entries = Vec::new(alloc);
     entries.push(first).expect(rt, "memory");
@@ -686,7 +688,7 @@ fn long(rt: &impl Abort, alloc: Global, first: Entry) -> Vec<Entry> {
     entries
 }
 
-/// Histories as long as can be that differ in their first entries alone.
+/// `extract_history` finds the collision of histories of 65,536 entries that differ only in the first entry.
 #[test]
 fn long_histories(rt: HostRuntime) {
     let alloc = rt.alloc();

@@ -1,4 +1,4 @@
--- What is said of a directory by one function of indices holds of it by each that gives the registered names the same indices.
+-- What holds of a directory with one function of indices holds with each one that gives the registered names the same indices.
 use Rattle.std.proofs.Common.{◌≡◌, ℕ, ◌+◌, List, [], ◌∷◌, ◌++◌, length, map, take, drop, true, false, refl, sym, ap, subst, ◌∙◌, ◌||◌, inl, inr, Option, None, append_assoc, slice_get, Some}
 use Rattle.std.proofs.lemmas.List.{take-append-drop}
 use Rattle.std.proofs.lemmas.Bool.{or_left}
@@ -16,7 +16,7 @@ use Rattle.coniks_directory.proofs.LastLemmas.{at_end, get-mapped, take_next}
 use Rattle.coniks_directory.proofs.StateLemmas.{latest-is, registry_at-all}
 use Rattle.coniks_directory.proofs.StepLemmas.{Steps, committed, installed, opened, stayed}
 
--- ---- the names of a registry that bindings are laid over
+-- ---- the names of a registry that bindings overwrite
 
 has_rebound : (registry : Registry) (b : Registered) (name : List ℕ) → has_name registry name ≡ true → has_name (rebound registry b) name ≡ true
 has_rebound registry b name has =
@@ -26,12 +26,12 @@ has_rebound registry b name has =
       | false ↦ λ off. has_of (rebound registry b) name n.bound (rebound_old registry b n.bound n.there (λ same. let on = eq_same n.bound.name b.name same in cc)) n.named
     ]) refl
 
--- no name goes
+-- no name is removed
 pub has_still : (registry : Registry) (bs : List Registered) (name : List ℕ) → has_name registry name ≡ true → has_name (overlaid registry bs) name ≡ true
 has_still registry [] name has = has
 has_still registry (x ∷ xs) name has = has_still (rebound registry x) xs name (has_rebound registry x name has)
 
--- and those of the bindings come
+-- and those of the bindings are added
 pub has_new : (registry : Registry) (bs : List Registered) (name : List ℕ) → has_name bs name ≡ true → has_name (overlaid registry bs) name ≡ true
 has_new registry [] name has = absurd (let never = has in cc)
 has_new registry (x ∷ xs) name has = elim (or_cases (bytes_eq x.name name) (has_name xs name) has) [
@@ -39,7 +39,7 @@ has_new registry (x ∷ xs) name has = elim (or_cases (bytes_eq x.name name) (ha
   | inr later ↦ has_new (rebound registry x) xs name later
 ]
 
--- a name that is left has one of the bindings, or was there
+-- the names of bindings over an empty registry are those of the bindings
 pub has_old : (bs : List Registered) (name : List ℕ) → has_name (overlaid [] bs) name ≡ true → has_name bs name ≡ true
 has_old bs name has =
     let n = named_of (overlaid [] bs) name has in
@@ -69,7 +69,7 @@ has_either (x ∷ xs) ys name P first second has = elim (or_cases (bytes_eq x.na
 abbrev pub have : List Record → List ℕ → Type 0
 have records name = has_name (map registered_of records) name ≡ true
 
--- a registry of some of the records has names of theirs alone
+-- a registry of some of the records has only names of the records
 pub have_at : (records : List Record) (n : ℕ) (name : List ℕ) → has_name (registry_at records n) name ≡ true → have records name
 unfolding registry_at
 have_at records n name has =
@@ -77,11 +77,11 @@ have_at records n name has =
     subst (λ rs. has_name (map registered_of rs) name ≡ true) (take-append-drop n records)
     (rw (map-append registered_of (take n records) (drop n records)) (has_left before (map registered_of (drop n records)) name (has_old before name has)))
 
--- and that of all has each
+-- and the registry of all records has each of their names
 pub have_all : (records : List Record) (name : List ℕ) → have records name → has_name (registry_at records (length records)) name ≡ true
 have_all records name has = rw (registry_at-all records) (has_new [] (map registered_of records) name has)
 
--- one record further there is still none of the name
+-- up to the next place there is still no record of the name
 pub none_next : (xs : List Record) (i : ℕ) (x : Record) (name : List ℕ) → slice_get xs i ≡ Some x → has_name (map registered_of (take i xs)) name ≡ false → bytes_eq x.binding.name name ≡ false
     → has_name (map registered_of (take (i + 1) xs)) name ≡ false
 none_next xs i x name at none off =
@@ -93,7 +93,7 @@ none_next xs i x name at none off =
       | inr on ↦ let never = on in cc
     ]) (subst (λ bs. has_name bs name ≡ true) same has))
 
--- the names that an update leaves are those that are registered and those of its records
+-- the names after an update are the registered ones and those of its records
 pub leaves_name : (hash index_of : List ℕ → List ℕ) (s : State) (p : Prepared) (name : List ℕ) → Whole hash index_of s
     → has_name (registry_after s p) name ≡ has_name (latest_registry (history_of s)) name || has_name (map registered_of p.records.items) name
 leaves_name hash index_of s p name whole =
@@ -113,7 +113,7 @@ leaves_name hash index_of s p name whole =
       | inr fresh ↦ has_right (map registered_of s.records) new name fresh
     ])))
 
--- a function with one index more agrees on a registry that lacks the name, or has it with this index
+-- a function with one more index agrees on a registry that lacks the name, or has it with this index
 pub supplied_agree : (index_of also : List ℕ → List ℕ) (name index : List ℕ) (registry : Registry)
     → IsSupplied index_of name index also → (has_name registry name ≡ true → index_of name ≡ index) → AgreeOn index_of also registry
 supplied_agree index_of also name index registry supplied kept n has = (elim (bytes_eq n name) as (λ v. bytes_eq n name ≡ v → index_of n ≡ also n) [
@@ -136,7 +136,7 @@ module _ (hash index_of also : List ℕ → List ℕ) where
   pub root_agree : (shown : Shown) → AgreeOn index_of also shown.registry → root_at hash index_of shown ≡ root_at hash also shown
   root_agree shown agree = rw (entries_agree shown.registry agree) refl
 
-  -- and so are bodies
+  -- and the bodies are the same
   pub body_agree : (policy : List ℕ) (before : Option AuditorState) (shown : Shown) → AgreeOn index_of also shown.registry
       → body_of hash index_of policy before shown ≡ body_of hash also policy before shown
   body_agree policy before shown agree = ap (λ (r : List ℕ). record (body_of hash index_of policy before shown) { root = record { 0 = r } }) (root_agree shown agree)
@@ -155,7 +155,7 @@ module _ (hash index_of also : List ℕ → List ℕ) where
 
   -- ---- a directory
 
-  -- what its records bind has the same indices
+  -- the names of its records have the same indices
   module _ (s : State) (agree : (name : List ℕ) → have s.records name → index_of name ≡ also name) where
     agree_at : (n : ℕ) → AgreeOn index_of also (registry_at s.records n)
     agree_at n name has = agree name (have_at s.records n name has)
@@ -190,7 +190,7 @@ module _ (hash index_of also : List ℕ → List ℕ) where
       chain = chain_agree s.chain whole.chain;
     }
 
-  -- a directory is one by each function of indices that agrees on its latest registry
+  -- a directory is one with each function of indices that agrees on its latest registry
   pub whole_agree : (s : State) → AgreeOn index_of also (latest_registry (history_of s)) → Whole hash index_of s → Whole hash also s
   whole_agree s agree whole =
       whole_records s (λ name has. agree name (rw (latest-is hash index_of s whole) (have_all s.records name has))) whole
@@ -210,7 +210,7 @@ module _ (hash index_of also : List ℕ → List ℕ) where
     mirrors = mirrors_agree (records_after s p) u.entries (registry_after s p) agree u.mirrors;
   }
 
-  -- an update that was prepared earlier has no names beside those that it would leave now
+  -- the names after an update on an earlier state are among those after it on a later state
   pub earlier_has : (s t : State) (p : Prepared) → Grows s t → (name : List ℕ) → has_name (registry_after s p) name ≡ true → has_name (registry_after t p) name ≡ true
   earlier_has s t p grows name has =
       let new = map registered_of p.records.items in
@@ -257,7 +257,7 @@ module _ (hash index_of also : List ℕ → List ℕ) where
       (subst (λ bs. AgreeOn index_of also (registry ++ bs)) (sym (append_assoc earlier (b ∷ []) (map bound_by ops))) agree) in
       ap (λ f. placed place f (fault_from index_of registry (earlier ++ b ∷ []) (place + 1) ops)) here ∙ ap (placed place (fault_of also registry earlier op)) rest
 
-  -- a batch's error is the same by a function that agrees on the registry that the batch leaves
+  -- a batch's error is the same with a function that agrees on the registry after the batch
   pub first_agree : (registry : Registry) (ops : List Operation) → AgreeOn index_of also (after registry ops) → first_fault index_of registry ops ≡ first_fault also registry ops
   first_agree registry ops agree = fault_from_agree registry [] 0 ops (λ name has.
       agree name (has_either registry (map bound_by ops) name (has_name (after registry ops) name ≡ true) (has_still registry (map bound_by ops) name) (has_new registry (map bound_by ops) name) has))
@@ -277,7 +277,7 @@ module _ (hash index_of also : List ℕ → List ℕ) where
 
   -- ---- runs
 
-  -- a run is one by each function of indices that agrees on the registry that it leaves
+  -- a run is one with each function of indices that agrees on the registry at its end
   pub steps_agree : (nonce policy : List ℕ) (batches : List Batch) (s : State) → AgreeOn index_of also (latest_registry (history_of s))
       → Steps hash index_of nonce policy batches s → Steps hash also nonce policy batches s
   steps_agree nonce policy _ _ agree opened = opened

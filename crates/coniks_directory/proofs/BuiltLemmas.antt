@@ -1,4 +1,4 @@
--- What a part and the records of a batch leave.
+-- What the part and the records of a batch leave.
 use Rattle.std.proofs.Common.{◌≡◌, ◌<◌, ◌≤◌, ◌+◌, ◌*◌, ℕ, suc, List, [], ◌∷◌, ◌++◌, length, map, arith, Bool, true, false, refl, sym, ap, subst, ◌∙◌, inl, inr, Option, Some, None, slice_get}
 use Rattle.coniks_proof.specs.Hashing.{hashing}
 use Rattle.coniks_tree.specs.Table.{Table}
@@ -24,7 +24,7 @@ use Rattle.coniks_directory.proofs.OverlaidLemmas.{IsMap-overlaid, overlaid_new,
 use Rattle.coniks_proof.proofs.Lemmas.{IsMap-overwritten, in_overwritten, index_there, overwritten_index, overwritten_new}
 use Rattle.coniks_directory.proofs.PendingLemmas.{in_records, record_in}
 
--- what stands in a list stands that much further on where it follows another
+-- behind another list, the elements of a list are shifted by the length of the other
 get-behind : {T : Type 0} (xs ys : List T) (n : ℕ) → slice_get (xs ++ ys) (length xs + n) ≡ slice_get ys n
 get-behind [] ys n = let start : 0 + n ≡ n = omega arith in ap (slice_get ys) start
 get-behind (x ∷ xs) ys n = let step : suc (length xs) + n ≡ suc (length xs + n) = omega arith in ap (slice_get (x ∷ (xs ++ ys))) step ∙ get-behind xs ys n
@@ -32,7 +32,7 @@ get-behind (x ∷ xs) ys n = let step : suc (length xs) + n ≡ suc (length xs +
 module _ (hash index_of : List ℕ → List ℕ) (old : List Record) (es : List Numbered) (registry : Registry) (m : Mirrors hash index_of old es registry)
     (ops : List Operation) (new : List Record) (numbers : BTreeMap (List ℕ) ℕ) (s : ArePendingRecords hash index_of (map bound_by ops) new numbers)
     (z : AreSealed hash new) (cs : List Numbered) (c : AreChangesOf (length old) new cs) (may : MayFollow index_of registry ops) where
-  -- what the record of a number binds, of all records
+  -- the binding of the record of a number, among all records
   abbrev binding : ℕ → Registered
   binding n = registered_at (old ++ new) n
 
@@ -40,7 +40,7 @@ module _ (hash index_of : List ℕ → List ℕ) (old : List Record) (es : List 
   new_entry : (n : ℕ) (r : Record) → slice_get new n ≡ Some r → entry_of hash index_of (registered_of r) ≡ backed_by binding (entry_of_record (length old + n) r)
   new_entry n r at = let draft = s.drafted n r at in let found = get-behind old new n ∙ at in rw (found, draft.indexed, z n r at) refl
 
-  -- and that of an old one is what it was
+  -- and the entry of an old one is unchanged
   old_entry : (x : Numbered) → IsIn x es → backed_by (registered_at old) x ≡ backed_by binding x
   old_entry x there = rw (registered_at-extended old (old ++ new) x (Extends-append old new) (m.stored x there)) refl
 
@@ -142,7 +142,7 @@ old_map hash index_of nonce t None registry none = rw none (
   },
 )
 
--- nothing takes one node, as does the empty map
+-- a part without a root counts one node, as the empty map does
 none_counted : node_count (unchanged None) ≡ new_nodes 0 [] []
 unfolding new_nodes new_within
 none_counted = refl
@@ -156,7 +156,7 @@ few_kept : (root : Option Root) → node_count (unchanged root) ≤ 1
 few_kept (Some root) = omega arith
 few_kept None = omega arith
 
--- the part that `build` makes of the changes of a batch without error, as its tree grows by them
+-- the part that `build` makes from the changes of a batch without an error, as the tree grows by them
 module _ (hash index_of : List ℕ → List ℕ) (nonce latest : List ℕ) (t : Table) (root : Option Root) (registry : Registry) (ops : List Operation)
     (new : List Record) (numbers : BTreeMap (List ℕ) ℕ) (changes : List Change) (growth : Growth) (p : Part)
     (shown : ShowsLatest hash index_of latest t root registry) (none : first_fault index_of registry ops ≡ None) (s : ArePendingRecords hash index_of (map bound_by ops) new numbers)
@@ -189,7 +189,7 @@ module _ (hash index_of : List ℕ → List ℕ) (nonce latest : List ℕ) (t : 
   stored : AllPlaced (t.records ++ new) changes
   stored = placed_all (t.records ++ new) changes (stored_new hash index_of t.records old.0 registry old.2 ops new numbers s z (entries_of_changes changes) c may)
 
-  -- what `build` says of the part
+  -- what `build` ensures of the part
   pub record IsMade : Type 0 where
     pub fits : Fits (length t.nodes) 0 p
     pub few : 0 < length growth.changes.items → node_count p ≤ 512 * length growth.changes.items + 1
@@ -202,7 +202,7 @@ module _ (hash index_of : List ℕ → List ℕ) (nonce latest : List ℕ) (t : 
         → AreApart 0 (overwritten entries (entries_of_changes growth.changes.items)) → Stands (hashing hash nonce) t p [] (overwritten entries (entries_of_changes growth.changes.items))
 
   module _ (anew : Bool) (grows : IsGrowth t root anew changes growth) (under : anew ≡ false → latest ≡ nonce) (made : IsMade) where
-    -- by the changes as they are from the root
+    -- without a new nonce: by the changes, from the root
     stands_kept : anew ≡ false → Stands (hashing hash nonce) t p [] changed
     unfolding changed old
     stands_kept off =
@@ -211,7 +211,7 @@ module _ (hash index_of : List ℕ → List ℕ) (nonce latest : List ℕ) (t : 
         let there : IsOldMap (hashing hash nonce) t growth.root old.0 = rw (kept.0, sym (under off)) old.1 in
         rw same at (made.stands old.0 there (rw same (AreIncreasing-in_order (entries_of_changes changes) own c.increasing)) (rw same (IsMap-apart changed changed_map)))
 
-    -- or by the whole changed map from nothing
+    -- with a new nonce: by the whole changed map, from nothing
     listed : anew ≡ true → Lists growth.changes.items changed
     unfolding changed
     listed on = grows.all on (hashing hash latest) old.0 old.1 old.2.indices own (AreIncreasing-in_order (entries_of_changes changes) own c.increasing)
@@ -221,7 +221,7 @@ module _ (hash index_of : List ℕ → List ℕ) (nonce latest : List ℕ) (t : 
         let l = listed on in
         Lists-stands (hashing hash nonce) t p growth.changes.items changed changed_map l (made.stands [] (rw (grows.none on) refl) l.order (Lists-apart growth.changes.items changed l))
 
-    -- which has as many entries as the registry has names
+    -- which has at most as many entries as the registry has names
     many_anew : anew ≡ true → length growth.changes.items ≤ length (after registry ops)
     many_anew on =
         let l = listed on in
@@ -245,7 +245,7 @@ module _ (hash index_of : List ℕ → List ℕ) (nonce latest : List ℕ) (t : 
         let few = made.few in
         (rw (← many) (grind arith), λ none. made.empty (many ∙ none) ∙ ap unchanged kept.0)
 
-    -- as many nodes as the indices of the old map and of the changes say
+    -- without a new nonce: the number of nodes follows from the indices of the old map and of the changes
     count_kept : anew ≡ false → 0 < length ops → node_count p ≡ new_nodes 0 (index_entries index_of registry) (index_entries index_of (map bound_by ops))
     unfolding changed old
     count_kept off some =
@@ -258,7 +258,7 @@ module _ (hash index_of : List ℕ → List ℕ) (nonce latest : List ℕ) (t : 
         ∙ count_same old.0 (index_entries index_of registry) (entries_of_changes changes) (index_entries index_of (map bound_by ops)) (mirrors_alike hash index_of t.records old.0 registry old.2)
         (changes_alike hash index_of (length t.records) (map bound_by ops) new numbers (entries_of_changes changes) s c own)
 
-    -- or as many as the whole changed map has
+    -- with a new nonce: it follows from the indices of the whole changed map
     listed_alike : (on : anew ≡ true) → AreAlike (entries_of_changes growth.changes.items) (index_entries index_of (after registry ops))
     listed_alike on =
         let l = listed on in

@@ -17,7 +17,7 @@ pub under-push : (version : ℕ) (nonce : List ℕ) (history : List Shown) (s : 
 under-push version nonce [] s all last = (last, tt)
 under-push version nonce (x ∷ history) s all last = (all.0, under-push x.version x.nonce history s all.1 last)
 
--- the versions that there are
+-- the versions of an entry
 abbrev pub IsVersion : ℕ → Type 0
 IsVersion version = (version ≡ 1) ⊎ (version ≡ 2)
 
@@ -31,7 +31,7 @@ latest-known version nonce (s ∷ history) known all = latest-known s.version s.
 
 -- ---- the last entry
 
--- what stands before the next entry is of the latest epoch, and has its version and nonce
+-- the state before the next entry is that of the latest epoch, with its version and nonce
 pub record IsLast (nonce : List ℕ) (history : List Shown) (before : Option AuditorState) : Type 0 where
   pub epoch : epoch_before before ≡ latest_epoch history
   pub version : IfSome before (λ b. latest_version 1 history ≡ b.version)
@@ -55,14 +55,14 @@ is_last hash index_of policy nonce (s ∷ history) (e ∷ chain) is =
       under = last_found (latest_nonce nonce) (λ x. x.nonce) (λ x. refl) (λ x y xs. refl) (s ∷ history) _ last ∙ sym (ap (λ (b : Body). b.nonce.0) body);
     })
 
--- ---- one entry more
+-- ---- one more entry
 
 before_at-push : (hash : List ℕ → List ℕ) (es : List Entry) (e : Entry) (k : ℕ) → k ≤ length es → before_at hash None (es ++ e ∷ []) k ≡ before_at hash None es k
 before_at-push hash es e zero le = refl
 before_at-push hash es e (suc k) le =
     let at = slice_get-get_or es k e (omega arith) in ap (option_map (before_of hash)) (Extends-append es (e ∷ []) k _ at ∙ sym at)
 
--- one epoch more, and its entry
+-- one more epoch, and its entry
 pub chain-push : (hash index_of : List ℕ → List ℕ) (policy : List ℕ) (history : List Shown) (chain : List Entry) (shown : Shown) (entry : Entry) → IsChainOf hash index_of policy history chain
     → entry.body ≡ body_of hash index_of policy (before_at hash None chain (length chain)) shown → IsChainOf hash index_of policy (history ++ shown ∷ []) (chain ++ entry ∷ [])
 chain-push hash index_of policy history chain shown entry is body = record {
@@ -80,10 +80,10 @@ chain-push hash index_of policy history chain shown entry is body = record {
   ];
 }
 
--- the entry of a later epoch, which keeps version and nonce or brings a nonce, follows
+-- the entry of a later epoch, which keeps version and nonce or rotates the nonce, follows
 module _ (hash index_of : List ℕ → List ℕ) (policy nonce : List ℕ) (verdict : List ℕ → List ℕ → Bool) (history : List Shown) (known : IsVersion (latest_version 1 history))
     (shown : Shown) (later : latest_epoch history < shown.t) (entry : Entry) (signed : verdict (body_bytes entry.body) entry.signature.0 ≡ true) where
-  -- what an entry of this version and nonce meets after one of the latest version and nonce
+  -- the conditions for an entry of this version and nonce after one of the latest version and nonce
   record MayCome (version : ℕ) (under : List ℕ) : Type 0 where
     is_version : IsVersion version
     no_less : latest_version 1 history ≤ version

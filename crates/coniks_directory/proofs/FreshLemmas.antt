@@ -1,11 +1,11 @@
--- An update that isn't stale is one of the directory as it is.
+-- An update that isn't stale is one of the current directory.
 use Rattle.std.proofs.Common.{◌≡◌, ℕ, List, [], ◌++◌, length, map, refl, sym, ap, ◌∙◌, arith, length-append, append_assoc, Option}
 use Rattle.coniks_proof.specs.Hashing.{hashing}
 use Rattle.coniks_directory.proofs.Words.{RotatesTo, Grows, IsUpdate, IsUpdateOf, Prepared, Record, State, append-nil, history_of, nil_from_length}
 use Rattle.coniks_directory.proofs.Words.{registry_after, registry_at, shown_of}
 use Rattle.coniks_tree.proofs.Lemmas.{Extends-trans, Fits-more, Stands-extended}
 
--- where no epoch came since, neither did records: the update is one of the later state
+-- without further epochs there are no further records, so the update is one of the later state
 module _ (hash index_of : List ℕ → List ℕ) (s t : State) (p : Prepared) (grows : Grows s t) (u : IsUpdate hash index_of s p) (base : p.base ≡ length t.epochs) where
   none_since : grows.more_epochs ≡ []
   none_since = nil_from_length grows.more_epochs (omega (arith, u.base, ap length grows.epochs, length-append s.epochs grows.more_epochs))
@@ -33,7 +33,7 @@ module _ (hash index_of : List ℕ → List ℕ) (s t : State) (p : Prepared) (g
     mirrors = rw same_records u.mirrors;
   }
 
-  -- and the directory shows what it showed, and the update leaves what it left
+  -- and neither the history nor the registry after the update has changed
   pub fresh_history : history_of t ≡ history_of s
   fresh_history = ap (λ (rs : List Record). map (shown_of rs) t.epochs) same_records ∙ ap (map (shown_of s.records)) same_epochs
 
@@ -43,7 +43,7 @@ module _ (hash index_of : List ℕ → List ℕ) (s t : State) (p : Prepared) (g
 pub fresh : (hash index_of : List ℕ → List ℕ) (s : State) (p : Prepared) → IsUpdateOf hash index_of s p → p.base ≡ length s.epochs → IsUpdate hash index_of s p
 fresh hash index_of s p u base = fresh_update hash index_of u.earlier s p u.grows u.update base
 
--- a state that stays has grown
+-- `Grows` is reflexive
 pub Grows-refl : (s : State) → Grows s s
 Grows-refl s = record {
   nonce = refl;
@@ -57,7 +57,7 @@ Grows-refl s = record {
   still = λ none. refl;
 }
 
--- what grows and grows again has grown
+-- `Grows` is transitive
 pub Grows-trans : (s t u : State) → Grows s t → Grows t u → Grows s u
 Grows-trans s t u a b = record {
   nonce = b.nonce ∙ a.nonce;
@@ -75,7 +75,7 @@ Grows-trans s t u a b = record {
 
 pub ruleset growth = (Grows-refl, Grows-trans)
 
--- an update stays one of its directory
+-- an update of a directory stays one
 pub stays : (hash index_of : List ℕ → List ℕ) (s t : State) (p : Prepared) → Grows s t → IsUpdateOf hash index_of s p → IsUpdateOf hash index_of t p
 stays hash index_of s t p grows u = record { earlier = u.earlier; grows = Grows-trans u.earlier s t u.grows grows; update = u.update }
 

@@ -1,4 +1,4 @@
--- The changes from which an epoch's tree grows under a new nonce: the entries of a root overwritten by changes, in the order of their indices.
+-- The changes from which an epoch's tree grows under a new nonce: a root's entries, overwritten by changes, in the order of their indices.
 use Rattle.std.proofs.Common.{◌≡◌, ℕ, suc, ◌+◌, ◌<◌, ◌≤◌, List, [], ◌∷◌, ◌++◌, length, Bool, true, false, cond, not, refl, sym, ap, subst, ◌∙◌, arith, inl, inr}
 use Rattle.coniks_directory.proofs.Words.{AreAligned, AreApart, Change, Entry, IsIn, IsMap, Numbered, bytes_eq, entry_of_change}
 use Rattle.coniks_directory.proofs.Words.{filter, map-append, overwritten}
@@ -11,9 +11,9 @@ use Rattle.coniks_tree.specs.Parts.{entries_in}
 use Rattle.coniks_proof.proofs.Lemmas.{IsMap-overwritten, in_overwritten, overwritten_new, overwritten_old}
 use Rattle.coniks_tree.proofs.Lemmas.{in_order-Lists, in_order-same, listed-both}
 
--- ---- how many entries a map has
+-- ---- the number of entries of a map
 
--- those of another index
+-- the entries of another index
 others : {B : Type 0} → List ℕ → List (Entry B) → List (Entry B)
 others index es = filter (λ e. not (bytes_eq e.index index)) es
 
@@ -21,7 +21,7 @@ fewer : {B : Type 0} (keep : Entry B → Bool) (es : List (Entry B)) → length 
 fewer keep [] = omega arith
 fewer keep (e ∷ es) = let rest = fewer keep es in elim (keep e) as (λ b. length (cond b (e ∷ filter keep es) (filter keep es)) ≤ suc (length es)) [ true ↦ omega arith | false ↦ omega arith ]
 
--- one entry is not among them
+-- there is at least one fewer of them
 one_fewer : {B : Type 0} (e : Entry B) (fs : List (Entry B)) → IsIn e fs → length (others e.index fs) < length fs
 unfolding others
 one_fewer e [] there = absurd there
@@ -33,7 +33,7 @@ one_fewer e (f ∷ fs) (inr later) =
     let rest = one_fewer e fs later in
     elim (bytes_eq f.index e.index) as (λ b. length (cond (not b) (f ∷ others e.index fs) (others e.index fs)) < suc (length fs)) [ true ↦ omega arith | false ↦ omega arith ]
 
--- a map whose entries are all among others has no more than they are
+-- a map whose entries are all among others has at most as many as there are of these
 pub no_more : {B : Type 0} (es fs : List (Entry B)) → IsMap es → ((e : Entry B) → IsIn e es → IsIn e fs) → length es ≤ length fs
 unfolding others
 no_more [] fs map all = omega arith
@@ -43,26 +43,26 @@ no_more {B} (e ∷ es) fs map all =
     let one = one_fewer e fs (all e (inl refl)) in
     omega arith
 
--- nothing lists the empty map
+-- the empty list lists the empty map
 pub nothing-Lists : (changes : List Change) (es : List Numbered) → changes ≡ [] → es ≡ [] → Lists changes es
 nothing-Lists changes es none empty = rw (none, empty) (in_order-Lists [] [] (IsMap-apart [] tt) (sym (in_order-same 0 [] (AreIncreasing-in_order [] tt tt))))
 
--- a list that goes on with some changes
+-- a list that continues with some changes
 pub listed-more : (was now cs : List Change) (es : List Numbered) → now ≡ was ++ cs → es ≡ entries_in cs → entries_in now ≡ entries_in was ++ es
 listed-more was now cs es is same = ap entries_in is ∙ map-append entry_of_change was cs ∙ ap (λ xs. entries_in was ++ xs) (sym same)
 
 -- ---- entries overwritten by changes, level by level
 
 module _ (level : ℕ) (es cs : List Numbered) (aligned : AreAligned level es cs) where
-  -- where nothing changes they are the entries
+  -- without changes they are the entries
   pub overlaid-same : cs ≡ [] → in_order level (overwritten es cs) ≡ es
   overlaid-same none = ap (λ xs. in_order level (overwritten es xs)) none ∙ ap (in_order level) (overwritten-nothing es) ∙ in_order-same level es aligned.old
 
-  -- where there are no entries they are the changes
+  -- without entries they are the changes
   pub overlaid-new : es ≡ [] → in_order level (overwritten es cs) ≡ cs
   overlaid-new none = ap (λ xs. in_order level (overwritten xs cs)) none ∙ ap (in_order level) (overwritten-empty cs) ∙ in_order-same level cs aligned.new
 
-  -- the sides are in step one level on
+  -- the sides are aligned at the next level
   aligned-half : (b : Bool) → level < 256 → AreAligned (suc level) (half b level es) (half b level cs)
   aligned-half b short =
       let was = in_order-split level es short aligned.old in
@@ -76,14 +76,14 @@ module _ (level : ℕ) (es cs : List Numbered) (aligned : AreAligned level es cs
   pub aligned-side : (b : Bool) (left right : List Numbered) → level < 256 → left ≡ half b level es → right ≡ half b level cs → AreAligned (level + 1) left right
   aligned-side b left right short old new = let deeper : level + 1 ≡ suc level = omega arith in rw (old, new, deeper) (aligned-half b short)
 
-  -- else one side comes after the other
+  -- otherwise one side comes after the other
   pub overlaid-both : (was middle now l r lc rc : List Numbered) → level < 256 → l ≡ half false level es → r ≡ half true level es → lc ≡ half false level cs → rc ≡ half true level cs
       → middle ≡ was ++ in_order (level + 1) (overwritten l lc) → now ≡ middle ++ in_order (level + 1) (overwritten r rc) → now ≡ was ++ in_order level (overwritten es cs)
   overlaid-both was middle now l r lc rc short is-l is-r is-lc is-rc left right =
       listed-both was middle now level (overwritten es cs) short
       (rw (half-overwritten false level es cs, sym is-l, sym is-lc) left) (rw (half-overwritten true level es cs, sym is-r, sym is-rc) right)
 
--- at the last level there is one entry at most, and the change is it
+-- at the last level there is at most one entry, and the change is that entry
 last_few : (xs : List Numbered) → AreInOrder 256 xs → length xs ≤ 1
 unfolding AreInOrder InOrderWithin
 last_few xs order = order
@@ -107,7 +107,7 @@ overwritten-more : (es fs cs : List Numbered) → ((e : Numbered) → IsIn e es 
 overwritten-more es fs cs all e there =
     elim (in_overwritten es cs e there) [ inl new ↦ overwritten_new fs cs e new | inr old ↦ overwritten_old fs cs e (all e old.0) old.1 ]
 
--- entries that are listed and then overwritten are the list of the changed map
+-- entries that are listed and then overwritten list the changed map
 pub overlaid-Lists : (listed all : List Change) (es cs : List Numbered) → Lists listed es → IsMap es → IsMap cs → AreInOrder 0 cs
     → (AreAligned 0 (entries_in listed) cs → entries_in all ≡ in_order 0 (overwritten (entries_in listed) cs)) → Lists all (overwritten es cs)
 overlaid-Lists listed all es cs l map own ordered is =

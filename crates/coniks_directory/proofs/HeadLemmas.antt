@@ -21,7 +21,7 @@ pub chain-rises : (hash index_of : List ℕ → List ℕ) (policy : List ℕ) (h
 chain-rises hash index_of policy history chain is up =
     subst (AreRising 0) (sym (numbers_alike history chain is.long (λ k s e at_s at_e. ap (λ (b : Body). b.t) (is.bodies k s e at_s at_e)))) up
 
--- the last of the heads that others follow stands where these begin
+-- the last of the heads before the others is just before the first of these
 last_place : (heads rest : List Head) (h : Head) → last_of heads ≡ Some h → (n : ℕ) × (suc n ≡ length heads) × ((d : Head) → get_or (heads ++ rest) n d ≡ h)
 last_place [] rest h is = absurd (let never = is in cc)
 last_place (x ∷ []) rest h is = (0, refl, λ d. same_Some x h is)
@@ -43,12 +43,12 @@ no_older hash index_of policy history chain had has latest answer is up begins w
     let sorted = rising-sorted epoch 0 (heads_of hash chain) rise first.0 last.0 latest (omega (arith, first.1, last.1)) (omega (arith, last.1)) in
     subst (λ h. latest.epoch ≤ h.epoch) other (subst (λ h. h.epoch ≤ epoch (get_or (heads_of hash chain) last.0 latest)) one sorted)
 
--- the link of a head, zeros where there is none
+-- the link of a head, or zeros if there is none
 abbrev pub link_in : Option Head → Octets
 link_in None = zeros
 link_in (Some h) = h.link.0
 
--- the last head holds the link that the next entry names
+-- the last head has the link that the next entry contains
 pub last_links : (hash : Octets → Octets) (chain : List Entry) → link_in (last_of (heads_of hash chain)) ≡ link_before (before_at hash None chain (length chain))
 last_links hash [] = refl
 last_links hash (e ∷ []) = refl

@@ -1,4 +1,4 @@
--- Who has an index, and what that says of a name at it.
+-- The holder of an index, and what follows for a name at that index.
 use Rattle.std.proofs.Common.{◌≡◌, ℕ, List, [], ◌∷◌, map, true, false, refl, sym, ap, subst, ◌∙◌, not, inl, inr, Option, Some, None, is_some, slice_get}
 use Rattle.coniks_tree.specs.Table.{Table}
 use Rattle.coniks_directory.proofs.Words.{Bor, Entry, Finds, HolderIs, IsFree, IsHeld, IsIn, Numbered, Record, RecordNo, Registered}
@@ -6,7 +6,7 @@ use Rattle.coniks_directory.proofs.Words.{Registry, ShowsRegistry, backed_by, by
 use Rattle.coniks_directory.proofs.Words.{entry_of_record, false_from_ne_true, has_name, registered_at, registered_by, registered_of}
 use Rattle.coniks_proof.proofs.Lemmas.{clash_found, clash_made, entry_in, eq_same, in_entries, named_in, named_of, same_bool, same_entry}
 
--- an entry with something else behind it was one before
+-- an entry with a replaced payload comes from an entry of the list
 pub in_backed : {B C : Type 0} (f : B → C) (es : List (Entry B)) (e : Entry C) → IsIn e (map (backed_by f) es) → (x : Entry B) × IsIn x es × (backed_by f x ≡ e)
 in_backed f [] e there = absurd there
 in_backed f (x ∷ es) e (inl here) = (x, inl refl, here)
@@ -65,7 +65,7 @@ named_held index_of registry name b held = same_bool (has_name registry name) (b
     (λ h. eq_same b.name name (sym (held.only name refl h)))
     (λ on. subst (λ n. has_name registry n ≡ true) ((bytes_eq-Decides b.name name).0 on) held.has)
 
--- whoever has the index of a name that isn't there is another name
+-- the holder of the index of a name that isn't registered is another name
 pub clash_some : (index_of : List ℕ → List ℕ) (registry : Registry) (name : List ℕ) (holder : Option (Bor Record)) → HolderIs index_of registry (index_of name) holder → has_name registry name ≡ false
     → clashes index_of registry name ≡ is_some holder
 clash_some index_of registry name None held gone = clash_free index_of registry name held

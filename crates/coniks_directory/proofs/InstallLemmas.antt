@@ -1,4 +1,4 @@
--- What an install leaves.
+-- The state that an install leaves.
 use Rattle.std.proofs.Common.{◌≡◌, ℕ, suc, ◌<◌, ◌≤◌, List, [], ◌∷◌, ◌++◌, length, map, Bool, true, refl, sym, ap, subst, ◌∙◌, arith, inl, inr, Some, None, slice_get, length-append}
 use Rattle.coniks_proof.specs.Hashing.{hashing}
 use Rattle.coniks_tree.specs.Table.{table}
@@ -51,7 +51,7 @@ installed s p nodes root t entry = record s {
   chain = s.chain ++ entry ∷ [];
 }
 
--- it is so where each part is
+-- it is the expected state if each of its parts is
 pub installed_is : (s : State) (p : Prepared) (root : Root) (t count : ℕ) (entry : Entry) (nodes : List Node) (records : List Record) (epochs : List Epoch) (chain : List Entry)
     → records ≡ records_after s p → count ≡ length records
     → epochs ≡ s.epochs ++ record { t = t; version = p.version; nonce = p.nonce; root = root; count = count } ∷ [] → chain ≡ s.chain ++ entry ∷ []
@@ -78,7 +78,7 @@ module _ (hash index_of : List ℕ → List ℕ) (s : State) (whole : Whole hash
   under_next : IsUnder (latest_version 1 (history_of s)) (latest_nonce s.nonce (history_of s)) (shown_after s p t)
   under_next = (u.new_nonce, u.rotates.version, u.rotates.nonce)
 
-  -- it is whole
+  -- it satisfies the invariant of a directory
   whole_next : Whole hash index_of (installed s p nodes root t entry)
   whole_next = record {
     held = λ k x at. elim (get-push s.epochs (epoch_after s p root t) k x at) [
@@ -91,7 +91,7 @@ module _ (hash index_of : List ℕ → List ℕ) (s : State) (whole : Whole hash
     chain = rw history-installed (chain-push hash index_of s.policy (history_of s) s.chain (shown_after s p t) entry whole.chain body);
   }
 
-  -- where the chain is good it still is
+  -- a good chain stays good
   good_next : (verdict further : List ℕ → List ℕ → Bool) → ((bytes signature : List ℕ) → further bytes signature ≡ verdict bytes signature) → further (body_bytes entry.body) entry.signature.0 ≡ true
       → GoodChain hash verdict s.chain → GoodChain hash further (s.chain ++ entry ∷ [])
   good_next verdict further same signed good =
@@ -119,7 +119,7 @@ module _ (hash index_of : List ℕ → List ℕ) (s : State) (whole : Whole hash
     good = good_next;
   }
 
--- the body that an install signs is that of the epoch which it makes
+-- the body that an install signs is that of the epoch that it makes
 pub body_is : (hash index_of : List ℕ → List ℕ) (s : State) (p : Prepared) (t latest : ℕ) (root previous : Digest) (u : IsUpdate hash index_of s p)
     → Whole hash index_of s → latest ≡ latest_epoch (history_of s)
     → ((es : List Numbered) → Stands (hashing hash p.nonce.0) (table s.nodes s.records) p.part [] es → root.0 ≡ node (hashing hash p.nonce.0) [] es)

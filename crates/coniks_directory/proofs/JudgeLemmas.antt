@@ -8,7 +8,7 @@ use Rattle.coniks_directory.specs.declared.batch.Op.{Op}
 use Rattle.coniks_proof.proofs.Lemmas.{clashes-append}
 use Rattle.coniks_directory.proofs.LastLemmas.{take_next}
 
--- a name that isn't among the earlier ones, and whose kind has no error, is left with a clash or none
+-- if the name isn't among the earlier ones and the kind has no error, only a clash is left
 pub at_clash : (index_of : List ℕ → List ℕ) (registry : Registry) (before : List Registered) (op : Operation) → fits MAX_NAME op.name ≡ true → fits MAX_KEY op.key ≡ true
     → (a b clash : Bool) → has_name before op.name ≡ false → kind_fault op.kind (has_name registry op.name) ≡ None → clashes index_of registry op.name ≡ a → clashes index_of before op.name ≡ b
     → a || b ≡ clash → fault_of index_of registry before op ≡ cond clash (Some index_clash) None
@@ -22,7 +22,7 @@ at_clash index_of registry before op named keyed a b clash once kind ha hb eithe
 pub op_at : (ops : List Op) (i : ℕ) (op : Op) → i < length ops → op ≡ get_or ops i op → slice_get (operations ops) i ≡ Some (operation_of op)
 op_at ops i op below is = slice_get-map operation_of ops i ∙ ap (option_map operation_of) (slice_get_read ops (length ops) i op refl below is)
 
--- what the operations up to the next one bind
+-- the bindings of the operations up to the next one
 pub bound-next : (ops : List Operation) (i : ℕ) (op : Operation) → slice_get ops i ≡ Some op → map bound_by (take i ops) ++ bound_by op ∷ [] ≡ map bound_by (take (i + 1) ops)
 bound-next ops i op at = sym (ap (map bound_by) (take_next ops i op at) ∙ map-append bound_by (take i ops) (op ∷ []))
 
@@ -38,6 +38,6 @@ judged-next index_of registry ops i op f at judged is =
     ∙ ap (λ g. placed i g (fault_from index_of registry (before ++ bound_by op ∷ []) (i + 1) rest)) is
     ∙ ap (λ bs. placed i f (fault_from index_of registry bs (i + 1) rest)) (bound-next ops i op at)
 
--- none is left after the last
+-- no error is left after the last operation
 pub judged-all : (index_of : List ℕ → List ℕ) (registry : Registry) (ops : List Operation) (i : ℕ) → length ops ≤ i → IsJudged index_of registry ops i → first_fault index_of registry ops ≡ None
 judged-all index_of registry ops i past judged = judged ∙ at_drop_all (fault_from index_of registry (map bound_by (take i ops)) i) ops i past

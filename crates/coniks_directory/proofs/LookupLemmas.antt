@@ -24,7 +24,7 @@ shown-found records (e ∷ es) t =
       | false ↦ shown-found records es t
     ])
 
--- ---- an installed epoch and its entry, which stand at one place
+-- ---- an installed epoch and its entry, which are at the same place
 
 module _ (hash index_of : List ℕ → List ℕ) (s : State) (whole : Whole hash index_of s) where
   pub rising_epochs : AreRising 0 (map (λ (e : Epoch). e.t) s.epochs)
@@ -77,7 +77,7 @@ module _ (hash index_of : List ℕ → List ℕ) (s : State) (t : ℕ) (e : Epoc
       → Accepts (hashing hash x.nonce) (root_at hash index_of x) (index_of name) name proof (key_of x.registry name)) same
       (λ own. path_accepted hash index_of e.nonce.0 (root_at hash index_of (shown_of s.records e)) (shown_of s.records e).registry name proof m.names m.limits refl path own sized) alone
 
-  -- and so it is under the entry's root and nonce, at the name's index
+  -- so the proof is accepted under the entry's root and nonce, at the name's index
   pub accepted_under : (name : List ℕ) (it : SignedProof) → it.entry ≡ entry → it.index.0 ≡ index_of name
       → IsAcceptedAt hash index_of (history_of s) t name it.proof → IsAcceptedUnder hash index_of (history_of s) t name it
   accepted_under name it entry-is index-is accepted shown there alone =
@@ -89,7 +89,7 @@ module _ (hash index_of : List ℕ → List ℕ) (s : State) (t : ℕ) (e : Epoc
       (subst (λ r. Accepts (hashing hash shown.nonce) r it.index.0 name it.proof key) (sym root)
       (subst (λ j. Accepts (hashing hash shown.nonce) (root_at hash index_of shown) j name it.proof key) (sym index-is) (accepted shown there alone)))
 
--- in no epoch's registry two names have one index
+-- no two names in an epoch's registry have the same index
 pub all_own : (hash index_of : List ℕ → List ℕ) (s : State) → Whole hash index_of s → AllHaveOwnIndices index_of (history_of s)
 all_own hash index_of s whole k shown there = let e = get-mapped (shown_of s.records) s.epochs k shown there in
     subst (λ (x : Shown). HaveOwnIndices index_of x.registry) e.2 (own_of_map hash index_of (shown_of s.records e.0).registry (whole.held k e.0 e.1).registry.mirrors.names)

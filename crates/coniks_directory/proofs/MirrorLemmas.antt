@@ -6,7 +6,7 @@ use Rattle.coniks_directory.proofs.Words.{Registered, Registry, SameEntries, bac
 use Rattle.coniks_directory.proofs.Words.{root_of}
 use Rattle.coniks_proof.proofs.Lemmas.{end_of-same, node-backed, node-same, siblings-same}
 
--- what a stored entry's record binds stays
+-- the binding of a stored entry's record is unchanged
 pub registered_at-extended : (records more : List Record) (e : Numbered) → Extends records more → IsStored records e → registered_at more e.behind ≡ registered_at records e.behind
 registered_at-extended records more e kept s = ap registered_by (kept e.behind s.0 s.1 ∙ sym s.1)
 
@@ -16,7 +16,7 @@ backed-extended records more [] kept s = refl
 backed-extended records more (e ∷ es) kept s =
     rw (registered_at-extended records more e kept (s e (inl refl)), backed-extended records more es kept (λ x is. s x (inr is))) refl
 
--- entries that mirror a registry do so with more records
+-- entries that mirror a registry also do so with more records
 pub Mirrors-extended : (hash index_of : List ℕ → List ℕ) (records more : List Record) (es : List Numbered) (registry : Registry) → Extends records more → Mirrors hash index_of records es registry
     → Mirrors hash index_of more es registry
 Mirrors-extended hash index_of records more es registry kept m = record {

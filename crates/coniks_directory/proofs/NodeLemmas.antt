@@ -1,4 +1,4 @@
--- How many nodes an epoch adds: the count depends on the indices of the two maps alone, in whatever order.
+-- The number of nodes that an epoch adds: it depends only on the indices of the two maps, in any order.
 use Rattle.std.proofs.Common.{◌≡◌, ◌≤◌, ℕ, zero, suc, ◌+◌, List, [], ◌∷◌, length, map, Bool, true, false, refl, sym, ap, subst, ◌∙◌, arith, inl, inr}
 use Rattle.coniks_proof.specs.Bits.{turns}
 use Rattle.coniks_proof.specs.Entries.{half}
@@ -113,7 +113,7 @@ pub count_same : (es fs cs ds : List Numbered) → AreAlike es fs → AreAlike c
 unfolding new_nodes
 count_same es fs cs ds old new = count_within 256 0 es fs cs ds old new
 
--- ---- where the names of a registry stand
+-- ---- the indices of the names of a registry
 
 pub nothing_alike : AreAlike [] []
 nothing_alike = record { there = λ e is. absurd is; back = λ e is. absurd is; one = tt; other = tt }
@@ -137,7 +137,7 @@ module _ (hash index_of : List ℕ → List ℕ) where
   places_map [] own = tt
   places_map (b ∷ bs) own = (own.0, places_new (index_of b.name) bs own.1, places_map bs own.2)
 
-  -- the entries of a tree stand where the names of its registry do
+  -- the entries of a tree have the indices of the names of its registry
   pub mirrors_alike : (records : List Record) (es : List Numbered) (registry : Registry) → Mirrors hash index_of records es registry → AreAlike es (index_entries index_of registry)
   mirrors_alike records es registry m =
       let f = registered_at records in
@@ -153,7 +153,7 @@ module _ (hash index_of : List ℕ → List ℕ) where
         other = places_map registry m.names;
       }
 
-  -- and so do the changes of a batch
+  -- the changes of a batch have the indices of the names of its bindings
   pub changes_alike : (base : ℕ) (bound : List Registered) (records : List Record) (numbers : BTreeMap (List ℕ) ℕ) (cs : List Numbered)
       → ArePendingRecords hash index_of bound records numbers → AreChangesOf base records cs → IsMap cs
       → AreAlike cs (index_entries index_of bound)

@@ -1,4 +1,4 @@
--- Lists whose elements have rising numbers, and how an element is found by its number.
+-- Lists whose elements have increasing numbers, and the search for an element by its number.
 use Rattle.std.proofs.Common.{◌≡◌, ◌==◌, ◌≢◌, ℕ, zero, suc, ◌<◌, ◌≤◌, List, [], ◌∷◌, length, map, true, false, refl, ap, arith, Some, None, get_or, slice_get, ltb}
 use Rattle.std.specs.List.{find}
 use Rattle.std.specs.List.Sorted.{IsNonDecreasingBy, IsPartitionPoint, IsPartitionedBy}
@@ -20,7 +20,7 @@ module _ {T : Type 0} (number : T → ℕ) where
   rising-sorted t (x ∷ xs) up (suc i) zero d le within = absurd (omega arith)
   rising-sorted t (x ∷ xs) up (suc i) (suc j) d le within = rising-sorted (number x) xs up.1 i j d (omega arith) (omega arith)
 
-  -- the element of a number, where its place is known
+  -- the search for a number finds the element whose place is known
   pub find_at : (t n k : ℕ) (xs : List T) (x : T) → AreRising t (map number xs) → slice_get xs k ≡ Some x → number x ≡ n → find (λ y. number y == n) xs ≡ Some x
   find_at t n k [] x up at same = absurd (let never = at in cc)
   find_at t n zero (y ∷ ys) x up at same =
@@ -40,7 +40,7 @@ module _ {T : Type 0} (number : T → ℕ) where
       let off : (number x == n) ≡ false = grind (arith, nat_tests) in
       rw off (find_none n xs (λ k d within. apart (suc k) d (omega arith)))
 
-  -- an element of a number stands where the numbers that aren't less begin, or nowhere
+  -- an element of a number is at the place at which the numbers that aren't less begin, or nowhere
   pub not_found : (t n place : ℕ) (xs : List T) → AreRising t (map number xs) → (IsPartitionedBy (λ x. ltb (number x) n) xs
       → IsPartitionPoint (λ x. ltb (number x) n ≡ true) (λ x. ltb (number x) n ≡ false) xs place)
       → ((x : T) → slice_get xs place ≡ Some x → number x ≢ n) → find (λ x. number x == n) xs ≡ None

@@ -7,7 +7,7 @@ use Rattle.coniks_directory.proofs.Words.{option_map_or, ranked, slice_cmp, slic
 
 -- ---- the order of byte lists
 
--- at the first place where they differ the lesser list has the smaller number
+-- at the first place at which they differ, the lesser list has the smaller number
 less : (xs ys : List ℕ) → length xs ≡ length ys → slice_cmp nat_cmp xs ys ≡ Less
     → (place : ℕ) × (place < length xs) × ((q : ℕ) → q < place → slice_index xs q ≡ slice_index ys q) × (slice_index xs place < slice_index ys place)
 less [] [] long h = absurd (let found = h in cc)
@@ -26,7 +26,7 @@ before x y ix iy h =
 
 -- ---- the entries of the numbers of a map
 
--- the entry of the record of a number, which is to stand that far behind a place; an empty one where there is no record
+-- the entry of the record of a number, with the number shifted by a base; an empty entry if there is no record
 abbrev pub entry_at : ℕ → List Record → ℕ → Numbered
 entry_at base records n = option_map_or (entry_of_record (base + n)) (slice_get records n) (record { index = []; commitment = []; behind = n })
 
@@ -62,7 +62,7 @@ only base records [] e kept there = absurd there
 only base records (p ∷ ps) e kept (inl here) = let k = kept 0 p (omega arith) in (p.1, k.0, k.1, rw k.1 at here)
 only base records (p ∷ ps) e kept (inr later) = only base records ps e (λ i d below. kept (suc i) d (omega arith)) later
 
--- the entry of a number that a look-up finds
+-- the entry of a number that a lookup finds
 each : (base : ℕ) (records : List Record) (ps : List (List ℕ × ℕ)) (index : List ℕ) (n : ℕ) → lookup (is_at (slice_cmp nat_cmp index)) ps ≡ Some n
     → IsIn (entry_at base records n) (map (entry_at base records) (values_of ps))
 each base records [] index n some = absurd (let never = some in cc)

@@ -1,4 +1,4 @@
--- A registry that a batch's bindings are laid over.
+-- A registry that a batch's bindings overwrite.
 use Rattle.std.proofs.Common.{◌≡◌, ◌≢◌, ℕ, List, [], ◌∷◌, map, false, refl, sym, subst, inl, inr}
 use Rattle.coniks_directory.proofs.Words.{AreOnce, AreWithin, IsIn, IsIndex, IsLength, IsMap, MAX_KEY, MAX_NAME, Registered}
 use Rattle.coniks_directory.proofs.Words.{Registry, bytes_eq, entries_of, has_name}
@@ -6,7 +6,7 @@ use Rattle.coniks_directory.proofs.Words.{or_parts, overlaid, rebound}
 use Rattle.coniks_proof.proofs.Lemmas.{IsMap-rebound, eq_same}
 use Rattle.coniks_proof.proofs.Lemmas.{in_overlaid, in_rebound, rebound_new, rebound_old, within}
 
--- an old binding whose name has no new one stays
+-- an old binding stays if its name has no new one
 pub overlaid_old : (registry : Registry) (bs : List Registered) (b : Registered) → IsIn b registry → has_name bs b.name ≡ false → IsIn b (overlaid registry bs)
 overlaid_old registry [] b there gone = there
 overlaid_old registry (x ∷ xs) b there gone =
@@ -18,11 +18,11 @@ overlaid_new registry [] b once there = absurd there
 overlaid_new registry (x ∷ xs) b once (inl here) = subst (λ (y : Registered). IsIn y (overlaid registry (x ∷ xs))) here (overlaid_old (rebound registry x) xs x (rebound_new registry x) once.0)
 overlaid_new registry (x ∷ xs) b once (inr later) = overlaid_new (rebound registry x) xs b once.1 later
 
--- names that part have indices that part
+-- different names have different indices
 abbrev pub ArePart : (List ℕ → List ℕ) → List Registered → Type 0
 ArePart index_of all = (c d : Registered) → IsIn c all → IsIn d all → c.name ≢ d.name → index_of c.name ≢ index_of d.name
 
--- a registry overlaid is a map, where in all bindings names that part have indices that part
+-- an overwritten registry is a map if different names in all bindings have different indices
 pub IsMap-overlaid : (hash index_of : List ℕ → List ℕ) (all : List Registered) (registry : Registry) (bs : List Registered) → ArePart index_of all → ((b : Registered) → IsIn b registry → IsIn b all)
     → ((b : Registered) → IsIn b bs → IsIn b all × IsIndex (index_of b.name)) → IsMap (entries_of hash index_of registry) → IsMap (entries_of hash index_of (overlaid registry bs))
 IsMap-overlaid hash index_of all registry [] part old new map = map

@@ -18,7 +18,7 @@ record_in (x ∷ xs) zero r at = let same : x ≡ r = cc in inl (ap registered_o
 record_in (x ∷ xs) (suc n) r at = inr (record_in xs n r at)
 
 module _ (hash index_of : List ℕ → List ℕ) (bound : List Registered) (records : List Record) (numbers : BTreeMap (List ℕ) ℕ) (s : ArePendingRecords hash index_of bound records numbers) where
-  -- the record of a name that is bound
+  -- the record of a bound name
   bound_record : (name : List ℕ) → has_name bound name ≡ true → (n : ℕ) × (r : Record) × (slice_get records n ≡ Some r) × (r.binding.name ≡ name)
   bound_record name h =
       let b = named_of bound name h in
@@ -54,7 +54,7 @@ module _ (hash index_of : List ℕ → List ℕ) (bound : List Registered) (reco
             sym m.3 ∙ ap (λ (x : Record). x.binding.name) one;
       }
 
-  -- there is no number at an index that no name has
+  -- no number is stored at an index that no name has
   pub free_none : (i : List ℕ) → IsFree index_of bound i → number_at numbers i ≡ None
   free_none i free = (elim (number_at numbers i) as (λ o. number_at numbers i ≡ o → number_at numbers i ≡ None) [
     | None ↦ λ is. is
@@ -65,7 +65,7 @@ module _ (hash index_of : List ℕ → List ℕ) (bound : List Registered) (reco
         absurd (let never = sym has ∙ gone in cc)
   ]) refl
 
-  -- one record more
+  -- one more record
   pub drafts_next : (numbers' : BTreeMap (List ℕ) ℕ) (r : Record) → IsPendingRecord index_of r → IsFree index_of bound r.index.0
       → ((i : List ℕ) → number_at numbers' i ≡ cond (is_eq (slice_cmp nat_cmp r.index.0 i)) (Some (length records)) (number_at numbers i))
       → IsOrdered (slice_cmp nat_cmp) numbers' → btree_map_len numbers' ≡ btree_map_len numbers + 1 → ArePendingRecords hash index_of (bound ++ registered_of r ∷ []) (records ++ r ∷ []) numbers'

@@ -10,7 +10,7 @@ use Rattle.coniks_proof.proofs.Lemmas.{overlaid-append}
 use Rattle.coniks_directory.proofs.LastLemmas.{last_found, none_last}
 use Rattle.coniks_directory.proofs.StateLemmas.{latest-is, latest-last, nonce-last, registry_at-all}
 
--- how many nodes an update adds at most
+-- the greatest number of nodes that an update adds
 few_added : (history : List Shown) (n added : ℕ) → added ≤ 512 * n + 1 → (n ≡ 0 → added ≡ most_nodes history 0) → added ≤ most_nodes history n
 few_added history zero added few none = let same = none refl in omega arith
 few_added [] (suc n) added few none = few
@@ -31,7 +31,7 @@ module _ (hash index_of : List ℕ → List ℕ) (s : State) where
           counted = sym (last_found (λ es. most_nodes (map (shown_of s.records) es) 0) (λ _. 0) (λ x. refl) (λ x y es. refl) s.epochs e at);
         }
 
-    -- what is left of the latest registry after a batch is what all records leave
+    -- the latest registry after a batch is the registry of all records
     registry_is : (p : Prepared) (ops : List Op) → map registered_of p.records.items ≡ map bound_by (operations ops) → registry_after s p ≡ after (latest_registry (history_of s)) (operations ops)
     registry_is p ops binds =
         registry_at-all (s.records ++ p.records.items)
@@ -39,7 +39,7 @@ module _ (hash index_of : List ℕ → List ℕ) (s : State) where
         ∙ overlaid-append [] (map registered_of s.records) (map bound_by (operations ops))
         ∙ ap (λ (R : Registry). overlaid R (map bound_by (operations ops))) (sym (latest-is hash index_of s whole ∙ registry_at-all s.records))
 
-    -- what was built of a batch is an update
+    -- what is built from a batch is an update
     module _ (p : Prepared) (ops : List Op) (root : Option Root) (latest : IsLatestRoot hash index_of s root) where
       adds : (new_nonce : Option (List ℕ)) (anew : Bool) → anew ≡ is_some new_nonce
           → IsSmall anew root (operations ops) (after (latest_registry (history_of s)) (operations ops)) p.part → AddsFew s new_nonce ops p
@@ -86,7 +86,7 @@ module _ (hash index_of : List ℕ → List ℕ) (s : State) where
             few = adds new_nonce anew same b.small;
           }
 
--- an update that isn't made anew is under the latest nonce
+-- an update without a new nonce is under the latest nonce
 pub latest_kept : (new_nonce : Option Nonce) (anew : Bool) (nonce latest : List ℕ) → anew ≡ is_some new_nonce
     → nonce ≡ nonce_after (option_map (λ (n : Nonce). n.0) new_nonce) latest → anew ≡ false → latest ≡ nonce
 latest_kept None anew nonce latest same is off = sym is

@@ -1,4 +1,4 @@
--- What a run of public calls leaves is the directory that its batches define.
+-- A run of public calls leaves the directory that its batches define.
 use Rattle.std.proofs.Common.{◌≡◌, ℕ, List, [], ◌∷◌, ◌++◌, ◌<◌, refl, sym, ap, subst, ◌∙◌, append_assoc}
 use Rattle.coniks_directory.proofs.Words.{AreAccepted, AreAcceptedFrom, Batch, HaveOwnIndices, IsAccepted, Run, Shown, State, after}
 use Rattle.coniks_directory.proofs.Words.{append-nil, defined, epochs_from, history_of, latest_epoch, latest_nonce}
@@ -10,7 +10,7 @@ use Rattle.coniks_directory.proofs.LastLemmas.{at_end}
 use Rattle.coniks_directory.proofs.StepLemmas.{Steps, committed, installed, opened, stayed}
 use Rattle.coniks_directory.proofs.AgreementLemmas.{prepared_agree, steps_agree}
 
--- a state is that of the directory that the batches define, and further batches go on from it
+-- a state is that of the directory that the batches define, and further batches continue from it
 pub record IsDefined (index_of : List ℕ → List ℕ) (nonce policy : List ℕ) (batches : List Batch) (s : State) : Type 0 where
   pub nonce_is : s.nonce ≡ nonce
   pub policy_is : s.policy ≡ policy
@@ -20,7 +20,7 @@ pub record IsDefined (index_of : List ℕ → List ℕ) (nonce policy : List ℕ
   accepts : (more : List Batch) → AreAcceptedFrom index_of (latest_epoch (history_of s)) (latest_registry (history_of s)) more → AreAccepted index_of (batches ++ more)
 
 module _ (index_of : List ℕ → List ℕ) (nonce policy : List ℕ) (batches : List Batch) (s : State) (d : IsDefined index_of nonce policy batches s) where
-  -- a later state with the epoch of one more batch is so too
+  -- so is a later state with the epoch of one more batch
   next : (b : Batch) (later : State) (shown : Shown) (depth workers : ℕ) → later.nonce ≡ s.nonce → later.policy ≡ s.policy → IsAccepted index_of (latest_registry (history_of s)) b.ops depth workers
       → latest_epoch (history_of s) < b.t → history_of later ≡ history_of s ++ shown ∷ []
       → shown ≡ shown_by (latest_version 1 (history_of s)) (latest_nonce s.nonce (history_of s)) (latest_registry (history_of s)) b → IsDefined index_of nonce policy (batches ++ b ∷ []) later
@@ -53,7 +53,7 @@ defined_by_steps hash index_of nonce policy _ _ (installed batches b earlier s l
     next index_of nonce policy batches s (defined_by_steps hash index_of nonce policy batches s run) b later _ depth workers grows.nonce grows.policy accepted may.later history
     (rw (rotates.version, rotates.nonce, registry) refl)
 
--- a run is one by the function that the directory holds at its end, as though no index had been supplied
+-- a run is one with the function of indices at its end, as if no index had been supplied
 steps_of : (hash index_of : List ℕ → List ℕ) (nonce policy : List ℕ) (batches : List Batch) (s : State) → Run hash index_of nonce policy batches s → Steps hash index_of nonce policy batches s
 steps_of hash _ _ _ _ _ (runs.opened index_of nonce policy) = opened
 steps_of hash _ _ _ _ _ (runs.stayed index_of nonce policy batches s later run same) = stayed batches s later (steps_of hash index_of nonce policy batches s run) same

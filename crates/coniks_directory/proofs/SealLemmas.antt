@@ -11,7 +11,7 @@ use Rattle.coniks_directory.proofs.Words.{slice_get-map, slice_get_read, take_al
 abbrev pub with_commitment : Record → Digest → Record
 with_commitment r c = record r { commitment = c }
 
--- what is written to all of a list stands in its place
+-- a whole list that is written back replaces the old one
 pub written_back : {T : Type 0} (old new : List T) (n : ℕ) → length new ≡ length old → n ≡ length old → take n (new ++ drop (length new) old) ≡ new
 written_back old new n many all = rw (drop_all (length new) old (omega (arith, many)), append-nil) (take_all n new (omega (arith, many, all)))
 
@@ -24,14 +24,14 @@ within_at [] n r within there is = absurd (omega arith)
 within_at (x ∷ xs) zero r within there is = rw is (within.0, within.1)
 within_at (x ∷ xs) (suc n) r within there is = within_at xs n r within.2 (omega arith) is
 
--- what the record at a place binds
+-- the binding of the record at a place
 pub found_at : (records : List Record) (n : ℕ) (r : Record) → n < length records → r ≡ get_or records n r → slice_get (map registered_of records) n ≡ Some (registered_of r)
 found_at records n r there is = slice_get-map registered_of records n ∙ ap (option_map registered_of) (slice_get_read records (length records) n r refl there is)
 
 pub bound_at : (records : List Record) (n : ℕ) (r : Record) (b : Registered) → n < length records → r ≡ get_or records n r → slice_get (map registered_of records) n ≡ Some b → registered_of r ≡ b
 bound_at records n r b there is at = let found = found_at records n r there is in cc
 
--- what is bound stays
+-- the bindings are unchanged
 pub binds_still : (records : List Record) (place : ℕ) (r : Record) (c : Digest) → r ≡ get_or records place r
     → map registered_of (set records place (with_commitment r c)) ≡ map registered_of records
 binds_still records place r c is = map-set_same registered_of records place (with_commitment r c) r (ap registered_of is)
@@ -42,7 +42,7 @@ module _ (hash : List ℕ → List ℕ) where
       ap length so ∙ length-append (map (sealed_by hash) (take place all)) (drop place all) ∙ ap (λ n. n + length (drop place all)) (length-map (take place all) (sealed_by hash))
       ∙ sym (length-append (take place all) (drop place all)) ∙ ap length (take-append-drop place all)
 
-  -- one record more is sealed
+  -- one more record is sealed
   pub sealed_next : (all records : List Record) (place : ℕ) (r : Record) (c : Digest) → place < length records → r ≡ get_or records place r → c.0 ≡ commitment_to hash (registered_of r)
       → AreSealedTo hash all place records → AreSealedTo hash all (place + 1) (set records place (with_commitment r c))
   sealed_next all records place r c there is sealed so =
@@ -68,7 +68,7 @@ module _ (hash : List ℕ → List ℕ) where
   pub are_sealed : (records : List Record) → AreSealed hash (map (sealed_by hash) records)
   are_sealed records n r at = let k = sealed_at records n r at in subst (λ (x : Record). x.commitment.0 ≡ commitment_to hash (registered_of x)) k.2 refl
 
-  -- sealed drafts are drafts
+  -- sealed pending records are pending records
   module _ (other index_of : List ℕ → List ℕ) (bound : List Registered) (records : List Record) (numbers : BTreeMap (List ℕ) ℕ) (s : ArePendingRecords other index_of bound records numbers) where
     pub drafts_sealed : ArePendingRecords other index_of bound (map (sealed_by hash) records) numbers
     drafts_sealed = record {
@@ -82,7 +82,7 @@ module _ (hash : List ℕ → List ℕ) where
       distinct = s.distinct;
     }
 
--- the drafts' names and keys are within their limits
+-- the names and keys of pending records are within their limits
 within_all : (index_of : List ℕ → List ℕ) (records : List Record) → ((n : ℕ) (r : Record) → slice_get records n ≡ Some r → IsPendingRecord index_of r) → AreWithin (map registered_of records)
 within_all index_of [] drafted = tt
 within_all index_of (x ∷ xs) drafted = let d = drafted 0 x refl in (d.named, d.keyed, within_all index_of xs (λ n r at. drafted (suc n) r at))

@@ -1,4 +1,4 @@
--- Registries, as the log of records leaves them, and the history of a state.
+-- The registries that the records leave, and the history of a state.
 use Rattle.std.proofs.Common.{◌≡◌, ℕ, ◌-◌, ◌≤◌, List, [], ◌∷◌, ◌++◌, length, map, refl, ap, ◌∙◌, arith, Some, None, slice_get}
 use Rattle.coniks_directory.proofs.Words.{Epoch, Record, State, Whole, history_of, last_count, latest_nonce, latest_registry, latest_version, overlaid}
 use Rattle.coniks_directory.proofs.Words.{registered_of, registry_at, shown_of, take-append-le, take_all}
@@ -20,7 +20,7 @@ latest-count records [] = refl
 latest-count records (e ∷ []) = refl
 latest-count records (e ∷ f ∷ es) = latest-count records (f ∷ es)
 
--- the latest registry is what all records leave
+-- the latest registry is that of all records
 pub latest-is : (hash index_of : List ℕ → List ℕ) (s : State) → Whole hash index_of s → latest_registry (history_of s) ≡ registry_at s.records (length s.records)
 latest-is hash index_of s whole = latest-count s.records s.epochs ∙ ap (registry_at s.records) whole.last
 
@@ -28,7 +28,7 @@ latest-is hash index_of s whole = latest-count s.records s.epochs ∙ ap (regist
 pub latest-last : (s : State) (e : Epoch) → slice_get s.epochs (length s.epochs - 1) ≡ Some e → latest_registry (history_of s) ≡ registry_at s.records e.count
 latest-last s e at = last_found (λ es. latest_registry (map (shown_of s.records) es)) (λ x. registry_at s.records x.count) (λ x. refl) (λ x y xs. refl) s.epochs e at
 
--- and the latest nonce is its
+-- and the latest nonce is that of the last epoch
 pub nonce-last : (s : State) (e : Epoch) → slice_get s.epochs (length s.epochs - 1) ≡ Some e → latest_nonce s.nonce (history_of s) ≡ e.nonce.0
 nonce-last s e at = last_found (λ es. latest_nonce s.nonce (map (shown_of s.records) es)) (λ x. x.nonce.0) (λ x. refl) (λ x y xs. refl) s.epochs e at
 

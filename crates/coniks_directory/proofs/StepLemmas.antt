@@ -1,11 +1,11 @@
--- Runs by one function of indices.
+-- Runs with one function of indices.
 use Rattle.std.proofs.Common.{◌≡◌, ℕ, List, [], ◌∷◌, ◌++◌, length}
 use Rattle.coniks_directory.proofs.Words.{Batch, Grows, IsAccepted, MayInstall, Prepared, State, history_of, latest_registry, shown_after, shown_with}
 use Rattle.coniks_directory.specs.Runs.{IsPreparedOf}
 use Rattle.coniks_directory.specs.State.{opened as nothing}
 use Rattle.coniks_directory.specs.Updates.{base_of}
 
--- public calls on a directory, none of which supplied an index
+-- public calls on a directory that supply no index
 pub data Steps (hash index_of : List ℕ → List ℕ) (nonce policy : List ℕ) : List Batch → State → Type 0 where
   opened : Steps hash index_of nonce policy [] (nothing nonce policy)
   -- a call that was refused, or that only reads

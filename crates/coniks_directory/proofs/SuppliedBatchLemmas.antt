@@ -33,7 +33,7 @@ use Rattle.coniks_proof.proofs.Lemmas.{eq_apart, eq_same}
 
 -- ---- one more index
 
--- a map's insert is that of what is seen of it
+-- an insert into a map puts the index into the map's view
 module _ {K : Type 0} (key : K → List ℕ) (cmp : K → K → Ordering) (is : (x y : K) → cmp x y ≡ slice_cmp nat_cmp (key x) (key y)) (k : K) (v : Index) where
   pub seen_insert : (es : List (K × Index)) → map (seen key) (insert_entry cmp es k v) ≡ put_index (map (seen key) es) (key k) v.0
   seen_insert [] = refl
@@ -49,7 +49,7 @@ module _ (name index : List ℕ) where
   abbrev here : List ℕ → Bool
   here other = bytes_eq other name
 
-  -- the name has the index, and each other what it had
+  -- the name has the index, and each other name keeps its own
   pub index_put : (es : List Supplied) (other : List ℕ) → supplied_index (put_index es name index) other ≡ (if here other then index else supplied_index es other)
   index_put [] other = refl
   index_put (e ∷ es) other =
@@ -76,7 +76,7 @@ module _ (name index : List ℕ) where
             ]) refl
       ]) refl
 
-  -- and it is the one name more
+  -- and it is the only name that is added
   pub has_put : (es : List Supplied) (other : List ℕ) → is_supplied (put_index es name index) other ≡ here other || is_supplied es other
   has_put [] other = refl
   has_put (e ∷ es) other =
@@ -113,7 +113,7 @@ has_append (x ∷ xs) ys name = elim (bytes_eq name x.0) as (λ b. b || is_suppl
   | false ↦ has_append xs ys name
 ]
 
--- a name without an index counts as at zeros
+-- a name without an index has the index zeros
 no_index : (xs : List Supplied) (name : List ℕ) → is_supplied xs name ≡ false → supplied_index xs name ≡ zeros
 no_index [] name none = refl
 no_index (x ∷ xs) name none = (elim (bytes_eq name x.0) as (λ b. b || is_supplied xs name ≡ false → (if b then x.1 else supplied_index xs name) ≡ zeros) [
@@ -121,12 +121,12 @@ no_index (x ∷ xs) name none = (elim (bytes_eq name x.0) as (λ b. b || is_supp
   | false ↦ λ off. no_index xs name off
 ]) none
 
--- of a batch, the names that aren't registered, with the indices that come first
+-- the names of a batch that aren't registered, each with its first index
 module _ (registry : Registry) where
   pub none_fresh : IsFresh registry [] []
   none_fresh = record { none = λ name has. refl; names = λ name off. refl; indices = λ name off. refl }
 
-  -- one more that another name has adds nothing for a name
+  -- one more pair of another name changes nothing for a name
   more_names : (named : List Supplied) (n i name : List ℕ) → bytes_eq name n ≡ false → is_supplied (named ++ (n, i) ∷ []) name ≡ is_supplied named name
   more_names named n i name off = has_append named ((n, i) ∷ []) name ∙ rw off (elim (is_supplied named name) as (λ c. c || false ≡ c) [ true ↦ refl | false ↦ refl ])
 
@@ -149,7 +149,7 @@ module _ (registry : Registry) where
     indices = λ name off. f.indices name off ∙ sym (more_index named n i name (apart n name (has_name registry) true false has off (λ same. let never = same in cc)));
   }
 
-  -- of a name that stands twice the first index counts
+  -- if a name occurs twice, its first index counts
   pub fresh_kept : (fresh named : List Supplied) (n i : List ℕ) → has_name registry n ≡ false
       → is_supplied fresh n ≡ true → IsFresh registry fresh named → IsFresh registry fresh (named ++ (n, i) ∷ [])
   fresh_kept fresh named n i gone there f =
@@ -193,7 +193,7 @@ module _ (registry : Registry) where
             ]) refl);
       }
 
-  -- then the indices are those that the batch is checked by
+  -- then the indices are those with which the batch is checked
   pub fresh_index : (index_of : List ℕ → List ℕ) (fresh : List Supplied) (batch : List Indexed)
       → IsFresh registry fresh (named_in batch) → given_index fresh index_of ≡ index_in index_of registry batch
   fresh_index index_of fresh batch f = fun_ext
@@ -202,7 +202,7 @@ module _ (registry : Registry) where
         | false ↦ λ off. rw (f.names name off, f.indices name off) refl
       ]) refl)
 
-  -- and a registered name has the index that it had
+  -- and a registered name keeps its index
   pub given_agree : (index_of : List ℕ → List ℕ) (batch : List Indexed) → AgreeOn index_of (index_in index_of registry batch) registry
   given_agree index_of batch name has = rw has refl
 
@@ -235,7 +235,7 @@ indexed_operations (x ∷ ops) (y ∷ indices) same = ap (λ xs. operation_of x 
 pub named_next : (xs : List Indexed) (i : ℕ) (x : Indexed) → slice_get xs i ≡ Some x → named_in (take (i + 1) xs) ≡ named_in (take i xs) ++ (x.op.name, x.index) ∷ []
 named_next xs i x at = ap named_in (take_next xs i x at) ∙ map-append (λ (y : Indexed). (y.op.name, y.index)) (take i xs) (x ∷ [])
 
--- up to a place, the place of the first operation whose name is registered with another index
+-- up to a place, the first operation whose name is registered with another index
 abbrev pub IsFirstOther : (List ℕ → List ℕ) → Registry → List Indexed → ℕ → Option ℕ → Type 0
 IsFirstOther index_of registry xs i other = other_from index_of registry 0 xs ≡ option_or other (other_from index_of registry i (drop i xs))
 
@@ -303,7 +303,7 @@ other_first p f q before =
       | index_clash ↦ rw lt refl
     ]
 
--- at one place the clash comes last
+-- at the same place the clash comes last
 at_once : (place : ℕ) (f : Fault) (later : Option (ℕ × SuppliedFault)) → placed_fault place (or_other true (Some f)) later ≡ Some (earlier_of place f place)
 at_once place f later =
     let lt : nat_lt place place ≡ false = grind (arith, nat_tests) in
@@ -318,7 +318,7 @@ at_once place f later =
     ]
 
 module _ (index_of index : List ℕ → List ℕ) (registry : Registry) where
-  -- the first error is the earliest of the operations' and the other indices'
+  -- the first error is the earliest one of the operations and of the other indices
   pub earliest_fault : (earlier : List Registered) (place : ℕ) (xs : List Indexed)
       → supplied_fault_from index_of registry index earlier place xs ≡ earliest (fault_from index registry earlier place (operations_of xs)) (other_from index_of registry place xs)
   earliest_fault earlier place [] = refl
@@ -352,7 +352,7 @@ module _ (index_of : List ℕ → List ℕ) (registry : Registry) (ops : List Op
   abbrev batch : List Indexed
   batch = indexed ops indices
 
-  -- the first error by the operations alone, and by the other indices
+  -- the first error of the operations alone, and of the other indices
   faults : (other : Option ℕ) → other_from index_of registry 0 batch ≡ other
       → supplied_fault index_of registry batch ≡ earliest (first_fault (index_in index_of registry batch) registry (operations ops)) other
   faults other is =
@@ -392,7 +392,7 @@ module _ (index_of : List ℕ → List ℕ) (registry : Registry) (ops : List Op
   judged_fault batch_fault.OutOfMemory within other f = within
   judged_fault (batch_fault.At position fault) within other f = (within, faults None other ∙ ap (λ g. earliest g None) f)
 
--- the error that names the earliest one
+-- the error that reports the earliest one
 pub told_earliest : (index : List ℕ → List ℕ) (registry : Registry) (ops : List Operation) (place : ℕ) (fault : SuppliedBatchFault) (at : ℕ × SuppliedFault) → supplied_fault_is fault ≡ Some at
     → earliest (first_fault index registry ops) (Some place) ≡ Some at → IsEarliest index registry ops place fault
 told_earliest index registry ops place (InBatch batch_fault.Workers) at told first = absurd (let never = told in cc)
@@ -402,7 +402,7 @@ told_earliest index registry ops place (InBatch batch_fault.OutOfMemory) at told
 told_earliest index registry ops place (InBatch (batch_fault.At position fault)) at told first = first ∙ sym told
 told_earliest index registry ops place (OtherIndex position) at told first = first ∙ sym told
 
--- what isn't an operation's is memory
+-- an error that isn't an operation's is `OutOfMemory`
 pub other_judged : (index : List ℕ → List ℕ) (registry : Registry) (ops : List Operation) (place : ℕ) (fault : BatchFault) → ((position : ℕ) (f : OpFault) → fault ≡ batch_fault.At position f → ⊥)
     → IsJudgedFault index registry ops fault → IsEarliest index registry ops place (InBatch fault)
 other_judged index registry ops place batch_fault.Workers off f = f
@@ -438,7 +438,7 @@ put_next source records i r at =
     ap (put_indices source) (ap indices_in (take_next records i r at) ∙ map-append (λ (x : Record). (x.binding.name, x.index.0)) (take i records) (r ∷ []))
     ∙ put-append source (indices_in (take i records)) (indices_in (r ∷ []))
 
--- a name that has the function's index, or is among the names, has it then
+-- a name that has the function's index, or is among the pairs, has that index afterwards
 pub put_of : (index_of : List ℕ → List ℕ) (ps source : List Supplied) (name : List ℕ) → AreOf index_of ps → (supplied_index source name ≡ index_of name) ⊎ (is_supplied ps name ≡ true)
     → supplied_index (put_indices source ps) name ≡ index_of name
 put_of index_of [] source name held (inl at) = at
@@ -463,7 +463,7 @@ has_indices (r ∷ rs) name =
     ]) refl in
     rw (same, has_indices rs name) refl
 
--- once an update's indices are supplied, the source gives each name that the update leaves the index by which it was prepared
+-- once an update's indices are supplied, the source has the index for each name after the update with which it was prepared
 pub supplied_all : (hash index_of : List ℕ → List ℕ) (source : List Supplied) (s : State) (p : Prepared) → Whole hash (supplied_index source) s
     → AgreeOn (supplied_index source) index_of (latest_registry (history_of s)) → AreOf index_of (indices_in p.records.items)
     → AgreeOn index_of (supplied_index (put_indices source (indices_in p.records.items))) (registry_after s p)
@@ -484,7 +484,7 @@ held_take index records zero held = tt
 held_take index [] (suc n) held = tt
 held_take index (r ∷ rs) (suc n) held = (held.0, held_take index rs n held.1)
 
--- what holds of a value holds of what follows from it
+-- what follows from a property of a result's value holds of the value
 pub if_ok-map : {T E : Type 0} (r : Result T E) (P Q : T → Type 0) → ((x : T) → P x → Q x) → IfOk r P → IfOk r Q
 if_ok-map (Ok x) P Q more is = more x is
 if_ok-map (Err e) P Q more is = is
@@ -492,10 +492,6 @@ if_ok-map (Err e) P Q more is = is
 pub if_err-map : {T E : Type 0} (r : Result T E) (P Q : E → Type 0) → ((e : E) → P e → Q e) → IfErr r P → IfErr r Q
 if_err-map (Ok x) P Q more is = is
 if_err-map (Err e) P Q more is = more e is
-
-pub on_ok-map : {T E : Type 0} (r : Result T E) (P Q : Type 0) → (P → Q) → OnOk r P → OnOk r Q
-on_ok-map (Ok x) P Q more is = more is
-on_ok-map (Err e) P Q more is = is
 
 pub of_ok : {T E : Type 0} (r : Result T E) (P : Type 0) → false ≡ is_err r → OnOk r P → P
 of_ok (Ok x) P off is = is

@@ -1,4 +1,4 @@
--- The index that a map of supplied indices holds for a name.
+-- The index that a map of supplied indices contains for a name.
 use Rattle.std.proofs.Common.{◌≡◌, ℕ, List, [], ◌∷◌, map, Bool, true, false, refl, sym, ap, ◌∙◌, Option, Some, None, if◌then◌else◌, is_some}
 use Rattle.std.specs.Option.{IfSome, option_copied}
 use Rattle.std.specs.BTreeMap.{insert_entry}
@@ -11,11 +11,11 @@ use Rattle.coniks_directory.specs.Supplied.{IsSupplied, Supplied, is_supplied, s
 use Rattle.coniks_proof.proofs.Lemmas.{eq_apart, eq_same}
 
 module _ {K : Type 0} (key : K → List ℕ) where
-  -- a key and its index, as they are seen
+  -- the view of a key and its index
   abbrev pub seen : K × Index → Supplied
   seen e = (key e.0, e.1.0)
 
-  -- the search of the map finds what was supplied
+  -- a search of the map finds the supplied index
   module _ (test : K → Bool) (name : List ℕ) (is : (k : K) → test k ≡ bytes_eq name (key k)) where
     pub supplied_none : (es : List (K × Index)) → lookup test es ≡ None → supplied_index (map seen es) name ≡ zeros
     supplied_none [] none = refl
@@ -38,7 +38,7 @@ module _ {K : Type 0} (key : K → List ℕ) where
       | false ↦ λ off. let differ = sym (is e.0) ∙ off in rw (off, differ) (supplied_has es)
     ]) refl
 
-    -- as it is borrowed
+    -- the same for a borrowed index
     pub found_some : (es : List (K × Index)) (r : Option (Bor Index)) → option_copied r ≡ lookup test es
         → IfSome r (λ i. (is_supplied (map seen es) name ≡ true) × (i.now.0 ≡ supplied_index (map seen es) name))
     found_some es None at = tt
@@ -47,7 +47,7 @@ module _ {K : Type 0} (key : K → List ℕ) where
     pub found_none : (es : List (K × Index)) (r : Option (Bor Index)) → option_copied r ≡ lookup test es → r ≡ None → is_supplied (map seen es) name ≡ false
     found_none es r at none = sym (supplied_has es) ∙ ap is_some (sym at ∙ ap option_copied none)
 
-  -- one more name, or another index of one
+  -- one more name, or another index for a name
   module _ (cmp : K → K → Ordering) (is : (x y : K) → is_eq (cmp x y) ≡ bytes_eq (key x) (key y)) (k : K) (v : Index) where
     abbrev after_insert : List (K × Index) → List ℕ → List ℕ
     after_insert es name = if bytes_eq name (key k) then v.0 else supplied_index (map seen es) name
@@ -74,7 +74,7 @@ module _ {K : Type 0} (key : K → List ℕ) where
               ]) refl
         ]) refl
 
-    -- so the map gives the name this index, and each other name what it gave
+    -- so the map has this index for the name, and each other name keeps its index
     pub supplied_more : (es : List (K × Index)) (name : List ℕ) → key k ≡ name → IsSupplied (supplied_index (map seen es)) name v.0 (supplied_index (map seen (insert_entry cmp es k v)))
     supplied_more es name named = record {
       here = supplied_insert es name ∙ (let on : bytes_eq name (key k) ≡ true = eq_same name (key k) (sym named) in rw on refl);

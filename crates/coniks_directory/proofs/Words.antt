@@ -1,4 +1,4 @@
--- The words of the library, of the crates below and of this one that the proofs speak in, passed on to them.
+-- Names of the standard library, of the crates below and of this crate, re-exported for the proofs.
 pub use Rattle.std.proofs.lemmas.Bool.{false_from_ne_true, not-true, or_cases, or_parts, or_right}
 pub use Rattle.std.proofs.lemmas.Cmp.{by_ranked, nat_list_cmp_total, ranked}
 pub use Rattle.std.proofs.lemmas.List.{append-nil, at_drop_all, at_drop_more, length-map, map-append, nil_from_length, take-append-le, take_all, take_more}

@@ -68,7 +68,7 @@ NextBody {H} {X} digest index d shown = NextBodyBy digest d (index d.index) show
 abbrev pub batch_index : {H X : Type 0} → (X → Octets → Octets) → View H X → SuppliedBatch → Octets → Octets
 batch_index {H} {X} index d batch = index_in (index d.index) (registry d) (indexed batch.ops.now batch.indices.now)
 
--- it hashes and finds indices as it did
+-- the hash and the source of indices are the same
 pub record IsAlike {H X : Type 0} (d e : View H X) : Type 0 where
   pub hash : d.hash ≡ e.hash
   pub index : d.index ≡ e.index

@@ -70,7 +70,7 @@ abbrev pub AreUnder : ℕ → Octets → List Shown → Type 0
 AreUnder version nonce [] = Unit {0}
 AreUnder version nonce (s ∷ ss) = IsUnder version nonce s × AreUnder s.version s.nonce ss
 
--- in no epoch's registry two names have one index
+-- in each epoch's registry different names have different indices
 abbrev pub AllHaveOwnIndices : (Octets → Octets) → List Shown → Type 0
 AllHaveOwnIndices index_of history = (k : ℕ) (s : Shown) → slice_get history k ≡ Some s → HaveOwnIndices index_of s.registry
 

@@ -18,7 +18,7 @@ pub record IsHeld (index_of : Octets → Octets) (registry : Registry) (index : 
   pub has : has_name registry b.name ≡ true
   pub only : (name : Octets) → index_of name ≡ index → has_name registry name ≡ true → name ≡ b.name
 
--- who has the index: nobody, or the one name of this record
+-- no registered name has the index, or exactly the name of this record
 abbrev pub HolderIs : (Octets → Octets) → Registry → Octets → Option (Bor Record) → Type 0
 HolderIs index_of registry index None = IsFree index_of registry index
 HolderIs index_of registry index (Some r) = IsHeld index_of registry index (registered_of r.now)

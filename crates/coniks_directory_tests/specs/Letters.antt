@@ -1,10 +1,11 @@
--- The index source of the tests: each letter of the worked examples has an index of its own, and every other name the one of zeros.
-use Rattle.std.specs.Prelude.{ℕ, List, if◌then◌else◌, codes, slice_set}
+-- The index source of the tests: letters of the worked examples have their own indices, and every other name has the one of zeros.
+use Rattle.std.specs.Prelude.{ℕ, if◌then◌else◌, codes, slice_set}
 use Rattle.std.specs.Str.{bytes_eq}
+use Rattle.coniks_proof.specs.Octets.{Octets}
 use Rattle.coniks_proof.specs.Preimages.{zeros}
 
 -- the first byte of a name's index
-abbrev pub high : List ℕ → ℕ
+abbrev pub high : Octets → ℕ
 high name =
     if bytes_eq name (codes "b") then 0x80
     else (if bytes_eq name (codes "c") then 0x40
@@ -12,9 +13,9 @@ high name =
     else (if bytes_eq name (codes "p") then 0x10
     else (if bytes_eq name (codes "q") then 0x10 else 0))))
 
--- its last byte
-abbrev pub low : List ℕ → ℕ
+-- the last byte of a name's index
+abbrev pub low : Octets → ℕ
 low name = if bytes_eq name (codes "z") then 1 else 0
 
-abbrev pub index_of_letter : List ℕ → List ℕ
+abbrev pub index_of_letter : Octets → Octets
 index_of_letter name = slice_set (slice_set zeros 0 (high name)) 31 (low name)

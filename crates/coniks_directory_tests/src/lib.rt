@@ -1,4 +1,4 @@
-//! The tests of `coniks_directory`, by its public calls. They stand apart from it, so that it is proved once.
+//! Tests of `coniks_directory` through its public calls, in a separate crate so that `coniks_directory` is proved once.
 #![tactic(auto)]
 
 #[cfg(test)]

@@ -1,4 +1,4 @@
-//! Tests. Digests and entries were computed by another program.
+//! Tests. Another program computed the expected digests and entries.
 
 mod answers;
 mod asking;
@@ -14,7 +14,7 @@ mod installs;
 mod largest;
 mod outside;
 mod refused;
-mod renewals;
+mod rotations;
 mod runs;
 mod supplying;
 mod together;

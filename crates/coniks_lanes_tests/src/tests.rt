@@ -3,7 +3,7 @@
 use coniks_lanes::{MAX_TWO_BLOCKS, MIN_TWO_BLOCKS, TwoBlocks, hash_four};
 use std::process::Abort;
 
-/// The bytes 3, 10, 17 and so on, modulo 256.
+/// Returns the bytes 3, 10, 17 and so on, modulo 256.
 fn counted() -> [u8; 119] {
     let mut bytes = [3u8; 119];
     for i in 1..119usize {
@@ -12,19 +12,19 @@ fn counted() -> [u8; 119] {
     bytes
 }
 
-/// The digest with these hexadecimal digits.
+/// Returns the digest with these hexadecimal digits.
 fn digest(rt: &impl Abort, digits: &str) -> [u8; 32] {
     let mut bytes = [0; 32];
     hex::decode_to_slice(digits, &mut bytes).expect(rt, "64 digits");
     bytes
 }
 
-/// The bytes from a place to another.
+/// Returns the bytes from one position up to another.
 fn part<'a>(rt: &impl Abort, bytes: &'a [u8], from: usize, to: usize) -> &'a [u8] {
     bytes.get(from..to).expect(rt, "within")
 }
 
-/// Pieces as a message of two blocks.
+/// Joins pieces to a message of two blocks.
 fn message(rt: &impl Abort, pieces: &[&[u8]]) -> TwoBlocks {
     TwoBlocks::of(pieces).expect(rt, "56 to 119 bytes")
 }
@@ -39,7 +39,7 @@ fn are(rt: &impl Abort, got: [[u8; 32]; 4], want: [&str; 4]) {
     assert!(rt; d == digest(rt, fourth));
 }
 
-/// FIPS 180-4's example of two blocks, and NIST's of 56, 57 and 64 zero bytes.
+/// `hash_four` returns the digests of FIPS 180-4's example of two blocks, and of NIST's of 56, 57 and 64 zero bytes.
 #[test]
 fn published(rt: HostRuntime) {
     let letters = b"abcdbcdecdefdefgefghfghighijhijkijkljklmklmnlmnomnopnopq";
@@ -61,7 +61,7 @@ fn published(rt: HostRuntime) {
     );
 }
 
-/// The shortest and the longest message, and those between that the nodes of a tree have.
+/// `hash_four` hashes the shortest and the longest message, and those between that have the lengths of tree nodes.
 #[test]
 fn lengths(rt: HostRuntime) {
     let counted = counted();
@@ -83,7 +83,7 @@ fn lengths(rt: HostRuntime) {
     );
 }
 
-/// A message in pieces, of which some are empty, in each lane at another place.
+/// The digest of a message does not depend on its pieces, which differ in each lane and may be empty.
 #[test]
 fn pieces(rt: HostRuntime) {
     let counted = counted();
@@ -116,7 +116,7 @@ fn pieces(rt: HostRuntime) {
     are(&rt, got, [same, same, same, other]);
 }
 
-/// A message of one block or of three is none of two.
+/// `TwoBlocks::of` returns `None` for a message of one block or of three.
 #[test]
 fn limits(rt: HostRuntime) {
     let counted = counted();

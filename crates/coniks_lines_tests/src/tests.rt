@@ -1,4 +1,4 @@
-//! Runs over memory, over streams that give and take little at a time, and over streams that fail.
+//! Runs over memory, over streams that move few bytes at a time, and over streams that fail.
 
 mod broken;
 mod machine;

@@ -14,12 +14,12 @@ use std::process::Abort;
 
 const ZERO: Digest = Digest([0; 32]);
 
-/// The commitment to a name with the key `k`.
+/// Returns the commitment to a name with the key `k`.
 fn sealed(name: &[u8]) -> Digest {
     sealed_with(name, b"k")
 }
 
-/// The commitment to a name and a key, which are within their limits.
+/// Returns the commitment to a name and a key, or zeros if one of them is longer than its limit.
 fn sealed_with(name: &[u8], key: &[u8]) -> Digest {
     if name.len() <= MAX_NAME && key.len() <= MAX_KEY {
         commit_hash(&Sha256Hash, &OPENING, name, key)
@@ -28,12 +28,12 @@ fn sealed_with(name: &[u8], key: &[u8]) -> Digest {
     }
 }
 
-/// A name or a key of one repeated letter.
+/// Returns a name or a key of one repeated letter.
 fn repeated(rt: &impl Abort, alloc: Global, letter: u8, count: usize) -> Vec<u8> {
     vec![in alloc; letter; count].expect(rt, "memory")
 }
 
-/// A copy of a name or a key, asked for once more where memory is refused.
+/// Copies a name or a key, and tries once more if an allocation fails.
 fn copied(rt: &impl Abort, alloc: Global, bytes: &[u8]) -> Bytes {
     match Bytes::copy_of(alloc, bytes) {
         Ok(copy) => copy,
@@ -41,7 +41,7 @@ fn copied(rt: &impl Abort, alloc: Global, bytes: &[u8]) -> Bytes {
     }
 }
 
-/// The end of a proof of presence.
+/// Returns the end of a presence proof.
 fn here(rt: &impl Abort, alloc: Global, name: &[u8], key: &[u8]) -> End {
     End::Here {
         name: copied(rt, alloc, name),
@@ -50,7 +50,7 @@ fn here(rt: &impl Abort, alloc: Global, name: &[u8], key: &[u8]) -> End {
     }
 }
 
-/// A proof with these siblings, asked for once more where memory is refused.
+/// Returns a proof with these siblings, and tries once more if an allocation fails.
 fn proof_of(rt: &impl Abort, alloc: Global, siblings: &[Digest], end: End) -> Proof {
     let siblings = match Vec::from_slice(alloc, siblings) {
         Ok(siblings) => siblings,
@@ -62,7 +62,7 @@ fn proof_of(rt: &impl Abort, alloc: Global, siblings: &[Digest], end: End) -> Pr
     }
 }
 
-/// A proof with this many zero digests beside it.
+/// Returns a proof with a given number of siblings, which are all zeros.
 fn beside(rt: &impl Abort, alloc: Global, siblings: usize, end: End) -> Proof {
     let siblings = vec![in alloc; ZERO; siblings].expect(rt, "memory");
     Proof {
@@ -71,7 +71,7 @@ fn beside(rt: &impl Abort, alloc: Global, siblings: usize, end: End) -> Proof {
     }
 }
 
-/// The fault of a proof for a name of index 0, under the root of zeros.
+/// Returns the error of a proof for a name of index 0, under the root of zeros.
 fn fault_of(proof: &Proof, name: &[u8]) -> Option<CheckFault> {
     check(&Sha256Hash, &NONCE, &ZERO, &index_of(0, 0), name, proof).err()
 }
@@ -107,7 +107,7 @@ fn commitments(rt: HostRuntime) {
     }
 }
 
-/// A name and keys of many bytes, up to the longest.
+/// `commit_hash` computes the commitments to long names and keys, up to the longest.
 #[test]
 fn long_commitments(rt: HostRuntime) {
     for (name, key, want) in [
@@ -133,7 +133,7 @@ fn long_commitments(rt: HostRuntime) {
     }
 }
 
-/// A leaf at level 1.
+/// Returns the hash of a leaf at level 1.
 fn half(name: &[u8], first: u8) -> Digest {
     leaf_hash(&Sha256Hash, &NONCE, &index_of(first, 0), 1, &sealed(name))
 }
@@ -185,7 +185,7 @@ fn presence(rt: HostRuntime) {
     assert!(rt; wrong == Err(CheckFault::RootMismatch));
 }
 
-/// A tree of `a` and `c`, which part at the second bit, so that the right side of its root is empty.
+/// A tree of `a` and `c`, whose indices first differ in the second bit, so that the right side of the root is empty.
 #[derive(Clone, Copy)]
 struct Parted {
     root: Digest,
@@ -207,7 +207,7 @@ fn two_leaves() -> Parted {
     }
 }
 
-/// The fault of a proof for a name that ends at the leaf of `a`.
+/// Returns the error of a proof for a name that ends at the leaf of `a`.
 fn fault_beside_a(
     rt: &impl Abort,
     alloc: Global,
@@ -232,7 +232,8 @@ fn fault_beside_a(
     .err()
 }
 
-/// The leaf of `a`, where `d` would stand; asked for another index, and with its last sibling cut off.
+/// `check` accepts the leaf of `a` as an absence proof for `d`, and refuses it for `b`, for `a` and without its last
+/// sibling.
 #[test]
 fn absence_beside_a_leaf(rt: HostRuntime) {
     let alloc = rt.alloc();
@@ -251,7 +252,7 @@ fn absence_beside_a_leaf(rt: HostRuntime) {
     assert!(rt; cut == Some(CheckFault::RootMismatch));
 }
 
-/// An empty node, where `b` would stand.
+/// `check` accepts an empty node on the path of `b` as an absence proof for `b`.
 #[test]
 fn absence_at_an_empty_node(rt: HostRuntime) {
     let tree = two_leaves();
@@ -267,7 +268,7 @@ fn absence_at_an_empty_node(rt: HostRuntime) {
     assert!(rt; answer == Ok(Answer::Absent));
 }
 
-/// An end by what it is made of.
+/// The contents of an end.
 #[derive(Clone, Copy)]
 enum Shape {
     Nothing,
@@ -286,12 +287,12 @@ fn shaped(rt: &impl Abort, alloc: Global, shape: Shape) -> End {
     }
 }
 
-/// A leaf with a key of so many letters.
+/// Returns the shape of a leaf whose key has a given number of letters.
 const fn leaf(name: u8, key: usize) -> Shape {
     Shape::Leaf { name, key }
 }
 
-/// Each fault, and of two at once the first.
+/// `check` returns each error, and the first one if two apply.
 #[test]
 fn first_faults(rt: HostRuntime) {
     let alloc = rt.alloc();
@@ -311,7 +312,7 @@ fn first_faults(rt: HostRuntime) {
     }
 }
 
-/// A name of 0 and of 256 bytes, with a proof that is too deep and with a key of no bytes.
+/// A name of 0 or 256 bytes is `NameLength`, which comes after `TooDeep` and before `KeyLength`.
 #[test]
 fn names_of_wrong_length(rt: HostRuntime) {
     let alloc = rt.alloc();
@@ -324,7 +325,7 @@ fn names_of_wrong_length(rt: HostRuntime) {
     }
 }
 
-/// Under a hash with collisions a proof is accepted that is no path of the tree.
+/// Under a hash with collisions, `check` accepts a proof that is no path of the tree.
 #[test]
 fn accepted_by_a_flat_hash(rt: HostRuntime) {
     let end = here(&rt, rt.alloc(), b"a", b"forged");
@@ -333,7 +334,7 @@ fn accepted_by_a_flat_hash(rt: HostRuntime) {
     assert!(rt; answer == Ok(Answer::Key(b"forged")));
 }
 
-/// Copies of the longest key, and of far more bytes.
+/// `Bytes::copy_of` copies no bytes, the longest key and 2^24 bytes.
 #[test]
 fn copies(rt: HostRuntime) {
     for count in [0, MAX_KEY, 1 << 24] {

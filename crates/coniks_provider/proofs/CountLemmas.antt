@@ -1,4 +1,4 @@
--- After any lines the registered names are those that have an index, each once.
+-- After any lines, the registered names are those that have an index, each once.
 use Rattle.std.proofs.Common.{◌≡◌, ℕ, List, [], ◌∷◌, ◌++◌, length, map, Bool, true, false, refl, sym, ap, subst, ◌∙◌, Option, Some, None, if◌then◌else◌}
 use Rattle.std.specs.Prelude.{IfSome, Result, Ok, Err, codes, filter, not, ◌||◌}
 use Rattle.std.specs.Cmp.{IsEquivalence}
@@ -53,7 +53,7 @@ or_false : (b : Bool) → b || false ≡ b
 or_false true = refl
 or_false false = refl
 
--- of a registry without the names that equal one, each other name
+-- the registry without the bindings of this name
 abbrev without : List ℕ → Registry → Registry
 without name registry = filter (λ c. not (bytes_eq c.name name)) registry
 
@@ -114,7 +114,7 @@ has_rebound registry b name =
       | false ↦ λ off. ap (λ v. v || false) (has_without registry b.name name off)
     ]) refl
 
--- the names of operations are added, each name once
+-- after a batch, the names are those of the registry and those of the operations
 has_after : (index_of : List ℕ → List ℕ) (registry : Registry) (ops : List Operation) (name : List ℕ)
     → has_name (after registry ops) name ≡ has_name registry name || is_supplied (indices_by index_of ops) name
 has_after index_of registry [] name = sym (or_false (has_name registry name))
@@ -194,7 +194,7 @@ has_puts es (p ∷ ps) name =
     ∙ ap (λ b. b || is_supplied ps name) (has_put p.0 p.1 es name)
     ∙ elim (is_supplied es name) as (λ b. (b || bytes_eq name p.0) || is_supplied ps name ≡ b || (bytes_eq name p.0 || is_supplied ps name)) [ true ↦ refl | false ↦ refl ]
 
--- ---- as many
+-- ---- as many names as indices
 
 abbrev names_of : Registry → List (List ℕ)
 names_of registry = map (λ (b : Registered). b.name) registry
@@ -338,7 +338,7 @@ lines-counted : (s : ProviderState) (lines : List (List ℕ)) → Counted s → 
 lines-counted s [] was = was
 lines-counted s (line ∷ lines) was = lines-counted (provider_turn s line).state lines (object-counted s (object_in line) was)
 
--- so `latest` tells how many names are registered
+-- so there are as many indices, which `latest` counts, as registered names
 pub all_registered : (lines : List (List ℕ)) (o : ProviderDirectory) → state_after provider_answer None lines ≡ Some o → length o.indices ≡ length (latest_registry o.history)
 all_registered lines o is =
     let counted : IsCounted o = subst Counted is (lines-counted None lines tt) in

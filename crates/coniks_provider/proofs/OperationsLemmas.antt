@@ -11,12 +11,12 @@ use Rattle.coniks_directory.specs.SuppliedBatches.{Indexed, indexed}
 use Rattle.coniks_directory.specs.declared.batch.Op.{Op}
 use Rattle.coniks_provider.specs.Lines.{batch_from, indexed_in, indexed_with_first}
 
--- the same after the operations that were found
+-- the operations found so far, followed by the result for the rest
 abbrev pub after : List Indexed → Result (List Indexed) ℕ → Result (List Indexed) ℕ
 after found (Ok xs) = Ok (found ++ xs)
 after found (Err place) = Err place
 
--- what is left at a place is the value there, and what is left after it
+-- the rest from a place is the value there, followed by the rest after it
 here : (vs : List Value) (i : ℕ) (v : Value) → i < length vs → v ≡ get_or vs i v → items_view (drop i vs) ≡ item (view v) (items_view (drop (i + 1) vs))
 here vs i v lt is =
     let split : drop i vs ≡ v ∷ drop (i + 1) vs = drop-cons vs i v lt ∙ ap₂ (λ (x : Value) (k : ℕ). x ∷ drop k vs) (sym is) (sym (add-one i)) in
@@ -44,7 +44,7 @@ one_more vs i v ops ops' indices indices' op index lt is some pushed pushed_inde
     ∙ (rw (← some, pushed, pushed_index, indexed-more ops indices op index same)
     (after-indexed_with_first (indexed ops indices) (record { op = operation_of op; index = index.0 }) (batch_from (i + 1) (items_view (drop (i + 1) vs))))))
 
--- where no element is left, what was found is what the list gives
+-- if no element is left, what was found is the result for the list
 pub all_read : (vs : List Value) (i : ℕ) (found : List Indexed) → length vs ≤ i
     → batch_from 0 (items_view vs) ≡ after found (batch_from i (items_view (drop i vs))) → Ok found ≡ batch_from 0 (items_view vs)
 all_read vs i found past so_far =

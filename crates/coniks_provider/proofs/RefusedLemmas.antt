@@ -1,4 +1,4 @@
--- A refused line leaves the state as it was.
+-- A refused line leaves the state unchanged.
 use Rattle.std.proofs.Common.{◌≡◌, ℕ, List, Bool, true, false, Option, Some, None, refl, sym}
 use Rattle.std.specs.Prelude.{codes, Result, Ok, Err, if◌then◌else◌}
 use Rattle.std.specs.Option.{option_map_or}
@@ -12,7 +12,7 @@ use Rattle.coniks_provider.specs.Answers.{ProviderOutcome, is_accepted_line, not
 use Rattle.coniks_provider.specs.Lines.{batch_in}
 use Rattle.coniks_provider.specs.Turns.{BatchLine, ProviderDirectory, Pending, ProviderTurn, ProviderState, batch_read_turn, provider_command_turn, install_on, install_turn, install_with, provider_open_turn, provider_open_with, prepare_on, prepare_turn, prepare_with, provider_refusal, provider_turn}
 
--- what holds of both
+-- what holds of both branches holds of the choice
 pub either : {T : Type 0} → (P : T → Type 0) (b : Bool) (t u : T) → P t → P u → P (if b then t else u)
 either P true t u first second = first
 either P false t u first second = second

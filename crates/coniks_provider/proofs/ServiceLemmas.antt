@@ -44,7 +44,7 @@ use Rattle.coniks_provider.specs.declared.service.Pending.{Pending as Update}
 pub as_many : (heads : List Head) (chain : List Entry) → heads ≡ heads_of sha256 chain → length heads ≡ length chain
 as_many heads chain same = ap length same ∙ length-map chain (head_at sha256)
 
--- the head of the last entry is the last one
+-- the head of the last entry is the last head
 pub last_head : (chain : List Entry) (entry : Entry) → last_of (heads_of sha256 (chain ++ entry ∷ [])) ≡ Some (head_at sha256 entry)
 last_head [] entry = refl
 last_head (x ∷ []) entry = refl
@@ -62,7 +62,7 @@ none_crew parallelism (inl zero_is) = let least = parallelism.0 in omega arith
 none_crew parallelism (inr more) = let most = parallelism.1 in omega arith
 
 module _ (o : ProviderDirectory) (b : BatchLine) (depth workers : ℕ) (parallelism : AreWorkers workers) (shallow : depth ≤ 12) where
-  -- it isn't for workers or depth
+  -- the reason isn't the workers or the depth
   pub refusable : (fault : SuppliedBatchFault) → IsSuppliedFault (supplied_index o.indices) (latest_registry o.history) b.ops depth workers fault → IsRefusable fault
   refusable (OfBatch batch.Workers) f = none_crew parallelism f
   refusable (OfBatch batch.Depth) f = let deep = f.1 in omega arith
@@ -89,7 +89,7 @@ module _ (o : ProviderDirectory) (b : BatchLine) (depth workers : ℕ) (parallel
   refused_is (OfBatch batch.OutOfMemory) outcome f is = absurd (let never = is in cc)
   refused_is (OtherIndex position) outcome f is = let on = few_on f.0.few in rw (on, f.1) is
 
-  -- a batch without error is refused for its number, if at all
+  -- a batch without an error can only be refused for its number
   pub number_is : IsWithin b.ops depth workers → supplied_fault (supplied_index o.indices) (latest_registry o.history) b.ops ≡ None → provider_refusal o b ≡ provider_number_refusal o b.epoch
   number_is within none = let on = few_on within.few in rw (on, none) refl
 
@@ -157,7 +157,7 @@ module _ (o : ProviderDirectory) (epoch : ℕ) (name index : List ℕ) where
 
 -- ---- an update that was prepared
 
--- no number is refused that is later, while the board has room
+-- a number that isn't refused is later, and the board has room
 pub number_none : (o : ProviderDirectory) (epoch : ℕ) → provider_number_refusal o epoch ≡ None → (latest_epoch o.history < epoch) × (length o.chain < most_provider_epochs)
 number_none o epoch none =
     (elim (nat_lt (latest_epoch o.history) epoch) as (λ b. nat_lt (latest_epoch o.history) epoch ≡ b

@@ -7,7 +7,7 @@ use Rattle.coniks_tree.specs.declared.part.Part.{Part}
 use Rattle.coniks_tree.specs.declared.table.Record.{Record}
 use Rattle.coniks_tree.proofs.Lemmas.{Extends-append}
 
--- a part of what a tree has and of changes that put new records in has its records among both
+-- the records of a part of a tree's entries and of changes are among the tree's records and the new ones
 pub part_placed : (old new lent : List Record) (changes lent_changes : List Change) (part : Part) → lent ≡ new → lent_changes ≡ changes → AllPlaced (old ++ lent) changes
     → ((all : List Record) → Extends old all → AllPlaced all lent_changes → Placed all part) → Placed (old ++ new) part
 part_placed old new lent changes lent_changes part new-is changes-is each placed =

@@ -11,8 +11,8 @@ use coniks_proof::{Digest, Hash32, Index, MAX_LEVEL, Nonce, Prefix, Proof};
 use coniks_tree::{Change, OutOfMemory, Part, Root, Tree, lefts};
 use std::alloc::Global;
 
-/// Returns what an older root shows under a prefix, or nothing if there is none, overwritten by changes. It takes one growth
-/// below each prefix of `depth` more bits that has a change.
+/// Returns what an older root shows under a prefix, or nothing if there is none, overwritten by changes. The parts of
+/// the prefixes of `depth` more bits that have a change are grown apart.
 fn grown_at<H: Hash32>(
     tree: &Tree,
     h: &H,
@@ -34,7 +34,7 @@ fn grown_at<H: Hash32>(
     Ok(tree.join(h, &NONCE, prefix, left, right)?)
 }
 
-/// Returns what an older root shows under a prefix, and nothing if the tree has no such root.
+/// Returns what an older root shows under a prefix, or nothing if the tree has no such root.
 pub fn part_before(tree: &Tree, older: Option<Root>, prefix: &Prefix) -> Part
     ensures fits { Fits (length tree.now.nodes) (length prefix.now) result }
     ensures placed { (all : List Record) → Extends tree.now.records all → Placed all result }
@@ -64,8 +64,8 @@ impl<H: Hash32> Epochs<H> {
         }
     }
 
-    /// Adds the epoch that binds what an older root shows and, over it, these, which are in the order of their indices. Its
-    /// parts are grown apart at a split depth.
+    /// Adds the epoch with the entries of an older root, overwritten by these bindings, which are in the order of their
+    /// indices. Its parts are grown apart at a split depth.
     ///
     /// # Errors
     ///
@@ -87,7 +87,7 @@ impl<H: Hash32> Epochs<H> {
         (self.tree.nodes(), self.tree.records())
     }
 
-    /// Returns the hash of a root, and zeros if the tree has no such root.
+    /// Returns the hash of a root, or zeros if the tree has no such root.
     pub fn hash(&self, root: Root) -> Digest {
         if root.0 < self.tree.nodes() {
             self.tree.node_hash(root)
@@ -105,7 +105,7 @@ impl<H: Hash32> Epochs<H> {
         }
     }
 
-    /// Returns the path to an index.
+    /// Returns the authentication path to an index.
     ///
     /// # Errors
     ///
@@ -127,7 +127,8 @@ impl<H: Hash32> Epochs<H> {
         }
     }
 
-    /// Returns the hash under another nonce of what a root shows, built again from nothing. Its errors are those of `path`.
+    /// Builds the entries of a root again under another nonce, and returns the root's hash. Its errors are those of
+    /// `path`.
     pub fn hash_under(&self, root: Root, nonce: &Nonce) -> Result<Digest, OutOfMemory> {
         let changes = self.entries(root)?;
         let top = Prefix::root();

@@ -1,11 +1,11 @@
-//! Gates that hold workers until others have come, or count.
+//! Gates that hold workers until others arrive, and a gate that counts.
 //!
-//! A gate that holds stops after 2^32 looks, so that each test ends.
+//! A gate stops holding a worker after 2^32 checks, so that each test ends.
 
 use coniks_work::Gate;
 use std::sync::atomic::{AtomicU64, Ordering};
 
-/// A gate that holds the first job until a number of arrivals, its own included, and notes whether they came.
+/// A gate that holds the first job until a number of arrivals, its own included, and records whether they came.
 #[derive(Drop)]
 pub struct Meeting {
     wanted: u64,
@@ -51,7 +51,7 @@ impl Gate for Meeting {
     }
 }
 
-/// A gate that holds each worker until a number of workers have come, or until one of them stops waiting.
+/// A gate that holds each worker until a number of workers have arrived, or until one of them stops waiting.
 #[derive(Drop)]
 pub struct Crowd {
     wanted: u64,
@@ -92,7 +92,7 @@ impl Gate for Crowd {
     }
 }
 
-/// A gate that counts how often each of four jobs comes, and all other jobs together.
+/// A gate that counts the arrivals of each of four jobs, and those of all other jobs together.
 #[derive(Drop)]
 pub struct Counts {
     each: [AtomicU64; 4],
@@ -108,7 +108,7 @@ impl Counts {
         }
     }
 
-    /// Returns whether each of the four came once, and no other.
+    /// Returns whether each of the four jobs arrived once, and no other job did.
     pub fn once_each(&self) -> bool {
         for count in &self.each {
             if count.load(Ordering::SeqCst) != 1 {

@@ -16,5 +16,5 @@ pub use gates::{Counts, Crowd, Meeting};
 pub use records::{Added, Bound, add, changes_to, known, record_of, records_of};
 pub use signers::{Only, Stamp, Yes};
 pub use streams::{FailIn, FailOut, NEVER, Stop};
-pub use values::{NONCE, OPENING, POLICY, RENEWED, bytes_of, digest, index_below, index_of};
+pub use values::{NEW_NONCE, NONCE, OPENING, POLICY, bytes_of, digest, index_below, index_of};
 pub use watches::{Watch, watch_each, watches_of};

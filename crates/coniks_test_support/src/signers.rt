@@ -29,8 +29,8 @@ impl Verify for Only {
     }
 }
 
-/// A source that returns the same for every body, but refuses one call, and accepts one signature. It counts its calls and
-/// stores the body of the last one.
+/// A source that returns the same for every body, but refuses one call, and accepts one signature. It counts its calls
+/// and stores the body of the last one.
 #[derive(Drop)]
 pub struct Stamp {
     pub given: Option<Signature>,

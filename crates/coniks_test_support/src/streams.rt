@@ -1,4 +1,4 @@
-//! Streams that move little at a time and stop at one call.
+//! Streams that move few bytes at a time and stop at one call.
 
 ghost use Rattle.std.specs.Prelude.{◌≡◌};
 
@@ -7,7 +7,8 @@ use coniks_lines::{ByteIn, ByteOut, Failed};
 /// The number of a call that no test makes, for a stream that does not stop.
 pub const NEVER: u64 = u64::MAX;
 
-/// A source that returns at most a number of bytes for each read, and fails at one read. Its contract specifies no bytes.
+/// A source that returns at most a number of bytes for each read, and fails at one read. Its contract specifies no
+/// bytes.
 #[derive(Drop)]
 pub struct FailIn {
     bytes: Vec<u8>,
@@ -70,7 +71,7 @@ impl ByteIn for FailIn {
     }
 }
 
-/// What a sink does at the write where it stops. A flush fails there in both cases.
+/// The result of a write at which a sink stops. A flush at which it stops fails in both cases.
 #[derive(Clone, Copy, PartialEq, Eq)]
 pub enum Stop {
     /// The write fails.
@@ -82,7 +83,7 @@ pub enum Stop {
 /// A sink that takes at most a number of bytes for each write, and stops at one write or flush.
 #[derive(Drop)]
 pub struct FailOut {
-    /// What was there before, and the bytes taken.
+    /// The bytes that were there before, followed by the bytes taken.
     pub bytes: Vec<u8>,
     piece: usize,
     stopped: u64,

@@ -6,7 +6,7 @@ use coniks_proof::{Digest, Index, Nonce, Opening};
 pub const NONCE: Nonce = Nonce([0x11; 32]);
 
 /// The nonce of a rotation.
-pub const RENEWED: Nonce = Nonce([0x44; 32]);
+pub const NEW_NONCE: Nonce = Nonce([0x44; 32]);
 
 /// The opening of the worked examples.
 pub const OPENING: Opening = Opening([0x22; 32]);
@@ -30,7 +30,7 @@ pub fn index_below(first: u8, second: u8) -> Index {
     Index(bytes)
 }
 
-/// Returns the bytes that hexadecimal digits write.
+/// Returns the bytes that hexadecimal digits encode.
 ///
 /// If `digits` are not exactly `2 * N` such digits, all bytes are `ff`. No test expects that value, so a test with a
 /// misprint fails.
@@ -42,7 +42,7 @@ pub fn bytes_of<const N: usize>(digits: &str) -> [u8; N] {
     }
 }
 
-/// Returns the digest with these 64 hexadecimal digits, or that of 32 bytes `ff`, as `bytes_of` does.
+/// Returns the digest with these 64 hexadecimal digits, or 32 bytes `ff` if `bytes_of` returns them.
 pub fn digest(digits: &str) -> Digest {
     Digest(bytes_of(digits))
 }

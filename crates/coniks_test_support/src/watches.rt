@@ -1,4 +1,4 @@
-//! Watchers on threads of their own, and the heads that they see.
+//! Watchers, each on its own thread, and the heads that they see.
 
 ghost use Rattle.std.specs.Prelude.{◌≡◌, ◌<◌, length, All, IfOk};
 
@@ -19,13 +19,13 @@ pub struct Watch {
     pub watcher: Watcher,
     pub answers: Vec<Head>,
     pub looks: u64,
-    /// The number of heads for which there was no memory.
+    /// The number of heads that are not stored because an allocation failed.
     pub lost: u64,
 }
 
 impl Watch {
-    /// Returns how many of the heads are wrong: not in the chain under SHA-256, before an earlier one, or lost. The chain's
-    /// epochs are 1, 2 and so on.
+    /// Returns the number of wrong heads: not in the chain under SHA-256, of an earlier epoch than the head before, or
+    /// lost. The chain's epochs are 1, 2 and so on.
     pub fn wrong(&self, chain: &[Entry]) -> u64 {
         let mut last = 0;
         let mut wrong = self.lost;
@@ -75,7 +75,7 @@ pub fn watches_of(
     Ok(watches)
 }
 
-/// Stores a head unless it is the last one.
+/// Counts a look, and stores its head unless it is the last one stored.
 fn keep(watch: &mut Watch, answer: Option<Head>)
     ensures { watch.new.watcher ≡ watch.old.watcher }
 {
@@ -106,7 +106,7 @@ fn look_until(watch: &mut Watch, board: &Board, over: &AtomicU64)
     }
 }
 
-/// Runs each watcher on a thread of its own until `over` is 1. Each looks at least once after that.
+/// Runs each watcher on its own thread until `over` is 1. Each looks at least once after that.
 pub fn watch_each<R: Threads + Sync>(rt: &R, board: &Board, watches: &mut [Watch], over: &AtomicU64)
     requires own { All (λ w. w.watcher.table ≡ board.now.table) watches.old }
     requires some { 0 < length watches.old }

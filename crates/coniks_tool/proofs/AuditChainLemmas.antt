@@ -25,18 +25,18 @@ use Rattle.coniks_tool.specs.Turns.{refused}
 use Rattle.coniks_tool.specs.AuditChain.{HoldsGoodChain, if_accepted, accepted_entries}
 use Rattle.coniks_tool.proofs.AuditFaultLemmas.{follows-none, none-follows}
 
--- the state after an entry that was accepted
+-- the state after an accepted entry
 abbrev after : AuditState → Entry → AuditState
 after s e = record { key = s.key; before = Some (before_of sha256 e) }
 
--- this entry was there, it has no error, and this is the state after it
+-- the line contains this entry, it has no error, and this is the state after it
 record IsTaken (s : AuditState) (found : Option Entry) (state : AuditState) : Type 0 where
   pub entry : Entry
   pub there : found ≡ Some entry
   pub faultless : audit_fault (is_seal s.key) s.before entry ≡ None
   pub then_is : state ≡ after s entry
 
--- what an accepted turn has taken, and what a refused one leaves
+-- an accepted turn takes the entry, and a refused one leaves the state unchanged
 abbrev Says : AuditState → Option Entry → AuditTurn → Type 0
 Says s found t = (is_audited t.outcome ≡ true → IsTaken s found t.state) × (is_audited t.outcome ≡ false → t.state ≡ s)
 
@@ -67,7 +67,7 @@ takes_object : (s : AuditState) (object : Option Data) (e : Entry) → option_an
 takes_object s None e there none = absurd (false≢true (ap is_some there))
 takes_object s (Some d) e there none = subst (λ found. Takes s e (entry_turn s found)) (sym there) (takes_entry s e none)
 
--- an entry before others that continue after it
+-- an entry, followed by others that continue after it
 continues-cons : (hash : List ℕ → List ℕ) (v : List ℕ → List ℕ → Bool) (start : Option AuditorState) (e : Entry) (es : List Entry) → Follows v start e → Continues hash v (Some (before_of hash e)) es
     → (k : ℕ) (x : Entry) → slice_get (e ∷ es) k ≡ Some x → Follows v (before_at hash start (e ∷ es) k) x
 continues-cons hash v start e es follows rest zero x at = subst (λ y. Follows v start y) (same_Some e x at) follows
@@ -79,7 +79,7 @@ continues-tail : (hash : List ℕ → List ℕ) (v : List ℕ → List ℕ → B
 continues-tail hash v start e es all zero x at = all (suc zero) x at
 continues-tail hash v start e es all (suc k) x at = all (suc (suc k)) x at
 
--- the entries go on from a state
+-- the entries continue from a state
 abbrev GoesOn : AuditState → List Entry → Type 0
 GoesOn s es = Continues sha256 (is_seal s.key) s.before es
 
@@ -88,7 +88,7 @@ goes_on-cons s state e es none then_is rest =
     let moved : GoesOn (after s e) es = subst (λ t. GoesOn t es) then_is rest in
     continues-cons sha256 (is_seal s.key) s.before e es (none-follows (is_seal s.key) s.before e none) moved
 
--- with the next line, the accepted entries go on
+-- with the next line, the accepted entries continue
 chain_step : (s : AuditState) (line : List ℕ) (es : List Entry) (m : Bool) → is_audited (audit_turn s line).outcome ≡ m
     → GoesOn (audit_turn s line).state es → GoesOn s (if_accepted m (entry_on line) ++ es)
 chain_step s line es true is rest =
@@ -101,7 +101,7 @@ accepted-chain s [] = λ k e at. absurd (false≢true (ap is_some at))
 accepted-chain s (line ∷ lines) =
     chain_step s line (accepted_entries (audit_turn s line).state lines) (is_audited (audit_turn s line).outcome) refl (accepted-chain (audit_turn s line).state lines)
 
--- each line holds an entry, and the entries go on from a state
+-- each line contains an entry, and the entries continue from a state
 record HoldsOn (s : AuditState) (lines : List (List ℕ)) : Type 0 where
   pub entries : List Entry
   pub held : map entry_on lines ≡ map Some entries
@@ -140,7 +140,7 @@ holds-all s (line ∷ lines) (e ∷ es) held good =
     let rest : GoesOn (audit_turn s line).state es = subst (λ state. GoesOn state es) (sym took.1) (continues-tail sha256 (is_seal s.key) s.before e es good) in
     rw took.0 (holds-all (audit_turn s line).state lines es (rest_same (entry_on line) (Some e) (map entry_on lines) (map Some es) held) rest)
 
--- a run that answered all is true exactly where the lines hold a good chain
+-- a run that replies to all lines returns true exactly if the lines contain a good chain
 pub all-chain : (key input : List ℕ) (old new : Sink) (start state : AuditState) (result : Result Bool RunFault)
     → start ≡ none_audited key → IfOk result (AnswersAll audit_answer start input old new state)
     → IfOk result (λ all. (all ≡ true) ↔ HoldsGoodChain key (lines_of input))

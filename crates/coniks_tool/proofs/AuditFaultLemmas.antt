@@ -13,7 +13,7 @@ use Rattle.coniks_chain.specs.Chain.{Meets, MeetsAll, IsFirstEntryFault, Follows
 use Rattle.coniks_tool.specs.AuditFaults.{meets, audit_fault}
 use Rattle.coniks_tool.proofs.FirstLemmas.{AreNumbered, NoneBefore, first-found, found-first, found-none, none-found, number-at}
 
--- one test where another holds
+-- the test of an implication decides the implication
 Decides-implies : {P Q : Type 0} (p q : Bool) → Decides p P → Decides q Q → Decides (not p || q) (P → Q)
 Decides-implies true q d e = (λ on p. e.0 on, λ f. e.1 (f (d.0 refl)))
 Decides-implies false q d e = (λ _ p. absurd (false≢true (d.1 p)), λ _. refl)
@@ -21,7 +21,7 @@ Decides-implies false q d e = (λ _ p. absurd (false≢true (d.1 p)), λ _. refl
 no_less : (m n : ℕ) → Decides (not (nat_lt n m)) (m ≤ n)
 no_less m n = Decides-like (not (nat_lt n m)) (λ off. ⊎_elim (λ less. absurd (off less)) (λ most. most) (cases_lt n m)) (λ most less. omega arith) (Decides-not (nat_lt n m) (Decides-ltb n m))
 
--- the test of a row is the row
+-- the test of a row decides the row
 pub decides : (v : List ℕ → List ℕ → Bool) (before : Option AuditorState) (e : Entry) (fault : AuditFault) → Decides (meets v before e fault) (Meets v before e fault)
 decides v before e Version = Decides-or (e.body.version == 1) (e.body.version == 2) (Decides-eqb e.body.version 1) (Decides-eqb e.body.version 2)
 decides v None e VersionBack = (λ _. tt, λ _. refl)
@@ -53,7 +53,7 @@ module _ (v : List ℕ → List ℕ → Bool) (before : Option AuditorState) (e 
   abbrev unmet : AuditFault → Bool
   unmet fault = not (meets v before e fault)
 
-  -- where none before a place is there, the entry meets the rows before it
+  -- if no error before a place applies, the entry meets the rows before it
   met : (fs : List AuditFault) (place : ℕ) → NoneBefore unmet fs place → MeetsAll v before e (take place fs)
   met [] zero none = tt
   met [] (suc place) none = tt

@@ -31,7 +31,7 @@ nothing x xs same = cc
 apart : (xs ys : List Bool) → true ∷ xs ≡ false ∷ ys → ⊥
 apart xs ys same = cc
 
--- the test on bits tells whether they are the same
+-- the test on bits decides whether they are the same
 same_bits-decides : (xs ys : List Bool) → Decides (same_bits xs ys) (xs ≡ ys)
 same_bits-decides [] [] = (λ on. refl, λ same. refl)
 same_bits-decides [] (y ∷ ys) = (λ on. absurd (false≢true on), λ same. absurd (nothing y ys same))
@@ -44,7 +44,7 @@ same_bits-decides (false ∷ xs) (false ∷ ys) = let d = same_bits-decides xs y
 never : Decides false ⊥
 never = (λ on. false≢true on, λ no. absurd no)
 
--- the test of an end tells whether it has the error
+-- the test of an end decides whether it has the error
 end-decides : (index name : List ℕ) (level : ℕ) (end : End) (fault : CheckFault) → Decides (end_has index name level end fault) (EndHas index name level end fault)
 end-decides index name level (Here here key o) KeyLength = Decides-or _ _ (Decides-eqb (length key) 0) (Decides-ltb MAX_KEY (length key))
 end-decides index name level (Here here key o) WrongName = Decides-not _ (bytes_eq-Decides here name)
@@ -65,7 +65,7 @@ numbered : (fault : CheckFault) → number fault ≡ 1 + (number fault - 1)
 numbered fault = number-at number check_faults 1 (number fault - 1) fault in_order (at_place fault)
 
 module _ (by : Hashing) (root index name : List ℕ) (proof : Proof) where
-  -- the test of a proof tells whether it has the error
+  -- the test of a proof decides whether it has the error
   decides : (fault : CheckFault) → Decides (has by root index name proof fault) (Has by root index name proof fault)
   decides TooDeep = Decides-ltb 256 (length proof.siblings)
   decides NameLength = Decides-or _ _ (Decides-eqb (length name) 0) (Decides-ltb 255 (length name))
@@ -81,7 +81,7 @@ module _ (by : Hashing) (root index name : List ℕ) (proof : Proof) where
   absent : (fault : CheckFault) → has by root index name proof fault ≡ false → ¬ Has by root index name proof fault
   absent fault none there = false≢true (sym none ∙ (decides fault).1 there)
 
-  -- no error
+  -- if no error applies, none is computed
   pub none-none : ((fault : CheckFault) → ¬ Has by root index name proof fault) → check_fault by root index name proof ≡ None
   unfolding check_fault
   none-none none = none-found (has by root index name proof) check_faults (λ k fault less at. off fault (none fault))

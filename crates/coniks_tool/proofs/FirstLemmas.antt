@@ -1,14 +1,14 @@
--- The first of some that passes a test.
+-- The first element that passes a test.
 use Rattle.std.proofs.Common.{◌≡◌, ◌<◌, ◌+◌, ℕ, zero, suc, List, [], ◌∷◌, length, Bool, true, false, Some, None, refl, sym, ap, subst, ◌∙◌, arith}
 use Rattle.std.specs.Prelude.{cond, find, is_some, slice_get}
 use Rattle.std.proofs.lemmas.Option.{same_Some}
 use Rattle.std.proofs.lemmas.Bool.{false≢true}
 
--- none before this place passes
+-- no element before this place passes
 abbrev pub NoneBefore : {X : Type 0} → (X → Bool) → List X → ℕ → Type 0
 NoneBefore {X} test xs place = (k : ℕ) (x : X) → k < place → slice_get xs k ≡ Some x → test x ≡ false
 
--- this one passes, and stands at a place before which none does
+-- this element passes, and none before its place does
 pub record IsFirstAmong {X : Type 0} (test : X → Bool) (xs : List X) (x : X) : Type 0 where
   pub place : ℕ
   pub at : slice_get xs place ≡ Some x
@@ -26,7 +26,7 @@ module _ {X : Type 0} (test : X → Bool) where
       let r = rest found in
       record { place = suc r.place; at = r.at; passes = r.passes; earlier = one_more x xs r.place off r.earlier }
 
-  -- what is found is the first
+  -- the element that is found is the first
   pub found-first : (xs : List X) (x : X) → find test xs ≡ Some x → IsFirstAmong test xs x
   found-first [] x found = absurd (false≢true (ap is_some found))
   found-first (y ∷ xs) x found = found_by y xs x (test y) refl (found-first xs x) found
@@ -42,7 +42,7 @@ module _ {X : Type 0} (test : X → Bool) where
   none_by x xs true on rest none = absurd (false≢true (sym (ap is_some none)))
   none_by x xs false off rest none = one_more x xs (length xs) off (rest none)
 
-  -- where none is found, none passes
+  -- if none is found, none passes
   pub found-none : (xs : List X) → find test xs ≡ None → NoneBefore test xs (length xs)
   found-none [] none = λ k x less at. absurd (false≢true (ap is_some at))
   found-none (x ∷ xs) none = none_by x xs (test x) refl (found-none xs) none
@@ -51,7 +51,7 @@ module _ {X : Type 0} (test : X → Bool) where
   none-found [] none = refl
   none-found (x ∷ xs) none = rw (none zero x (omega arith) refl) (none-found xs (λ k z less there. none (suc k) z (omega arith) there))
 
--- they have one number after another, from this one on
+-- the elements have consecutive numbers, from this one on
 abbrev pub AreNumbered : {X : Type 0} → (X → ℕ) → ℕ → List X → Type 0
 AreNumbered number n [] = Unit {0}
 AreNumbered number n (x ∷ xs) = (number x ≡ n) × AreNumbered number (suc n) xs

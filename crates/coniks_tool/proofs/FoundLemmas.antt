@@ -30,14 +30,14 @@ entry_at chain epoch = find (λ (e : Entry). e.body.t == epoch) chain
 abbrev paired : List Shown → List Entry → List Chained
 paired history chain = map (λ pair. record { shown = pair.0; entry = pair.1 }) (zip history chain)
 
--- an epoch with its entry, where both are there
+-- an epoch with its entry, if there are both
 abbrev pair_up : Option Shown → Option Entry → Option Chained
 pair_up None e = None
 pair_up (Some s) None = None
 pair_up (Some s) (Some e) = Some (record { shown = s; entry = e })
 
 module _ (key policy : List ℕ) (number : ℕ) where
-  -- the search among epochs with their entries finds what the searches among both find
+  -- the search among epochs with their entries finds what the two separate searches find
   both : (before : Option AuditorState) (history : List Shown)
       → epoch_at (paired history (chain_after key policy before history)) number ≡ pair_up (shown_at history number) (entry_at (chain_after key policy before history) number)
   both before [] = refl
@@ -50,7 +50,7 @@ module _ (key policy : List ℕ) (number : ℕ) where
         | false ↦ both (Some (before_of sha256 entry)) history
       ]
 
-  -- and it finds one where there is such an epoch
+  -- and it finds one if there is such an epoch
   there : (before : Option AuditorState) (history : List Shown) → is_some (epoch_at (paired history (chain_after key policy before history)) number) ≡ is_some (shown_at history number)
   there before [] = refl
   there before (shown ∷ history) =
@@ -62,12 +62,12 @@ module _ (key policy : List ℕ) (number : ℕ) where
         | false ↦ there (Some (before_of sha256 entry)) history
       ]
 
--- a name that isn't of a name's length
+-- a name whose length is out of range
 off : (index_of : List ℕ → List ℕ) (name : List ℕ) (e : Option Chained) → is_some e ≡ true → fits MAX_NAME name ≡ false → bad_name_length ≡ lookup_at index_of name e
 off index_of name None is long = absurd (false≢true is)
 off index_of name (Some e) is long = ap (λ b. if b then looked_up e.entry (index_of name) name (path_to sha256 index_of e.shown.nonce e.shown.registry (index_of name)) else bad_name_length) (sym long)
 
--- a name of a name's length
+-- a name whose length is in range
 into : (index_of : List ℕ → List ℕ) (name : List ℕ) (shown : Shown) (entry : Entry) → fits MAX_NAME name ≡ true
     → lookup_at index_of name (Some (record { shown = shown; entry = entry })) ≡ looked_up entry (index_of name) name (path_to sha256 index_of shown.nonce shown.registry (index_of name))
 into index_of name shown entry on = ap (λ b. if b then looked_up entry (index_of name) name (path_to sha256 index_of shown.nonce shown.registry (index_of name)) else bad_name_length) on

@@ -1,4 +1,4 @@
--- The numbers of a run that `clap` takes are within their limits.
+-- The numbers of a run that `clap` accepts are within their limits.
 use Rattle.std.proofs.Common.{◌≡◌, ◌<◌, ◌≤◌, ℕ, List, [], ◌∷◌, Bool, true, false, Option, Some, None, Ok, Err, arith, refl, subst, sym, ◌∙◌, if◌then◌else◌}
 use Rattle.std.specs.Prelude.{◌^◌, IfSome, codes, find, option_map, pos}
 use Rattle.std.specs.Option.{option_map_or}
@@ -23,7 +23,7 @@ use Rattle.coniks_tool.specs.Keydir.{depth_rule, keydir, workers_rule}
 use Rattle.coniks_tool.proofs.OptionLemmas.{Each, Passes, Ruled, found-has, level-passes}
 use Rattle.coniks_tool.proofs.SubcommandLemmas.{first-none, then-none}
 
--- a text that passes a range of bytes reads as a byte of that range
+-- a text that is accepted for a range of bytes is read as a byte in that range
 
 minus-isnt : (text : Text) → starts_with_minus text ≡ true → IsNumeral 10 (without_leading_plus text) → ⊥
 minus-isnt [] minus numeral = false≢true minus
@@ -58,7 +58,7 @@ accepted i p text none = by (accepts i p text) refl none
     by true is none = accepts-Accepts i p text is
     by false is none = cc
 
--- so does the number of an option whose values pass such a range, and that is within it where it is missing
+-- the number of an option with such a range is within it, if its value when missing is
 
 number-within : (rule : Rule) (low high missing : ℕ) (rows : List Row) → rule.parser ≡ Some (parser.Signed (pos low) (pos high))
     → high < 256 → low ≤ missing → missing ≤ high
@@ -117,7 +117,7 @@ entered-limited (Some p) none =
     by None limits none = tt
     by (Some s) limits none = limits p.1 none
 
--- without an error the numbers that the words give a run are within their limits
+-- without an error the numbers that the arguments give a run are within their limits
 pub faultless-limited : (words : List Text) → fault_of keydir words ≡ [] → IfSome (subcommand_of keydir words) IsLimited
 faultless-limited words none =
     let names = names_of (built keydir) in

@@ -45,7 +45,7 @@ module _ (s : MonitorState) (entry : Entry) (proof : Proof) where
       ap (audited_turn s entry proof) (follows-none (is_seal s.key) s.before entry sound.follows)
       ∙ ap (checked_turn s entry proof) (accepts-none (hashing sha256 entry.body.nonce.0) entry.body.root.0 s.index s.name proof (answer_of proof.end) sound.accepted)
 
-  -- another one is refused by its first error
+  -- any other step is refused with its first error
   pub refused-step : (fault : MonitorFault) → IsFirstStepFault sha256 (is_seal s.key) s.before s.name s.index entry proof fault
       → step_turn s entry proof ≡ record { outcome = at_fault fault; state = s }
   refused-step (Audit fault) is = ap (audited_turn s entry proof) (first-some (is_seal s.key) s.before entry fault is)
@@ -73,7 +73,7 @@ module _ (s : MonitorState) (entry : Entry) (proof : Proof) where
   audited_sound (Some fault) is on = absurd (false≢true on)
   audited_sound None is on = checked_sound of_proof refl (none-follows (is_seal s.key) s.before entry is) on
 
-  -- what is watched was sound
+  -- a watched step is sound
   pub watched-sound : (step_turn s entry proof).outcome ≡ watched entry.body.t (seen_of s.expected (answer_of proof.end)) → Sound
   watched-sound same = audited_sound of_entry refl (ap is_watched same)
 

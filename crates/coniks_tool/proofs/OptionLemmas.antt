@@ -1,4 +1,4 @@
--- The values of an option that `clap` takes pass its rule.
+-- The values of an option that `clap` accepts pass its rule.
 use Rattle.std.proofs.Common.{◌≡◌, ℕ, zero, suc, List, [], ◌∷◌, Bool, true, false, Option, Some, None, arith, refl, sym, ap, ◌∙◌, ◌+◌, if◌then◌else◌}
 use Rattle.std.specs.Prelude.{◌&&◌, ◌||◌, ◌++◌, IfSome, cond, drop, encode_utf8, find, fold, is_some, length, min, option_and_then, slice_get}
 use Rattle.std.specs.Option.{option_map_or}
@@ -22,7 +22,7 @@ use Rattle.clap.specs.declared.parser.matches.ValueSource.TheVariants.{DefaultVa
 use Rattle.clap.specs.declared.error.kind.ErrorKind.TheVariants.{TooManyValues}
 use Rattle.coniks_tool.proofs.SubcommandLemmas.{first-none, then-none}
 
--- each of a list has a property
+-- each element of a list has a property
 
 abbrev pub Each : {X : Type 0} → (X → Type 0) → List X → Type 0
 Each P [] = Unit {0}
@@ -49,7 +49,7 @@ more-none i p (x ∷ xs) ys first more =
     ∙ more-none i p xs ys (then-none (value_kinds i p x) (values_kinds i p xs) first) more
 
 module _ (rule : Rule) where
-  -- the values of the rule's rows pass the rule, and what passes a rule of that name passes this one
+  -- the values of the rule's rows pass the rule, and values that pass a rule of that name pass this one
 
   abbrev Good : Row → Type 0
   Good r = r.id ≡ rule.id → values_fault rule r.values ≡ []
@@ -121,7 +121,7 @@ module _ (rule : Rule) where
       used_as-good (action_of a) again a given rows ruled (then-none _ (action_fault (action_of a) again a given rows) none) good
 
   module _ (c : List Rule) (again : Bool) (ruled : Each Ruled c) where
-    -- the options of a word
+    -- the options in one argument of the command line
 
     settled-good : (h : Held) → settle_fault c again h ≡ [] → Fine h → Fine (settled c h)
     settled-good h none good = pending-good h.pending none
@@ -196,7 +196,7 @@ module _ (rule : Rule) where
         let char = slice_get (chars flags) 0 in
         bundle_step-good char flags skip so_far h (flags_fault c again k) (bundle_met c k) (bundle_met-good k) none good
 
-    -- a word
+    -- one argument of the command line
 
     plain_word-good : (waiting : Waiting) (word : Text) (h : Held) → Fine h → Fine (plain_word c waiting word h).0
     plain_word-good idle word h good = good
@@ -252,7 +252,7 @@ module _ (rule : Rule) where
     word_met-good false waiting position word h none good =
         subcommand_or_other-good (subcommand_met names waiting word) waiting position word h none good
 
-    -- all the words
+    -- the whole command line
 
     positional-good : (a : Rule) (word : Text) (h : Held) → positional_fault s.rules again a h ≡ [] → Fine h
         → Fine (positional_held s.rules a word h)
@@ -318,7 +318,7 @@ module _ (rule : Rule) where
       let first_good = default-good rows a ruled.0 (first-none first rest none) good in
       defaults-good (with_default rows a) c ruled.1 (then-none first rest none) first_good
 
-  -- what is found under the rule's name passes the rule
+  -- a value that is found under the rule's name passes the rule
 
   abbrev pub Passes : Option Text → Type 0
   Passes text = IfSome text (λ v. values_fault rule (v ∷ []) ≡ [])

@@ -20,7 +20,7 @@ use Rattle.coniks_tool.specs.declared.cli.choice.WordsFault.TheVariants.{Clap, O
 use Rattle.coniks_tool.specs.declared.cli.ending.Ending.{Ending}
 use Rattle.coniks_tool.specs.declared.cli.ending.Ending.TheVariants.{Done, Refused, BadKey, BadExpectation}
 
--- a fact that always holds also holds where the words are refused
+-- a fact that always holds also holds if the arguments are refused
 pub holds_if_refused : {P : Type 0} (r : Result Ending RunFault) → P → IfOk r (λ ending. IfRefused ending P)
 holds_if_refused (Ok (Done all)) p = tt
 holds_if_refused (Ok (Refused text)) p = p
@@ -32,7 +32,7 @@ is_of_clap : WordsFault → Bool
 is_of_clap (Clap error) = true
 is_of_clap OutOfMemory = false
 
--- an error of `clap` isn't want of memory
+-- an error of `clap` isn't `OutOfMemory`
 pub Clap-isnt-OutOfMemory : (error : Error) → Clap error ≡ OutOfMemory → ⊥
 unfolding is_of_clap
 Clap-isnt-OutOfMemory error same = false≢true (sym (ap is_of_clap same))
@@ -41,7 +41,7 @@ there_and_not : (key : Option (List ℕ)) (b : Bool) → is_none key ≡ true �
 there_and_not None b none both = false≢true both
 there_and_not (Some key) b none both = false≢true none
 
--- a key is never told as a bad one and an expectation as a bad one at once
+-- a bad key and a bad expectation are never reported at once
 lacks_one : (choice : Option Choice) → lacks_key choice ≡ true → lacks_expectation choice ≡ true → ⊥
 lacks_one None key expectation = false≢true key
 lacks_one (Some (run workers depth)) key expectation = false≢true key
@@ -64,7 +64,7 @@ runs-key (Some check) io all ran bad = false≢true bad
 runs-key (Some (audit text)) io all ran bad = there (key_in text) ran.key ran.key_is bad
 runs-key (Some (monitor text name expect)) io all ran bad = there (key_in text) ran.key ran.key_is bad
 
--- nor one whose expectation is bad
+-- nor does one whose expectation is bad
 runs-expectation : (choice : Option Choice) (io : Streams) (all : Bool) → Runs choice io all → lacks_expectation choice ≡ true → ⊥
 runs-expectation None io all ran bad = ran
 runs-expectation (Some (run workers depth)) io all ran bad = false≢true bad
@@ -72,7 +72,7 @@ runs-expectation (Some check) io all ran bad = false≢true bad
 runs-expectation (Some (audit text)) io all ran bad = false≢true bad
 runs-expectation (Some (monitor text name expect)) io all ran bad = none_there (key_in text) (expectation_in expect) ran.expected ran.expected_is bad
 
--- an error has a kind, so there are kinds
+-- an error has a kind, so the list of kinds isn't empty
 no_kind : (kinds : Kinds) (kind : ErrorKind) → kinds ≡ [] → IsAmong kind kinds → ⊥
 no_kind kinds kind none among = subst (IsAmong kind) none among
 
@@ -85,7 +85,7 @@ status_within (Ok BadKey) = omega arith
 status_within (Ok BadExpectation) = omega arith
 status_within (Err fault) = omega arith
 
--- nothing is told below 2
+-- below status 2 no text is written to the standard error
 pub quiet-below_2 : (outcome : Result Ending RunFault) (old new : Sink) → TellsIf (told_of outcome) old new → status_of outcome ≤ 1 → new ≡ old
 quiet-below_2 (Ok (Done all)) old new told low = told
 quiet-below_2 (Ok (Refused text)) old new told low = absurd (omega (arith, low))
@@ -93,7 +93,7 @@ quiet-below_2 (Ok BadKey) old new told low = absurd (omega (arith, low))
 quiet-below_2 (Ok BadExpectation) old new told low = absurd (omega (arith, low))
 quiet-below_2 (Err fault) old new told low = absurd (omega (arith, low))
 
--- at 2 a text is told
+-- at status 2 a text is written to the standard error
 pub told-at_2 : (outcome : Result Ending RunFault) (old new : Sink) → TellsIf (told_of outcome) old new → status_of outcome ≡ 2 → (text : List ℕ) × Tells old text new
 told-at_2 (Ok (Done true)) old new told is = absurd (omega (arith, is))
 told-at_2 (Ok (Done false)) old new told is = absurd (omega (arith, is))
@@ -112,12 +112,12 @@ told-at_3 (Ok BadKey) old new told fails is = absurd (omega (arith, is))
 told-at_3 (Ok BadExpectation) old new told fails is = absurd (omega (arith, is))
 told-at_3 (Err fault) old new told fails is = (fault, (told, fails))
 
--- two things that are said of an error
+-- two properties of an error
 pub both-at_3 : (F G : RunFault → Type 0) (outcome : Result Ending RunFault) → IfErr outcome F → IfErr outcome G → IfErr outcome (λ fault. F fault × G fault)
 both-at_3 F G (Ok ending) fails stops = tt
 both-at_3 F G (Err fault) fails stops = (fails, stops)
 
--- what is never for want of a board
+-- a failure that is never for lack of a board
 fails_so : (wanted : Type 0) (io : Streams) (fault : RunFault) → Fails ⊥ io fault → Fails wanted io fault
 fails_so wanted io Read fails = fails
 fails_so wanted io Write fails = fails
@@ -129,7 +129,7 @@ pub fails_with_no_board : (wanted : Type 0) (io : Streams) (outcome : Result End
 fails_with_no_board wanted io outcome fails = IfErr-weaker outcome (Fails ⊥ io) (Fails wanted io) (fails_so wanted io) fails
 
 module _ (words : List (List ℕ)) (io : Streams) where
-  -- the ending of the run that the words choose is one for the words
+  -- the ending of the run that the arguments choose is one for the arguments
   ends_for : (choice : Choice) (ending : Ending) → fault_of keydir words ≡ [] → chosen (subcommand_of keydir words) ≡ Some choice
       → EndsBy (Some choice) io ending → EndsFor words io ending
   ends_for choice (Done true) none is ends = inl (record { faultless = none; runs = subst (λ c. Runs c io true) (sym is) ends })
@@ -143,7 +143,7 @@ module _ (words : List (List ℕ)) (io : Streams) where
   run-ends_for choice (Ok ending) none is ends = ends_for choice ending none is ends
   run-ends_for choice (Err fault) none is ends = tt
 
-  -- it isn't a refusal of the words
+  -- it isn't a refusal of the arguments
   pub run-isnt_refused : (P : Type 0) (choice : Option Choice) (outcome : Result Ending RunFault) → IfOk outcome (EndsBy choice io) → IfOk outcome (λ ending. IfRefused ending P)
   run-isnt_refused P choice (Ok (Done all)) ends = tt
   run-isnt_refused P choice (Ok (Refused text)) ends = absurd ends
@@ -151,7 +151,7 @@ module _ (words : List (List ℕ)) (io : Streams) where
   run-isnt_refused P choice (Ok BadExpectation) ends = tt
   run-isnt_refused P choice (Err fault) ends = tt
 
-  -- an error of `clap` that is explained is an ending for the words
+  -- an error of `clap` that is explained is an ending for the arguments
   pub explained-ends_for : (kind : ErrorKind) (outcome : Result Ending RunFault) → IsAmong kind (fault_of keydir words) → IfOk outcome (IsExplained kind)
       → IfOk outcome (λ ending. IfDone ending (IsShown io)) → IfOk outcome (EndsFor words io)
   explained-ends_for kind (Ok (Done true)) among is shown = inr ((kind, (among, is)), shown)
@@ -161,7 +161,7 @@ module _ (words : List (List ℕ)) (io : Streams) where
   explained-ends_for kind (Ok BadExpectation) among is shown = absurd is
   explained-ends_for kind (Err fault) among is shown = tt
 
-  -- an error of the run that the words choose, or of help
+  -- an error of the run that the arguments choose, or of help
   pub run-stops_at : (choice : Choice) (outcome : Result Ending RunFault) → fault_of keydir words ≡ [] → chosen (subcommand_of keydir words) ≡ Some choice
       → IfErr outcome (λ fault. BreaksOff (Some choice) io fault ⊎ NeverBegins io fault) → IfErr outcome (StopsAt words io)
   run-stops_at choice outcome none is stops = IfErr-weaker outcome _ (StopsAt words io) (λ fault here. elim here [
@@ -211,14 +211,14 @@ module _ (words : List (List ℕ)) (io : Streams) where
   taken-at_2 (Ok BadExpectation) ends refused taken is = inr ends
   taken-at_2 (Err fault) ends refused taken is = absurd (omega (arith, is))
 
-  -- at 2 the words choose no run
+  -- at status 2 the arguments choose no run
   pub none-at_2 : (outcome : Result Ending RunFault) → IfOk outcome (EndsFor words io) → status_of outcome ≡ 2 → ChooseNoRun words
   none-at_2 outcome ends is = elim (refused-at_2 outcome ends is) [
     | inl mistake ↦ inl (λ none. no_kind (fault_of keydir words) mistake.0 none mistake.1.0)
     | inr bad ↦ inr bad
   ]
 
-  -- and nothing was written
+  -- and nothing is written to the output
   pub unwritten-at_2 : (outcome : Result Ending RunFault) → IfOk outcome (EndsFor words io)
       → IfOk outcome (λ ending. IfRefused ending (io.to' ≡ io.to)) → (HasBadText words → io.to' ≡ io.to) → status_of outcome ≡ 2 → io.to' ≡ io.to
   unwritten-at_2 (Ok (Done true)) ends refused bad is = absurd (omega (arith, is))
@@ -228,7 +228,7 @@ module _ (words : List (List ℕ)) (io : Streams) where
   unwritten-at_2 (Ok BadExpectation) ends refused bad is = bad (inr ends)
   unwritten-at_2 (Err fault) ends refused bad is = absurd (omega (arith, is))
 
-  -- neither a run nor help comes of faultless words whose choice doesn't run
+  -- arguments without an error whose choice doesn't run lead to neither a run nor help
   idle-from_2 : (outcome : Result Ending RunFault) → IfOk outcome (EndsFor words io) → fault_of keydir words ≡ []
       → ((all : Bool) → Runs (chosen (subcommand_of keydir words)) io all → ⊥) → 2 ≤ status_of outcome
   idle-from_2 (Ok (Done true)) (inl ran) faultless idle = absurd (idle true ran.runs)
@@ -245,7 +245,7 @@ module _ (words : List (List ℕ)) (io : Streams) where
   pub bad_expectation-from_2 : (outcome : Result Ending RunFault) → IfOk outcome (EndsFor words io) → HasBadExpectation words → 2 ≤ status_of outcome
   bad_expectation-from_2 outcome ends bad = idle-from_2 outcome ends bad.faultless (λ all ran. runs-expectation (chosen (subcommand_of keydir words)) io all ran bad.no_expectation)
 
-  -- a bad key is told as one
+  -- a bad key is reported as one
   pub bad_key-at_2 : (outcome : Result Ending RunFault) (old new : Sink) → IfOk outcome (EndsFor words io)
       → TellsIf (told_of outcome) old new → HasBadKey words → status_of outcome ≡ 2 → Tells old bad_key_line new
   bad_key-at_2 (Ok (Done true)) old new ends told bad is = absurd (omega (arith, is))

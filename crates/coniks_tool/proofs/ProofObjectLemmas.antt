@@ -7,11 +7,11 @@ use Rattle.serde_json.specs.declared.value.Value.{Value}
 use Rattle.coniks_proof.specs.declared.values.Digest.{Digest}
 use Rattle.coniks_tool.specs.ProofObjects.{digest_in, digests_in, with_digest}
 
--- digests that were found before others
+-- the digests found so far, followed by others
 abbrev pub after : List Digest → Option (List Digest) → Option (List Digest)
 after found others = option_map (λ digests. found ++ digests) others
 
--- what is left at a place is the value there, and what is left after it
+-- the rest from a place is the value there, followed by the rest after it
 here : (vs : List Value) (i : ℕ) (v : Value) → i < length vs → v ≡ get_or vs i v → items_view (drop i vs) ≡ item (view v) (items_view (drop (i + 1) vs))
 here vs i v lt is =
     let split : drop i vs ≡ v ∷ drop (i + 1) vs = drop-cons vs i v lt ∙ ap₂ (λ (x : Value) (k : ℕ). x ∷ drop k vs) (sym is) (sym (add-one i)) in

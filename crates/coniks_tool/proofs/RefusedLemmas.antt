@@ -1,4 +1,4 @@
--- A refused line leaves the state as it was.
+-- A refused line leaves the state unchanged.
 use Rattle.std.proofs.Common.{◌≡◌, ◌⊎◌, inl, inr, ℕ, List, Bool, true, false, Option, Some, None, refl, sym}
 use Rattle.std.specs.Prelude.{codes, Result, Ok, Err, if◌then◌else◌}
 use Rattle.std.specs.Option.{option_map_or}
@@ -36,7 +36,7 @@ use Rattle.coniks_tool.specs.Script.{ScriptDirectory, ScriptState, ScriptTurn, b
 use Rattle.coniks_tool.specs.Seal.{is_seal}
 use Rattle.coniks_tool.specs.Turns.{refused}
 
--- what holds of both
+-- what holds of both branches holds of the choice
 either : {T : Type 0} → (P : T → Type 0) (b : Bool) (t u : T) → P t → P u → P (if b then t else u)
 either P true t u first second = first
 either P false t u first second = second

@@ -1,4 +1,4 @@
--- What is printed has no float.
+-- Printed values contain no float.
 use Rattle.std.proofs.Common.{◌≡◌, ℕ, List, [], ◌∷◌, false, refl}
 use Rattle.std.specs.Prelude.{map}
 use Rattle.std.specs.Ordering.{match_ordering, nat_cmp}

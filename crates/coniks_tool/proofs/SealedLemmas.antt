@@ -14,7 +14,7 @@ use Rattle.coniks_tool.specs.Chains.{chain_after, chain_of, entry_after, next_en
 use Rattle.coniks_tool.specs.Demo.{demo_index}
 use Rattle.coniks_tool.specs.Seal.{is_seal, seal_of}
 
--- what stands before a later place
+-- the state before a later place
 before_at-next : (before : Option AuditorState) (e : Entry) (chain : List Entry) (k : ℕ) → before_at sha256 before (e ∷ chain) (suc k) ≡ before_at sha256 (Some (before_of sha256 e)) chain k
 before_at-next before e chain zero = refl
 before_at-next before e chain (suc k) = refl
@@ -24,7 +24,7 @@ last-push [] x = refl
 last-push (y ∷ []) x = refl
 last-push (y ∷ z ∷ xs) x = last-push (z ∷ xs) x
 
--- lists that end with one element end with the same
+-- equal lists have the same last element
 same_last : {T : Type 0} (xs ys : List T) (x y : T) → xs ++ x ∷ [] ≡ ys ++ y ∷ [] → x ≡ y
 same_last xs ys x y same = one x y (sym (last-push xs x) ∙ ap last_of same ∙ last-push ys y)
   where
@@ -32,7 +32,7 @@ same_last xs ys x y same = one x y (sym (last-push xs x) ∙ ap last_of same ∙
     one x y h = cc
 
 module _ (key policy : List ℕ) where
-  -- entries that are each the one after what stands before it
+  -- if each entry is the one after the state before it, the chain is the sealed one
   same_chain : (before : Option AuditorState) (history : List Shown) (chain : List Entry) → length chain ≡ length history
       → ((k : ℕ) (s : Shown) (e : Entry) → slice_get history k ≡ Some s → slice_get chain k ≡ Some e → e ≡ entry_after key policy (before_at sha256 before chain k) s)
       → chain ≡ chain_after key policy before history
@@ -45,7 +45,7 @@ module _ (key policy : List ℕ) where
       same_chain (Some (before_of sha256 e)) history chain (omega arith) (λ k x y at_x at_y. each (suc k) x y at_x at_y ∙ ap (λ b. entry_after key policy b x) (before_at-next before e chain k)) in
       ap (λ (es : List Entry). e ∷ es) rest ∙ ap (λ (x : Entry). x ∷ chain_after key policy (Some (before_of sha256 x)) history) first
 
-  -- one epoch more
+  -- one more epoch
   chain_after-push : (before : Option AuditorState) (history : List Shown) (s : Shown) → chain_after key policy before (history ++ s ∷ [])
       ≡ chain_after key policy before history ++ entry_after key policy (before_at sha256 before (chain_after key policy before history) (length (chain_after key policy before history))) s ∷ []
   chain_after-push before [] s = refl
@@ -56,7 +56,7 @@ module _ (key policy : List ℕ) where
       (chain_after-push (Some (before_of sha256 e)) history s ∙ ap (λ b. chain ++ entry_after key policy b s ∷ []) (sym (before_at-next before e chain (length chain))))
 
   module _ (verdict : List ℕ → List ℕ → Bool) (own : (bytes signature : List ℕ) → verdict bytes signature ≡ is_seal key bytes signature) where
-    -- an entry of an epoch whose signature is judged well is the sealed one
+    -- an entry of an epoch whose signature verifies is the sealed one
     sealed_is : (before : Option AuditorState) (s : Shown) (e : Entry) → e.body ≡ body_of sha256 (demo_index key) policy before s → Follows verdict before e → e ≡ entry_after key policy before s
     sealed_is before s e body follows =
         let said : verdict (body_bytes e.body) e.signature.0 ≡ true = follows.rows.1.1.1.1.1.1.1.0 in
@@ -68,7 +68,7 @@ module _ (key policy : List ℕ) where
     chain_is history chain is good =
         same_chain None history chain is.long (λ k s e at_s at_e. sealed_is (before_at sha256 None chain k) s e (is.bodies k s e at_s at_e) (good k e at_e))
 
-    -- and so its last entry is the next one of the epochs before
+    -- so its last entry is the next one after the earlier epochs
     pub entry_is : (history : List Shown) (s : Shown) (chain : List Entry) (entry : Entry) → IsChainOf sha256 (demo_index key) policy (history ++ s ∷ []) (chain ++ entry ∷ [])
         → GoodChain sha256 verdict (chain ++ entry ∷ []) → entry ≡ next_entry key policy history s
     entry_is history s chain entry is good =

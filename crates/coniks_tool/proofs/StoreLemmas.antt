@@ -34,7 +34,7 @@ use Rattle.coniks_tool.specs.declared.run.store.Service.{Service}
 use Rattle.coniks_tool.specs.Limits.{most_epochs}
 use Rattle.coniks_tool.proofs.SealedLemmas.{entry_is}
 
--- what is accepted isn't refused
+-- an accepted batch isn't refused
 accepted_is : (index_of : List ℕ → List ℕ) (history : List Shown) (epoch : ℕ) (ops : List Operation) (depth workers published : ℕ) → IsAccepted index_of (latest_registry history) ops depth workers
     → latest_epoch history < epoch → published ≢ most_epochs → published ≤ most_epochs → published ≡ length history → refusal index_of history epoch ops ≡ None
 accepted_is index_of history epoch ops depth workers published a later room most same =
@@ -43,7 +43,7 @@ accepted_is index_of history epoch ops depth workers published a later room most
     let fits : nat_lt (length history) most_epochs ≡ true = grind (arith, nat_tests) in
     rw (few, a.faultless, rises, fits) refl
 
--- a commit's error is why the batch is refused
+-- a commit's error is the reason for which the batch is refused
 pub refused_is : (index_of : List ℕ → List ℕ) (s : State) (ops : List Operation) (depth workers epoch published capacity : ℕ) (fault : CommitFault) → AreWorkers workers → depth ≤ MAX_DEPTH
     → published ≡ length (history_of s) → capacity ≡ most_epochs → 0 ≡ 0 + commit_refusals fault → IsCommitFault index_of s ops depth workers epoch published capacity fault
     → IsRefusedBy (refusal index_of (history_of s) epoch ops) fault
@@ -115,7 +115,7 @@ length-map f (x ∷ xs) = ap suc (length-map f xs)
 pub as_many : (heads : List Head) (chain : List Entry) → heads ≡ heads_of sha256 chain → length heads ≡ length chain
 as_many heads chain same = ap length same ∙ length-map (head_at sha256) chain
 
--- after a commit there are as many signatures as entries, and no more than the board takes
+-- after a commit there are as many signatures as entries, and at most as many as the board takes
 pub made_and_room : {H X P : Type 0} (result : Result Entry CommitFault) (v v' : View H X) (p p' : P) (made made' refused refused' epoch published capacity : ℕ) (last last' : Option Entry)
     → OnOk result ((made' ≡ made + 1) × (refused' ≡ refused)) → IfOk result (λ e. v'.state.chain ≡ v.state.chain ++ e ∷ [])
     → OnOk result (MayInstall v.state (length v.state.epochs) epoch published capacity)
@@ -134,7 +134,7 @@ made_and_room {H} {X} {P} (Err e) v v' p p' made made' refused refused' epoch pu
     let long' : length v'.state.chain ≡ length v.state.chain = ap (λ (w : View H X). length w.state.chain) same.0 in
     (kept.0 ∙ own ∙ sym long', omega arith)
 
--- a commit's error, whatever it is
+-- any error of a commit
 pub refused_by : {H X P : Type 0} (index_of index_of' : List ℕ → List ℕ) (v v' : View H X) (p p' : P) (ops : List Operation)
     (depth workers epoch published capacity made made' : ℕ) (last last' : Option Entry) (result : Result Entry CommitFault) → AreWorkers workers → depth ≤ MAX_DEPTH
     → published ≡ length v.state.chain → capacity ≡ most_epochs → IfErr result (λ fault. (made' ≡ made) × (0 ≡ 0 + commit_refusals fault) × (last' ≡ last))
@@ -146,7 +146,7 @@ refused_by {H} {X} {P} index_of index_of' v v' p p' ops depth workers epoch publ
     let long' : length v.state.chain ≡ length (history_of v.state) = subst (λ (w : View H X). length w.state.chain ≡ length (history_of w.state)) same.0 is.long in
     refused_is index_of v.state ops depth workers epoch published capacity fault parallelism shallow (long ∙ long') full unsigned.1 f
 
--- a commit's entry, where there is one
+-- a commit's entry, if there is one
 pub installed_by : (key key' : List ℕ) (s t : State) (b : Batch) (depth workers published capacity : ℕ) (verdict : List ℕ → List ℕ → Bool) (result : Result Entry CommitFault)
     → ((bytes signature : List ℕ) → verdict bytes signature ≡ is_seal key bytes signature) → key' ≡ key → Grows s t
     → OnOk result (history_of t ≡ history_of s ++ shown_on s b ∷ []) → IfOk result (λ entry. t.chain ≡ s.chain ++ entry ∷ [])
@@ -167,7 +167,7 @@ pub refused_turn : (o : ScriptDirectory) (b : Batch) (why : Option Refusal) (out
 refused_turn o b None outcome is = absurd (let never = is in cc)
 refused_turn o b (Some why) outcome is = let same : refusal_outcome why ≡ outcome = cc in ap (refused (Some o)) same
 
--- what comes of a batch that adds this entry
+-- the turn of a batch that adds this entry
 abbrev pub turn_of : Entry → ScriptDirectory → ScriptTurn
 turn_of entry o = record { outcome = installed entry (sha256 (link_preimage entry)); state = Some o }
 
@@ -179,14 +179,14 @@ installed_turn o o' b entry v same i =
     ∙ ap (λ (e : Entry). turn_of e (record o { history = o.history ++ shown_epoch o b ∷ [] })) (sym i.entry_is)
     ∙ ap (turn_of entry) (sym i.state_is)
 
--- a refused batch is answered by why
+-- the reply to a refused batch gives the reason
 pub reply_refused : {E : Type 0} (o : ScriptDirectory) (b : Batch) (v : Held) (result : Result Reply E) → v ≡ Some o
     → IfOk result (λ reply. option_map refusal_outcome (refusal (demo_index o.key) o.history b.t b.ops) ≡ Some (outcome_of reply)) → IfOk result (λ reply. outcome_of reply ≡ (batch_with v b).outcome)
 reply_refused {E} o b v (Err e) same told = tt
 reply_refused {E} o b v (Ok reply) same told =
     sym (ap (λ (s : Held). (batch_with s b).outcome) same ∙ ap (λ (t : ScriptTurn). t.outcome) (refused_turn o b (refusal (demo_index o.key) o.history b.t b.ops) (outcome_of reply) told))
 
--- and leaves the state
+-- and the state is unchanged
 pub state_refused : {E : Type 0} (o o' : ScriptDirectory) (b : Batch) (v : Held) (result : Result Reply E) → v ≡ Some o → o' ≡ o
     → IfOk result (λ reply. option_map refusal_outcome (refusal (demo_index o.key) o.history b.t b.ops) ≡ Some (outcome_of reply))
     → OnOk result ((let w : Held = Some o' in w) ≡ (batch_with v b).state)
@@ -195,11 +195,11 @@ state_refused {E} o o' b v (Ok reply) same kept told =
     ap (λ (p : ScriptDirectory). let w : Held = Some p in w) kept
     ∙ sym (ap (λ (s : Held). (batch_with s b).state) same ∙ ap (λ (t : ScriptTurn). t.state) (refused_turn o b (refusal (demo_index o.key) o.history b.t b.ops) (outcome_of reply) told))
 
--- what an open store shows
+-- the view of an open store
 pub shown_open : (opened : Option Service) (service : Service) (v : Held) → Some service ≡ opened → script_state_of opened ≡ v → v ≡ Some (opened_of service)
 shown_open opened service v same view = sym view ∙ ap script_state_of (sym same)
 
--- what isn't there is None
+-- a service that isn't there is None
 pub none_opened : (opened : Option Service) → is_some opened ≡ false → opened ≡ None
 none_opened None off = refl
 none_opened (Some s) off = absurd (false≢true (sym off))
@@ -209,7 +209,7 @@ last_entry [] e = refl
 last_entry (x ∷ []) e = refl
 last_entry (x ∷ y ∷ es) e = last_entry (y ∷ es) e
 
--- the head of the entry that a commit adds is the last that is published
+-- the head of the entry that a commit adds is the last published one
 pub last_published : (result : Result Entry CommitFault) (old new : List Entry) (heads : List Head) → IfOk result (λ entry. new ≡ old ++ entry ∷ []) → heads ≡ heads_of sha256 new
     → IfOk result (λ entry. last_of heads ≡ Some (head_at sha256 entry))
 last_published (Ok entry) old new heads is are = ap (λ (hs : List Head). last_of hs) (are ∙ ap (heads_of sha256) is) ∙ last_entry old entry

@@ -1,4 +1,4 @@
--- The subcommands that `clap` takes.
+-- The subcommands that `clap` accepts.
 use Rattle.std.proofs.Common.{◌≡◌, ℕ, List, [], ◌∷◌, Bool, true, false, Option, Some, None, refl, sym, ◌∙◌, if◌then◌else◌}
 use Rattle.std.specs.Prelude.{◌&&◌, ◌||◌, ◌++◌, IfSome, cond, codes, find, fold, is_some, not, option_map}
 use Rattle.std.specs.Str.{bytes_eq}
@@ -13,7 +13,7 @@ use Rattle.clap.specs.declared.error.kind.ErrorKind.TheVariants.{DisplayHelp, In
 use Rattle.coniks_tool.specs.Choice.{choice_by}
 use Rattle.coniks_tool.specs.Keydir.{keydir}
 
--- a word that isn't a subcommand's name
+-- an argument that isn't a subcommand's name
 
 abbrev is_subcommand : Step → Bool
 is_subcommand (next waiting) = false
@@ -103,12 +103,12 @@ module _ (s : Shape) (names : Names) (on : s.disable_help_subcommand ≡ false) 
       walk-isnt after.stopped after words (then-none turn rest none)
       (met-isnt w word w.is_trailing (subcommand_met names w.waiting word) (first-none word_is (step_fault s w.position met.0 met.1) (first-none turn rest none)))
 
--- what is chosen by the name of a subcommand
+-- the name and the rows of a subcommand choose something
 
 abbrev pub IsChosen : Text × List Row → Type 0
 IsChosen met = is_some (choice_by met.0 met.1) ≡ true
 
--- each of them that answers to the word is chosen by
+-- each subcommand that has this name chooses something
 abbrev AllChosen : Text → List Text → List Shape → Type 0
 AllChosen word words [] = Unit {0}
 AllChosen word words (s ∷ ss) = (answers_to word (label_of s) ≡ true → IsChosen (rows_at s words)) × AllChosen word words ss
@@ -134,7 +134,7 @@ entered-chosen None is = tt
 entered-chosen (Some p) is = among p.0 p.1 (built keydir).subs
     ((λ _. refl), ((λ _. refl), ((λ _. refl), ((λ _. refl), ((λ answers. absurd (help-isnt p.0 is (only (bytes_eq (codes "help") p.0) answers))), tt)))))
 
--- without an error the words name a subcommand by which something is chosen
+-- without an error the arguments name a subcommand that chooses something
 pub faultless-chosen : (words : List Text) → fault_of keydir words ≡ [] → IfSome (subcommand_of keydir words) IsChosen
 faultless-chosen words none =
     let names = names_of (built keydir) in

@@ -1,4 +1,4 @@
-//! The tests of `coniks_tool`, by its public calls. They stand apart from it, so that it is proved once.
+//! The tests of `coniks_tool`, by its public calls. They are a crate of their own, so that the library is proved once.
 #![tactic(auto)]
 
 #[cfg(test)]

@@ -31,7 +31,7 @@ pub stored_back : (all : List Record) (cs : List Change) → AllStored all (entr
 stored_back all [] h = tt
 stored_back all (c ∷ cs) h = (h.0, stored_back all cs h.1)
 
--- the records of what lies on both sides
+-- the records of the entries on both sides
 stored_append : (all : List Record) (xs ys : List Numbered) → AllStored all (xs ++ ys) → AllStored all xs × AllStored all ys
 stored_append all [] ys h = (tt, h)
 stored_append all (x ∷ xs) ys h = let r = stored_append all xs ys h.1 in ((h.0, r.0), r.1)
@@ -54,7 +54,7 @@ count_sum : (h l r a b joined : ℕ) → a ≤ 1 + 2 * (h * l) → b ≤ 1 + 2 *
 count_sum h l r a b joined ha hb hj some = omega arith
 
 module _ (by : Hashing) (t : Table) (root : Option Root) where
-  -- what was there is what no change makes
+  -- the old part is the new part if there are no changes
   pub old_grown : (p : List Bool) (part : Part) → is_made part ≡ false → Fits (length t.nodes) (length p) part
       → node_count part ≤ 1 → (root ≡ None → KeepsNone part) → ((all : List Record) → Extends t.records all → Placed all part)
       → ((old : List Numbered) → IsOldMap by t root old → Stands by t part p (under p old)) → IsNewPart by t root p [] part
@@ -67,7 +67,7 @@ module _ (by : Hashing) (t : Table) (root : Option Root) where
     stands = λ old is ordered apart. subst (Stands by t part p) (sym (overwritten-nothing (under p old))) (stands old is);
   }
 
-  -- a part that grew
+  -- a grown part
   pub grown_from : (p : List Bool) (cs : List Change) (before after : Part) → is_made before ≡ false → node_count before ≤ 1
       → (root ≡ None → KeepsNone before) → ((all : List Record) → Extends t.records all → Placed all before)
       → ((old : List Numbered) → IsOldMap by t root old → Stands by t before p (under p old))
@@ -94,7 +94,7 @@ module _ (by : Hashing) (t : Table) (root : Option Root) where
       bound [] s c = omega (arith, ap node_count (s refl))
       bound (d ∷ ds) s c = c old (omega arith)
 
-  -- one side of what stands under a prefix: what it becomes, and how many of its nodes are new
+  -- one side of the entries under a prefix: what its part represents, and the number of its new nodes
   record IsSide (b : Bool) (p : List Bool) (es old : List Numbered) (part : Part) : Type 0 where
     stands : Stands by t part (child p b) (half b (length p) (overwritten (under p old) es))
     new : node_count part ≡ new_nodes (suc (length p)) (half b (length p) (under p old)) (half b (length p) es)
@@ -152,7 +152,7 @@ module _ (by : Hashing) (t : Table) (root : Option Root) where
             (side_of true p es old right short gr is ordered apart).stands;
       }
 
-  -- the parts of the jobs of one side, and of the other
+  -- the parts of the jobs of one side, then those of the other
   done_append : (all : List Numbered) (js ks : List Job) (xs : List Part) → AreDone by t root all (js ++ ks) xs
       → (ls : List Part) × (rs : List Part) × (xs ≡ ls ++ rs) × AreDone by t root all js ls × AreDone by t root all ks rs
   done_append all [] ks xs h = ([], xs, refl, tt, h)
@@ -190,7 +190,7 @@ module _ (by : Hashing) (t : Table) (root : Option Root) where
   grown_none zero p xs g = g
   grown_none (suc h) p xs g = g
 
-  -- at the cutting depth there is one part
+  -- at the split depth there is one part
   pub grown_one : (depth : ℕ) (p : List Bool) (es : List Numbered) (xs : List Part) → length p ≡ depth → 0 < length es → AreNewParts by t root (depth - length p) p es xs
       → (x : Part) × (xs ≡ x ∷ []) × IsNewPart by t root p es x
   grown_one depth p [] xs same some g = absurd (omega arith)
@@ -198,7 +198,7 @@ module _ (by : Hashing) (t : Table) (root : Option Root) where
       let none : depth - length p ≡ zero = omega arith in
       subst (λ h. AreNewParts by t root h p (e ∷ es) xs) none g
 
-  -- the parts of a prefix above the cutting depth, after those before: those of its left side, and then those of its right side
+  -- the parts of a prefix above the split depth, after those before: those of its left side, then those of its right side
   pub record OnSides (depth : ℕ) (p : List Bool) (es : List Numbered) (before mine : List Part) : Type 0 where
     pub left : List Part
     pub right : List Part
@@ -222,7 +222,7 @@ module _ (by : Hashing) (t : Table) (root : Option Root) where
         on_right = rw (length-child p true) s.4;
       }
 
-  -- the parts of a side, by the prefix and the entries that code has computed
+  -- the parts of a side, for the prefix and the entries that the code computed
   pub grown_as : (b : Bool) (depth : ℕ) (p : List Bool) (es : List Numbered) (xs : List Part) {level : ℕ} {q : List Bool} {some : List Numbered}
       → level ≡ length p → q ≡ child p b → some ≡ side b level es
       → AreNewParts by t root (depth - length (child p b)) (child p b) (side b (length p) es) xs → AreNewParts by t root (depth - length q) q some xs
@@ -254,7 +254,7 @@ module _ (by : Hashing) (t : Table) (root : Option Root) where
             subst (λ es. IsNewPart by t root j.prefix es x) same_range
             (subst (λ (b : Job). IsNewPart by t root b.prefix (entries_in (in_range b cs)) x) same_job f.2)
 
-  -- the parts of all jobs, from the root on
+  -- the parts of all jobs, beginning at the root
   pub parts_ready : (depth : ℕ) (p : List Bool) (es : List Numbered) (js made : List Job) (xs : List Part)
       → p ≡ [] → js ≡ made → made ≡ jobs_below depth [] 0 es → AreDone by t root es js xs
       → AreNewParts by t root (depth - length p) p es xs

@@ -1,4 +1,4 @@
--- What the jobs of a batch are.
+-- The jobs of a batch.
 use Rattle.std.proofs.Common.{◌≡◌, ◌<◌, ◌≤◌, ◌+◌, ◌-◌, ◌^◌, ℕ, zero, suc, List, [], ◌∷◌, ◌++◌, length, take, drop, Bool, true, false, refl, sym, ap, ◌∙◌, subst, arith, length-append, append_assoc, append-nil, pow_mono}
 use Rattle.std.specs.Prelude.{All}
 use Rattle.std.proofs.Math.Seq.{take-append_seam, drop-append_seam}
@@ -15,11 +15,7 @@ use Rattle.coniks_work.specs.declared.jobs.Job.{Job}
 use Rattle.coniks_work.specs.declared.jobs.TheConstants.{MAX_DEPTH}
 use Rattle.coniks_work.proofs.SideLemmas.{lefts_few, length-left, length-right, sides_whole, side_in_order, side_under}
 
-pub no_jobs : (h : ℕ) (p : List Bool) (from : ℕ) → jobs_below h p from [] ≡ []
-no_jobs zero p from = refl
-no_jobs (suc h) p from = refl
-
--- one range after another
+-- adjacent ranges, joined
 Cover-append : (a b c : ℕ) (js ks : List Job) → Cover a b js → Cover b c ks → Cover a c (js ++ ks)
 Cover-append a b c [] ks e h = subst (λ x. Cover x c ks) (sym e) h
 Cover-append a b c (j ∷ js) ks g h = (g.0, g.1, Cover-append j.to b c js ks g.2 h)
@@ -96,7 +92,7 @@ jobs_go_on (suc h) p from (e ∷ es) = All-append (λ (j : Job). GoesOn p j.pref
 left_of : (p q r : List Bool) → GoesOn (child p false) q → GoesOn (child p true) r → IsLeftOf q r
 left_of p q r g h = record { common = p; after_left = g.0; after_right = h.0; left = g.1; right = h.1 }
 
--- the jobs on the left, and then those on the right
+-- the jobs on the left, then those on the right
 rising_append : (p : List Bool) (js ks : List Job) → All (λ (j : Job). GoesOn (child p false) j.prefix) js
     → All (λ (j : Job). GoesOn (child p true) j.prefix) ks → AreJobsRising js → AreJobsRising ks → AreJobsRising (js ++ ks)
 rising_append p [] ks on_left on_right r s = s
@@ -114,7 +110,7 @@ jobs_rise (suc h) p from (e ∷ es) = rising_append p _ _
     (jobs_go_on h (child p false) from (side false (length p) (e ∷ es))) (jobs_go_on h (child p true) (from + lefts (length p) (e ∷ es)) (side true (length p) (e ∷ es)))
     (jobs_rise h (child p false) from (side false (length p) (e ∷ es))) (jobs_rise h (child p true) (from + lefts (length p) (e ∷ es)) (side true (length p) (e ∷ es)))
 
--- some of all entries stand at this place
+-- the entries are consecutive ones of all entries, beginning at this place
 pub record IsAt (all : List Numbered) (from : ℕ) (es : List Numbered) : Type 0 where
   pub before : List Numbered
   pub after : List Numbered
@@ -141,7 +137,7 @@ at_right all from level es h = record {
   place = (let f = h.place in omega (arith, length-append h.before (side false level es), length-left level es));
 }
 
--- what lies in the range of such entries
+-- the range of such entries contains exactly them
 pub in_range-at : (p : List Bool) (from : ℕ) (all es : List Numbered) → IsAt all from es → in_range (job_of p from (from + length es)) all ≡ es
 in_range-at p from all es h =
     let long : (from + length es) - from ≡ length es = omega arith in
@@ -166,7 +162,7 @@ jobs_theirs (suc h) p from (e ∷ es) all short at is ordered =
     (jobs_theirs h (child p true) (from + lefts (length p) (e ∷ es)) (side true (length p) (e ∷ es)) all (omega (arith, length-child p true))
     (at_right all from (length p) (e ∷ es) at) (side_under true p (e ∷ es) all less ordered is) (side_in_order true p (e ∷ es) less ordered))
 
--- the jobs of one side and of the other
+-- the jobs of the left side, then those of the right side
 pub jobs_of_sides : (depth : ℕ) (p : List Bool) (from : ℕ) (es : List Numbered) → length p < depth → 0 < length es
     → jobs_below (depth - length p) p from es
     ≡ jobs_below (depth - length (child p false)) (child p false) from (side false (length p) es) ++ jobs_below
@@ -182,16 +178,11 @@ jobs_of_sides depth p from (e ∷ es) less some =
     ∙ ap (λ h. jobs_below (depth - length (child p false)) (child p false) from (side false (length p) (e ∷ es))
     ++ jobs_below h (child p true) (from + lefts (length p) (e ∷ es)) (side true (length p) (e ∷ es))) (sym right)
 
--- the one job of the last level
-pub job_of_all : (depth : ℕ) (p : List Bool) (from : ℕ) (es : List Numbered) → length p ≡ depth → 0 < length es → jobs_below (depth - length p) p from es ≡ job_of p from (from + length es) ∷ []
-job_of_all depth p from [] same some = absurd (omega arith)
-job_of_all depth p from (e ∷ es) same some = ap (λ h. jobs_below h p from (e ∷ es)) (let z : depth - length p ≡ zero = omega arith in z)
-
 -- all jobs cover all entries
 pub jobs_cover_all : (depth : ℕ) (es : List Numbered) → Cover 0 (length es) (jobs_below depth [] 0 es)
 jobs_cover_all depth es = let whole : 0 + length es ≡ length es = omega arith in subst (λ n. Cover 0 n (jobs_below depth [] 0 es)) whole (jobs_cover depth [] 0 es)
 
--- the jobs of both sides were added
+-- the jobs of both sides are added
 pub split_both : (depth level from next : ℕ) (p q r : List Bool) (es ls rs : List Numbered) (js after_left after_right : List Job) → level ≡ length p → length p < depth → 0 < length es
     → q ≡ child p false → r ≡ child p true → ls ≡ side false level es → rs ≡ side true level es → next ≡ from + lefts level es
     → after_left ≡ js ++ jobs_below (depth - length q) q from ls → after_right ≡ after_left ++ jobs_below (depth - length r) r next rs
@@ -211,7 +202,7 @@ split_both depth level from next p q r es ls rs js after_left after_right level-
     ∙ ap (λ x. js ++ (jobs_below (depth - length (child p false)) (child p false) from (side false (length p) es) ++ x)) on_right
     ∙ ap (λ x. js ++ x) (sym (jobs_of_sides depth p from es less some))
 
--- the jobs from the root on
+-- the jobs, beginning at the root
 pub from_root : (depth : ℕ) (p : List Bool) (es : List Numbered) (none js : List Job) → p ≡ [] → none ≡ [] → js ≡ none ++ jobs_below (depth - length p) p 0 es → js ≡ jobs_below depth [] 0 es
 from_root depth p es none js p-is none-is is = is ∙ ap (λ x. x ++ jobs_below (depth - length p) p 0 es) none-is ∙ ap (λ z. jobs_below (depth - length z) z 0 es) p-is
     ∙ (let whole : depth - 0 ≡ depth = omega arith in ap (λ h. jobs_below h [] 0 es) whole)

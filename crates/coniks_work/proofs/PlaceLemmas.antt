@@ -38,7 +38,7 @@ module _ (part : ℕ → Part → Type 0) where
       (λ (e : k ≡ j). (x, (λ i. slice_index_or (set cur j (Some x)) (e i) None) ∙ get_or-set_same cur j (Some x) None less, subst (λ (i : ℕ). part i x) (sym e) is))
       (λ (n : k ≢ j). ⊎_elim (λ (s : StandsAt part cur k). (s.0, get_or-set_other cur j k (Some x) None n ∙ s.1, s.2)) (λ (e : k ≡ j). absurd (n e)) h)
 
-  -- one more part was put into its place
+  -- one more part is put into its place
   pub place_next : (old cur : List (Option Part)) (ns before left : List ℕ) (j : ℕ) (x : Part) → before ≡ left ++ j ∷ []
       → Places part old cur ns before → j < length cur → part j x → Places part old (set cur j (Some x)) ns left
   place_next old cur ns before left j x e h less is = record {
@@ -56,7 +56,7 @@ module _ (part : ℕ → Part → Type 0) where
   pub place_none : (old : List (Option Part)) (ns : List ℕ) → Places part old old ns ns
   place_none old ns = record { kept = λ k s. s; put = λ k s. inr s }
 
-  -- what is left after a part was taken
+  -- a part is still in its place after another place is changed
   pub stand_after : (old : List (Option Part)) (j k : ℕ) (x : Option Part) → k ≢ j → StandsAt part old k → StandsAt part (set old j x) k
   stand_after old j k x n s = (s.0, get_or-set_other old j k x None n ∙ s.1, s.2)
 

@@ -1,11 +1,10 @@
 -- Lists of workers.
 use Rattle.std.proofs.Common.{◌≡◌, ◌≢◌, ◌⊎◌, inl, inr, ⊎_elim, ℕ, zero, suc, ◌+◌, ◌<◌, ◌≤◌, true, false, List, [], ◌∷◌, ◌++◌, length, take, drop, sym, refl, ap, ◌∙◌, subst, arith, Option, length-append}
 use Rattle.std.specs.Prelude.{All}
-use Rattle.std.proofs.lemmas.List.Elements.{All-push, All-nil}
-use Rattle.std.proofs.lemmas.Bool.Decides.{nat_tests}
+use Rattle.std.proofs.lemmas.List.Elements.{All-push}
 use mathlib.Core.Logic.{dite}
 use native.Mathlib.Decide.{ℕ_discrete}
-use Rattle.coniks_shared.specs.Draws.{times, times_over, once_below}
+use Rattle.coniks_shared.specs.Draws.{times, times_over}
 use Rattle.coniks_work.specs.Places.{numbers, StandsAt, Places}
 use Rattle.coniks_shared.specs.Drawers.{Drawing, Claimed, HasFirst, SomeOut, lists_of}
 use Rattle.coniks_tree.specs.declared.part.Part.{Part}
@@ -16,15 +15,15 @@ pub first_last : (ws : List Worker) (w : Worker) (n : ℕ) → w.drawer.first �
 first_last [] w n f s = inl (f, s)
 first_last (v ∷ vs) w n f s = inr (first_last vs w n f s)
 
--- what the work leaves of a pool
-pub after_labour : (claims : Claimed) (part : ℕ → Part → Type 0) (vs ws : List Worker) → length ws ≡ length vs → AllFresh claims claims.limit vs → AllWorked part vs ws → AllFinished claims part ws
-after_labour claims part [] [] e f a = tt
-after_labour claims part [] (w ∷ ws) e f a = absurd (omega arith)
-after_labour claims part (v ∷ vs) [] e f a = absurd (omega arith)
-after_labour claims part (v ∷ vs) (w ∷ ws) e f a =
+-- a pool after its work
+pub after_work : (claims : Claimed) (part : ℕ → Part → Type 0) (vs ws : List Worker) → length ws ≡ length vs → AllFresh claims claims.limit vs → AllWorked part vs ws → AllFinished claims part ws
+after_work claims part [] [] e f a = tt
+after_work claims part [] (w ∷ ws) e f a = absurd (omega arith)
+after_work claims part (v ∷ vs) [] e f a = absurd (omega arith)
+after_work claims part (v ∷ vs) (w ∷ ws) e f a =
     let fr = f zero v (omega arith) in let wo = a zero v (omega arith) in (
       record { table = wo.table ∙ fr.table; parts = subst (λ (n : ℕ). Rattle.coniks_work.specs.Places.AreParts part n w.done.items) fr.limit wo.parts; all = wo.all },
-      after_labour claims part vs ws (omega arith) (λ i d l. f (suc i) d (omega arith)) (λ i d l. a (suc i) d (omega arith)),
+      after_work claims part vs ws (omega arith) (λ i d l. f (suc i) d (omega arith)) (λ i d l. a (suc i) d (omega arith)),
     )
 
 pub first_after : (part : ℕ → Part → Type 0) (vs ws : List Worker) (n : ℕ) → length ws ≡ length vs → AllWorked part vs ws → HasFirst (drawers_of vs) n → HasFirst (drawers_of ws) n
@@ -61,7 +60,7 @@ lists_more : (j : ℕ) (ds : List Drawing) (d : Drawing) → times_over j (lists
 lists_more j [] d = omega arith
 lists_more j (e ∷ es) d = let h = lists_more j es d in omega arith
 
--- one more worker left the pool
+-- one more worker is taken from the pool
 pub gone_next : (claims : Claimed) (part : ℕ → Part → Type 0) (total : ℕ) (pool before : List Worker) (w : Worker) (drawers after : List Drawing)
     → before ≡ pool ++ w ∷ [] → after ≡ drawers ++ w.drawer ∷ [] → AreGone claims part total before drawers → w.failed ≡ false
     → AreGone claims part total pool after
@@ -81,7 +80,7 @@ gone_next claims part total pool before w drawers after was is h fine =
       rest = f.0;
     }
 
--- its parts are put into their places
+-- the parts of a worker are put into their places
 pub placed_next : (part : ℕ → Part → Type 0) (size : ℕ) (w : Worker) (drawers after : List Drawing) (placed placed' : List (Option Part))
     → after ≡ drawers ++ w.drawer ∷ [] → ArePlaced part size drawers placed → numbers w.done.items ≡ w.drawer.list
     → Places part placed placed' (numbers w.done.items) [] → length placed' ≡ length placed
@@ -95,24 +94,6 @@ placed_next part size w drawers after placed placed' is h drawn p l = record {
       (λ (z : times j w.drawer.list ≡ 0). p.kept j (h.put j (omega arith)))
       (λ (z : times j w.drawer.list ≢ 0). ⊎_elim (λ (x : StandsAt part placed' j). x) (λ (x : 0 < times j []). absurd (omega arith)) (p.put j (omega arith))));
 }
-
-pub gone_start : (claims : Claimed) (part : ℕ → Part → Type 0) (pool : List Worker) → AllFinished claims part pool
-    → HasFirst (drawers_of pool) (length pool) → AreGone claims part (length pool) pool []
-gone_start claims part pool f h = record { own = All-nil (λ (d : Drawing). d.table ≡ claims.table); out = λ n. absurd (omega arith); first = inr h; count = omega arith; rest = f }
-
-pub placed_start : (part : ℕ → Part → Type 0) (placed : List (Option Part)) → ArePlaced part (length placed) [] placed
-placed_start part placed = record { len = refl; put = λ j n. absurd (omega arith) }
-
--- with no worker left, the first drawer is among the drawers
-pub first_there : (claims : Claimed) (part : ℕ → Part → Type 0) (total : ℕ) (pool : List Worker) (drawers : List Drawing)
-    → AreGone claims part total pool drawers → length pool ≡ 0 → HasFirst drawers (length drawers)
-first_there claims part total [] drawers h e =
-    let n : total ≡ length drawers = (let c = h.count in omega arith) in
-    ⊎_elim (λ (x : HasFirst drawers total). subst (HasFirst drawers) n x) (λ (x : ⊥). absurd x) h.first
-first_there claims part total (w ∷ ws) drawers h e = absurd (omega arith)
-
-pub once_less : (j n : ℕ) → j < n → once_below j n ≡ 1
-once_less j n less = grind (arith, nat_tests)
 
 module _ {A : Type 0} where
   drop_all : (ys : List A) (k : ℕ) → length ys ≤ k → drop k ys ≡ []
@@ -131,7 +112,7 @@ module _ {A : Type 0} where
   pub written : (xs ys : List A) (k : ℕ) → length xs ≡ length ys → k ≡ length ys → take k (xs ++ drop (length xs) ys) ≡ xs
   written xs ys k e n = ap (λ (l : List A). take k (xs ++ l)) (drop_all ys (length xs) (omega arith)) ∙ take_all xs k (omega arith)
 
--- the pool that is collected after its work: all have ended, and the first drawer is among theirs
+-- the pool that is collected after its work: all workers have ended, and one of them has the first drawer
 pub pool_ended : (claims : Claimed) (part : ℕ → Part → Type 0) (lent vs ws : List Worker) (k : ℕ)
     → lent ≡ vs → length ws ≡ length lent → k ≡ length vs
     → (0 < length vs) × AllFresh claims claims.limit vs → HasFirst (drawers_of vs) (length vs) → AllWorked part lent ws
@@ -142,6 +123,6 @@ pool_ended claims part lent vs ws k was len k-is fresh first all =
     let ended : List Worker → Type 0 = λ l. AllFinished claims part l × ((0 < length l) × HasFirst (drawers_of l) (length l)) in
     let some = fresh.0 in
     subst ended (sym (written ws vs k same k-is)) (
-      after_labour claims part vs ws same fresh.1 worked,
+      after_work claims part vs ws same fresh.1 worked,
       (omega (arith, same, some), first_after part vs ws (length ws) same worked (subst (HasFirst (drawers_of vs)) (sym same) first)),
     )

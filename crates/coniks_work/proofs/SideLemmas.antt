@@ -20,7 +20,7 @@ length-right level es = length-drop (lefts level es) es
 pub sides_whole : (level : ℕ) (es : List Numbered) → side false level es ++ side true level es ≡ es
 sides_whole level es = take-append-drop (lefts level es) es
 
--- of entries in order, the sides are the halves
+-- the sides of entries in order are their halves
 pub side_is_half : (b : Bool) (level : ℕ) (es : List Numbered) → level < 256 → AreInOrder level es → side b level es ≡ half b level es
 side_is_half false level es short ordered =
     ap (take (lefts level es)) (in_order-split level es short ordered).parts ∙ take-append_seam (half false level es) (half true level es)
@@ -31,13 +31,13 @@ split_half : (b : Bool) (level : ℕ) (es : List Numbered) → IsSplit level es 
 split_half true level es s = s.right
 split_half false level es s = s.left
 
--- the sides are in order too
+-- the sides of entries in order are in order
 pub side_in_order : (b : Bool) (p : List Bool) (es : List Numbered) → length p < 256 → AreInOrder (length p) es → AreInOrder (length (child p b)) (side b (length p) es)
 side_in_order b p es short ordered =
     subst (λ k. AreInOrder k (side b (length p) es)) (sym (length-child p b))
     (subst (AreInOrder (suc (length p))) (sym (side_is_half b (length p) es short ordered)) (split_half b (length p) es (in_order-split (length p) es short ordered)))
 
--- the side of all that stands under a prefix is what stands under the longer one
+-- a side of the entries under a prefix is the entries under the prefix with one more bit
 pub side_under : (b : Bool) (p : List Bool) (es all : List Numbered) → length p < 256 → AreInOrder (length p) es → es ≡ under p all → side b (length p) es ≡ under (child p b) all
 side_under b p es all short ordered is =
     side_is_half b (length p) es short ordered ∙ ap (half b (length p)) is ∙ sym (under-child p b all)

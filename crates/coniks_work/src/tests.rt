@@ -1,4 +1,4 @@
-//! Jobs, workers and split depths by private items.
+//! Tests of jobs, workers and split depths that use private items.
 
 mod before;
 mod pools;

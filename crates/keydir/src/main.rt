@@ -1,4 +1,4 @@
-//! The program `keydir`: its words and streams, handed to `coniks_tool::program`.
+//! The program `keydir`, which passes its arguments and streams to `coniks_tool::program`.
 #![tactic(auto)]
 
 use coniks_tool::{SystemIn, SystemOut, Unread, program, unread_words};
@@ -25,7 +25,7 @@ fn main(rt: HostRuntime) -> ExitCode {
     ExitCode::from(status)
 }
 
-/// The words that the program was called with.
+/// Returns the arguments that the program was called with.
 fn words(rt: &HostRuntime) -> Result<Vec<String>, Unread> {
     match env::args(rt) {
         Ok(words) => words.collect(rt.alloc()).or(Err(Unread::OutOfMemory)),

@@ -38,7 +38,7 @@ pub fn audit<R: Print + AllocGlobal>(rt: &R, provider: &Provider) -> Result<()> 
     Ok(())
 }
 
-/// A monitor of a name, for a client that expects a key.
+/// Returns a monitor of a name, for a client that expects a key.
 fn monitor_of(alloc: Global, name: &str, key: &str) -> Result<Monitor<TaggedHash>> {
     let index = INDEX.index(name.as_bytes());
     let name = Bytes::copy_of(alloc, name.as_bytes())?;

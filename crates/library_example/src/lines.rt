@@ -1,4 +1,4 @@
-//! Lines that a machine of one's own answers, and lines for the engines of the two programs.
+//! A custom line machine, and lines for the engines of the two programs.
 
 ghost use Rattle.std.specs.Prelude.{length, nat_lt, ℕ};
 
@@ -9,7 +9,7 @@ use coniks_tool::run_script;
 use std::alloc::AllocError;
 use std::thread::Threads;
 
-/// Repeats each line, and refuses the empty ones.
+/// A line machine that repeats each line and refuses empty ones.
 #[derive(Drop)]
 pub struct Echo;
 
@@ -35,7 +35,7 @@ fn print_run<R: Print>(rt: &R, writer: &MemoryOut, all: bool) -> Result<()> {
     Ok(())
 }
 
-/// Has three lines echoed, from memory to memory.
+/// Echoes three lines, from memory to memory.
 pub fn echo_lines<R: Print + AllocGlobal>(rt: &R) -> Result<()> {
     let alloc = rt.alloc();
     let mut reader = MemoryIn::new(Vec::from_slice(alloc, b"one\n\nthree\n")?);
@@ -47,7 +47,7 @@ pub fn echo_lines<R: Print + AllocGlobal>(rt: &R) -> Result<()> {
 /// A line that asks for a name before a directory is open.
 const SCRIPT: &[u8] = b"{\"cmd\":\"lookup\",\"epoch\":1,\"name\":\"alice\"}\n";
 
-/// Runs a script as `keydir run` does, with two workers that build apart what begins with one bit.
+/// Runs a script as `keydir run` does, with two workers and a split depth of 1.
 pub fn answer_script<R: Threads + Sync + Print + AllocGlobal>(rt: &R) -> Result<()> {
     let alloc = rt.alloc();
     let mut reader = MemoryIn::new(Vec::from_slice(alloc, SCRIPT)?);
@@ -59,7 +59,7 @@ pub fn answer_script<R: Threads + Sync + Print + AllocGlobal>(rt: &R) -> Result<
 /// A line that asks for the latest epoch before a directory is open.
 const LINES: &[u8] = b"{\"cmd\":\"latest\"}\n";
 
-/// Answers a line as `provider` does, with the same workers.
+/// Runs a line as `provider` does, with two workers and a split depth of 1.
 pub fn answer_provider<R: Threads + Sync + Print + AllocGlobal>(rt: &R) -> Result<()> {
     let alloc = rt.alloc();
     let mut reader = MemoryIn::new(Vec::from_slice(alloc, LINES)?);

@@ -1,7 +1,8 @@
-//! A tour of the libraries. The first page of each is a part of this program.
+//! A tour of the libraries. The code on the first page of each library is a part of this program.
 //!
-//! `own` has what a user brings, `provider` keeps a directory, `supplied` one whose indices come from outside, `client`
-//! checks, audits and watches, `tree` grows a tree alone, and `lines` answers lines.
+//! `own` defines what a user provides. `provider` keeps a directory, and `supplied` one whose indices come from
+//! outside. `client` checks, audits and watches. `tree` grows a tree without a directory, and `lines` runs line
+//! machines.
 #![tactic(auto)]
 
 mod client;

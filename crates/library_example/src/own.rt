@@ -1,7 +1,7 @@
 //! What a user of the libraries provides: a hash, an index source and a source of signatures.
 //!
-//! All three are made of SHA-256 with tags of their own. Index and signature are for demonstrations and claim no security: a
-//! provider has a verifiable random function (VRF) and a signature scheme in their place.
+//! Each of the three is SHA-256 with a different tag. The index and the signature are for demonstrations and claim no
+//! security. A provider uses a verifiable random function (VRF) and a signature scheme instead.
 
 ghost use Rattle.std.specs.Prelude.{◌≡◌, ◌++◌, ◌∷◌, []};
 ghost use Rattle.coniks_proof.specs.Sha256.{sha256};
@@ -37,8 +37,8 @@ impl IndexSource for KeyedIndex {
     }
 }
 
-/// A key whose signature is SHA-256 of the byte 03, the key and the body, written twice. Anyone who can verify it can forge
-/// it.
+/// A key whose signature is SHA-256 of the byte 03, the key and the body, written twice. Anyone who can verify it can
+/// forge it.
 #[derive(Clone, Copy, Drop)]
 pub struct DemoKey {
     pub key: [u8; 32],

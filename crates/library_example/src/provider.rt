@@ -1,4 +1,4 @@
-//! A provider: a directory with two epochs, and the board on which its watchers look.
+//! A provider: a directory with two epochs, and the board that its watchers read.
 
 ghost use Rattle.std.specs.Prelude.{◌≡◌, IfOk, length};
 
@@ -12,23 +12,23 @@ use coniks_work::Open;
 use std::alloc::{AllocError, Global};
 use std::thread::Threads;
 
-/// What enters each leaf and each empty node of the provider's trees.
+/// The nonce that is hashed into each leaf and each empty node of the provider's trees.
 pub const NONCE: Nonce = Nonce([4; 32]);
 
-/// Where the indices of the provider's names come from.
+/// The source of the indices of the provider's names.
 pub const INDEX: KeyedIndex = KeyedIndex { key: [5; 32] };
 
-/// The digest of a policy, which the entries name.
+/// The digest of a policy, which each entry contains.
 pub const POLICY: [u8; 32] = [6; 32];
 
-/// A directory, and who signs its entries.
+/// A directory, and the signer of its entries.
 #[derive(Drop)]
 pub struct Provider {
     pub directory: Directory<TaggedHash, KeyedIndex>,
     pub signer: Signer<DemoKey>,
 }
 
-/// An operation that registers a name, or changes its key.
+/// Returns an operation that registers a name, or changes its key.
 fn operation(alloc: Global, kind: OpKind, name: &str, key: &str) -> Result<Op, AllocError> {
     Ok(Op {
         kind,
@@ -38,7 +38,7 @@ fn operation(alloc: Global, kind: OpKind, name: &str, key: &str) -> Result<Op, A
     })
 }
 
-/// The batch of the first epoch, of two operations.
+/// Returns the batch of the first epoch, which has two operations.
 pub fn first_batch(alloc: Global) -> Result<Vec<Op>, AllocError>
     ensures { IfOk result (λ ops. length ops.items ≡ 2) }
 {
@@ -47,13 +47,13 @@ pub fn first_batch(alloc: Global) -> Result<Vec<Op>, AllocError>
     Ok(vec![in alloc; alice, bob]?)
 }
 
-/// The batch of the second epoch.
+/// Returns the batch of the second epoch.
 fn second_batch(alloc: Global) -> Result<Vec<Op>, AllocError> {
     let bob = operation(alloc, OpKind::Change, "bob", "bob's new key")?;
     Ok(vec![in alloc; bob]?)
 }
 
-/// Opens a directory and installs two epochs, while a watcher looks at the board.
+/// Opens a directory and installs two epochs, while a watcher reads the board.
 pub fn two_epochs<R: Threads + Sync + Print + AllocGlobal>(rt: &R) -> Result<Provider> {
     let alloc = rt.alloc();
     let (board, mut publisher) = Board::new(alloc, 8)?;
@@ -76,7 +76,7 @@ pub fn two_epochs<R: Threads + Sync + Print + AllocGlobal>(rt: &R) -> Result<Pro
         println!(rt; "the watcher saw epoch {}", head.epoch)?;
     }
 
-    // Both in one call.
+    // `commit` prepares and installs in one call.
     let (ops, depth, workers, epoch) = (second_batch(alloc)?, 1, 2, 2);
     let entry = directory.commit(
         rt,

@@ -1,4 +1,4 @@
-//! A tree of one's own, without a directory.
+//! A tree without a directory.
 
 ghost use Rattle.std.specs.Prelude.{◌≡◌, ◌<◌, ◌∷◌, [], List, Some, length, slice_get, ℕ};
 ghost use Rattle.coniks_tree.specs.Parts.{Fits, Placed, node_count};
@@ -15,10 +15,10 @@ use coniks_work::{Open, build};
 use std::alloc::{AllocError, Global};
 use std::thread::Threads;
 
-/// What opens the commitments.
+/// The opening of the commitments.
 const OPENING: Opening = Opening([9; 32]);
 
-/// The record of a name of five bytes and a key of three.
+/// Returns the record of a name of five bytes and a key of three.
 fn record_of(alloc: Global, name: &[u8; 5], key: &[u8; 3]) -> Result<Record, AllocError> {
     let binding = Binding {
         name: Bytes::copy_of(alloc, name)?,
@@ -32,7 +32,7 @@ fn record_of(alloc: Global, name: &[u8; 5], key: &[u8; 3]) -> Result<Record, All
     })
 }
 
-/// The change that puts a record into the tree, under its number.
+/// Returns the change that puts a record into the tree, under its number.
 fn change_to(new: &Record, place: usize) -> Change
     ensures { (all : List Record) → slice_get all place ≡ Some new.now → Placed all (Entry result) }
 {
@@ -43,7 +43,7 @@ fn change_to(new: &Record, place: usize) -> Change
     }
 }
 
-/// The part of a tree with one record.
+/// Returns the part of a tree with one record.
 fn lone_part(new: &Record) -> Part
     ensures fits { (nodes : ℕ) → Fits nodes 0 result }
     ensures count { node_count result ≡ 1 }
@@ -52,7 +52,7 @@ fn lone_part(new: &Record) -> Part
     Part::Entry(change_to(new, 0))
 }
 
-/// Makes a tree of one name, and grows what comes next: alone, and by workers.
+/// Builds a tree of one name, and grows the next one from it: in one call, and with worker threads.
 pub fn small_tree<R: Threads + Sync + Print + AllocGlobal>(rt: &R) -> Result<()> {
     let alloc = rt.alloc();
     let carol = record_of(alloc, b"carol", b"one")?;
@@ -61,7 +61,7 @@ pub fn small_tree<R: Threads + Sync + Print + AllocGlobal>(rt: &R) -> Result<()>
     let records = vec![in alloc; carol]?;
     let changes = [change_to(&david, 1)];
 
-    // Room is made for a part and its records, and then they are attached. The root shows them from then on.
+    // `reserve` makes room for a part and its records, and `attach` adds them. The root shows them from then on.
     let mut tree = Tree::new(alloc);
     tree.reserve(&part, records.len())?;
     let root = tree.attach(&TaggedHash, &NONCE, part, records);
@@ -88,7 +88,7 @@ pub fn small_tree<R: Threads + Sync + Print + AllocGlobal>(rt: &R) -> Result<()>
     Ok(())
 }
 
-/// The root that a tree has after changes, in hexadecimal, where two workers build it.
+/// Builds the next tree with two workers, and returns its root after the changes in hexadecimal.
 fn hash_by_workers<R: Threads + Sync + AllocGlobal>(
     rt: &R,
     tree: &Tree,

@@ -10,27 +10,27 @@ use std::alloc::{AllocError, Global};
 use std::cmp::min;
 use std::thread::{self, Threads};
 
-/// How an epoch is built.
+/// The settings with which an epoch is built.
 #[derive(Clone, Copy)]
 pub struct Choice {
-    /// How many worker threads build it.
+    /// The number of worker threads that build it.
     pub workers: usize,
     /// The split depth.
     pub depth: usize,
 }
 
-/// Why the command line asks for no run.
+/// The reason why the command line starts no run.
 #[derive(Drop)]
 pub enum Refusal {
     /// It asks for help or the version, which is this text.
     Shown(String),
-    /// It has a mistake, which this text says.
+    /// It has a mistake, which this text describes.
     Mistake(String),
     /// An allocation failed.
     OutOfMemory,
 }
 
-/// At the end of the help.
+/// The text at the end of the help.
 const EXAMPLE: &str =
     "A service starts the program as a child process, computes the index of each name by its own verifiable
 random function, and signs each epoch's body by its own key. Each line is a JSON object, and gives one
@@ -45,7 +45,7 @@ Status:
   2  the command line is wrong
   3  a stream or an allocation failed";
 
-/// Reads the command line, whose first word is the program's name.
+/// Reads the command line, whose first argument is the program's name.
 pub fn choose<T: Threads>(rt: &T, alloc: Global, words: &[String]) -> Result<Choice, Refusal>
     ensures workers { IfOk result (λ c. AreWorkers c.workers) }
     ensures depth { IfOk result (λ c. c.depth ≤ MAX_DEPTH) }
@@ -100,13 +100,13 @@ fn command<'a>(alloc: Global) -> Result<Command<'a>, AllocError> {
         .arg(depth)
 }
 
-/// The number of an option, if it is there.
+/// Returns the number of an option, if it is set.
 fn number(found: &ArgMatches<'_>, name: &str) -> Option<usize> {
     let text = found.get_str(name)?;
     Some(usize::from(text.parse::<u8>().unwrap_or(0)))
 }
 
-/// How many processors the machine has, or 1 if that isn't known.
+/// Returns the number of processors of the machine, or 1 if it isn't known.
 fn processors<T: Threads>(rt: &T) -> usize {
     match thread::available_parallelism(rt) {
         Ok(count) => count.get(),

@@ -1,4 +1,4 @@
-//! The program `provider`: its command line and streams, handed to `coniks_provider::run_provider`.
+//! The program `provider`, which passes its settings and streams to `coniks_provider::run_provider`.
 #![tactic(auto)]
 
 ghost use Rattle.std.specs.Prelude.{◌+◌, ◌<◌, ◌^◌};
@@ -26,7 +26,7 @@ fn main(rt: HostRuntime) -> ExitCode {
         Ok(true) => 0,
         Ok(false) => 1,
         Err(ending) => {
-            // A failure of the standard error changes no status.
+            // A failure of the standard error does not change the status.
             let _ = tell(&mut errors, ending.text());
             ending.status()
         }
@@ -34,7 +34,7 @@ fn main(rt: HostRuntime) -> ExitCode {
     ExitCode::from(status)
 }
 
-/// Why the program ends without a reply to each line.
+/// The reason why the program ends without a reply to each line.
 #[derive(Drop)]
 enum Ending {
     /// An argument isn't UTF-8.
@@ -99,7 +99,7 @@ fn run<T: Threads + Sync, R: ByteIn, W: ByteOut>(
     }
 }
 
-/// Shows help or the version.
+/// Prints help or the version.
 fn shown<W: ByteOut>(writer: &mut W, text: &str) -> Result<bool, RunFault>
     requires { (W.sink writer.old).failed + 1 < 2 ^ 64 }
 {
@@ -107,7 +107,7 @@ fn shown<W: ByteOut>(writer: &mut W, text: &str) -> Result<bool, RunFault>
     Ok(true)
 }
 
-/// The arguments that the program was called with.
+/// Returns the arguments that the program was called with.
 fn words(rt: &HostRuntime) -> Result<Vec<String>, Ending> {
     let memory = Ending::Run(RunFault::OutOfMemory);
     match env::args(rt) {

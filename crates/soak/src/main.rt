@@ -1,11 +1,11 @@
 //! A directory under load: epochs are committed while watchers look at the board and readers look names up.
 //!
-//! Without arguments it commits 20 epochs of 16 names with 3 workers, beside 4 watchers and 2 readers with 50 lookups each
-//! in each epoch. The arguments EPOCHS, BATCH, WORKERS, WATCHERS, READERS and LOOKUPS set these numbers; the number of looks
-//! and the time are printed too.
+//! Without arguments it commits 20 epochs of 16 names with 3 workers, beside 4 watchers and 2 readers with 50 lookups
+//! each in each epoch. The arguments EPOCHS, BATCH, WORKERS, WATCHERS, READERS and LOOKUPS set these numbers. The
+//! number of looks and the time are then printed too.
 //!
-//! It counts wrong results: an install that is refused, a head that is not in the chain or comes before an earlier one, and
-//! a lookup whose proof is not accepted with what its epoch binds.
+//! It counts wrong results. They are installs that are refused, heads that are not in the chain or are older than an
+//! earlier one, and lookups whose proof is not accepted for what their epoch binds.
 #![tactic(auto)]
 
 mod names;

@@ -1,4 +1,4 @@
-//! Names by their numbers. Each has itself as its key.
+//! Numbered names. Each name is its own key.
 
 use coniks_directory::{Op, OpKind};
 use coniks_proof::{Bytes, Opening};
@@ -20,7 +20,7 @@ fn registration(alloc: Global, number: u64) -> Result<Op, AllocError> {
     })
 }
 
-/// Returns the operations that register this many names from a number on.
+/// Returns the operations that register `count` names, beginning with the name of the number `first`.
 pub fn registrations(alloc: Global, first: u64, count: usize) -> Result<Vec<Op>, AllocError> {
     let mut ops = Vec::new(alloc);
     for place in 0..count {

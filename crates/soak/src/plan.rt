@@ -1,4 +1,4 @@
-//! The numbers of a run.
+//! The parameters of a run.
 
 ghost use Rattle.std.specs.Prelude.{◌≡◌, ◌≤◌, IfOk};
 ghost use Rattle.coniks_shared.specs.Limits.{most_heads};

@@ -5,7 +5,7 @@ use crate::provider::{NONCE, Names, source};
 use coniks_directory::IndexSource;
 use coniks_proof::{Answer, Sha256Hash, check};
 
-/// Numbers that look random, one after another.
+/// A generator of pseudo-random numbers.
 #[derive(Clone, Copy)]
 struct Numbers(u64);
 
@@ -20,8 +20,8 @@ impl Numbers {
     }
 }
 
-/// Returns whether the proof of a name at an epoch is accepted with the name's key, or as absence if the name is not bound
-/// there.
+/// Returns whether the proof for a name at an epoch is accepted. It is a presence proof with the name's key if the name
+/// is bound there, and else an absence proof.
 fn is_told(directory: &Names, t: u64, number: u64, is_bound: bool) -> bool {
     let name = name_of(number);
     let (Some(root), Ok(proof)) = (directory.root_at(t), directory.lookup(t, &name)) else {
@@ -41,7 +41,7 @@ fn is_told(directory: &Names, t: u64, number: u64, is_bound: bool) -> bool {
     }
 }
 
-/// Returns how many of the lookups are wrong. Their epochs are from 1 to the latest one, and each epoch binds `batch` more
+/// Returns the number of wrong lookups. Their epochs are from 1 to the latest one, and each epoch binds `batch` more
 /// names.
 pub fn wrong_lookups(
     directory: &Names,

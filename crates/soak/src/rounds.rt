@@ -25,8 +25,7 @@ pub struct Counts {
     pub wrong: u64,
 }
 
-/// Returns the number of wrong lookups of these readers, each on a thread of its own. Before the first epoch there are
-/// none.
+/// Returns the number of wrong lookups of these readers, each on its own thread. Before the first epoch there are none.
 fn wrong_of_readers<R: Threads + Sync>(
     rt: &R,
     alloc: Global,
@@ -122,8 +121,8 @@ fn commit_watched<R: Threads + Sync>(
     wrong
 }
 
-/// Returns the number of looks of all watchers, and of wrong heads. A watcher that did not see the chain's last head counts
-/// as one more.
+/// Returns the number of looks of all watchers, and of wrong heads. A watcher that did not see the chain's last head
+/// counts as one more.
 fn looks_and_wrong(watches: &[Watch], chain: &[Entry]) -> (u64, u64) {
     let (mut looks, mut wrong) = (0u64, 0u64);
     for one in watches {

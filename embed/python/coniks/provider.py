@@ -517,8 +517,8 @@ class Provider(Directory):
             kind, index = type(it).__name__.lower(), self._index_of(it.name).hex()
             key, opening = base64.b64encode(_bytes(it.key, "a key")).decode(), _sized(it.opening, 32, "an opening").hex()
             listed.append({"op": kind, "name": it.name, "index": index, "key": key, "opening": opening})
-        brought = {} if nonce is None else {"nonce": _sized(nonce, 32, "the nonce").hex()}
-        return _line({"cmd": "prepare", "epoch": _number(epoch, 64, "the epoch"), **brought, "ops": listed})
+        new_nonce = {} if nonce is None else {"nonce": _sized(nonce, 32, "the nonce").hex()}
+        return _line({"cmd": "prepare", "epoch": _number(epoch, 64, "the epoch"), **new_nonce, "ops": listed})
 
     def _prepare(self, epoch: int, line: bytes) -> None:
         """Makes the update of a line the pending one, in the child and in the log."""

@@ -176,7 +176,7 @@ def try_real_faults(tell: Tell, program: str) -> None:
                 tell(f"fault: {what}, changes nothing", own.latest() == before and os.path.getsize(Path(other) / "log") == size)
             tell("fault: lookups go on after one", shown(own.lookup("bob")) == b"key")
             second = own.commit(6, [Change("bob", b"other")], nonce=bytes(31) + b"\1")
-            tell("a nonce is brought", second.entry[0] == 2 and second.entry[81:113] == bytes(31) + b"\1")
+            tell("the nonce is rotated", second.entry[0] == 2 and second.entry[81:113] == bytes(31) + b"\1")
             tell("an older epoch is looked up", own.lookup("bob", 5).entry == first.entry and shown(own.lookup("bob", 5)) == b"key")
             tell("the latest epoch is looked up", own.lookup("bob").entry == second.entry and shown(own.lookup("bob")) == b"other")
             tell("a name that isn't there", shown(own.lookup("nobody")) is None)

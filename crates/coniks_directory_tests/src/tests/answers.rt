@@ -1,4 +1,4 @@
-//! What a client is told of a name.
+//! Results of lookups, as a client checks them.
 
 use crate::tests::clerk::Letters;
 use coniks_directory::{Directory, IndexSource, LookupFault};
@@ -8,20 +8,20 @@ use std::process::Abort;
 use std::thread;
 use std::thread::Threads;
 
-/// What a lookup tells, once its proof is checked against the epoch's root.
+/// The result of a lookup, after its proof is checked against the epoch's root.
 #[derive(Clone, Copy, Debug, PartialEq, Eq)]
 pub enum Told {
-    /// The lookup isn't answered.
+    /// The lookup returns this error.
     Missed(LookupFault),
-    /// The proof isn't accepted.
+    /// The proof is not accepted.
     Refused,
-    /// The name is absent, by so many siblings.
+    /// The name is absent. The proof has this number of siblings.
     Absent(usize),
-    /// The name has a key that begins with this byte, by so many siblings.
+    /// The name has a key. The proof has this number of siblings, and the key begins with this byte.
     Key(usize, u8),
 }
 
-/// What a proof tells of a name under a nonce and a root.
+/// Checks the proof for a name under a nonce and a root, and returns the result.
 fn told_by(nonce: &Nonce, root: &Digest, name: &[u8], proof: &Proof) -> Told {
     let siblings = proof.siblings.as_slice().len();
     match check(&Sha256Hash, nonce, root, &Letters.index(name), name, proof) {
@@ -31,12 +31,12 @@ fn told_by(nonce: &Nonce, root: &Digest, name: &[u8], proof: &Proof) -> Told {
     }
 }
 
-/// Looks a name up at an epoch, and checks the proof under the nonce of `open`.
+/// Looks up a name at an epoch, and checks the proof under the nonce of `open`.
 pub fn asked(directory: &Directory<Sha256Hash, Letters>, t: u64, name: &str) -> Told {
     asked_under(&NONCE, directory, t, name)
 }
 
-/// Looks a name up at an epoch, and checks the proof under a nonce.
+/// Looks up a name at an epoch, and checks the proof under a nonce.
 pub fn asked_under(
     nonce: &Nonce,
     directory: &Directory<Sha256Hash, Letters>,
@@ -54,10 +54,10 @@ pub fn asked_under(
     }
 }
 
-/// A lookup at an epoch, of a name, and what it tells.
+/// The epoch and the name of a lookup, and its expected result.
 pub type Lookup<'a> = (u64, &'a str, Told);
 
-/// Asserts what each lookup tells.
+/// Asserts that each lookup has the expected result.
 pub fn are_told(
     rt: &impl Abort,
     directory: &Directory<Sha256Hash, Letters>,
@@ -69,7 +69,7 @@ pub fn are_told(
     }
 }
 
-/// Whether two threads that ask the same are both told that it is so.
+/// Returns whether a check succeeds on each of two threads.
 pub fn both<F: Fn() -> bool + Sync, R: Threads + Sync>(rt: &R, is_so: &F) -> bool
     requires { F.IsAlwaysCallable is_so.now }
 {

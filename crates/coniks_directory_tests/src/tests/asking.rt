@@ -1,4 +1,4 @@
-//! How often the source of indices is asked.
+//! The number of calls that a directory makes to its source of indices.
 
 use crate::tests::batches::sized;
 use crate::tests::clerk::committed;
@@ -11,7 +11,7 @@ use std::cell::Cell;
 use std::process::Abort;
 use std::thread::Threads;
 
-/// Gives every name one index, and counts how often it is asked.
+/// A source that gives every name the same index, and counts its calls.
 #[derive(Drop)]
 struct Asked<'a> {
     calls: &'a Cell<u64>,
@@ -28,7 +28,7 @@ impl<'a> IndexSource for Asked<'a> {
     }
 }
 
-/// Whether an operation with a name and a key of so many bytes is sound.
+/// Returns whether an operation is accepted if its name and key have a given number of bytes.
 fn is_sound<R: Threads + Sync + Abort>(
     rt: &R,
     alloc: Global,
@@ -40,7 +40,7 @@ fn is_sound<R: Threads + Sync + Abort>(
     directory.prepare(rt, &ops, 0, 1, &Open).is_ok()
 }
 
-/// Operations by the lengths of their names and keys, whether they are sound, and how often the source is asked in all.
+/// The lengths of an operation's name and key, whether it is accepted, and the number of all calls up to then.
 const OPERATIONS: [(usize, usize, bool, u64); 5] = [
     (256, 1, false, 0),
     (0, 1, false, 0),
@@ -49,7 +49,7 @@ const OPERATIONS: [(usize, usize, bool, u64); 5] = [
     (255, 16_384, true, 1),
 ];
 
-/// Prepares each operation.
+/// Prepares each operation, and asserts whether it is accepted and how many calls were made.
 fn prepare_each<R: Threads + Sync + Abort>(
     rt: &R,
     alloc: Global,
@@ -62,7 +62,7 @@ fn prepare_each<R: Threads + Sync + Abort>(
     }
 }
 
-/// The source of indices isn't asked about an operation whose name or key is of a wrong length.
+/// The source of indices is not called for an operation whose name or key has a wrong length.
 #[test]
 fn lengths_before_indices(rt: HostRuntime) {
     let calls = Cell::new(0);
@@ -71,7 +71,7 @@ fn lengths_before_indices(rt: HostRuntime) {
     prepare_each(&rt, rt.alloc(), &directory, &calls);
 }
 
-/// A directory with an epoch 2, in which the name `b` is registered.
+/// Returns a directory with an epoch 2, in which the name `b` is registered.
 fn with_epoch<'a, R: Threads + Sync + Abort>(
     rt: &R,
     alloc: Global,
@@ -81,7 +81,7 @@ fn with_epoch<'a, R: Threads + Sync + Abort>(
     committed(rt, alloc, Asked { calls }, &ops, 2, (0, 1))
 }
 
-/// The fault of a lookup of a name of so many bytes `b`, at most 256.
+/// Returns the error of a lookup of a name of a given number of bytes `b`, at most 256.
 fn fault_of_lookup(
     directory: &Directory<Sha256Hash, Asked<'_>>,
     t: u64,
@@ -91,7 +91,7 @@ fn fault_of_lookup(
     directory.lookup(t, name.get(..length).unwrap_or(&[])).err()
 }
 
-/// Lookups by their epochs and the lengths of their names, their faults, and how often the source is asked in each.
+/// The epoch of a lookup, the length of its name, its error, and the number of its calls to the source.
 const LOOKUPS: [(u64, usize, Option<LookupFault>, u64); 6] = [
     (1, 1, Some(LookupFault::UnknownEpoch), 0),
     (3, 1, Some(LookupFault::UnknownEpoch), 0),
@@ -101,7 +101,7 @@ const LOOKUPS: [(u64, usize, Option<LookupFault>, u64); 6] = [
     (2, 1, None, 1),
 ];
 
-/// Looks each name up.
+/// Looks up each name, and asserts the error and the number of calls.
 fn look_up_each(rt: &impl Abort, directory: &Directory<Sha256Hash, Asked<'_>>, calls: &Cell<u64>) {
     for &(t, length, fault, asked) in &LOOKUPS {
         calls.set(0);
@@ -110,7 +110,7 @@ fn look_up_each(rt: &impl Abort, directory: &Directory<Sha256Hash, Asked<'_>>, c
     }
 }
 
-/// It isn't asked about a lookup in an unknown epoch or of a name of a wrong length, and once about any other.
+/// The source is not called for an unknown epoch or a name of a wrong length, and once for any other lookup.
 #[test]
 fn lookups_ask_once(rt: HostRuntime) {
     let calls = Cell::new(0);

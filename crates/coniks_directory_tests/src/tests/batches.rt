@@ -1,4 +1,4 @@
-//! Batches that are refused, and one that each number of workers prepares.
+//! Batches that are refused, and batches that every number of workers builds the same.
 
 use crate::tests::answers::{Told, asked};
 use crate::tests::clerk::{Clerk, Letters, Written, ops_of, with_clerk};
@@ -11,7 +11,7 @@ use std::alloc::Global;
 use std::process::Abort;
 use std::thread::Threads;
 
-/// The fault of a batch on a new directory.
+/// Returns the error of a batch on a new directory.
 fn fault_of<R: Threads + Sync>(
     rt: &R,
     alloc: Global,
@@ -23,7 +23,7 @@ fn fault_of<R: Threads + Sync>(
     directory.prepare(rt, ops, depth, workers, &Open).err()
 }
 
-/// The position of an operation at fault, and its fault.
+/// Returns the position and the error of an operation, if the batch is refused for one.
 fn place_of(fault: Option<BatchFault>) -> Option<(usize, OpFault)> {
     match fault {
         Some(BatchFault::At { position, fault }) => Some((position, fault)),
@@ -31,7 +31,7 @@ fn place_of(fault: Option<BatchFault>) -> Option<(usize, OpFault)> {
     }
 }
 
-/// An operation with a name and a key of so many bytes `b`, at most 16,385.
+/// Returns an operation whose name and key have a given number of bytes `b`, at most 16,385.
 pub fn sized(rt: &impl Abort, alloc: Global, name: usize, key: usize) -> Op {
     let letters = [b'b'; 16_385];
     let (name, key) = (letters.get(..name), letters.get(..key));
@@ -43,7 +43,7 @@ pub fn sized(rt: &impl Abort, alloc: Global, name: usize, key: usize) -> Op {
     }
 }
 
-/// So many operations with no name.
+/// Returns a given number of operations with empty names.
 fn nameless(rt: &impl Abort, alloc: Global, count: usize) -> Vec<Op> {
     let mut ops = Vec::new(alloc);
     for _ in 0..count {
@@ -52,7 +52,7 @@ fn nameless(rt: &impl Abort, alloc: Global, count: usize) -> Vec<Op> {
     ops
 }
 
-/// The fault of so many operations with no name.
+/// Returns the error of a given number of operations with empty names.
 fn fault_of_many<R: Threads + Sync + Abort>(
     rt: &R,
     alloc: Global,
@@ -63,7 +63,7 @@ fn fault_of_many<R: Threads + Sync + Abort>(
     fault_of(rt, alloc, &nameless(rt, alloc, count), depth, workers)
 }
 
-/// Workers, depth and the number of operations, in this order and before any operation.
+/// The workers, the split depth and the number of operations are checked in this order, before any operation.
 #[test]
 fn limits(rt: HostRuntime) {
     let no_name = BatchFault::At {
@@ -82,7 +82,7 @@ fn limits(rt: HostRuntime) {
     }
 }
 
-/// The fault of a batch that registers `b` and then a name and a key of so many bytes `b`.
+/// Returns the error of a batch that registers `b` and then a name and a key of a given number of bytes `b`.
 fn second_of_size<R: Threads + Sync + Abort>(
     rt: &R,
     alloc: Global,
@@ -94,7 +94,7 @@ fn second_of_size<R: Threads + Sync + Abort>(
     place_of(fault_of(rt, alloc, &ops, 0, 1))
 }
 
-/// The longest name and key, and one byte more; the name comes before the key, and both before the name's first use.
+/// A name or a key of a wrong length is refused. The name's length is checked first, and both before `NameTwice`.
 #[test]
 fn lengths(rt: HostRuntime) {
     for (name, key, fault) in [
@@ -118,7 +118,7 @@ const P: Written = (Register, b'p', b'k');
 
 const Q: Written = (Register, b'q', b'k');
 
-/// The fault of a batch on the registry that another batch leaves.
+/// Returns the error of a batch on the registry that another batch leaves.
 fn fault_on<R: Threads + Sync + Abort>(
     rt: &R,
     clerk: &mut Clerk<Sha256Hash>,
@@ -130,7 +130,7 @@ fn fault_on<R: Threads + Sync + Abort>(
     clerk.directory.prepare(rt, &ops, 0, 1, &Open).err()
 }
 
-/// The first operation at fault of a batch, on the registry that another batch leaves in a new directory, and its fault.
+/// Returns the position and the error of a batch's first refused operation, after another batch in a new directory.
 fn fault_after<R: Threads + Sync + Abort + AllocGlobal>(
     rt: &R,
     before: &[Written],
@@ -141,10 +141,11 @@ fn fault_after<R: Threads + Sync + Abort + AllocGlobal>(
     })
 }
 
-/// A batch that is refused: the one before it, its operations, the place of the first one at fault, and its first fault.
+/// The batch before a refused one, the refused operations, the position of the first with an error, and its first
+/// error.
 type Refused<'a> = (&'a [Written], &'a [Written], usize, OpFault);
 
-/// Asserts the first fault of each batch.
+/// Asserts the first error of each batch.
 fn are_refused<R: Threads + Sync + Abort + AllocGlobal>(rt: &R, batches: &[Refused<'_>]) {
     for &(before, written, position, fault) in batches {
         let want = Some((position, fault));
@@ -152,7 +153,7 @@ fn are_refused<R: Threads + Sync + Abort + AllocGlobal>(rt: &R, batches: &[Refus
     }
 }
 
-/// Names that come twice or are taken.
+/// A name that comes twice in a batch, or that is already registered, is refused.
 #[test]
 fn twice_or_taken(rt: HostRuntime) {
     are_refused(
@@ -165,7 +166,7 @@ fn twice_or_taken(rt: HostRuntime) {
     );
 }
 
-/// A name that is unknown, and the first of two operations at fault.
+/// A change of an unknown name is refused. If two operations have errors, the first one's is returned.
 #[test]
 fn unknown_or_first(rt: HostRuntime) {
     let changes = [(Change, b'a', b'l'), (Change, b'b', b'l')];
@@ -178,7 +179,7 @@ fn unknown_or_first(rt: HostRuntime) {
     );
 }
 
-/// Two names with one index, in one batch and in two.
+/// A new name is refused if another name has its index, in the same batch or in an earlier one.
 #[test]
 fn one_index(rt: HostRuntime) {
     are_refused(
@@ -191,8 +192,8 @@ fn one_index(rt: HostRuntime) {
     );
 }
 
-/// Whether three names and then a change of one, committed at a depth with so many workers, have the nodes, the root and
-/// the answers that they have.
+/// Commits three names and then a change of one, with a split depth and a number of workers. Returns whether the nodes,
+/// the root and the lookups are the expected ones.
 fn is_same<R: Threads + Sync + Abort>(
     rt: &R,
     clerk: &mut Clerk<Sha256Hash>,
@@ -214,7 +215,7 @@ fn is_same<R: Threads + Sync + Abort>(
         && asked(&clerk.directory, 2, "b") == Told::Key(1, b'l')
 }
 
-/// Whether these workers make of these batches what any number of them does.
+/// Returns whether a new directory passes `is_same` with a split depth and a number of workers.
 fn makes_same<R: Threads + Sync + Abort + AllocGlobal>(
     rt: &R,
     depth: usize,

@@ -11,7 +11,7 @@ use coniks_shared::Watcher;
 use std::process::Abort;
 use std::thread::Threads;
 
-/// Commits two epochs, which fill a board of two heads, and then a third one, which is refused. The second one's head.
+/// Fills a board of two heads with two epochs, and asserts that a third one is refused. Returns the second one's head.
 fn fill<R: Threads + Sync + Abort>(rt: &R, clerk: &mut Clerk<Sha256Hash>) -> Head
     ensures { clerk.new.board.now.table ≡ clerk.old.board.now.table }
 {
@@ -25,7 +25,7 @@ fn fill<R: Threads + Sync + Abort>(rt: &R, clerk: &mut Clerk<Sha256Hash>) -> Hea
     }
 }
 
-/// Fills the board beside an early watcher, and looks with it and with a late one.
+/// Fills the board, and asserts that an earlier watcher and a later one both return its last head.
 fn watch_filling<R: Threads + Sync + Abort>(
     rt: &R,
     clerk: &mut Clerk<Sha256Hash>,
@@ -40,7 +40,7 @@ fn watch_filling<R: Threads + Sync + Abort>(
     assert!(rt; early.latest(clerk.board) == head);
 }
 
-/// Fills the board, and looks up at the second epoch and at the third one.
+/// Fills the board, and looks up a name at the second epoch and at the third one.
 fn fill_watched<R: Threads + Sync + Abort>(rt: &R, clerk: &mut Clerk<Sha256Hash>) {
     let mut early = clerk.watcher(rt);
     watch_filling(rt, clerk, &mut early);
@@ -54,7 +54,7 @@ fn fill_watched<R: Threads + Sync + Abort>(rt: &R, clerk: &mut Clerk<Sha256Hash>
     );
 }
 
-/// A board of two heads: the third epoch is refused, and the two stay.
+/// If the board takes two heads, a third epoch is refused, and the two epochs are kept.
 #[test]
 fn full_board(rt: HostRuntime) {
     with_clerk(&rt, 2, |clerk| fill_watched(&rt, clerk));

@@ -18,7 +18,8 @@ use std::alloc::{AllocError, Global};
 use std::process::Abort;
 use std::thread::Threads;
 
-/// Gives each letter of the worked examples an index of its own, but `p` and `q` one, and every other name that of `a`.
+/// A source that gives each letter of the worked examples its own index. `p` and `q` have the same one, and every other
+/// name has that of `a`.
 #[derive(Clone, Copy, Drop)]
 pub struct Letters;
 
@@ -62,7 +63,7 @@ impl IndexSource for Letters {
 /// The signature of each entry.
 const SIGNATURE: Signature = Signature([0x55; 64]);
 
-/// A signer that refuses the call of this number, counted from 0.
+/// Returns a signer that refuses the call of this number, counted from 0.
 pub fn refusing(refused_call: u64) -> Signer<Stamp>
     ensures made { result.signings.made ≡ 0 }
     ensures refused { result.signings.refused ≡ 0 }
@@ -70,7 +71,7 @@ pub fn refusing(refused_call: u64) -> Signer<Stamp>
     Signer::new(Stamp::new(Some(SIGNATURE), SIGNATURE, refused_call))
 }
 
-/// An operation as the tests write it: its kind, its name and its key, each of one letter.
+/// An operation of the tests: its kind, a name of one letter and a key of one letter.
 pub type Written = (OpKind, u8, u8);
 
 fn op_of(alloc: Global, written: Written) -> Result<Op, AllocError> {
@@ -83,7 +84,7 @@ fn op_of(alloc: Global, written: Written) -> Result<Op, AllocError> {
     })
 }
 
-/// The operations, each with the opening of 32 bytes 22.
+/// Returns the operations, each with the opening `OPENING`.
 pub fn ops_of(alloc: Global, written: &[Written]) -> Result<Vec<Op>, AllocError> {
     let mut ops = Vec::new(alloc);
     for &one in written {
@@ -92,7 +93,7 @@ pub fn ops_of(alloc: Global, written: &[Written]) -> Result<Vec<Op>, AllocError>
     Ok(ops)
 }
 
-/// A directory over letters, with its signer and its board's publisher.
+/// A directory over `Letters`, with its signer and its board's publisher.
 #[derive(Drop)]
 pub struct Clerk<'a, H: Hash32> {
     pub alloc: Global,
@@ -105,7 +106,7 @@ pub struct Clerk<'a, H: Hash32> {
 }
 
 impl<'a, H: Hash32 + Sync> Clerk<'a, H> {
-    /// A clerk of a new directory, with a signer that refuses the call of this number.
+    /// Returns a clerk of a new directory, with a signer that refuses the call of this number.
     pub fn new(
         alloc: Global,
         h: H,
@@ -126,7 +127,7 @@ impl<'a, H: Hash32 + Sync> Clerk<'a, H> {
         }
     }
 
-    /// A watcher of the board.
+    /// Returns a watcher of the board.
     pub fn watcher(&mut self, rt: &impl Abort) -> Watcher
         ensures board { self.new.board.now.table ≡ self.old.board.now.table }
         ensures watcher { result.table ≡ self.new.board.now.table }
@@ -134,14 +135,14 @@ impl<'a, H: Hash32 + Sync> Clerk<'a, H> {
         self.publisher.watcher(self.board).expect(rt, "a watcher")
     }
 
-    /// Whether the signer may be asked once more.
+    /// Returns whether the signer's counts are low enough for another call.
     pub fn may_sign(&self) -> bool
         ensures { result ≡ true → (self.now.signer.signings.made < 2 ^ 64 - 1) × (self.now.signer.signings.refused < 2 ^ 64 - 1) }
     {
         self.signer.made() < u64::MAX && self.signer.refused() < u64::MAX
     }
 
-    /// Commits a batch at depth 1 with two workers. It is `BatchTooLong` if there is no memory for the operations.
+    /// Commits a batch at depth 1 with two workers. Returns `BatchTooLong` if the allocation of the operations fails.
     pub fn commit<R: Threads + Sync>(
         &mut self,
         rt: &R,
@@ -163,14 +164,14 @@ impl<'a, H: Hash32 + Sync> Clerk<'a, H> {
         self.commit(rt, t, &[(OpKind::Register, b'a', b'k')])
     }
 
-    /// Prepares a batch at depth 1 with two workers. None where it is refused.
+    /// Prepares a batch at depth 1 with two workers. Returns `None` after an error.
     pub fn prepare<R: Threads + Sync>(&self, rt: &R, written: &[Written]) -> Option<Prepared>
         ensures { IfSome result (IsUpdateOf (H.digest_of self.now.directory.hash) index_of_letter self.now.directory.state) }
     {
         prepared(rt, self.alloc, &self.directory, written)
     }
 
-    /// Prepares a batch at a depth with so many workers, under a nonce that it may bring.
+    /// Prepares a batch with a split depth and a number of workers, under a new nonce if there is one.
     pub fn prepare_under<R: Threads + Sync>(
         &self,
         rt: &R,
@@ -232,8 +233,8 @@ impl<'a, H: Hash32 + Sync> Clerk<'a, H> {
         )
     }
 
-    /// Installs an update, and then hands in another one of the same base twice. The faults of these two, where the first
-    /// is installed and they aren't.
+    /// Installs an update, and then tries twice to install another one of the same base. Returns the errors of these
+    /// two, or `None` if the first install fails or one of the two succeeds.
     pub fn install_both(
         &mut self,
         first: Prepared,
@@ -257,7 +258,7 @@ impl<'a, H: Hash32 + Sync> Clerk<'a, H> {
     }
 }
 
-/// Prepares a batch at depth 1 with two workers. None where it is refused.
+/// Prepares a batch at depth 1 with two workers. Returns `None` after an error.
 pub fn prepared<H: Hash32 + Sync, R: Threads + Sync>(
     rt: &R,
     alloc: Global,
@@ -276,7 +277,7 @@ pub fn prepared<H: Hash32 + Sync, R: Threads + Sync>(
     }
 }
 
-/// Returns a board that takes `heads` heads, at least 1, with its publisher. If an allocation fails, it is made again.
+/// Returns a board that takes `heads` heads, at least 1, with its publisher. If an allocation fails, it is tried again.
 pub fn new_board(rt: &impl Abort, alloc: Global, heads: usize) -> (Board, Publisher)
     ensures tabled { result.1.table ≡ result.0.table }
     ensures headed { result.1.heads ≡ [] }
@@ -289,7 +290,8 @@ pub fn new_board(rt: &impl Abort, alloc: Global, heads: usize) -> (Board, Publis
     made.expect(rt, "a board")
 }
 
-/// Commits a batch at epoch `t` to a new directory over a source of indices, with a split depth and a number of workers.
+/// Commits a batch at epoch `t` to a new directory over a source of indices, with a split depth and a number of
+/// workers. Returns the directory.
 pub fn committed<X: IndexSource, R: Threads + Sync + Abort>(
     rt: &R,
     alloc: Global,
@@ -316,7 +318,8 @@ pub fn committed<X: IndexSource, R: Threads + Sync + Abort>(
     directory
 }
 
-/// Takes steps with the clerk of a new directory, whose board takes `heads` heads, at least 1. Its signer refuses nothing.
+/// Runs steps with the clerk of a new directory. Its board takes `heads` heads, at least 1, and its signer refuses
+/// nothing.
 pub fn with_clerk<T, F: FnOnce(&mut Clerk<Sha256Hash>) -> T, R: Abort + AllocGlobal>(
     rt: &R,
     heads: usize,
@@ -327,7 +330,7 @@ pub fn with_clerk<T, F: FnOnce(&mut Clerk<Sha256Hash>) -> T, R: Abort + AllocGlo
     with_refusing_clerk(rt, rt.alloc(), heads, u64::MAX, steps)
 }
 
-/// Takes steps as `with_clerk` does. The signer refuses the call of this number.
+/// Runs steps as `with_clerk` does. The signer refuses the call of this number.
 pub fn with_refusing_clerk<T, F: FnOnce(&mut Clerk<Sha256Hash>) -> T>(
     rt: &impl Abort,
     alloc: Global,

@@ -1,4 +1,4 @@
-//! What clients of two directories find, where the hash has collisions and where it has none that are known.
+//! Collisions that clients of two directories find, with a hash that has collisions and with SHA-256.
 
 use crate::tests::clerk::{Clerk, Letters, with_clerk};
 use coniks_chain::{Entry, Signature, Signer, extract_history};
@@ -11,7 +11,7 @@ use std::alloc::Global;
 use std::process::Abort;
 use std::thread::Threads;
 
-/// What two proofs of `a` give.
+/// Returns the collision that `extract` finds in two proofs for `a`, if there is one.
 fn collision_of<H: Hash32>(
     rt: &impl Abort,
     alloc: Global,
@@ -25,19 +25,19 @@ fn collision_of<H: Hash32>(
     extract(alloc, h, &NONCE, root, &index, first, second).expect(rt, "memory")
 }
 
-/// The proof of `a` at epoch 1.
+/// Returns the proof for `a` at epoch 1.
 fn proof_of_a<H: Hash32>(rt: &impl Abort, clerk: &Clerk<H>) -> Proof {
     clerk.directory.lookup(1, b"a").expect(rt, "a proof")
 }
 
-/// The chain of a directory, and its proof of `a` at epoch 1.
+/// The chain of a directory, and its proof for `a` at epoch 1.
 #[derive(Drop)]
 struct Shown {
     chain: Vec<Entry>,
     proof: Proof,
 }
 
-/// What a clerk shows a client, once it has bound `a` to a key.
+/// Registers `a` with a key, and returns what a client sees.
 fn shown_by<R: Threads + Sync + Abort>(rt: &R, clerk: &mut Clerk<Flat>, key: u8) -> Shown {
     assert!(rt; clerk.commit(rt, 1, &[(Register, b'a', key)]).is_ok());
     Shown {
@@ -46,7 +46,8 @@ fn shown_by<R: Threads + Sync + Abort>(rt: &R, clerk: &mut Clerk<Flat>, key: u8)
     }
 }
 
-/// What a directory over a flat hash that binds `a` to a key shows a client, where its signer signs with this letter.
+/// Returns what a client sees of a directory under `Flat` that binds `a` to a key. Each byte of its signatures is this
+/// letter.
 fn showing<R: Threads + Sync + Abort>(rt: &R, alloc: Global, key: u8, letter: u8) -> Shown {
     let (board, publisher) = Board::new(alloc, 1).expect(rt, "a board");
     let mut clerk = Clerk::new(alloc, Flat, &board, publisher, u64::MAX);
@@ -55,13 +56,13 @@ fn showing<R: Threads + Sync + Abort>(rt: &R, alloc: Global, key: u8, letter: u8
     shown_by(rt, &mut clerk, key)
 }
 
-/// Whether two chains give no collision.
+/// Returns whether `extract_history` finds no collision in two chains.
 fn is_one_history(rt: &impl Abort, alloc: Global, one: &Shown, other: &Shown) -> bool {
     let history = extract_history(alloc, &Flat, &one.chain, &other.chain);
     history.expect(rt, "memory").is_none()
 }
 
-/// Whether two proofs give the two preimages of a commitment with these digits.
+/// Returns whether two proofs give the two preimages of a commitment that have these hexadecimal digits.
 fn gives(rt: &impl Abort, alloc: Global, one: &Shown, other: &Shown, x: &str, y: &str) -> bool {
     let root = Digest([0; 32]);
     let found = collision_of(rt, alloc, &Flat, &root, &one.proof, &other.proof);
@@ -70,8 +71,8 @@ fn gives(rt: &impl Abort, alloc: Global, one: &Shown, other: &Shown, x: &str, y:
     found.x.as_slice() == x.as_slice() && found.y.as_slice() == y.as_slice()
 }
 
-/// Two directories over a flat hash that bind one name to two keys: their entries are the same, and their proofs give
-/// the two commitment preimages.
+/// Two directories under `Flat` that bind one name to two keys have the same entries. Their proofs give the two
+/// preimages of the commitment.
 #[test]
 fn two_clients(rt: HostRuntime) {
     let one = showing(&rt, rt.alloc(), b'k', 0x55);
@@ -82,7 +83,7 @@ fn two_clients(rt: HostRuntime) {
     assert!(rt; gives(&rt, rt.alloc(), &one, &other, k, l));
 }
 
-/// Whether bytes are what is hashed to the link of the first entry, signed with a letter.
+/// Returns whether bytes are the preimage of the first entry's link, if each byte of the signature is this letter.
 fn is_preimage(bytes: &[u8], letter: u8) -> bool {
     let body: [u8; 146] = bytes_of(
         "5301000000000000000100000000000000000000000000000000000000000000000000000000000000000000000000000000000000000000000000000000000000000000000000000000000000000000000011111111111111111111111111111111111111111111111111111111111111113333333333333333333333333333333333333333333333333333333333333333",
@@ -90,7 +91,7 @@ fn is_preimage(bytes: &[u8], letter: u8) -> bool {
     bytes.strip_prefix(body.as_slice()) == Some([letter; 64].as_slice())
 }
 
-/// Where the two have signers of different signatures, their entries give what is hashed to the two links.
+/// If the two directories have different signatures, their entries give the preimages of the two links.
 #[test]
 fn two_signers(rt: HostRuntime) {
     let one = showing(&rt, rt.alloc(), b'k', 0x55);
@@ -101,7 +102,7 @@ fn two_signers(rt: HostRuntime) {
     assert!(rt; is_preimage(found.y.as_slice(), 0x66));
 }
 
-/// What two lookups of `a` at epoch 1 give.
+/// Returns the collision that two lookups of `a` at epoch 1 give, if there is one.
 fn collision_within<R: Threads + Sync + Abort>(
     rt: &R,
     clerk: &mut Clerk<Sha256Hash>,

@@ -1,4 +1,4 @@
-//! Epochs one after another: roots, numbers of nodes, lookups and the chain.
+//! Several epochs: roots, numbers of nodes, lookups and the chain.
 
 use crate::tests::answers::{Told, are_told};
 use crate::tests::clerk::{Clerk, Written, with_clerk};
@@ -10,7 +10,7 @@ use coniks_test_support::{bytes_of, digest};
 use std::process::Abort;
 use std::thread::Threads;
 
-/// Commits a batch, and says whether the tree then has so many nodes and the epoch this root.
+/// Commits a batch. Returns whether the tree then has this number of nodes and the epoch this root.
 fn commits<R: Threads + Sync>(
     rt: &R,
     clerk: &mut Clerk<Sha256Hash>,
@@ -24,7 +24,7 @@ fn commits<R: Threads + Sync>(
         && clerk.directory.root_at(t) == Some(root)
 }
 
-/// Commits no names twice, then three of them, then a change of one.
+/// Commits two empty batches, then three names, then a change of one of them.
 fn commit_hash_four<R: Threads + Sync + Abort>(rt: &R, clerk: &mut Clerk<Sha256Hash>) {
     let empty = "1aa9b40c9d34d625d7329003c097925b7d4c7809b864b047b71defb140aca216";
     assert!(rt; commits(rt, clerk, 1, &[], 1, digest(empty)));
@@ -41,7 +41,7 @@ fn commit_hash_four<R: Threads + Sync + Abort>(rt: &R, clerk: &mut Clerk<Sha256H
     assert!(rt; commits(rt, clerk, 4, &change, 8, digest(root)));
 }
 
-/// Commits four epochs, and looks names up in them.
+/// Commits four epochs, and looks up names in them.
 fn commit_and_ask<R: Threads + Sync + Abort>(rt: &R, clerk: &mut Clerk<Sha256Hash>) {
     commit_hash_four(rt, clerk);
     are_told(
@@ -56,13 +56,13 @@ fn commit_and_ask<R: Threads + Sync + Abort>(rt: &R, clerk: &mut Clerk<Sha256Has
     );
 }
 
-/// The empty registry, then no change, then two names beside each other, then one of them changed.
+/// Two empty batches, a batch of three names and a change of one have the expected roots and lookups.
 #[test]
 fn roots(rt: HostRuntime) {
     with_clerk(&rt, 4, |clerk| commit_and_ask(&rt, clerk));
 }
 
-/// Commits two names whose indices part at the last bit, and looks one up.
+/// Commits two names whose indices differ only in the last bit, and looks up one of them.
 fn commit_deepest<R: Threads + Sync + Abort>(rt: &R, clerk: &mut Clerk<Sha256Hash>) {
     let a = [(Register, b'a', b'k')];
     let root = "042fd8b84dddf51f9702df23af5d7b8085d9e48571804622630a4fdab7481c17";
@@ -77,13 +77,13 @@ fn commit_deepest<R: Threads + Sync + Abort>(rt: &R, clerk: &mut Clerk<Sha256Has
     );
 }
 
-/// Two indices that part at the last bit.
+/// Two names whose indices differ only in the last bit have paths of 256 siblings.
 #[test]
 fn deepest_epoch(rt: HostRuntime) {
     with_clerk(&rt, 2, |clerk| commit_deepest(&rt, clerk));
 }
 
-/// Commits a key at epoch 1 and another one at epoch 4, and looks both up.
+/// Commits a key at epoch 1 and another one at epoch 4, and looks up both.
 fn commit_two<R: Threads + Sync + Abort>(rt: &R, clerk: &mut Clerk<Sha256Hash>) {
     assert!(rt; clerk.register_a(rt, 1).is_ok());
     assert!(rt; clerk.commit(rt, 4, &[(Change, b'a', b'l')]).is_ok());
@@ -99,7 +99,7 @@ fn commit_two<R: Threads + Sync + Abort>(rt: &R, clerk: &mut Clerk<Sha256Hash>) 
     );
 }
 
-/// The last entry of the chain of two epochs, and the head that an audit tells.
+/// Asserts the last entry of the chain of two epochs, and the head that an audit returns.
 fn has_chain_of_two(rt: &impl Abort, clerk: &Clerk<Sha256Hash>) {
     let chain = clerk.directory.chain();
     let last = chain.last().expect(rt, "an entry");
@@ -115,7 +115,7 @@ fn has_chain_of_two(rt: &impl Abort, clerk: &Clerk<Sha256Hash>) {
     assert!(rt; head == Some(want));
 }
 
-/// A key that is changed at a later epoch, and the chain of both.
+/// A key that is changed at a later epoch is found at each epoch, and an audit accepts the chain.
 #[test]
 fn two_epochs(rt: HostRuntime) {
     with_clerk(&rt, 2, |clerk| {

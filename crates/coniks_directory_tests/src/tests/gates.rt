@@ -1,4 +1,4 @@
-//! The workers of one batch that pass a gate.
+//! Worker threads of one batch that pass a gate.
 
 use crate::tests::clerk::{Written, ops_of, with_clerk};
 use coniks_directory::OpKind::Register;
@@ -8,7 +8,7 @@ use coniks_work::Gate;
 use std::process::Abort;
 use std::thread::Threads;
 
-/// The root of a first epoch that is built at a depth by workers that pass a gate. None where it is refused.
+/// Returns the root of a first epoch, built at a split depth by workers that pass a gate, or `None` if it is refused.
 fn first_root<G: Gate + Sync, R: Threads + Sync + Abort + AllocGlobal>(
     rt: &R,
     written: &[Written],
@@ -32,7 +32,7 @@ const FOUR: [Written; 4] = [
 
 const OF_FOUR: &str = "0d10d652bba80545e24f4d5e24bf33580588fb0d17ee964d3213748e6d7e6145";
 
-/// Of two jobs the first is held until the second has come, so they are on two threads.
+/// Two jobs run on two threads: the first is held until the second has come.
 #[test]
 fn two_jobs_at_once(rt: HostRuntime) {
     let gate = Meeting::of(2);
@@ -43,7 +43,7 @@ fn two_jobs_at_once(rt: HostRuntime) {
     assert!(rt; root == Some(digest(want)));
 }
 
-/// Three workers do each of four jobs once.
+/// Three workers do each of four jobs exactly once.
 #[test]
 fn entered_once(rt: HostRuntime) {
     let gate = Counts::new();
@@ -52,7 +52,7 @@ fn entered_once(rt: HostRuntime) {
     assert!(rt; root == Some(digest(OF_FOUR)));
 }
 
-/// Of two workers one is held at its job until the other has come with the three that are left.
+/// While one of two workers is held at its job, the other takes the remaining three jobs.
 #[test]
 fn draws_move(rt: HostRuntime) {
     let gate = Meeting::of(4);

@@ -1,4 +1,4 @@
-//! Batches whose commitments are groups of four and one, two or three left over.
+//! Batches whose commitments are hashed in a group of four, with one, two or three left over.
 
 use crate::tests::clerk::committed;
 use crate::tests::largest::Hashed;
@@ -9,16 +9,16 @@ use std::alloc::Global;
 use std::process::Abort;
 use std::thread::Threads;
 
-/// How many bytes a name and its key have. The commitment's message has 39 more.
+/// The lengths of a name and its key in bytes. The message of their commitment has 39 bytes more.
 type Sizes = (usize, usize);
 
-/// So many times the letter that stands so far behind another.
+/// Returns `count` times the letter that is `behind` places after the first one.
 fn letters(rt: &impl Abort, alloc: Global, first: u8, behind: u8, count: usize) -> Bytes {
     let letter = first.wrapping_add(behind);
     Bytes::new(vec![in alloc; letter; count].expect(rt, "memory"))
 }
 
-/// Registers a name of letters `a` with a key of letters `A`, then one of `b` with `B`, and so on.
+/// Returns operations that register a name of letters `a` with a key of letters `A`, then `b` with `B`, and so on.
 fn registering(rt: &impl Abort, alloc: Global, sizes: &[Sizes]) -> Vec<Op> {
     let mut ops = Vec::new(alloc);
     let mut behind = 0u8;
@@ -35,14 +35,14 @@ fn registering(rt: &impl Abort, alloc: Global, sizes: &[Sizes]) -> Vec<Op> {
     ops
 }
 
-/// The root of a new directory after such a batch.
+/// Returns the root of a new directory after a batch of names and keys of these lengths.
 fn root_after<R: Threads + Sync + Abort>(rt: &R, alloc: Global, sizes: &[Sizes]) -> Option<Digest> {
     let ops = registering(rt, alloc, sizes);
     committed(rt, alloc, Hashed, &ops, 1, (1, 2)).root_at(1)
 }
 
-/// Each root is another, and the commitments of all places stand in it. A message of 56 to 119 bytes goes by lanes, where
-/// all four of its group do.
+/// Batches of five, six and seven names have the expected roots. The four messages of a group are hashed at once if
+/// each has 56 to 119 bytes.
 #[test]
 fn left_over(rt: HostRuntime) {
     let five: &[Sizes] = &[(1, 16), (2, 32), (12, 32), (3, 77), (1, 15)];

@@ -1,10 +1,10 @@
 //! Batches whose operations come with the indices of their names.
 
-ghost use Rattle.std.specs.Prelude.{◌≡◌, List, ℕ, IfOk};
-ghost use Rattle.coniks_directory.specs.Directories.{registry};
+ghost use Rattle.std.specs.Prelude.{◌≡◌, IfOk};
 ghost use Rattle.coniks_directory.specs.Supplied.{supplied_index};
 ghost use Rattle.coniks_directory.specs.SuppliedBatches.{IsSuppliedUpdate};
 ghost use Rattle.coniks_directory.specs.Updates.{IsUpdate};
+ghost use Rattle.coniks_proof.specs.Octets.{Octets};
 
 use crate::tests::clerk::{Written, ops_of, refusing};
 use crate::tests::runs::{install_supplied_next, prepare_supplied_next};
@@ -19,7 +19,7 @@ use std::alloc::Global;
 use std::process::Abort;
 use std::thread::Threads;
 
-/// The update of operations with the indices of their names.
+/// Prepares operations with the indices of their names.
 fn prepare<R: Threads + Sync + Abort>(
     rt: &R,
     alloc: Global,
@@ -27,10 +27,10 @@ fn prepare<R: Threads + Sync + Abort>(
     written: &[Written],
     indices: &[Index],
 ) -> Result<Prepared, SuppliedBatchFault>
-    ensures update { IfOk result (λ p. (index : List ℕ → List ℕ)
+    ensures update { IfOk result (λ p. (index : Octets → Octets)
         × IsUpdate (⟦<Sha256Hash as Hash32>⟧.digest_of directory.now.hash) index directory.now.state p) }
     ensures installable { IfOk result
-        (λ p. (index : List ℕ → List ℕ)
+        (λ p. (index : Octets → Octets)
         × IsSuppliedUpdate (⟦<Sha256Hash as Hash32>⟧.digest_of directory.now.hash) (supplied_index directory.now.index) directory.now.state p index) }
 {
     let ops = ops_of(alloc, written).expect(rt, "operations");
@@ -43,13 +43,13 @@ fn prepare<R: Threads + Sync + Abort>(
     prepare_supplied_next(rt, directory, &batch)
 }
 
-/// The fault of the operation at a position.
+/// Returns the error of the operation at a position.
 fn at(position: usize, fault: OpFault) -> Option<SuppliedBatchFault> {
     Some(SuppliedBatchFault::Batch(BatchFault::At { position, fault }))
 }
 
-/// Of errors the first operation's counts, and of its errors the first; another index comes after an unknown name and before
-/// a clash of indices.
+/// Asserts that the first error of the first operation with an error is returned. `OtherIndex` comes after
+/// `NameUnknown` and before `IndexClash`.
 fn refuse<R: Threads + Sync + Abort>(
     rt: &R,
     alloc: Global,
@@ -77,7 +77,8 @@ fn refuse<R: Threads + Sync + Abort>(
     assert!(rt; prepare(rt, alloc, directory, &twice, &[d, b]).err() == at(1, OpFault::NameTwice));
 }
 
-/// The root is that of a source that had the indices from the start. A batch that was only prepared, or refused, leaves none.
+/// The root is that of a source that has the indices from the start. A batch that is only prepared, or refused,
+/// supplies none.
 #[test]
 fn batches_with_their_indices(rt: HostRuntime) {
     let alloc = rt.alloc();

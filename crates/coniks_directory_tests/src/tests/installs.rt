@@ -8,7 +8,7 @@ use coniks_proof::Sha256Hash;
 use std::process::Abort;
 use std::thread::Threads;
 
-/// How often the signer signed and refused, how many entries there are, and how many heads are published.
+/// Returns the numbers of signatures, of the signer's refusals, of entries and of published heads.
 fn counts(clerk: &Clerk<Sha256Hash>) -> (u64, u64, usize, usize) {
     let published = clerk.publisher.published();
     (
@@ -19,7 +19,7 @@ fn counts(clerk: &Clerk<Sha256Hash>) -> (u64, u64, usize, usize) {
     )
 }
 
-/// The fault of a commit that is refused.
+/// Commits a batch, and returns the error if it is refused.
 fn refusal<R: Threads + Sync>(
     rt: &R,
     clerk: &mut Clerk<Sha256Hash>,
@@ -29,12 +29,12 @@ fn refusal<R: Threads + Sync>(
     clerk.commit(rt, t, written).err()
 }
 
-/// The fault of an epoch that isn't later than the latest one.
+/// Returns the error of an epoch that is not later than the latest one.
 fn not_later_than(latest: u64) -> Option<CommitFault> {
     Some(CommitFault::Install(InstallFault::EpochNotLater { latest }))
 }
 
-/// Commits that are refused, and what they leave.
+/// Asserts the errors of refused commits, and that these sign and publish nothing.
 fn commit_not_later<R: Threads + Sync + Abort>(rt: &R, clerk: &mut Clerk<Sha256Hash>) {
     assert!(rt; refusal(rt, clerk, 0, &[]) == not_later_than(0));
     assert!(rt; clerk.register_a(rt, 4).is_ok());
@@ -47,7 +47,7 @@ fn commit_not_later<R: Threads + Sync + Abort>(rt: &R, clerk: &mut Clerk<Sha256H
     assert!(rt; counts(clerk) == (1, 0, 1, 1));
 }
 
-/// An epoch that isn't later, as the first one and as the second.
+/// An epoch that is not later than the latest one is refused, as the first epoch and as the second.
 #[test]
 fn not_later(rt: HostRuntime) {
     with_clerk(&rt, 4, |clerk| commit_not_later(&rt, clerk));
@@ -55,13 +55,13 @@ fn not_later(rt: HostRuntime) {
 
 const SECOND: [Written; 2] = [(Change, b'a', b'l'), (Register, b'c', b'k')];
 
-/// The entry of a second epoch where the signer refuses nothing.
+/// Returns the entry of a second epoch if the signer refuses nothing.
 fn unrefused_entry<R: Threads + Sync + Abort>(rt: &R, clerk: &mut Clerk<Sha256Hash>) -> Entry {
     assert!(rt; clerk.register_a(rt, 1).is_ok());
     clerk.commit(rt, 4, &SECOND).expect(rt, "a second entry")
 }
 
-/// Commits a first epoch, and a second one, which the signer refuses.
+/// Commits a first epoch, and asserts that the signer refuses a second one.
 fn commit_refused<R: Threads + Sync + Abort>(rt: &R, clerk: &mut Clerk<Sha256Hash>) {
     assert!(rt; clerk.register_a(rt, 1).is_ok());
     let refused = Some(CommitFault::Install(InstallFault::SignerRefused));
@@ -70,7 +70,7 @@ fn commit_refused<R: Threads + Sync + Abort>(rt: &R, clerk: &mut Clerk<Sha256Has
     assert!(rt; clerk.directory.nodes() == 1);
 }
 
-/// The entry of a second epoch where the signer refuses its second call.
+/// Returns the entry of a second epoch if the signer refuses its second call.
 fn entry_after_refusal<R: Threads + Sync + Abort>(rt: &R, clerk: &mut Clerk<Sha256Hash>) -> Entry {
     commit_refused(rt, clerk);
     let entry = clerk.commit(rt, 4, &SECOND).expect(rt, "a second entry");
@@ -78,7 +78,7 @@ fn entry_after_refusal<R: Threads + Sync + Abort>(rt: &R, clerk: &mut Clerk<Sha2
     entry
 }
 
-/// A signer that refuses its second call: the next install gives the entry that the second would have been.
+/// After the signer refuses an install, the next install returns the entry that the refused one would have returned.
 #[test]
 fn signer_refuses(rt: HostRuntime) {
     let alloc = rt.alloc();
@@ -87,12 +87,12 @@ fn signer_refuses(rt: HostRuntime) {
     assert!(rt; entry == unrefused);
 }
 
-/// How often the source of signatures was asked, and the bytes of the last call.
+/// Returns the number of calls to the source of signatures, and the body of the last call.
 fn asking(clerk: &Clerk<Sha256Hash>) -> (u64, Option<[u8; 145]>) {
     (clerk.signer.source.calls, clerk.signer.source.asked)
 }
 
-/// Two epochs, and refusals before, between and after them, of which that of the signer alone asks the source.
+/// Commits two epochs, with refusals before, between and after them. Only the signer's refusal calls the source.
 fn commit_asking<R: Threads + Sync + Abort>(rt: &R, clerk: &mut Clerk<Sha256Hash>) {
     assert!(rt; refusal(rt, clerk, 0, &[]) == not_later_than(0));
     assert!(rt; asking(clerk) == (0, None));
@@ -114,7 +114,7 @@ fn commit_asking<R: Threads + Sync + Abort>(rt: &R, clerk: &mut Clerk<Sha256Hash
     assert!(rt; asking(clerk) == (3, wanted));
 }
 
-/// The source is asked once for the body of each entry and of a refused one, and at no other refusal.
+/// The source of signatures is called once for each entry and for the signer's refusal, and for no other refusal.
 #[test]
 fn source_asked_once(rt: HostRuntime) {
     with_refusing_clerk(&rt, rt.alloc(), 2, 1, |clerk| commit_asking(&rt, clerk));

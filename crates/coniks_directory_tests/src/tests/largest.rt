@@ -1,4 +1,4 @@
-//! The largest batch, and as many epochs as a board has heads.
+//! The largest batch, and the largest number of epochs.
 
 use crate::tests::batches::sized;
 use crate::tests::clerk::{Clerk, committed};
@@ -10,7 +10,7 @@ use std::alloc::Global;
 use std::process::Abort;
 use std::thread::Threads;
 
-/// Gives each name its SHA-256 as its index.
+/// A source that gives each name its SHA-256 hash as the index.
 #[derive(Clone, Copy, Drop)]
 pub struct Hashed;
 
@@ -24,7 +24,7 @@ impl IndexSource for Hashed {
     }
 }
 
-/// Registers a name of the four bytes of a number, with the key `k`.
+/// Returns an operation that registers the four bytes of a number as a name, with the key `k`.
 fn numbered(rt: &impl Abort, alloc: Global, number: u32) -> Op {
     Op {
         kind: OpKind::Register,
@@ -34,7 +34,7 @@ fn numbered(rt: &impl Abort, alloc: Global, number: u32) -> Op {
     }
 }
 
-/// As many operations as a batch has, of which the last has the longest name and key.
+/// Returns the largest number of operations of a batch. The last one has the longest name and key.
 fn most(rt: &impl Abort, alloc: Global) -> Vec<Op> {
     let mut ops = Vec::new(alloc);
     for number in 0..4095 {
@@ -44,7 +44,7 @@ fn most(rt: &impl Abort, alloc: Global) -> Vec<Op> {
     ops
 }
 
-/// How long the key is that a name has at epoch 1.
+/// Returns the length of the key that a name has at epoch 1, or 0 if it has none.
 fn key_of(rt: &impl Abort, directory: &Directory<Sha256Hash, Hashed>, name: &[u8]) -> usize {
     let root = directory.root_at(1).expect(rt, "an epoch");
     let proof = directory.lookup(1, name).expect(rt, "a proof");
@@ -72,7 +72,7 @@ fn largest_batch(rt: HostRuntime) {
     assert!(rt; key_of(&rt, &directory, &[b'b'; 255]) == 16_384);
 }
 
-/// Commits as many epochs as a board has heads, and one more, which is refused.
+/// Commits `MAX_HEADS` epochs, and asserts that one more is refused.
 fn fill<R: Threads + Sync + Abort>(rt: &R, clerk: &mut Clerk<Flat>) {
     for t in 1..=65_536 {
         assert!(rt; clerk.commit(rt, t, &[]).is_ok());
@@ -85,7 +85,7 @@ fn fill<R: Threads + Sync + Abort>(rt: &R, clerk: &mut Clerk<Flat>) {
     }
 }
 
-/// Under a hash that costs nothing.
+/// A directory takes exactly `MAX_HEADS` epochs. The hash `Flat` keeps the test short.
 #[test]
 fn most_epochs(rt: HostRuntime) {
     let (board, publisher) = Board::new(rt.alloc(), MAX_HEADS).expect(&rt, "a board");

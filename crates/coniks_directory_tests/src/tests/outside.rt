@@ -1,4 +1,4 @@
-//! Signatures that are made outside: the signer keeps the body and refuses, and a second install hands the signature in.
+//! Signatures of another process: the signer stores the body and refuses, and a later install uses the signature.
 
 ghost use Rattle.std.specs.Prelude.{◌≡◌, ◌++◌, IfErr, OnErr};
 ghost use Rattle.coniks_directory.specs.Chain.{heads_of};
@@ -17,7 +17,7 @@ use std::alloc::Global;
 use std::process::Abort;
 use std::thread::Threads;
 
-/// What the other process makes of a body's bytes: their SHA-256, written twice.
+/// Returns the signature that the other process makes of a body: twice its SHA-256 hash.
 fn made_outside(body: &[u8; 145]) -> Signature
     ensures { result.0 ≡ sha256 body.now ++ sha256 body.now }
 {
@@ -25,7 +25,7 @@ fn made_outside(body: &[u8; 145]) -> Signature
     Signature::of_halves(&half.0, &half.0)
 }
 
-/// Where bodies lie until they are signed, and signatures until they are fetched.
+/// A source that stores the last body, and returns the signature that has arrived, if there is one.
 #[derive(Drop)]
 struct Desk {
     wanted: Option<[u8; 145]>,
@@ -51,7 +51,7 @@ impl SignatureSource for Desk {
     }
 }
 
-/// Installs at epoch 1.
+/// Installs an update at epoch 1.
 fn install_first(
     directory: &mut Directory<Sha256Hash, Letters>,
     update: Prepared,
@@ -71,8 +71,8 @@ fn install_first(
     directory.install(update, 1, signer, publisher, board)
 }
 
-/// Hands an update in three times: when no signature is there, then with one of another body, and with the body's own.
-/// The body that was wanted, and the entry.
+/// Installs an update three times: without a signature, with that of another body, and with the body's own. Returns the
+/// body to be signed, and the entry.
 fn hand_in_thrice<R: Threads + Sync + Abort>(
     rt: &R,
     alloc: Global,
@@ -98,7 +98,7 @@ fn hand_in_thrice<R: Threads + Sync + Abort>(
     (body, entry.ok().expect(rt, "an entry"))
 }
 
-/// The update comes back from each refusal, and the entry that lands is that of the body that was kept.
+/// Each refused install returns the update, and the installed entry contains the stored body.
 #[test]
 fn signed_outside(rt: HostRuntime) {
     let mut signer = Signer::new(Desk {

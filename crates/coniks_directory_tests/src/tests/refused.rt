@@ -1,15 +1,15 @@
-//! Memory that is refused. `faults/run` refuses each request for memory in turn: what comes before the call is asked for
-//! until it is had, and the call answers what it does with ample memory, or its own `OutOfMemory`. Then all is as it was,
-//! but for indices that `install_supplied` supplied, and the same call answers as if nothing had been. Each test writes
-//! whether its call was refused.
+//! Calls that run out of memory. `faults/run` makes each allocation fail in turn. If one fails before the tested call,
+//! that step is repeated. The call has the result that it has with ample memory, or returns its own `OutOfMemory`. This
+//! error changes nothing, except for indices that `install_supplied` supplied, and the same call then succeeds. Each
+//! test prints whether its call was refused.
 
-ghost use Rattle.std.specs.Prelude.{◌≡◌, List, ℕ, IfErr, IfOk, length};
+ghost use Rattle.std.specs.Prelude.{◌≡◌, IfErr, IfOk, length};
 ghost use Rattle.coniks_directory_tests.specs.Letters.{index_of_letter};
 ghost use Rattle.coniks_directory.specs.Chain.{heads_of};
-ghost use Rattle.coniks_directory.specs.Directories.{registry};
 ghost use Rattle.coniks_directory.specs.Supplied.{supplied_index};
 ghost use Rattle.coniks_directory.specs.SuppliedBatches.{IsSuppliedUpdate};
 ghost use Rattle.coniks_directory.specs.Updates.{IsUpdateOf};
+ghost use Rattle.coniks_proof.specs.Octets.{Octets};
 
 mod install;
 mod lookup;
@@ -25,7 +25,7 @@ use coniks_directory::{
 };
 use coniks_proof::{Digest, Hash32, Head, Index, Nonce, Sha256Hash};
 use coniks_shared::{Board, Publisher};
-use coniks_test_support::{NONCE, POLICY, RENEWED, Stamp, digest};
+use coniks_test_support::{NEW_NONCE, NONCE, POLICY, Stamp, digest};
 use coniks_work::Open;
 use std::alloc::Global;
 use std::process::Abort;
@@ -42,10 +42,10 @@ const LINKS: [&str; 2] = [
     "d60b4104456202ba0c3ab12eeb8dad9fc6cc779a45b12326cf7595b703401fa9",
 ];
 
-/// The link of the second entry where its batch brings a nonce.
-const RENEWED_LINK: &str = "f295deabe71fa4bf85bbc828f13551fadd8814fe82896768389299394b472d52";
+/// The link of the second entry if its batch rotates the nonce.
+const ROTATED_LINK: &str = "f295deabe71fa4bf85bbc828f13551fadd8814fe82896768389299394b472d52";
 
-/// What is seen of a directory, its board and its signer.
+/// The visible state of a directory, its board and its signer.
 #[derive(Clone, Copy, PartialEq, Eq)]
 struct Snapshot {
     nodes: usize,
@@ -78,7 +78,7 @@ fn seen(clerk: &Clerk<Sha256Hash>) -> Snapshot {
     seen_of(&clerk.directory, &clerk.publisher, &clerk.signer)
 }
 
-/// The operations of a batch, asked for once more where memory is refused.
+/// Returns the operations of a batch, and makes them again if an allocation fails.
 fn batch(rt: &impl Abort, alloc: Global, written: &[Written]) -> Vec<Op> {
     match ops_of(alloc, written) {
         Ok(ops) => ops,
@@ -86,8 +86,8 @@ fn batch(rt: &impl Abort, alloc: Global, written: &[Written]) -> Vec<Op> {
     }
 }
 
-/// Prepares a batch that may bring a nonce at depth 1 by so many workers, once more where memory is refused, and says
-/// whether it was.
+/// Prepares a batch at depth 1, under a new nonce if there is one, and prepares it again if an allocation fails.
+/// Returns the update, and whether one failed.
 fn prepare_at_last<R: Threads + Sync + Abort>(
     rt: &R,
     clerk: &Clerk<Sha256Hash>,
@@ -109,7 +109,7 @@ fn prepare_at_last<R: Threads + Sync + Abort>(
     }
 }
 
-/// Installs an update, once more where memory is refused and it is handed back, and says whether it was.
+/// Installs an update, and installs the returned one again if an allocation fails. Returns whether one failed.
 fn install_at_last(rt: &impl Abort, clerk: &mut Clerk<Sha256Hash>, update: Prepared, t: u64) -> bool
     requires { IsUpdateOf (⟦<Sha256Hash as Hash32>⟧.digest_of clerk.old.directory.hash) index_of_letter clerk.old.directory.state update }
 {
@@ -123,13 +123,13 @@ fn install_at_last(rt: &impl Abort, clerk: &mut Clerk<Sha256Hash>, update: Prepa
     true
 }
 
-/// Whether the last head is that of an epoch with this link.
+/// Returns whether the last head has this epoch and this link.
 fn ends_with(publisher: &Publisher, epoch: u64, link: &str) -> bool {
     let link = digest(link);
     publisher.last() == Some(Head { epoch, link })
 }
 
-/// Prepares and installs the first batch, and says whether the install was refused memory.
+/// Prepares and installs the first batch. Returns whether an allocation fails while it is installed.
 fn first_epoch<R: Threads + Sync + Abort>(rt: &R, clerk: &mut Clerk<Sha256Hash>) -> bool {
     let ops = batch(rt, clerk.alloc, &FIRST);
     let (update, _) = prepare_at_last(rt, clerk, None, &ops, 1);
@@ -138,8 +138,8 @@ fn first_epoch<R: Threads + Sync + Abort>(rt: &R, clerk: &mut Clerk<Sha256Hash>)
     refused
 }
 
-/// Prepares the second batch by so many workers, says whether that was refused memory, and installs it, so that the chain
-/// ends with this link. The batch may bring a nonce.
+/// Prepares the second batch, under a new nonce if there is one, and installs it. The chain then ends with this link.
+/// Returns whether an allocation fails while it is prepared.
 fn second_by<R: Threads + Sync + Abort>(
     rt: &R,
     clerk: &mut Clerk<Sha256Hash>,
@@ -165,51 +165,51 @@ fn second_epoch<R: Threads + Sync + Abort>(
     second_by(rt, clerk, None, workers, LINKS[1])
 }
 
-/// Prepares the second batch under a nonce that it brings, and installs it.
-fn renewed_epoch<R: Threads + Sync + Abort>(
+/// Prepares the second batch under a new nonce, and installs it.
+fn rotated_epoch<R: Threads + Sync + Abort>(
     rt: &R,
     clerk: &mut Clerk<Sha256Hash>,
     workers: usize,
 ) -> bool {
-    second_by(rt, clerk, Some(RENEWED), workers, RENEWED_LINK)
+    second_by(rt, clerk, Some(NEW_NONCE), workers, ROTATED_LINK)
 }
 
-/// Writes whether the call was refused memory.
+/// Prints whether an allocation of the call failed.
 fn write(rt: &impl Print, is_refused: bool) {
     let _ = println!(rt; "{}", if is_refused { "refused" } else { "answered" });
 }
 
-/// Takes steps with the clerk of a new directory, and writes whether the call was refused memory.
+/// Runs steps with the clerk of a new directory, and prints whether an allocation of the call failed.
 fn tell<F: FnOnce(&mut Clerk<Sha256Hash>) -> bool, R: Abort + AllocGlobal + Print>(rt: &R, steps: F)
     requires { F.IsAlwaysCallable steps }
 {
     write(rt, with_clerk(rt, 4, steps));
 }
 
-/// With three workers a refusal in a job of either is the call's, and one that only costs a worker changes no answer.
+/// With three workers, a failed allocation in a job fails the call. One that only costs a worker changes no result.
 #[test]
 fn prepare_by_three(rt: HostRuntime) {
     tell(&rt, |clerk| second_epoch(&rt, clerk, 3));
 }
 
-/// Where the batch brings a nonce, so that the whole map is listed and built anew, each refusal is the call's.
+/// If one worker rehashes the whole tree under a new nonce, each failed allocation fails the call.
 #[test]
-fn renew_by_one(rt: HostRuntime) {
-    tell(&rt, |clerk| renewed_epoch(&rt, clerk, 1));
+fn rotate_by_one(rt: HostRuntime) {
+    tell(&rt, |clerk| rotated_epoch(&rt, clerk, 1));
 }
 
-/// So it is with three workers, but that a refusal may cost only a worker.
+/// If three workers rehash the tree, each failed allocation fails the call or only costs a worker.
 #[test]
-fn renew_by_three(rt: HostRuntime) {
-    tell(&rt, |clerk| renewed_epoch(&rt, clerk, 3));
+fn rotate_by_three(rt: HostRuntime) {
+    tell(&rt, |clerk| rotated_epoch(&rt, clerk, 3));
 }
 
-/// Memory that is refused while a commit prepares, and while it installs.
+/// The error of a commit if an allocation fails while it prepares. `IN_INSTALL` is the error while it installs.
 const IN_PREPARE: CommitFault = CommitFault::Batch(BatchFault::OutOfMemory);
 
 const IN_INSTALL: CommitFault = CommitFault::Install(InstallFault::OutOfMemory);
 
-/// Commits the first batch by a lone worker, once more where memory is refused, and gives the fault that told so.
+/// Commits the first batch with one worker, and commits it again if an allocation fails. Returns the error.
 fn commit_at_last<R: Threads + Sync + Abort>(
     rt: &R,
     clerk: &mut Clerk<Sha256Hash>,
@@ -226,19 +226,19 @@ fn commit_at_last<R: Threads + Sync + Abort>(
     refused
 }
 
-/// Room for the update is the first that a commit asks for.
+/// A commit returns `IN_PREPARE` if an allocation for the update fails, and the next commit succeeds.
 #[test]
 fn commit_in_prepare(rt: HostRuntime) {
     tell(&rt, |clerk| commit_at_last(&rt, clerk) == Some(IN_PREPARE));
 }
 
-/// Room in the directory is the last.
+/// A commit returns `IN_INSTALL` if an allocation for the directory fails, and the next commit succeeds.
 #[test]
 fn commit_in_install(rt: HostRuntime) {
     tell(&rt, |clerk| commit_at_last(&rt, clerk) == Some(IN_INSTALL));
 }
 
-/// Looks a name up at an epoch, once more where memory is refused, and says whether it was.
+/// Looks up a name at an epoch, and looks it up again if an allocation fails. Returns whether one failed.
 fn asked_at_last(
     rt: &impl Abort,
     clerk: &Clerk<Sha256Hash>,
@@ -257,7 +257,7 @@ fn asked_at_last(
     true
 }
 
-/// Looks up a key, a key of an older epoch and an absence, and says whether one of them was refused memory.
+/// Looks up a key, a key of an older epoch and an absent name. Returns whether an allocation fails in one of them.
 fn look_up_three<R: Threads + Sync + Abort>(rt: &R, clerk: &mut Clerk<Sha256Hash>) -> bool {
     second_epoch(rt, clerk, 1);
     let now = asked_at_last(rt, clerk, 2, "b", Told::Key(1, b'l'));
@@ -266,7 +266,7 @@ fn look_up_three<R: Threads + Sync + Abort>(rt: &R, clerk: &mut Clerk<Sha256Hash
     now || before || absent
 }
 
-/// Looks a name up at its index, once more where memory is refused, and says whether it was.
+/// Looks up a name at its index, and looks it up again if an allocation fails. Returns whether one failed.
 fn look_up_at<R: Threads + Sync + Abort>(rt: &R, clerk: &mut Clerk<Sha256Hash>) -> bool {
     second_epoch(rt, clerk, 1);
     let index = Letters.index(b"b");
@@ -286,7 +286,7 @@ fn lookup_at(rt: HostRuntime) {
     tell(&rt, |clerk| look_up_at(&rt, clerk));
 }
 
-/// An index that was refused memory isn't there, and can be supplied again.
+/// If an allocation fails in `supply`, the index is not stored, and can be supplied again.
 #[test]
 fn supply(rt: HostRuntime) {
     let alloc = rt.alloc();
@@ -331,7 +331,8 @@ impl<'a> SuppliedClerk<'a> {
         seen_of(&self.directory, &self.publisher, &self.signer)
     }
 
-    /// Returns how many of the batches' names have an index. Each of these is the name's own, and no other name has one.
+    /// Returns how many of the batches' names have an index. Asserts that each index is right, and no other name has
+    /// one.
     fn supplied(&self, rt: &impl Abort) -> usize {
         let source = self.directory.source();
         let names = [b"a", b"b", b"c", b"d"];
@@ -354,7 +355,7 @@ impl<'a> SuppliedClerk<'a> {
         indices: &[Index],
     ) -> Result<Prepared, SuppliedBatchFault>
         requires { length ops.now ≡ length indices.now }
-        ensures { IfOk result (λ p. (index : List ℕ → List ℕ)
+        ensures { IfOk result (λ p. (index : Octets → Octets)
             × IsSuppliedUpdate (⟦<Sha256Hash as Hash32>⟧.digest_of self.now.directory.hash)
             (supplied_index self.now.directory.index) self.now.directory.state p index) }
     {
@@ -373,10 +374,10 @@ impl<'a> SuppliedClerk<'a> {
         update: Prepared,
         t: u64,
     ) -> Result<Entry, (InstallFault, Prepared)>
-        requires { (index : List ℕ → List ℕ)
+        requires { (index : Octets → Octets)
             × IsSuppliedUpdate (⟦<Sha256Hash as Hash32>⟧.digest_of self.old.directory.hash)
             (supplied_index self.old.directory.index) self.old.directory.state update index }
-        ensures { IfErr result (λ r. (index : List ℕ → List ℕ)
+        ensures { IfErr result (λ r. (index : Octets → Octets)
             × IsSuppliedUpdate (⟦<Sha256Hash as Hash32>⟧.digest_of self.new.directory.hash)
             (supplied_index self.new.directory.index) self.new.directory.state r.1 index) }
     {
@@ -399,7 +400,7 @@ fn prepare_supplied_at_last<R: Threads + Sync + Abort>(
     written: &[Written],
     indices: &[Index],
 ) -> (Prepared, bool)
-    ensures { (index : List ℕ → List ℕ)
+    ensures { (index : Octets → Octets)
         × IsSuppliedUpdate (⟦<Sha256Hash as Hash32>⟧.digest_of clerk.now.directory.hash)
         (supplied_index clerk.now.directory.index) clerk.now.directory.state result.0 index }
 {
@@ -419,15 +420,15 @@ fn prepare_supplied_at_last<R: Threads + Sync + Abort>(
     }
 }
 
-/// Installs an update with its indices, and installs it again if an allocation fails. Returns whether one failed. Some of
-/// the indices may be supplied by then.
+/// Installs an update with its indices, and installs it again if an allocation fails. Returns whether one failed. Some
+/// of the indices can be supplied by then.
 fn install_supplied_at_last(
     rt: &impl Abort,
     clerk: &mut SuppliedClerk<'_>,
     update: Prepared,
     t: u64,
 ) -> bool
-    requires { (index : List ℕ → List ℕ)
+    requires { (index : Octets → Octets)
         × IsSuppliedUpdate (⟦<Sha256Hash as Hash32>⟧.digest_of clerk.old.directory.hash)
         (supplied_index clerk.old.directory.index) clerk.old.directory.state update index }
 {
@@ -443,8 +444,8 @@ fn install_supplied_at_last(
     true
 }
 
-/// Prepares and installs two batches with their indices. Returns whether an allocation fails while the second is prepared,
-/// and whether one fails while it is installed.
+/// Prepares and installs two batches with their indices. Returns whether an allocation fails while the second is
+/// prepared, and whether one fails during its install.
 fn supplied_epochs<R: Threads + Sync + Abort>(rt: &R, alloc: Global) -> (bool, bool) {
     let (board, publisher) = new_board(rt, alloc, 4);
     let source = SuppliedIndices::new(alloc);
@@ -475,7 +476,7 @@ fn prepare_supplied(rt: HostRuntime) {
     write(&rt, is_refused);
 }
 
-/// If an install is out of memory, the update comes back, and can be installed again, whichever indices are supplied.
+/// If an install is out of memory, it returns the update, which can be installed again whichever indices are supplied.
 #[test]
 fn install_supplied(rt: HostRuntime) {
     let (_, is_refused) = supplied_epochs(&rt, rt.alloc());

@@ -1,4 +1,4 @@
-//! Calls on a directory as steps of a run, each from its public clauses alone, and what the directory theorem says of them.
+//! Calls of a directory as steps of a run, each proved from public contracts alone, and the directory theorem for them.
 
 ghost use Rattle.std.specs.Prelude.{◌≡◌, ◌<◌, ◌-◌, ◌^◌, ◌++◌, [], ◌∷◌, ℕ, List, Option, None, Some, IfOk, OnOk, length, option_map};
 ghost use Rattle.coniks_directory.specs.Batches.{operations};
@@ -12,6 +12,7 @@ ghost use Rattle.coniks_directory.specs.Supplied.{AgreeOn, supplied_index};
 ghost use Rattle.coniks_directory.specs.SuppliedBatches.{IsSuppliedUpdate, index_in, indexed};
 ghost use Rattle.coniks_directory.specs.Updates.{Grows, IsUpdateOf, registry_after};
 ghost use Rattle.coniks_proof.specs.Batches.{Operation};
+ghost use Rattle.coniks_proof.specs.Octets.{Octets};
 
 use crate::tests::clerk::{Clerk, Letters, ops_of, with_clerk};
 use coniks_chain::{Entry, Sign};
@@ -23,12 +24,12 @@ use coniks_directory::{
 };
 use coniks_proof::{Digest, Hash32, Index, Nonce, Proof, Sha256Hash};
 use coniks_shared::{Board, Publisher};
-use coniks_test_support::{RENEWED, digest};
+use coniks_test_support::{NEW_NONCE, digest};
 use coniks_work::Open;
 use std::process::Abort;
 use std::thread::Threads;
 
-/// `prepare`, whose update any run may install later.
+/// Calls `prepare`. Any run can install the update later.
 fn prepare_next<H: Hash32 + Sync, X: IndexSource, R: Threads + Sync>(
     rt: &R,
     directory: &Directory<H, X>,
@@ -39,8 +40,8 @@ fn prepare_next<H: Hash32 + Sync, X: IndexSource, R: Threads + Sync>(
     directory.prepare(rt, ops, 1, 2, &Open)
 }
 
-/// `prepare_with`, whose update any run may install later, under its nonce.
-fn prepare_renewed<H: Hash32 + Sync, X: IndexSource, R: Threads + Sync>(
+/// Calls `prepare_with`. Any run can install the update later, under its new nonce.
+fn prepare_rotated<H: Hash32 + Sync, X: IndexSource, R: Threads + Sync>(
     rt: &R,
     directory: &Directory<H, X>,
     nonce: Nonce,
@@ -52,7 +53,7 @@ fn prepare_renewed<H: Hash32 + Sync, X: IndexSource, R: Threads + Sync>(
     directory.prepare_with(rt, nonce, ops, 1, 2, &Open)
 }
 
-/// `install`, which makes a run one batch longer, whatever was called since the update was prepared.
+/// Calls `install`, which adds one batch to a run, whatever was called after the update was prepared.
 pub fn install_next<H: Hash32, X: IndexSource, S: Sign>(
     directory: &mut Directory<H, X>,
     update: Prepared,
@@ -66,8 +67,8 @@ pub fn install_next<H: Hash32, X: IndexSource, S: Sign>(
     requires refused { S.refused_of signer.old < 2 ^ 64 - 1 }
     requires table { publisher.old.table ≡ board.now.table }
     requires published { publisher.old.heads ≡ heads_of (H.digest_of directory.old.hash) directory.old.state.chain }
-    ensures run { OnOk result ((then : List ℕ → List ℕ) (nonce policy : List ℕ) (batches : List Batch)
-        (earlier : State) (new_nonce : Option (List ℕ)) (ops : List Operation) (depth workers : ℕ)
+    ensures run { OnOk result ((then : Octets → Octets) (nonce policy : Octets) (batches : List Batch)
+        (earlier : State) (new_nonce : Option Octets) (ops : List Operation) (depth workers : ℕ)
         → Run (H.digest_of directory.old.hash) (X.index_of directory.old.index) nonce policy batches directory.old.state
         → IsPreparedOf (H.digest_of directory.old.hash) then earlier new_nonce ops depth workers update
         → AgreeOn then (X.index_of directory.old.index) (registry_after earlier update)
@@ -80,7 +81,7 @@ pub fn install_next<H: Hash32, X: IndexSource, S: Sign>(
     directory.install(update, t, signer, publisher, board)
 }
 
-/// `prepare_supplied`, whose update any run may install later.
+/// Calls `prepare_supplied`. Any run can install the update later.
 pub fn prepare_supplied_next<H: Hash32 + Sync, X: IndexSource, R: Threads + Sync>(
     rt: &R,
     directory: &Directory<H, X>,
@@ -97,7 +98,7 @@ pub fn prepare_supplied_next<H: Hash32 + Sync, X: IndexSource, R: Threads + Sync
     directory.prepare_supplied(rt, batch, 1, 2, &Open)
 }
 
-/// `install_supplied`, which makes a run one batch longer, by the indices that the directory holds then.
+/// Calls `install_supplied`, which adds one batch to a run, by the indices that the directory holds afterwards.
 pub fn install_supplied_next<H: Hash32, S: Sign>(
     directory: &mut Directory<H, SuppliedIndices>,
     update: Prepared,
@@ -106,14 +107,14 @@ pub fn install_supplied_next<H: Hash32, S: Sign>(
     publisher: &mut Publisher,
     board: &Board,
 ) -> Result<Entry, (InstallFault, Prepared)>
-    requires update { (index : List ℕ → List ℕ)
+    requires update { (index : Octets → Octets)
         × IsSuppliedUpdate (H.digest_of directory.old.hash) (supplied_index directory.old.index) directory.old.state update index }
     requires made { S.made_of signer.old < 2 ^ 64 - 1 }
     requires refused { S.refused_of signer.old < 2 ^ 64 - 1 }
     requires table { publisher.old.table ≡ board.now.table }
     requires published { publisher.old.heads ≡ heads_of (H.digest_of directory.old.hash) directory.old.state.chain }
-    ensures run { OnOk result ((index : List ℕ → List ℕ) (nonce policy : List ℕ)
-        (batches : List Batch) (new_nonce : Option (List ℕ)) (ops : List Operation) (depth workers : ℕ)
+    ensures run { OnOk result ((index : Octets → Octets) (nonce policy : Octets)
+        (batches : List Batch) (new_nonce : Option Octets) (ops : List Operation) (depth workers : ℕ)
         → Run (H.digest_of directory.old.hash) (supplied_index directory.old.index) nonce policy batches directory.old.state
         → IsSuppliedUpdate (H.digest_of directory.old.hash) (supplied_index directory.old.index) directory.old.state update index
         → IsPreparedOf (H.digest_of directory.old.hash) index directory.old.state new_nonce ops depth workers update
@@ -126,13 +127,13 @@ pub fn install_supplied_next<H: Hash32, S: Sign>(
     directory.install_supplied(update, t, signer, publisher, board)
 }
 
-/// `supply`, after which a run is one by the indices that the directory holds then.
+/// Calls `supply`. A run remains one, by the indices that the directory holds afterwards.
 pub fn supply_next<H: Hash32, X: SupplyIndex>(
     directory: &mut Directory<H, X>,
     name: &[u8],
     index: Index,
 ) -> Result<(), SupplyFault>
-    ensures run { (nonce policy : List ℕ) (batches : List Batch)
+    ensures run { (nonce policy : Octets) (batches : List Batch)
         → Run (H.digest_of directory.old.hash) (X.index_of directory.old.index) nonce policy batches directory.old.state
         → Run (H.digest_of directory.new.hash) (X.index_of directory.new.index) nonce policy batches directory.new.state }
     ensures chain { directory.new.state.chain ≡ directory.old.state.chain }
@@ -141,7 +142,7 @@ pub fn supply_next<H: Hash32, X: SupplyIndex>(
     directory.supply(name, index)
 }
 
-/// `supply` while an update waits, which stays one of the directory. Where the update binds the name, the index isn't supplied.
+/// Calls `supply` unless the name is registered or the update binds it. The update remains one of the directory.
 pub fn supply_beside<H: Hash32, X: SupplyIndex>(
     directory: &mut Directory<H, X>,
     update: &Prepared,
@@ -159,7 +160,7 @@ pub fn supply_beside<H: Hash32, X: SupplyIndex>(
     directory.supply(name, index).is_ok()
 }
 
-/// `commit`, which makes a run one batch longer.
+/// Calls `commit`, which adds one batch to a run.
 pub fn commit_next<H: Hash32 + Sync, X: IndexSource, S: Sign, R: Threads + Sync>(
     rt: &R,
     directory: &mut Directory<H, X>,
@@ -173,7 +174,7 @@ pub fn commit_next<H: Hash32 + Sync, X: IndexSource, S: Sign, R: Threads + Sync>
     requires refused { S.refused_of signer.old < 2 ^ 64 - 1 }
     requires table { publisher.old.table ≡ board.now.table }
     requires published { publisher.old.heads ≡ heads_of (H.digest_of directory.old.hash) directory.old.state.chain }
-    ensures run { OnOk result ((nonce policy : List ℕ) (batches : List Batch)
+    ensures run { OnOk result ((nonce policy : Octets) (batches : List Batch)
         → Run (H.digest_of directory.old.hash) (X.index_of directory.old.index) nonce policy batches directory.old.state
         → Run (H.digest_of directory.new.hash) (X.index_of directory.new.index) nonce policy
         (batches ++ record { t = t; new_nonce = None; ops = operations ops.now } ∷ []) directory.new.state) }
@@ -183,9 +184,9 @@ pub fn commit_next<H: Hash32 + Sync, X: IndexSource, S: Sign, R: Threads + Sync>
     directory.commit(rt, ops, 1, 2, &Open, t, signer, publisher, board)
 }
 
-/// `root_at`: after a run the root is that of the directory which the run's batches define.
+/// Calls `root_at`. After a run, the root is that of the directory that the run's batches define.
 pub fn root_of<H: Hash32, X: IndexSource>(directory: &Directory<H, X>, t: u64) -> Option<Digest>
-    ensures { (nonce policy : List ℕ) (batches : List Batch)
+    ensures { (nonce policy : Octets) (batches : List Batch)
         → Run (H.digest_of directory.now.hash) (X.index_of directory.now.index) nonce policy batches directory.now.state
         → option_map (λ root. root.0) result ≡ option_map
         (root_at (H.digest_of directory.now.hash) (X.index_of directory.now.index)) (shown_at (defined nonce batches) t) }
@@ -194,13 +195,13 @@ pub fn root_of<H: Hash32, X: IndexSource>(directory: &Directory<H, X>, t: u64) -
     directory.root_at(t)
 }
 
-/// `lookup`: after a run its proof is accepted as the directory says which the run's batches define.
+/// Calls `lookup`. After a run, the proof is accepted for the directory that the run's batches define.
 fn path_of<H: Hash32, X: IndexSource>(
     directory: &Directory<H, X>,
     t: u64,
     name: &[u8],
 ) -> Result<Proof, LookupFault>
-    ensures { (nonce policy : List ℕ) (batches : List Batch)
+    ensures { (nonce policy : Octets) (batches : List Batch)
         → Run (H.digest_of directory.now.hash) (X.index_of directory.now.index) nonce policy batches directory.now.state
         → IfOk result (IsAcceptedAt (H.digest_of directory.now.hash) (X.index_of directory.now.index) (defined nonce batches) t name.now) }
 {
@@ -256,31 +257,31 @@ fn change_one<R: Threads + Sync + Abort>(rt: &R, clerk: &mut Clerk<Sha256Hash>) 
     install_at(rt, clerk, update, 4);
 }
 
-/// Renews the nonce at epoch 5.
-fn renew<R: Threads + Sync + Abort>(rt: &R, clerk: &mut Clerk<Sha256Hash>) {
+/// Rotates the nonce at epoch 5.
+fn rotate<R: Threads + Sync + Abort>(rt: &R, clerk: &mut Clerk<Sha256Hash>) {
     updates_stay();
-    let update = prepare_renewed(rt, &clerk.directory, RENEWED, &[])
+    let update = prepare_rotated(rt, &clerk.directory, NEW_NONCE, &[])
         .ok()
         .expect(rt, "an update");
     install_at(rt, clerk, update, 5);
 }
 
-/// Commits a batch, prepares one after it and installs it, renews the nonce, and asks for roots and a path.
+/// Commits a batch, prepares and installs another, rotates the nonce, and asserts the roots and a path's length.
 fn run_and_ask<R: Threads + Sync + Abort>(rt: &R, clerk: &mut Clerk<Sha256Hash>) {
     register_three(rt, clerk);
     change_one(rt, clerk);
-    renew(rt, clerk);
+    rotate(rt, clerk);
     let three = "9f0f0e3455b88ce5747710c5195756230f5f5a6810b4f76899e2d7d1293fd6ac";
     assert!(rt; root_of(&clerk.directory, 3) == Some(digest(three)));
     let changed = "3561a57a963e7a5b825887fc338f85e89b699fc6361bcb0f383fa49ae4b04042";
     assert!(rt; root_of(&clerk.directory, 4) == Some(digest(changed)));
-    let renewed = "cb7706ab8b0971df8477b71cdcbbb3c780e9f4247df8ba2c3dbca124ab3a7120";
-    assert!(rt; root_of(&clerk.directory, 5) == Some(digest(renewed)));
+    let rotated = "cb7706ab8b0971df8477b71cdcbbb3c780e9f4247df8ba2c3dbca124ab3a7120";
+    assert!(rt; root_of(&clerk.directory, 5) == Some(digest(rotated)));
     let path = path_of(&clerk.directory, 4, b"b").ok().expect(rt, "a path");
     assert!(rt; path.siblings.as_slice().len() == 1);
 }
 
-/// Calls that make a run of three batches, with roots that were computed by another program.
+/// A run of three batches has the roots that another program computed.
 #[test]
 fn steps_of_a_run(rt: HostRuntime) {
     with_clerk(&rt, 4, |clerk| run_and_ask(&rt, clerk));

@@ -20,7 +20,7 @@ use std::alloc::Global;
 use std::process::Abort;
 use std::thread::Threads;
 
-/// Supplies the indices of the worked examples' letters. Until a name is registered another index of it may be supplied.
+/// Supplies the indices of three letters. A name that is not registered can be supplied another index.
 fn supply_letters(rt: &impl Abort, directory: &mut Directory<Sha256Hash, SuppliedIndices>)
     ensures chain { directory.new.state.chain ≡ directory.old.state.chain }
     ensures hash { directory.new.hash ≡ directory.old.hash }
@@ -31,7 +31,7 @@ fn supply_letters(rt: &impl Abort, directory: &mut Directory<Sha256Hash, Supplie
     assert!(rt; supply_next(directory, b"c", index_of(0x40, 0)).is_ok());
 }
 
-/// A registered name keeps its index.
+/// Asserts that a registered name keeps its index, and that an empty name is refused.
 fn supply_again(rt: &impl Abort, directory: &mut Directory<Sha256Hash, SuppliedIndices>)
     ensures chain { directory.new.state.chain ≡ directory.old.state.chain }
     ensures hash { directory.new.hash ≡ directory.old.hash }
@@ -41,7 +41,7 @@ fn supply_again(rt: &impl Abort, directory: &mut Directory<Sha256Hash, SuppliedI
     assert!(rt; supply_next(directory, b"", index_of(0x80, 0)) == Err(SupplyFault::NameLength));
 }
 
-/// The first byte of the key that a name has at epoch 3, looked up at an index that comes with the call; none if it is absent.
+/// Looks up a name at epoch 3 and at an index. Returns the first byte of its key, or `None` if the name is absent.
 fn key_at(
     rt: &impl Abort,
     directory: &Directory<Sha256Hash, SuppliedIndices>,
@@ -62,8 +62,8 @@ fn key_at(
     }
 }
 
-/// A registered name is found at its own index and refused at another. One that was never registered is absent at the index
-/// of the call, which is not stored.
+/// Asserts that a registered name is found at its own index and refused at another. A name that was never registered is
+/// absent at the index of the call, which is not stored.
 fn look_up(rt: &impl Abort, directory: &Directory<Sha256Hash, SuppliedIndices>) {
     assert!(rt; key_at(rt, directory, b"b", index_of(0x80, 0)) == Some(b'k'));
     assert!(rt; key_at(rt, directory, b"d", index_of(0x20, 0)).is_none());
@@ -76,7 +76,7 @@ fn look_up(rt: &impl Abort, directory: &Directory<Sha256Hash, SuppliedIndices>) 
     assert!(rt; unknown == Some(LookupAtFault::UnknownEpoch));
 }
 
-/// An update that changes a name.
+/// Returns an update that changes the key of a name.
 fn prepare_change<R: Threads + Sync + Abort>(
     rt: &R,
     alloc: Global,
@@ -93,8 +93,8 @@ fn prepare_change<R: Threads + Sync + Abort>(
         .expect(rt, "an update")
 }
 
-/// Registers the letters at epoch 3, and changes one at epoch 4, whose update was prepared before another name's index was
-/// supplied.
+/// Registers the letters at epoch 3, and changes one at epoch 4. The update of the change is prepared before another
+/// name's index is supplied.
 fn supply_and_run<R: Threads + Sync + Abort>(
     rt: &R,
     alloc: Global,
@@ -124,7 +124,7 @@ fn supply_and_run<R: Threads + Sync + Abort>(
     assert!(rt; install_next(directory, update, 4, signer, publisher, board).is_ok());
 }
 
-/// The roots are those of a source that had the indices from the start.
+/// A directory whose indices are supplied after `open` has the roots of one whose source has them from the start.
 #[test]
 fn indices_supplied_after_open(rt: HostRuntime) {
     let alloc = rt.alloc();

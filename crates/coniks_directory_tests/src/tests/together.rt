@@ -1,4 +1,4 @@
-//! Lookups and watchers beside a batch that is prepared.
+//! Lookups and watchers on other threads while a batch is prepared.
 
 ghost use Rattle.std.specs.Prelude.{◌≡◌};
 
@@ -14,7 +14,7 @@ use std::process::Abort;
 use std::thread;
 use std::thread::Threads;
 
-/// Prepares a batch through the gate, and says whether it was accepted.
+/// Prepares a batch whose workers pass the gate. Returns whether it is accepted.
 fn prepares<R: Threads + Sync + AllocGlobal>(
     rt: &R,
     directory: &Directory<Sha256Hash, Letters>,
@@ -26,14 +26,14 @@ fn prepares<R: Threads + Sync + AllocGlobal>(
     }
 }
 
-/// Looks the name up once, and tells the gate.
+/// Looks up the name once, and counts an arrival at the gate. Returns whether the result is right.
 fn looks_up(directory: &Directory<Sha256Hash, Letters>, gate: &Meeting) -> bool {
     let told = asked(directory, 1, "a");
     gate.come();
     told == Told::Key(0, b'k')
 }
 
-/// Looks the name up on two threads.
+/// Looks up the name on two threads. Returns whether both results are right.
 fn both_look_up<R: Threads + Sync>(
     rt: &R,
     directory: &Directory<Sha256Hash, Letters>,
@@ -42,7 +42,7 @@ fn both_look_up<R: Threads + Sync>(
     both(rt, &|| looks_up(directory, gate))
 }
 
-/// Whether a batch is prepared while two threads look up.
+/// Returns whether a batch is prepared while two threads look up the name.
 fn prepares_beside<R: Threads + Sync + AllocGlobal>(
     rt: &R,
     directory: &Directory<Sha256Hash, Letters>,
@@ -56,7 +56,7 @@ fn prepares_beside<R: Threads + Sync + AllocGlobal>(
     prepared && both
 }
 
-/// Commits an epoch, and prepares the next batch beside two lookups.
+/// Commits an epoch, and prepares the next batch while two threads look up the name.
 fn prepare_held<R: Threads + Sync + Abort + AllocGlobal>(rt: &R, clerk: &mut Clerk<Sha256Hash>) {
     assert!(rt; clerk.register_a(rt, 1).is_ok());
     let gate = Meeting::of(3);
@@ -64,13 +64,13 @@ fn prepare_held<R: Threads + Sync + Abort + AllocGlobal>(rt: &R, clerk: &mut Cle
     assert!(rt; gate.met());
 }
 
-/// Two threads look up while the first job of a batch is held.
+/// Two threads look up a name while the first job of a batch is held.
 #[test]
 fn look_up_while_preparing(rt: HostRuntime) {
     with_clerk(&rt, 4, |clerk| prepare_held(&rt, clerk));
 }
 
-/// Looks at the board once, and tells the gate.
+/// Returns the watcher's latest head, and counts an arrival at the gate.
 fn looks_once(watcher: &mut Watcher, board: &Board, gate: &Meeting) -> Option<Head>
     requires { watcher.old.table ≡ board.now.table }
 {
@@ -79,7 +79,8 @@ fn looks_once(watcher: &mut Watcher, board: &Board, gate: &Meeting) -> Option<He
     seen
 }
 
-/// What a watcher answers while the first job of a batch is held. None also where the batch isn't prepared.
+/// Returns the watcher's latest head while the first job of a batch is held. Also returns `None` if the batch is
+/// refused.
 fn seen_beside<R: Threads + Sync + AllocGlobal>(
     rt: &R,
     clerk: &Clerk<Sha256Hash>,
@@ -99,7 +100,7 @@ fn seen_beside<R: Threads + Sync + AllocGlobal>(
     if prepared { seen } else { None }
 }
 
-/// Commits an epoch, and prepares the next batch beside a watcher, which answers the epoch's head.
+/// Commits an epoch, and asserts that a watcher returns its head while the next batch is prepared.
 fn watch_held<R: Threads + Sync + Abort + AllocGlobal>(rt: &R, clerk: &mut Clerk<Sha256Hash>) {
     let mut watcher = clerk.watcher(rt);
     let entry = clerk.register_a(rt, 1).expect(rt, "an epoch");
@@ -112,7 +113,7 @@ fn watch_held<R: Threads + Sync + Abort + AllocGlobal>(rt: &R, clerk: &mut Clerk
     assert!(rt; gate.met());
 }
 
-/// A watcher looks while the first job of a batch is held, and answers the head installed before.
+/// While the first job of a batch is held, a watcher returns the latest installed head.
 #[test]
 fn watch_while_preparing(rt: HostRuntime) {
     with_clerk(&rt, 4, |clerk| watch_held(&rt, clerk));

@@ -1,4 +1,4 @@
-//! Updates that are held before they are installed.
+//! Updates that are stale, or that the signer first refuses.
 
 use crate::tests::answers::{Told, are_told};
 use crate::tests::clerk::{Clerk, Written, with_clerk, with_refusing_clerk};
@@ -11,8 +11,8 @@ use std::thread::Threads;
 
 const CHANGE: [Written; 1] = [(Change, b'a', b'l')];
 
-/// Prepares two updates from one base and installs the first at epoch 5. The faults of the second, which is handed in
-/// twice.
+/// Prepares two updates from one base, and installs the first at epoch 5. Returns the errors of two installs of the
+/// second.
 fn faults_of_second<R: Threads + Sync + Abort>(
     rt: &R,
     clerk: &mut Clerk<Sha256Hash>,
@@ -26,7 +26,7 @@ fn faults_of_second<R: Threads + Sync + Abort>(
     clerk.install_both(first, second, 5)
 }
 
-/// Commits before and after two updates from one base, and looks the name up that the second one changes.
+/// Commits before and after two updates from one base, and looks up the name that the second one changes.
 fn commit_around<R: Threads + Sync + Abort>(rt: &R, clerk: &mut Clerk<Sha256Hash>) {
     assert!(rt; clerk.register_a(rt, 1).is_ok());
     let stale = InstallFault::Stale { latest: 5 };
@@ -40,13 +40,13 @@ fn commit_around<R: Threads + Sync + Abort>(rt: &R, clerk: &mut Clerk<Sha256Hash
     );
 }
 
-/// Of two updates from one base the second is stale, however often it is handed in. Prepared anew it installs.
+/// The second of two updates from one base is `Stale` at each install. The same batch, prepared again, is installed.
 #[test]
 fn stale_twice(rt: HostRuntime) {
     with_clerk(&rt, 4, |clerk| commit_around(&rt, clerk));
 }
 
-/// Prepares an update, which the signer refuses, and installs it at epoch 3 once it is handed back.
+/// Prepares an update, which the signer refuses once, and installs the returned update at epoch 3.
 fn install_again<R: Threads + Sync + Abort>(rt: &R, clerk: &mut Clerk<Sha256Hash>) -> Entry {
     let update = clerk
         .prepare(rt, &[(Register, b'a', b'k')])
@@ -57,7 +57,7 @@ fn install_again<R: Threads + Sync + Abort>(rt: &R, clerk: &mut Clerk<Sha256Hash
     clerk.install(update, 3).ok().expect(rt, "an entry")
 }
 
-/// Installs an update that was handed back, and looks its name up.
+/// Installs an update that a refused install returned, and looks up its name.
 fn install_and_ask<R: Threads + Sync + Abort>(rt: &R, clerk: &mut Clerk<Sha256Hash>) {
     let entry = install_again(rt, clerk);
     assert!(rt; entry.body.t == 3);
@@ -65,7 +65,7 @@ fn install_and_ask<R: Threads + Sync + Abort>(rt: &R, clerk: &mut Clerk<Sha256Ha
     are_told(rt, &clerk.directory, &[(3, "a", Told::Key(0, b'k'))]);
 }
 
-/// An update that a signer's refusal handed back installs with the next signature.
+/// An update that is returned with `SignerRefused` is installed with the next signature.
 #[test]
 fn handed_back(rt: HostRuntime) {
     with_refusing_clerk(&rt, rt.alloc(), 4, 0, |clerk| install_and_ask(&rt, clerk));

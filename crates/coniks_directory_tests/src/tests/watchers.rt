@@ -1,4 +1,4 @@
-//! Watchers and lookups beside a committer.
+//! Watchers and lookups on other threads while epochs are installed.
 
 ghost use Rattle.std.specs.Prelude.{◌≡◌, ◌<◌, length, All};
 
@@ -15,18 +15,18 @@ use std::sync::atomic::{AtomicU64, Ordering};
 use std::thread;
 use std::thread::Threads;
 
-/// The key of `a` at an epoch.
+/// Returns the key of `a` at an epoch.
 fn key_at(t: u64) -> u8 {
     if t % 2 == 0 { b'l' } else { b'k' }
 }
 
-/// Whether two lookups at an epoch tell what is bound there: `a` has its key, and `b` is absent.
+/// Returns whether two lookups at an epoch are right: `a` has its key, and `b` is absent.
 fn is_told(directory: &Directory<Sha256Hash, Letters>, t: u64) -> bool {
     asked(directory, t, "a") == Told::Key(0, key_at(t))
         && asked(directory, t, "b") == Told::Absent(0)
 }
 
-/// Whether fifty times two lookups at the epochs up to this one tell what is bound there.
+/// Returns whether 100 lookups at the epochs up to this one are right.
 fn look_up_often(directory: &Directory<Sha256Hash, Letters>, latest: u64) -> bool {
     let mut right = true;
     for i in 0..50u64 {
@@ -36,7 +36,7 @@ fn look_up_often(directory: &Directory<Sha256Hash, Letters>, latest: u64) -> boo
     right
 }
 
-/// Whether two threads that look up are told what is bound.
+/// Returns whether the lookups of two threads are right.
 fn both_look_up<R: Threads + Sync>(
     rt: &R,
     directory: &Directory<Sha256Hash, Letters>,
@@ -45,7 +45,8 @@ fn both_look_up<R: Threads + Sync>(
     both(rt, &|| look_up_often(directory, latest))
 }
 
-/// Prepares the next batch while two threads look up, and installs it.
+/// Prepares the next batch while two threads look up, and installs it. Returns whether it is installed and all lookups
+/// are right.
 fn round<R: Threads + Sync>(rt: &R, clerk: &mut Clerk<Sha256Hash>, t: u64) -> bool
     ensures { clerk.new.board.now.table ≡ clerk.old.board.now.table }
 {
@@ -63,7 +64,7 @@ fn round<R: Threads + Sync>(rt: &R, clerk: &mut Clerk<Sha256Hash>, t: u64) -> bo
     }
 }
 
-/// Forty installs, at epochs 1 to 40. Then `over` is 1, which ends the watchers.
+/// Installs epochs 1 to 40, and then sets `over` to 1, which ends the watchers.
 fn commit_forty<R: Threads + Sync>(rt: &R, clerk: &mut Clerk<Sha256Hash>, over: &AtomicU64) -> bool
     ensures { clerk.new.board.now.table ≡ clerk.old.board.now.table }
 {
@@ -75,7 +76,7 @@ fn commit_forty<R: Threads + Sync>(rt: &R, clerk: &mut Clerk<Sha256Hash>, over: 
     right
 }
 
-/// Forty installs beside the watchers.
+/// Installs forty epochs while the watchers look.
 fn commit_beside<R: Threads + Sync>(
     rt: &R,
     board: &Board,
@@ -101,7 +102,7 @@ fn commit_beside<R: Threads + Sync>(
     right
 }
 
-/// Whether no watcher saw a wrong head.
+/// Returns whether no watcher saw a wrong head.
 fn all_right(watches: &[Watch], chain: &[Entry]) -> bool {
     let mut right = true;
     for one in watches {
@@ -110,7 +111,7 @@ fn all_right(watches: &[Watch], chain: &[Entry]) -> bool {
     right
 }
 
-/// Whether a watcher that is asked once more answers the last of forty heads, and then meets the publisher.
+/// Returns whether a watcher's latest head is the last of forty heads. Calls `Publisher::meet` with the watcher.
 fn ends_with_last(watcher: &mut Watcher, publisher: &mut Publisher, board: &Board) -> bool
     requires watcher { watcher.old.table ≡ board.now.table }
     requires publisher { publisher.old.table ≡ board.now.table }
@@ -125,7 +126,7 @@ fn ends_with_last(watcher: &mut Watcher, publisher: &mut Publisher, board: &Boar
     }
 }
 
-/// Whether each watcher that is asked once more answers the last of forty heads, and then meets the publisher.
+/// Returns whether `ends_with_last` is true for each watcher.
 fn all_end_with_last(watches: &mut Vec<Watch>, publisher: &mut Publisher, board: &Board) -> bool
     requires own { All (λ w. w.watcher.table ≡ board.now.table) watches.old.items }
     requires publisher { publisher.old.table ≡ board.now.table }
@@ -138,7 +139,7 @@ fn all_end_with_last(watches: &mut Vec<Watch>, publisher: &mut Publisher, board:
     all_end_with_last(watches, publisher, board) && right
 }
 
-/// Commits forty epochs beside four watchers, and makes a fifth one after them.
+/// Commits forty epochs while four watchers look, and makes a fifth watcher after them.
 fn commit_watched<R: Threads + Sync + Abort>(rt: &R, clerk: &mut Clerk<Sha256Hash>) {
     let board = clerk.board;
     let watches = watches_of(clerk.alloc, 4, &mut clerk.publisher, board);

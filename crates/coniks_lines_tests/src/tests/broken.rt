@@ -1,4 +1,4 @@
-//! Readers and writers of std that fail, each by several kinds of error. None of these is an end of the bytes.
+//! Readers and writers of std that fail, each with several kinds of error. None of these is the end of the input.
 
 use crate::tests::machine::Echo;
 use coniks_lines::{ByteIn, ByteOut, MemoryOut, RunFault, SystemIn, SystemOut, run_lines};
@@ -6,7 +6,7 @@ use std::alloc::Global;
 use std::io;
 use std::io::ErrorKind;
 
-/// Kinds of error that a stream may have: a pipe that nobody reads, a folder in place of a file, a signal and others.
+/// Kinds of error that a stream can have: a pipe without a reader, a directory in place of a file, a signal and others.
 const KINDS: [ErrorKind; 7] = [
     ErrorKind::BrokenPipe,
     ErrorKind::IsADirectory,
@@ -17,7 +17,7 @@ const KINDS: [ErrorKind; 7] = [
     ErrorKind::Other,
 ];
 
-/// Gives its bytes by one read, and then fails at each read.
+/// A reader that returns its bytes, and fails at each read after them.
 #[derive(Drop)]
 struct BrokenIn {
     bytes: &'static [u8],
@@ -36,7 +36,7 @@ impl io::Read for BrokenIn {
     }
 }
 
-/// Takes so many writes, and fails at each flush.
+/// A writer that accepts a given number of writes and fails at each one after them. It fails at each flush.
 #[derive(Drop)]
 struct BrokenOut {
     writes_left: u64,
@@ -57,7 +57,7 @@ impl io::Write for BrokenOut {
     }
 }
 
-/// Whether a run whose reader gives these bytes and then fails says so, having written just this.
+/// Returns whether a run whose reader fails after these bytes returns `Read` and has written exactly `wanted`.
 fn is_cut(alloc: Global, bytes: &'static [u8], kind: ErrorKind, wanted: &[u8]) -> bool {
     let mut reader = SystemIn::new(BrokenIn { bytes, kind });
     let mut writer = MemoryOut::new(alloc);
@@ -74,7 +74,7 @@ fn reads_that_fail(rt: HostRuntime) {
     }
 }
 
-/// Whether a run whose writer takes so many writes and no flush says so.
+/// Returns whether a run returns `Write` if its writer accepts this number of writes and no flush.
 fn is_unwritten(alloc: Global, writes: u64, kind: ErrorKind) -> bool {
     let input: &[u8] = b"a\nb";
     let mut reader = SystemIn::new(input);

@@ -6,8 +6,8 @@ ghost use Rattle.coniks_lines.specs.Machine.{output, all_accepted};
 use coniks_lines::{ByteIn, ByteOut, LineMachine, MemoryIn, MemoryOut, RunFault, run_lines};
 use std::alloc::{AllocError, Global};
 
-/// Echoes each line after a digit that turns between 0 and 1 with each accepted line. A line that
-/// begins with `!` is refused: its answer is `?`, and the digit stays.
+/// A machine that echoes each line after a digit, 0 or 1, which changes with each accepted line. A line that begins
+/// with `!` is refused: the answer is `?`, and the digit does not change.
 #[derive(Drop)]
 pub struct Echo {
     pub odd: bool,
@@ -39,7 +39,7 @@ impl LineMachine for Echo {
     }
 }
 
-/// What memory holds after a run over memory.
+/// Runs an `Echo` over bytes in memory. Returns the writer and whether each line was accepted.
 pub fn echoed(alloc: Global, input: Vec<u8>) -> Result<(MemoryOut, bool), RunFault>
     ensures written { IfOk result (λ r. (⟦<MemoryOut as ByteOut>⟧.sink r.0).written ≡ Some (output ⟦<Echo as LineMachine>⟧.answer false input.items)) }
     ensures accepted { IfOk result (λ r. r.1 ≡ all_accepted ⟦<Echo as LineMachine>⟧.answer false (lines_of input.items)) }

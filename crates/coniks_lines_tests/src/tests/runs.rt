@@ -1,4 +1,4 @@
-//! Runs, and what they write.
+//! Runs and their output.
 ghost use Rattle.std.specs.Prelude.{◌≡◌};
 
 use crate::tests::machine::{Echo, echoed};
@@ -11,7 +11,7 @@ use std::alloc::Global;
 use std::io;
 use std::process::Abort;
 
-/// Inputs, what is written for them, and whether each line is accepted.
+/// Inputs, their output, and whether each line is accepted.
 const RUNS: [(&[u8], &[u8], bool); 14] = [
     (b"", b"", true),
     (b"\n", b"0\n", true),
@@ -29,12 +29,13 @@ const RUNS: [(&[u8], &[u8], bool); 14] = [
     (b"a\nb\n!c", b"0a\n1b\n?\n", false),
 ];
 
-/// Bytes that a reader gives, whose memory a test has.
+/// Returns a copy of these bytes, as the input of a reader.
 fn input_of(rt: &impl Abort, alloc: Global, bytes: &[u8]) -> Vec<u8> {
     Vec::from_slice(alloc, bytes).expect(rt, "memory")
 }
 
-/// How a run ended: its answer, whether just the wanted bytes are written, and how often a read and a write failed.
+/// The outcome of a run: its result, whether exactly the wanted bytes were written, and the numbers of failures of the
+/// reader and the writer.
 #[derive(Clone, Copy)]
 struct Ended {
     all: Result<bool, RunFault>,
@@ -43,7 +44,7 @@ struct Ended {
     unwritten: u64,
 }
 
-/// A run over a reader and a slow writer.
+/// Runs an `Echo` over a reader and a slow writer.
 fn slow_run<R: ByteIn + Drop>(
     alloc: Global,
     mut reader: R,
@@ -102,7 +103,7 @@ fn one_flush_a_line(rt: HostRuntime) {
     assert!(rt; traced.calls.as_slice() == b"1ab\n!?\n!0\n!1c\n!".as_slice());
 }
 
-/// A line of so many bytes, and then a short one.
+/// Returns a line of `size` bytes, followed by a short one.
 fn long_input(alloc: Global, size: usize) -> Option<Vec<u8>> {
     let mut input = vec![in alloc; b'x'; size].ok()?;
     input.extend_from_slice(b"\nend").ok()?;
@@ -124,7 +125,7 @@ fn long_lines(rt: HostRuntime) {
     }
 }
 
-/// So many empty lines: each answer is a digit, 0 and 1 in turn.
+/// The answers to 300,000 empty lines are the digits 0 and 1 in turn.
 #[test]
 fn many_lines(rt: HostRuntime) {
     let count = 300_000;
@@ -135,7 +136,7 @@ fn many_lines(rt: HostRuntime) {
     assert!(rt; writer.bytes().ends_with(b"0\n1\n"));
 }
 
-/// A run whose writer takes a byte a write, and stops at a call.
+/// Runs with a writer that takes one byte per write and stops at the call with this number.
 fn stopped_run(alloc: Global, input: Vec<u8>, calls: u64, stop: Stop, wanted: &[u8]) -> Ended {
     let writer = FailOut::new(Vec::new(alloc), 1, calls, stop);
     slow_run(alloc, MemoryIn::new(input), writer, wanted)
@@ -143,7 +144,7 @@ fn stopped_run(alloc: Global, input: Vec<u8>, calls: u64, stop: Stop, wanted: &[
 
 #[test]
 fn a_write_stops(rt: HostRuntime) {
-    // the writer takes a byte a write: each line is as many writes as its answer has bytes, and a flush
+    // The writer takes one byte per write. Each line takes as many writes as its answer has bytes, and one flush.
     let wanted: &[u8] = b"0ab\n?\n1d\n";
     let written = [0, 1, 2, 3, 4, 4, 5, 6, 6, 7, 8, 9];
     let flushes = [4, 7, 11];
@@ -164,7 +165,7 @@ fn a_write_stops(rt: HostRuntime) {
     }
 }
 
-/// A run whose reader gives two bytes a read, and fails at one.
+/// Runs with a reader that returns two bytes per read and fails at the read with this number.
 fn unread_run(alloc: Global, input: Vec<u8>, reads: u64, wanted: &[u8]) -> Ended {
     let writer = FailOut::new(Vec::new(alloc), 100, NEVER, Stop::Fails);
     slow_run(alloc, FailIn::new(input, 2, reads), writer, wanted)
@@ -172,7 +173,7 @@ fn unread_run(alloc: Global, input: Vec<u8>, reads: u64, wanted: &[u8]) -> Ended
 
 #[test]
 fn a_read_fails(rt: HostRuntime) {
-    // two bytes a read: what stands after the last newline isn't answered where a read fails
+    // Each read returns two bytes. The bytes after the last newline are not answered if a read fails.
     let wanted: [&[u8]; 5] = [b"", b"", b"0ab\n", b"0ab\n1cd\n", b"0ab\n1cd\n"];
     let alloc = rt.alloc();
     for k in 0..wanted.len() {
@@ -227,7 +228,7 @@ fn memory_reads(rt: HostRuntime) {
     assert!(rt; reader.failures() == 0);
 }
 
-/// Where memory is refused, as it is in a trial run whose n-th allocation fails, nothing is written.
+/// A write that fails to allocate, as in a trial run whose n-th allocation fails, writes nothing.
 #[test]
 fn memory_writes(rt: HostRuntime) {
     let alloc = rt.alloc();

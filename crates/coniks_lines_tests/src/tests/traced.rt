@@ -1,11 +1,11 @@
-//! A writer of std that keeps each call: what reaches it is what a run writes, with a flush after each answer.
+//! A writer of std that records each call. A run passes its output to it, with a flush after each answer.
 
 use crate::tests::machine::Echo;
 use coniks_lines::{SystemIn, SystemOut, run_lines};
 use std::io;
 use std::io::ErrorKind;
 
-/// Keeps the bytes of each write, and a `!` for each flush.
+/// A writer that records the bytes of each write, and a `!` for each flush.
 #[derive(Drop)]
 pub struct Traced {
     pub calls: Vec<u8>,

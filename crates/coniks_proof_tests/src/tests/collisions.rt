@@ -1,4 +1,4 @@
-//! Collisions under a hash that gives 32 zero bytes for everything.
+//! Collisions under a hash that maps every message to 32 zero bytes.
 
 use crate::tests::{ZERO, beside, here, proof_of, repeated, sealed};
 use coniks_proof::{Collision, Digest, End, Flat, Proof, Sha256Hash, extract, leaf_hash};
@@ -8,18 +8,18 @@ use std::process::Abort;
 
 const ONES: Digest = Digest([1; 32]);
 
-/// What two proofs of the name `a`, of index 0, give.
+/// Returns the collision that two proofs of the name `a`, of index 0, give, if any.
 fn found(rt: &impl Abort, alloc: Global, a: &Proof, b: &Proof) -> Option<Collision> {
     let index = index_of(0, 0);
     extract(alloc, &Flat, &NONCE, &ZERO, &index, (b"a", a), (b"a", b)).expect(rt, "memory")
 }
 
-/// Whether two proofs of the name `a`, of index 0, give nothing.
+/// Returns whether two proofs of the name `a`, of index 0, give no collision.
 fn give_nothing(rt: &impl Abort, alloc: Global, a: &Proof, b: &Proof) -> bool {
     found(rt, alloc, a, b).is_none()
 }
 
-/// A proof of the name `a`: a sibling, or none, and the key at its end, or an end that is empty.
+/// A proof of the name `a`: at most one sibling, and an end that has a key or is empty.
 #[derive(Clone, Copy)]
 struct Shape {
     sibling: Option<Digest>,
@@ -37,13 +37,13 @@ fn shaped(rt: &impl Abort, alloc: Global, shape: Shape) -> Proof {
     }
 }
 
-/// The shape with this sibling and this key.
+/// Returns the shape with this sibling and this key.
 const fn ending(sibling: Option<Digest>, key: Option<u8>) -> Shape {
     Shape { sibling, key }
 }
 
-/// A byte string that is hashed: for an empty node and for a leaf at a level, for an interior node with a right side,
-/// and for the commitment to `a` and a key.
+/// A preimage: an empty node or a leaf at a level, an interior node with a right side, or the commitment to `a` and a
+/// key.
 #[derive(Clone, Copy)]
 enum Hashed {
     Empty(u8),
@@ -52,7 +52,7 @@ enum Hashed {
     Commitment(u8),
 }
 
-/// Whether these are the pieces, one after another.
+/// Returns whether the bytes are the concatenation of the pieces.
 fn is_joined(bytes: &[u8], pieces: &[&[u8]]) -> bool {
     let mut rest = bytes;
     for piece in pieces {
@@ -77,7 +77,7 @@ fn is_text(bytes: &[u8], text: Hashed) -> bool {
     }
 }
 
-/// Whether two proofs of the name `a`, of index 0, give just these two texts.
+/// Returns whether two proofs of the name `a`, of index 0, give exactly these two preimages.
 fn give(rt: &impl Abort, alloc: Global, a: &Proof, b: &Proof, x: Hashed, y: Hashed) -> bool {
     match found(rt, alloc, a, b) {
         Some(found) => is_text(found.x.as_slice(), x) && is_text(found.y.as_slice(), y),
@@ -85,8 +85,7 @@ fn give(rt: &impl Abort, alloc: Global, a: &Proof, b: &Proof, x: Hashed, y: Hash
     }
 }
 
-/// An end against a leaf, a key against another, an end against an interior node, a sibling against another, and an end
-/// against a leaf below the same sibling: each with the two byte strings that they give.
+/// `extract` returns the preimages of the first difference from the root: at an end, a key or a sibling.
 #[test]
 fn first_that_differ(rt: HostRuntime) {
     let alloc = rt.alloc();
@@ -150,7 +149,7 @@ fn one_not_accepted(rt: HostRuntime) {
     assert!(rt; give_nothing(&rt, alloc, &named, &asked));
 }
 
-/// What two proofs of the name `a` give, asked for once more where memory is refused, and whether it was.
+/// Returns the collision of two proofs of the name `a`, after one retry if an allocation fails, and whether one failed.
 fn found_at_last(
     rt: &impl Abort,
     alloc: Global,
@@ -164,8 +163,8 @@ fn found_at_last(
     }
 }
 
-/// Two proofs with what they give, whether or not memory is refused. `faults/run` refuses each request for memory in turn,
-/// and is told by what the test writes whether it was one of `extract`.
+/// `extract` returns the same collisions after a failed allocation. `faults/run` makes each allocation fail in turn,
+/// and reads from the output whether it was one of `extract`.
 #[test]
 fn refused_in_turn(rt: HostRuntime) {
     let alloc = rt.alloc();
@@ -187,7 +186,7 @@ fn refused_in_turn(rt: HostRuntime) {
     let _ = println!(rt; "{}", if is_refused { "refused" } else { "answered" });
 }
 
-/// Under SHA-256 the two proofs of one name don't meet in one root.
+/// Under SHA-256 `extract` returns no collision, because proofs with different keys do not lead to the same root.
 #[test]
 fn no_collision_known(rt: HostRuntime) {
     let alloc = rt.alloc();
@@ -202,13 +201,13 @@ fn no_collision_known(rt: HostRuntime) {
     }
 }
 
-/// The longest name with the longest key of one letter, below as many siblings as a proof can have.
+/// Returns a proof with 256 siblings, whose leaf has this name and the longest key of one letter.
 fn longest(rt: &impl Abort, alloc: Global, name: &[u8], key: u8) -> Proof {
     let end = here(rt, alloc, name, &repeated(rt, alloc, key, 16_384));
     beside(rt, alloc, 256, end)
 }
 
-/// Whether bytes are what is hashed to the commitment to the longest name with the longest key of one letter.
+/// Returns whether bytes are the preimage of the commitment to the longest name with the longest key of one letter.
 fn is_longest(rt: &impl Abort, alloc: Global, bytes: &[u8], name: &[u8], key: u8) -> bool {
     let key = repeated(rt, alloc, key, 16_384);
     is_joined(
@@ -217,7 +216,7 @@ fn is_longest(rt: &impl Abort, alloc: Global, bytes: &[u8], name: &[u8], key: u8
     )
 }
 
-/// The longest proofs, which differ at their ends alone.
+/// `extract` finds the collision of two proofs of the greatest size that differ only at their ends.
 #[test]
 fn longest_proofs(rt: HostRuntime) {
     let alloc = rt.alloc();

@@ -1,4 +1,4 @@
-//! Four messages at once, of 55, 56, 119 and 120 bytes: where each has from 56 to 119 bytes they go by lanes.
+//! Four messages at once, of 55, 56, 119 and 120 bytes. If each has 56 to 119 bytes, they are hashed in lanes.
 
 use crate::tests::repeated;
 use coniks_proof::{
@@ -9,7 +9,7 @@ use coniks_test_support::{OPENING, digest};
 use std::alloc::Global;
 use std::process::Abort;
 
-/// The bytes 3, 10, 17 and so on, modulo 256.
+/// Returns the bytes 3, 10, 17 and so on, modulo 256.
 fn counted() -> [u8; 120] {
     let mut bytes = [3u8; 120];
     for i in 1..120usize {
@@ -18,7 +18,8 @@ fn counted() -> [u8; 120] {
     bytes
 }
 
-/// The digest of the first so many counted bytes, and that of the commitment whose message has as many.
+/// Returns the expected digest of the first `length` counted bytes, and that of the commitment whose message has as
+/// many bytes.
 fn wanted(length: usize) -> (Digest, Digest) {
     let (hash, commitment) = match length {
         55 => (
@@ -41,7 +42,7 @@ fn wanted(length: usize) -> (Digest, Digest) {
     (digest(hash), digest(commitment))
 }
 
-/// Lengths of four messages: mixed, each as the first of its kind in another place, and all by lanes.
+/// Lengths of four messages: two groups that are hashed in lanes, and four with a length outside 56 to 119.
 const GROUPS: [[usize; 4]; 6] = [
     [55, 56, 119, 120],
     [56, 119, 56, 119],
@@ -75,12 +76,12 @@ fn hashes(rt: HostRuntime) {
     );
 }
 
-/// A key of letters `k`, by which the commitment to the name `n` has a message of so many bytes.
+/// Returns a key of letters `k` with which the commitment to the name `n` has a message of `length` bytes.
 fn key(rt: &impl Abort, alloc: Global, length: usize) -> Vec<u8> {
     repeated(rt, alloc, b'k', length.saturating_sub(40))
 }
 
-/// What the commitment to the name `n` and a key is the hash of.
+/// Returns the preimage of the commitment to the name `n` and a key.
 fn preimage<'a>(rt: &impl Abort, key: &'a [u8]) -> CommitmentPreimage<'a> {
     assert!(rt; 1 <= MAX_NAME && key.len() <= MAX_KEY);
     CommitmentPreimage::of(&OPENING, b"n", key)
@@ -104,7 +105,7 @@ fn commitments(rt: HostRuntime) {
     }
 }
 
-/// A digest that is a number and zeros after it.
+/// Returns a digest that is a number followed by zeros.
 fn numbered(number: u16) -> Digest {
     let mut bytes = [0u8; 32];
     let [high, low] = number.to_be_bytes();
@@ -113,7 +114,7 @@ fn numbered(number: u16) -> Digest {
     Digest(bytes)
 }
 
-/// The hashes of 4,099 interior nodes, over a number and its double each, hashed one after another into one.
+/// `hash_all` hashes 4,099 interior nodes, each over a number and its double. All hashes are chained into one digest.
 #[test]
 fn many_nodes(rt: HostRuntime) {
     let mut messages = Vec::new(rt.alloc());

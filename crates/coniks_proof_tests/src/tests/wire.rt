@@ -1,4 +1,4 @@
-//! Proofs in bytes, put together by hand from their form.
+//! Proofs in bytes, built by hand from the wire format.
 
 use crate::tests::{ZERO, beside, half, here, proof_of, repeated};
 use coniks_proof::{
@@ -13,7 +13,7 @@ const FIRST: Digest = Digest([0xaa; 32]);
 
 const SECOND: Digest = Digest([0xbb; 32]);
 
-/// The pieces, one after another.
+/// Returns the concatenation of the pieces.
 fn joined(rt: &impl Abort, alloc: Global, pieces: &[&[u8]]) -> Vec<u8> {
     let mut bytes = Vec::new(alloc);
     for piece in pieces {
@@ -22,23 +22,23 @@ fn joined(rt: &impl Abort, alloc: Global, pieces: &[&[u8]]) -> Vec<u8> {
     bytes
 }
 
-/// An empty node below two siblings.
+/// Returns the bytes of a proof that ends at an empty node, with two siblings.
 fn of_empty(rt: &impl Abort, alloc: Global) -> Vec<u8> {
     joined(rt, alloc, &[b"\0\0\x02", &FIRST.0, &SECOND.0])
 }
 
-/// A leaf of index 0x40.. with the commitment of aa.., without siblings.
+/// Returns the bytes of a proof without siblings, which ends at a leaf of index 0x40.. and commitment aa...
 fn of_other(rt: &impl Abort, alloc: Global) -> Vec<u8> {
     joined(rt, alloc, &[b"\x01\0\0", &index_of(0x40, 0).0, &FIRST.0])
 }
 
-/// The leaf of `a` with the key `kk`, below one sibling.
+/// Returns the bytes of a proof that ends at the leaf of `a` with the key `kk`, with one sibling.
 fn of_here(rt: &impl Abort, alloc: Global) -> Vec<u8> {
     let end = b"\0\x01a\0\0\0\x02kk";
     joined(rt, alloc, &[b"\x02\0\x01", &SECOND.0, &OPENING.0, end])
 }
 
-/// Whether a proof has these bytes.
+/// Returns whether a proof is encoded as these bytes.
 fn is_written(alloc: Global, proof: &Proof, bytes: &[u8]) -> bool {
     match proof.bytes(alloc) {
         Ok(written) => written.as_slice() == bytes,
@@ -62,7 +62,7 @@ fn written(rt: HostRuntime) {
     assert!(rt; is_written(alloc, &here, &of_here(&rt, alloc)));
 }
 
-/// How many siblings the proof of these bytes has; 1,000 where they are no proof's.
+/// Returns the number of siblings of the proof in these bytes, or 1,000 if they are no proof.
 fn count_in(bytes: &[u8]) -> usize {
     match ProofRef::read(bytes) {
         Ok(proof) => proof.siblings().len(),
@@ -70,7 +70,7 @@ fn count_in(bytes: &[u8]) -> usize {
     }
 }
 
-/// Whether the end of these bytes' proof is a leaf of `a` with the key `kk`.
+/// Returns whether the proof in these bytes ends at the leaf of `a` with the key `kk`.
 fn is_here(bytes: &[u8]) -> bool {
     let Ok(proof) = ProofRef::read(bytes) else {
         return false;
@@ -83,7 +83,7 @@ fn is_here(bytes: &[u8]) -> bool {
     }
 }
 
-/// Whether the end of these bytes' proof is a leaf of index 0x40.. with the commitment of aa...
+/// Returns whether the proof in these bytes ends at a leaf of index 0x40.. and commitment aa...
 fn is_other(bytes: &[u8]) -> bool {
     let Ok(proof) = ProofRef::read(bytes) else {
         return false;
@@ -94,7 +94,7 @@ fn is_other(bytes: &[u8]) -> bool {
     }
 }
 
-/// Whether the end of these bytes' proof is empty.
+/// Returns whether the proof in these bytes ends at an empty node.
 fn is_empty(bytes: &[u8]) -> bool {
     match ProofRef::read(bytes) {
         Ok(proof) => matches!(proof.end(), EndRef::Empty),
@@ -116,12 +116,12 @@ fn read(rt: HostRuntime) {
     assert!(rt; is_here(&here));
 }
 
-/// Why the first bytes of these are no proof's.
+/// Returns the error of reading the first `count` bytes, or `None` if they are a proof.
 fn fault_of_first(bytes: &[u8], count: usize) -> Option<WireFault> {
     ProofRef::read(bytes.get(..count).unwrap_or(&[])).err()
 }
 
-/// Whether as many of the first bytes as this, up to that, left out, are refused by one fault.
+/// Returns whether each prefix of at least `from` and fewer than `to` bytes is refused with this error.
 fn are_cut(bytes: &[u8], from: usize, to: usize, fault: WireFault) -> bool {
     for count in from..to {
         if fault_of_first(bytes, count) != Some(fault) {
@@ -131,7 +131,7 @@ fn are_cut(bytes: &[u8], from: usize, to: usize, fault: WireFault) -> bool {
     true
 }
 
-/// Each cut of the bytes, at each of its places.
+/// A proof that is cut at any byte is refused with the error for the part that is cut.
 #[test]
 fn cut(rt: HostRuntime) {
     let alloc = rt.alloc();
@@ -155,7 +155,7 @@ fn cut(rt: HostRuntime) {
     assert!(rt; fault_of_first(&bytes, 67) == None);
 }
 
-/// One byte more at each kind of end, and each kind that isn't one.
+/// A proof with one byte more is refused as `BytesFollow`, and an unknown kind as `UnknownKind`.
 #[test]
 fn more_and_unknown(rt: HostRuntime) {
     let alloc = rt.alloc();
@@ -174,7 +174,8 @@ fn more_and_unknown(rt: HostRuntime) {
     }
 }
 
-/// What bytes say of `a`, of index 0, in a tree of `a` and `b`: the length of the key, 0 where `a` is absent.
+/// Checks the proof in these bytes for `a`, of index 0, under a root. Returns the length of the key, 0 if `a` is
+/// absent, or 1,000 if the bytes are no proof.
 fn told(bytes: &[u8], root: &Digest) -> Result<usize, CheckFault> {
     let Ok(proof) = ProofRef::read(bytes) else {
         return Ok(1000);
@@ -185,7 +186,7 @@ fn told(bytes: &[u8], root: &Digest) -> Result<usize, CheckFault> {
     }
 }
 
-/// A proof of presence that was read, under its root and under another.
+/// A presence proof that was read from bytes is accepted under its root, and refused under another root.
 #[test]
 fn read_and_checked(rt: HostRuntime) {
     let (a, b) = (half(b"a", 0), half(b"b", 0x80));
@@ -197,8 +198,8 @@ fn read_and_checked(rt: HostRuntime) {
     assert!(rt; told(&bytes, &a) == Err(CheckFault::RootMismatch));
 }
 
-/// Whether bytes with so many siblings of zeros before an empty end are those of the proof, and refused as too deep or,
-/// at the root, as another root's.
+/// Returns whether a proof of a given number of zero siblings and an empty end is encoded as expected and refused with
+/// this error.
 fn is_deep(rt: &impl Abort, alloc: Global, siblings: u16, fault: CheckFault) -> bool {
     let count = siblings.to_be_bytes();
     let zeros = repeated(rt, alloc, 0, usize::from(siblings) * 32);
@@ -217,7 +218,7 @@ fn deep(rt: HostRuntime) {
     assert!(rt; proof.bytes(alloc).err() == Some(BytesFault::TooManySiblings));
 }
 
-/// Whether a leaf's name and key of so many letters stand in its bytes with their lengths before them.
+/// Returns whether a leaf's name and key of these lengths are encoded with their lengths before them.
 fn is_long(rt: &impl Abort, alloc: Global, name: u16, key: u32) -> bool {
     let (name_length, key_length) = (name.to_be_bytes(), key.to_be_bytes());
     let name = repeated(rt, alloc, b'n', usize::from(name));
@@ -229,7 +230,7 @@ fn is_long(rt: &impl Abort, alloc: Global, name: u16, key: u32) -> bool {
     is_written(alloc, &proof, &bytes)
 }
 
-/// The longest name and key that the check accepts, and far longer ones.
+/// Names and keys are encoded also beyond the limits of the check, but a name of 65,536 bytes is `NameTooLong`.
 #[test]
 fn long(rt: HostRuntime) {
     let alloc = rt.alloc();

@@ -3,13 +3,14 @@
 use coniks_tool::{MemoryIn, MemoryOut, run_script};
 use std::process::Abort;
 
-/// The epochs of a run.
+/// The greatest number of epochs of a run.
 const MOST: u64 = 1024;
 
 const OPEN: &str =
     "{\"cmd\":\"open\",\"key\":\"0000000000000000000000000000000000000000000000000000000000000000\",\"nonce\":\"1111111111111111111111111111111111111111111111111111111111111111\",\"policy\":\"2222222222222222222222222222222222222222222222222222222222222222\"}\n";
 
-/// An empty batch under each epoch from 1 to one more than a run may have, a lookup at the last one, and a batch under it.
+/// Returns a script that opens a directory and adds an empty batch for each epoch from 1 to `MOST` + 1. A lookup and a
+/// batch at epoch `MOST` follow.
 fn script<R: Abort + AllocGlobal>(rt: &R) -> String {
     let mut lines = String::from_str(rt.alloc(), OPEN).expect(rt, "memory");
     for epoch in 1..=MOST + 1 {
@@ -27,8 +28,8 @@ fn script<R: Abort + AllocGlobal>(rt: &R) -> String {
     lines
 }
 
-/// The board takes at most 1,024 heads. The next batch is refused, and lookups still succeed. If the epoch isn't later either,
-/// that error is returned first.
+/// The board takes at most 1,024 heads. The next batch is refused, and lookups still succeed. If the epoch isn't later
+/// either, that error is returned first.
 #[test]
 fn board_is_full(rt: HostRuntime) {
     let alloc = rt.alloc();

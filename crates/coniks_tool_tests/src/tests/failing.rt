@@ -1,4 +1,4 @@
-//! Streams that fail: each status, and what is told.
+//! Streams that fail: the exit statuses and the error texts.
 
 use crate::tests::program::{Cut, Given, Way, ends_untold, run_of, status_after_cuts, status_cut};
 use crate::tests::scripts::{
@@ -8,7 +8,7 @@ use coniks_test_support::NEVER;
 use std::process::Abort;
 use std::thread::Threads;
 
-/// Words, input, and what answers it with status 1.
+/// The arguments, the input and the whole output of runs that end with status 1.
 const SCRIPTS: [(&[&str], &str, &str); 4] = [
     (&["keydir", "run"], SCRIPT, ANSWERED),
     (&["keydir", "check"], LOOKUP, CHECKED),
@@ -16,7 +16,7 @@ const SCRIPTS: [(&[&str], &str, &str); 4] = [
     (&MONITOR, LOOKUP, CHANGED),
 ];
 
-/// A row of these.
+/// Returns a row of `SCRIPTS` as a `Given`.
 fn given<'a>(row: &(&'a [&'a str], &'a str, &'a str)) -> Given<'a> {
     Given {
         words: row.0,
@@ -25,8 +25,7 @@ fn given<'a>(row: &(&'a [&'a str], &'a str, &'a str)) -> Given<'a> {
     }
 }
 
-/// Each read fails in turn, then each write or flush, and then each write takes 0 bytes or a flush fails, until a run meets
-/// none.
+/// A run ends with status 3 if any read, write or flush fails, or any write takes 0 bytes, and with status 1 otherwise.
 #[test]
 fn one_failing_call(rt: HostRuntime) {
     for row in &SCRIPTS {
@@ -37,7 +36,7 @@ fn one_failing_call(rt: HostRuntime) {
     }
 }
 
-/// A reader of one byte a call and a writer of one byte a call.
+/// A run writes the same output over streams that move one byte per call.
 #[test]
 fn byte_by_byte(rt: HostRuntime) {
     for row in &SCRIPTS {
@@ -51,7 +50,8 @@ fn byte_by_byte(rt: HostRuntime) {
     }
 }
 
-/// The status of the first run that meets no failure where each call on the output fails in turn, and help is asked for.
+/// Makes each call on the output of `keydir help` fail in turn, and returns the status of the first run without a
+/// failure.
 fn status_of_help_cut(rt: &(impl Threads + Abort + Sync + AllocGlobal)) -> Option<u8> {
     const WORDS: [&str; 2] = ["keydir", "help"];
     let help = run_of(rt, rt.alloc(), &WORDS, b"");
@@ -68,7 +68,7 @@ fn failing_writes_of_help(rt: HostRuntime) {
     assert!(rt; status_of_help_cut(&rt) == Some(0));
 }
 
-/// A standard error that fails changes no status.
+/// A standard error that fails does not change the status.
 #[test]
 fn failing_errors(rt: HostRuntime) {
     const CASES: [(&[&str], u8); 4] = [

@@ -1,4 +1,4 @@
-//! Runs of the program over streams, and words that no file of cases can hold.
+//! Runs of the program over streams, and arguments that no file of cases can contain.
 
 use coniks_test_support::{FailIn, FailOut, NEVER, Stop};
 use coniks_tool::{MemoryIn, MemoryOut, Unread, program, unread_words};
@@ -6,7 +6,7 @@ use std::alloc::Global;
 use std::process::Abort;
 use std::thread::Threads;
 
-/// What a run of the program came to.
+/// The result of a run of the program.
 #[derive(Drop)]
 pub(crate) struct Ended {
     pub(crate) status: u8,
@@ -31,7 +31,8 @@ pub(crate) fn run_of(
     }
 }
 
-/// Whether words are refused: with status 2, nothing written, and a text that begins so and ends its last line.
+/// Returns whether the arguments are refused with status 2, no output, and an error text that starts with `text` and
+/// ends with a newline.
 pub(crate) fn are_refused(
     rt: &(impl Threads + Abort + Sync),
     alloc: Global,
@@ -46,8 +47,8 @@ pub(crate) fn are_refused(
         && told.ends_with(b"\n")
 }
 
-/// Whether a run whose first read fails ends with this status where the standard error takes so many calls, one byte a
-/// call, and takes them all.
+/// Runs the program with a first read that fails and a standard error that fails after `calls` writes of one byte.
+/// Returns whether all these bytes are written and the run ends with this status.
 pub(crate) fn ends_untold(
     rt: &(impl Threads + Sync),
     alloc: Global,
@@ -62,18 +63,18 @@ pub(crate) fn ends_untold(
     ended == status && errors.bytes.len() as u64 == calls
 }
 
-/// Which calls are counted, of which one fails.
+/// The kind of call that is counted, and that fails once.
 #[derive(Clone, Copy, Debug, PartialEq, Eq)]
 pub(crate) enum Way {
     /// Reads.
     Reads,
     /// Writes and flushes.
     Writes,
-    /// Writes, of which one takes 0 bytes, and flushes.
+    /// Writes and flushes. Instead of failing, a write takes 0 bytes.
     Stalls,
 }
 
-/// What a failure is told by.
+/// Returns the error text of a failure.
 fn text_of(way: Way) -> &'static str {
     match way {
         Way::Reads => "keydir: read failed\n",
@@ -81,12 +82,12 @@ fn text_of(way: Way) -> &'static str {
     }
 }
 
-/// Whether what was written is a beginning of the whole, and whole lines of it where no write failed.
+/// Returns whether the output is a prefix of the whole. If a read failed, the output must be whole lines.
 fn is_part(output: &[u8], whole: &[u8], way: Way) -> bool {
     whole.starts_with(output) && (way != Way::Reads || output.is_empty() || output.ends_with(b"\n"))
 }
 
-/// The call that fails, by its number from 0, and how many bytes a call moves at most.
+/// The number of the call that fails, from 0, and the greatest number of bytes that a call moves.
 #[derive(Clone, Copy)]
 pub(crate) struct Cut {
     pub(crate) way: Way,
@@ -94,7 +95,7 @@ pub(crate) struct Cut {
     pub(crate) piece: usize,
 }
 
-/// What the program is given, and what answers it.
+/// The arguments and the input of a run, and its whole output.
 #[derive(Clone, Copy)]
 pub(crate) struct Given<'a> {
     pub(crate) words: &'a [&'a str],
@@ -102,8 +103,9 @@ pub(crate) struct Given<'a> {
     pub(crate) whole: &'a [u8],
 }
 
-/// The status of a run that is cut. Where it meets the failure it ends with status 3, has written a part of its whole output
-/// and tells of the failure; else it writes the whole and tells nothing. No status where it doesn't.
+/// Returns the status of a run with a cut, or `None` if the run is not as expected. A run that meets the failure ends
+/// with status 3, a part of the whole output and the error text. Any other run writes the whole output and no error
+/// text.
 pub(crate) fn status_cut(
     rt: &(impl Threads + Abort + Sync + AllocGlobal),
     given: &Given<'_>,
@@ -136,8 +138,8 @@ pub(crate) fn status_cut(
     is_so.then_some(status)
 }
 
-/// The status of the first run that meets no failure where the first call fails, then the second, and so on, and each
-/// moves at most 64 bytes.
+/// Makes the first call fail, then the second, and so on. Each call moves at most 64 bytes. Returns the status of the
+/// first run without a failure.
 pub(crate) fn status_after_cuts(
     rt: &(impl Threads + Abort + Sync + AllocGlobal),
     given: &Given<'_>,
@@ -157,14 +159,14 @@ pub(crate) fn status_after_cuts(
     None
 }
 
-/// The first line of `clap`'s text, and its end, where not even the program's name is there.
+/// A command line without even the program's name is refused with `clap`'s error text.
 #[test]
 fn no_name(rt: HostRuntime) {
     const MISSING: &str = "error: 'keydir' requires a subcommand but one was not provided\n";
     assert!(rt; are_refused(&rt, rt.alloc(), &[], MISSING));
 }
 
-/// Whether words that can't be read are told of by this text, with this status.
+/// Returns whether arguments that can't be read give this status and this error text.
 fn tells_of_unread(alloc: Global, why: Unread, status: u8, text: &str) -> bool {
     let mut errors = MemoryOut::new(alloc);
     unread_words(why, &mut errors) == status && errors.bytes() == text.as_bytes()

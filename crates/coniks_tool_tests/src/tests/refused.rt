@@ -1,4 +1,4 @@
-//! Memory that is refused to `run_script`.
+//! Allocations that fail in `run_script`.
 
 use crate::tests::scripts::{ANSWERED, SCRIPT};
 use coniks_test_support::{FailOut, NEVER, Stop};
@@ -7,7 +7,7 @@ use std::alloc::Global;
 use std::process::Abort;
 use std::thread::Threads;
 
-/// The script, asked for once more where memory is refused.
+/// Copies the script, and tries once more if an allocation fails.
 fn script(rt: &impl Abort, alloc: Global) -> Vec<u8> {
     match Vec::from_slice(alloc, SCRIPT.as_bytes()) {
         Ok(script) => script,
@@ -15,7 +15,7 @@ fn script(rt: &impl Abort, alloc: Global) -> Vec<u8> {
     }
 }
 
-/// Room for all that is written, asked for once more where memory is refused.
+/// Returns a buffer for the whole output, and tries once more if an allocation fails.
 fn room(rt: &impl Abort, alloc: Global) -> Vec<u8> {
     match Vec::with_capacity(alloc, ANSWERED.len()) {
         Ok(room) => room,
@@ -23,8 +23,8 @@ fn room(rt: &impl Abort, alloc: Global) -> Vec<u8> {
     }
 }
 
-/// Whether what was written goes with what a run answered: the whole, whole lines of it where memory was refused, and
-/// nothing where no board could be had.
+/// Returns whether the output matches the result of a run. It is the whole output, whole lines of it after
+/// `OutOfMemory`, or nothing after `NoBoard`.
 fn is_written(ran: &Result<bool, RunFault>, written: &[u8]) -> bool {
     let whole = ANSWERED.as_bytes();
     match ran {
@@ -37,7 +37,7 @@ fn is_written(ran: &Result<bool, RunFault>, written: &[u8]) -> bool {
     }
 }
 
-/// Runs the script at depth 1 by so many workers, and says whether memory was refused.
+/// Runs the script at depth 1 with a given number of workers, and returns whether a failed allocation ended the run.
 fn is_refused<R: Threads + Sync + Abort>(rt: &R, alloc: Global, workers: usize) -> bool {
     assert!(rt; 1 <= workers && workers <= 64);
     let mut reader = MemoryIn::new(script(rt, alloc));
@@ -47,25 +47,25 @@ fn is_refused<R: Threads + Sync + Abort>(rt: &R, alloc: Global, workers: usize) 
     ran.is_err()
 }
 
-/// Runs the script, and once more where memory is refused, and says whether it was.
+/// Runs the script, and once more if a failed allocation ended the run. Returns whether one did.
 fn is_refused_once<R: Threads + Sync + Abort>(rt: &R, alloc: Global, workers: usize) -> bool {
     let refused = is_refused(rt, alloc, workers);
     assert!(rt; !refused || !is_refused(rt, alloc, workers));
     refused
 }
 
-/// Writes for `faults/run`, which refuses each request for memory in turn, whether one of the run was refused.
+/// Prints for `faults/run`, which makes each allocation fail in turn, whether one ended the run.
 fn tell(rt: &HostRuntime, is_refused: bool) {
     let _ = println!(rt; "{}", if is_refused { "refused" } else { "answered" });
 }
 
-/// Where a lone worker builds the epoch, each refusal ends the run.
+/// With one worker, each failed allocation ends the run.
 #[test]
 fn by_one(rt: HostRuntime) {
     tell(&rt, is_refused_once(&rt, rt.alloc(), 1));
 }
 
-/// With three workers one that only costs a worker changes no answer.
+/// With three workers, a failed allocation that only costs a worker does not change the output.
 #[test]
 fn by_three(rt: HostRuntime) {
     tell(&rt, is_refused_once(&rt, rt.alloc(), 3));

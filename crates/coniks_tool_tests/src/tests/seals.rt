@@ -1,9 +1,9 @@
-//! What the demonstration seal counts and keeps.
+//! The counters and the last entry of the demonstration seal.
 
 use coniks_chain::{Body, Sign, Signature};
 use coniks_tool::DemoSeal;
 
-/// The bytes 0, 1, 2 and so on.
+/// Returns the bytes 0, 1, 2 and so on, modulo 256.
 fn counted<const N: usize>() -> [u8; N] {
     let mut bytes = [0; N];
     for (place, byte) in bytes.iter_mut().enumerate() {
@@ -12,7 +12,7 @@ fn counted<const N: usize>() -> [u8; N] {
     bytes
 }
 
-/// Whether the last entry is a body with its signature.
+/// Returns whether the last entry has this body and this signature.
 fn is_last(seal: &DemoSeal, body: &[u8; 145], signature: Option<Signature>) -> bool {
     match seal.last() {
         Some(entry) => entry.body == Body::read(body) && Some(entry.signature) == signature,

@@ -1,4 +1,4 @@
-//! Two indices that differ in their last bit alone: 256 levels.
+//! Two indices that differ only in the last bit, in a tree of 256 levels.
 
 use crate::tests::examples::answers;
 use coniks_proof::{Answer, Digest, Hash32, Sha256Hash};
@@ -7,7 +7,7 @@ use coniks_tree::Root;
 use std::alloc::Global;
 use std::process::Abort;
 
-/// The newer root has this hash and shows both records, and the older one shows the first.
+/// Asserts the newer root's hash, that it shows both records, and that the older root shows only the first.
 fn show_both(rt: &impl Abort, epochs: &Epochs<Sha256Hash>, older: Root, newer: Root) {
     let want = "cb8d4906a412a18b555aa69c92619802b052c8d8661c6ccfae4ad96b7987fe42";
     assert!(rt; epochs.hash(newer) == digest(want));
@@ -31,7 +31,7 @@ fn as_deep_as_can_be(rt: HostRuntime) {
     }
 }
 
-/// How many siblings the path to `a` has, and SHA-256 of them in a row.
+/// Returns the number of siblings of the authentication path to `a`, and SHA-256 of their concatenation.
 fn siblings_of_a(
     rt: &impl Abort,
     alloc: Global,

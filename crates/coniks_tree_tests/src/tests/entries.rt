@@ -1,4 +1,4 @@
-//! What a root shows, entry by entry, and the roots that other programs computed of it under another nonce.
+//! The entries that a root shows, and their root hashes under another nonce, which other programs computed.
 
 use coniks_proof::{Index, Nonce, Sha256Hash};
 use coniks_test_support::{Bound, Epochs, digest, index_of};
@@ -6,10 +6,10 @@ use coniks_tree::Root;
 use std::alloc::Global;
 use std::process::Abort;
 
-/// A nonce that no epoch here is under.
+/// A nonce that no epoch of these tests uses.
 const OTHER_NONCE: Nonce = Nonce([0x33; 32]);
 
-/// A root shows these indices in this order, each with the record of this number, and has this hash under the other nonce.
+/// Asserts the indices and record numbers that a root shows, in order, and its hash under the other nonce.
 fn shows(
     rt: &impl Abort,
     alloc: Global,
@@ -28,7 +28,7 @@ fn shows(
     assert!(rt; hash == digest(other_hash));
 }
 
-/// The one epoch that binds these, and its root.
+/// Returns a tree with one epoch that binds these, and its root.
 fn epoch_of(rt: &impl Abort, alloc: Global, bindings: &[Bound]) -> (Epochs<Sha256Hash>, Root) {
     let mut epochs = Epochs::new(alloc, Sha256Hash);
     let root = epochs.add(None, 0, bindings).expect(rt, "memory").root;
@@ -50,7 +50,7 @@ fn of_one(rt: HostRuntime) {
     shows(&rt, rt.alloc(), &epochs, one, &[(a, 0)], hash);
 }
 
-/// Two indices that differ in their last bit alone.
+/// Two indices that differ only in the last bit are listed in order.
 #[test]
 fn of_the_deepest_level(rt: HostRuntime) {
     let (a, z) = (index_of(0, 0), index_of(0, 1));
@@ -59,7 +59,7 @@ fn of_the_deepest_level(rt: HostRuntime) {
     shows(&rt, rt.alloc(), &epochs, both, &[(a, 0), (z, 1)], hash);
 }
 
-/// An older root shows what it showed, and a newer one the newer record of the key that was changed.
+/// An older root shows the same as before, and a newer root shows the new record of a changed key.
 #[test]
 fn of_two_epochs(rt: HostRuntime) {
     let (a, c, b) = (index_of(0, 0), index_of(0x40, 0), index_of(0x80, 0));

@@ -1,4 +1,4 @@
-//! Worked examples, whose digests were computed by other programs.
+//! Worked examples, whose digests other programs computed.
 
 use coniks_proof::{Answer, Digest, End, Index, Sha256Hash, check};
 use coniks_test_support::{Bound, Epochs, NONCE, digest, index_of};
@@ -9,13 +9,13 @@ use std::process::Abort;
 /// The root of a tree with no names.
 const EMPTY_ROOT: &str = "1aa9b40c9d34d625d7329003c097925b7d4c7809b864b047b71defb140aca216";
 
-/// The root of a tree with `a` alone.
+/// The root of a tree with only `a`.
 const ROOT_OF_A: &str = "042fd8b84dddf51f9702df23af5d7b8085d9e48571804622630a4fdab7481c17";
 
 /// The root of a tree with `a` on the left and `c` beside it, and nothing on the right.
 const ROOT_OF_A_AND_C: &str = "cedf53d7b5eac39a73da7f3fd65c38a4c7cf69a351dfde142aa469ba07e25efd";
 
-/// The tree of one epoch that binds these, and its root. The epoch takes so many nodes, and the root has this hash.
+/// Returns a tree with one epoch that binds these, and its root. Asserts the number of nodes and the root's hash.
 fn grown(
     rt: &impl Abort,
     alloc: Global,
@@ -32,7 +32,7 @@ fn grown(
     (epochs, added.root)
 }
 
-/// Whether the path to a name of this index is accepted, with this answer.
+/// Returns whether the authentication path to a name with this index is accepted with this answer.
 pub fn answers(
     rt: &impl Abort,
     epochs: &Epochs<Sha256Hash>,
@@ -45,7 +45,7 @@ pub fn answers(
     check(&Sha256Hash, &NONCE, &epochs.hash(root), index, name, &path) == Ok(answer)
 }
 
-/// Where a path ends: at an empty node, at the leaf of its index, or at that of another one.
+/// The end of an authentication path: an empty node, the leaf of its index, or the leaf of another index.
 #[derive(Clone, Copy, PartialEq, Eq)]
 enum Place {
     Empty,
@@ -53,7 +53,7 @@ enum Place {
     Other(Index),
 }
 
-/// Where the path to an index ends, which has these siblings.
+/// Returns the end of the authentication path to an index. Asserts the path's siblings.
 fn end_of_path(
     rt: &impl Abort,
     epochs: &Epochs<Sha256Hash>,
@@ -78,7 +78,7 @@ fn nothing(rt: HostRuntime) {
     assert!(rt; epochs.find(none, &a) == None);
 }
 
-/// The hash of a part that isn't attached.
+/// `part_hash` returns the hash of a part that is not attached.
 #[test]
 fn hash_of_a_part(rt: HostRuntime) {
     let tree = Tree::new(rt.alloc());
@@ -116,7 +116,7 @@ fn two_sides(rt: HostRuntime) {
     }
 }
 
-/// The tree with `a` on the left and `c` beside it, and its root.
+/// Returns the tree with `a` on the left and `c` beside it, and its root.
 fn a_and_c(rt: &impl Abort, alloc: Global, depth: usize) -> (Epochs<Sha256Hash>, Root) {
     let names = [
         (index_of(0, 0), b'a', b'k'),

@@ -1,17 +1,17 @@
-//! A tree of more nodes than one batch makes.
+//! A tree with more records than the largest batch has operations.
 
 use coniks_proof::{Flat, Index};
 use coniks_test_support::{Bound, Epochs, index_below};
 use coniks_tree::RecordNo;
 use std::alloc::{AllocError, Global};
 
-/// The index that begins with the two bytes of a number, and has zeros after them.
+/// Returns the index that begins with the two bytes of a number, and has zeros after them.
 fn index_of_number(number: u16) -> Index {
     let [high, low] = number.to_be_bytes();
     index_below(high, low)
 }
 
-/// A name for each two bytes, in the order of their indices.
+/// Returns a name for each 16-bit number, in the order of their indices.
 fn one_for_each(alloc: Global) -> Result<Vec<Bound>, AllocError> {
     let mut names = Vec::new(alloc);
     for number in 0..=u16::MAX {
@@ -20,9 +20,9 @@ fn one_for_each(alloc: Global) -> Result<Vec<Bound>, AllocError> {
     Ok(names)
 }
 
-/// A full tree of 65,536 leaves, under a hash that costs nothing, and one more epoch, in which the last of them has
-/// another key: that takes the 16 nodes above it, its own and that of the leaf beside it. All of them are listed, the last
-/// with its new record.
+/// A full tree of 65,536 leaves has 131,071 nodes, hashed with a hash that costs nothing. An epoch with a new key for
+/// the last leaf adds 18 nodes: the 16 above the leaf, the leaf, and the leaf beside it. All leaves are listed, the
+/// last one with its new record.
 #[test]
 fn full_tree(rt: HostRuntime) {
     let names = one_for_each(rt.alloc()).expect(&rt, "memory");

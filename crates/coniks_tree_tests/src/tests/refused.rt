@@ -1,12 +1,12 @@
-//! Memory that is refused.
+//! Allocations that fail.
 
 use coniks_proof::Sha256Hash;
 use coniks_test_support::{Epochs, digest, index_of};
 use coniks_tree::{OutOfMemory, Part, Root, Tree};
 use std::process::Abort;
 
-/// The root of an epoch that binds `c` over one that binds `a`. Where memory is refused the tree is as it was, and the
-/// epoch can be had then.
+/// Returns the root of an epoch that binds `c` over one that binds `a`. If an allocation fails, the tree is unchanged
+/// and a second call succeeds.
 fn with_c(rt: &impl Abort, epochs: &mut Epochs<Sha256Hash>, first: Root) -> Root {
     let c = [(index_of(0x40, 0), b'c', b'k')];
     let sizes = epochs.sizes();
@@ -18,7 +18,7 @@ fn with_c(rt: &impl Abort, epochs: &mut Epochs<Sha256Hash>, first: Root) -> Root
     epochs.add(Some(first), 1, &c).expect(rt, "memory").root
 }
 
-/// How many siblings the path to `a` has. Where memory is refused it can be had then.
+/// Returns the number of siblings of the path to `a`. If an allocation fails, a second call succeeds.
 fn siblings_of_a(rt: &impl Abort, epochs: &Epochs<Sha256Hash>, root: Root) -> usize {
     let a = index_of(0, 0);
     let path = match epochs.path(root, &a) {
@@ -28,7 +28,7 @@ fn siblings_of_a(rt: &impl Abort, epochs: &Epochs<Sha256Hash>, root: Root) -> us
     path.siblings.as_slice().len()
 }
 
-/// How many entries a root shows. Where memory is refused they can be had then.
+/// Returns the number of entries that a root shows. If an allocation fails, a second call succeeds.
 fn entries_of(rt: &impl Abort, epochs: &Epochs<Sha256Hash>, root: Root) -> usize {
     let entries = match epochs.entries(root) {
         Ok(entries) => entries,
@@ -37,8 +37,8 @@ fn entries_of(rt: &impl Abort, epochs: &Epochs<Sha256Hash>, root: Root) -> usize
     entries.len()
 }
 
-/// An epoch, a path or the entries that are refused memory leave the tree as it was, and can be had then. Each growth can be made to fail by
-/// `rt try --test --fail-alloc`.
+/// A failed allocation in `add`, `path` or `entries` leaves the tree unchanged, and a second call succeeds. Each
+/// allocation can be made to fail with `rt try --test --fail-alloc`.
 #[test]
 fn as_it_was(rt: HostRuntime) {
     let a = [(index_of(0, 0), b'a', b'k')];
@@ -52,7 +52,7 @@ fn as_it_was(rt: HostRuntime) {
     assert!(rt; epochs.hash(both) == digest(root));
 }
 
-/// Room for more records than memory has bytes is refused, and the tree is as it was.
+/// `reserve` returns `OutOfMemory` for more records than memory has bytes, and leaves the tree unchanged.
 #[test]
 fn too_many_records(rt: HostRuntime) {
     let mut tree = Tree::new(rt.alloc());

@@ -1,4 +1,4 @@
-//! Indices as a hash gives them, beside roots and counts that a recursion over the list gave in another language.
+//! Indices that are hashes. A recursion over the list of entries, in another language, computed the roots and counts.
 
 use coniks_proof::{Digest, Hash32, Index, Sha256Hash};
 use coniks_test_support::{Bound, Epochs, digest};
@@ -6,8 +6,8 @@ use coniks_tree::Root;
 use std::alloc::Global;
 use std::process::Abort;
 
-/// An epoch over the one before: it binds these numbers' indices to a key, takes so many nodes, and has this root, whose
-/// entries have this hash.
+/// An epoch over the previous one: the numbers whose indices it binds, and the key. Its results are the number of new
+/// nodes, the root's hash and the hash of the entries.
 #[derive(Clone, Copy)]
 struct Step {
     from: u32,
@@ -53,7 +53,7 @@ const STEPS: [Step; 4] = [
     },
 ];
 
-/// The indices that are SHA-256 of a step's numbers in four bytes, in their order, with the name `n` and the key.
+/// Returns the name `n` with a step's key at each index, in order. An index is SHA-256 of a number in four bytes.
 fn scattered(rt: &impl Abort, alloc: Global, step: &Step) -> Vec<Bound> {
     let mut bindings = Vec::new(alloc);
     for number in step.from..step.to {
@@ -64,8 +64,8 @@ fn scattered(rt: &impl Abort, alloc: Global, step: &Step) -> Vec<Bound> {
     bindings
 }
 
-/// SHA-256 of the hashes in a row of what stands under a root, each of an index, its commitment and its record's number in
-/// eight bytes.
+/// Returns SHA-256 of the concatenated hashes of a root's entries. Each hash is SHA-256 of an index, its commitment and
+/// its record's number in eight bytes.
 fn hash_of_entries(
     rt: &impl Abort,
     alloc: Global,

@@ -7,7 +7,7 @@ use std::process::Abort;
 
 const OF_THREE: &str = "9f0f0e3455b88ce5747710c5195756230f5f5a6810b4f76899e2d7d1293fd6ac";
 
-/// The names `a`, `c` and `b`, in the order of their indices.
+/// Returns the names `a`, `c` and `b`, in the order of their indices.
 fn three_names() -> [Bound; 3] {
     [
         (index_of(0, 0), b'a', b'k'),
@@ -16,7 +16,7 @@ fn three_names() -> [Bound; 3] {
     ]
 }
 
-/// Adds an epoch over an older one. It takes so many nodes, and its root has this hash.
+/// Adds an epoch over an older one. Asserts the number of its new nodes and its root's hash.
 fn change(
     rt: &impl Abort,
     epochs: &mut Epochs<Sha256Hash>,
@@ -33,13 +33,13 @@ fn change(
     assert!(rt; epochs.hash(added.root) == digest(hash));
 }
 
-/// Adds an epoch with no changes, whose root is the older one. It takes no node.
+/// Adds an epoch without changes. Asserts that its root is the older one and that it has no new nodes.
 fn add_nothing(rt: &impl Abort, epochs: &mut Epochs<Sha256Hash>, older: Root, depth: usize) {
     let added = epochs.add(Some(older), depth, &[]).expect(rt, "memory");
     assert!(rt; (added.root, added.nodes) == (older, 0));
 }
 
-/// Over three names a change on the right, one on the left, and none: how many nodes each takes.
+/// Over three names, a change on the right adds 2 nodes, one on the left adds 5, and no change adds none.
 #[test]
 fn second_epochs(rt: HostRuntime) {
     let right = (index_of(0x80, 0), b'b', b'l');
@@ -59,7 +59,7 @@ fn second_epochs(rt: HostRuntime) {
     }
 }
 
-/// A root shows the first records of `a` and `c`, and the record at this place, with this key, for `b`.
+/// Asserts that a root shows the first records of `a` and `c`, and for `b` the record at this place, with this key.
 fn shows(rt: &impl Abort, epochs: &Epochs<Sha256Hash>, root: Root, place: usize, key: u8) {
     let (a, b, c) = (index_of(0, 0), index_of(0x80, 0), index_of(0x40, 0));
     let found = [
@@ -71,7 +71,7 @@ fn shows(rt: &impl Abort, epochs: &Epochs<Sha256Hash>, root: Root, place: usize,
     assert!(rt; epochs.key(root, &b) == Some(&[key]));
 }
 
-/// Adds the epoch in which the key of `b` is changed, and nothing else.
+/// Adds an epoch that changes only the key of `b`, and returns its root.
 fn with_key_of_b(rt: &impl Abort, epochs: &mut Epochs<Sha256Hash>, older: Root, key: u8) -> Root {
     let b = [(index_of(0x80, 0), b'b', key)];
     epochs.add(Some(older), 0, &b).expect(rt, "memory").root

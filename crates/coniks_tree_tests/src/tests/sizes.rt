@@ -1,8 +1,8 @@
-//! How much room a node takes.
+//! The size of a node.
 
 use coniks_tree::table::Node;
 
-/// A hash of 32 bytes, two numbers of 8 bytes, and which kind it is.
+/// A node has at most 56 bytes: a hash of 32 bytes, two numbers of 8 bytes, and its kind.
 #[test]
 fn a_node_is_small(rt: HostRuntime) {
     assert!(rt; size_of::<Node>() <= 56);

@@ -6,7 +6,7 @@ use coniks_tree::Root;
 use std::alloc::Global;
 use std::process::Abort;
 
-/// An epoch that binds `a`, at the index of zeros, to this key, and `b` beside it; and its root.
+/// Returns a tree and its root. Its epoch binds `a`, at the index of zeros, to this key, and `b` beside it.
 fn epoch_of<H: Hash32 + Drop>(rt: &impl Abort, alloc: Global, h: H, key: u8) -> (Epochs<H>, Root) {
     let names = [(index_of(0, 0), b'a', key), (index_of(0x40, 0), b'b', b'k')];
     let mut epochs = Epochs::new(alloc, h);
@@ -14,19 +14,19 @@ fn epoch_of<H: Hash32 + Drop>(rt: &impl Abort, alloc: Global, h: H, key: u8) -> 
     (epochs, root)
 }
 
-/// The hash of the root where `a` has this key.
+/// Returns the root's hash of the tree that binds `a` to this key.
 fn root_of<H: Hash32 + Drop>(rt: &impl Abort, alloc: Global, h: H, key: u8) -> Digest {
     let (epochs, root) = epoch_of(rt, alloc, h, key);
     epochs.hash(root)
 }
 
-/// The path to `a` where it has this key.
+/// Returns the authentication path to `a` in the tree that binds it to this key.
 fn path_of<H: Hash32 + Drop>(rt: &impl Abort, alloc: Global, h: H, key: u8) -> Proof {
     let (epochs, root) = epoch_of(rt, alloc, h, key);
     epochs.path(root, &index_of(0, 0)).expect(rt, "memory")
 }
 
-/// What the paths to `a` where it has the key `k`, and where it has `l`, give under a root.
+/// Returns the collision of the paths to `a` with the keys `k` and `l` under a root, if there is one.
 fn given<H: Hash32 + Copy + Drop>(
     rt: &impl Abort,
     alloc: Global,
@@ -39,7 +39,7 @@ fn given<H: Hash32 + Copy + Drop>(
     extract(alloc, &h, &NONCE, root, &a, (b"a", &first), (b"a", &second)).expect(rt, "memory")
 }
 
-/// Whether the commitment to `a` and this key is the hash of these bytes.
+/// Returns whether these bytes are the preimage of the commitment to `a` and this key.
 fn are_committed(bytes: &[u8], key: u8) -> bool {
     let mut want = [0x22; 41];
     want[0] = b'C';
@@ -48,8 +48,8 @@ fn are_committed(bytes: &[u8], key: u8) -> bool {
     bytes == want.as_slice()
 }
 
-/// Under a hash that gives every message one digest both paths are accepted, and what the two commitments are hashes of
-/// is the collision.
+/// Under a hash that has one digest for all messages, both paths are accepted. The collision consists of the preimages
+/// of the two commitments.
 #[test]
 fn of_a_flat_hash(rt: HostRuntime) {
     let root = root_of(&rt, rt.alloc(), Flat, b'k');
@@ -58,7 +58,7 @@ fn of_a_flat_hash(rt: HostRuntime) {
     assert!(rt; are_committed(found.y.as_slice(), b'l'));
 }
 
-/// Under SHA-256 the two roots differ, and under each only its own path is accepted.
+/// Under SHA-256 the two roots differ, and the two paths give no collision under either root.
 #[test]
 fn of_sha256(rt: HostRuntime) {
     let root = root_of(&rt, rt.alloc(), Sha256Hash, b'k');

@@ -1,4 +1,4 @@
-//! Jobs that look at the gate.
+//! Jobs that check whether they have entered the gate.
 
 ghost use Rattle.std.specs.Prelude.{ℕ};
 
@@ -8,16 +8,16 @@ use crate::work::Work;
 use coniks_tree::{OutOfMemory, Part};
 use std::sync::atomic::{AtomicU64, Ordering};
 
-/// Four jobs and the gate before them, which counts how often each comes.
+/// Four jobs and the gate before them, which counts the arrivals of each job.
 #[derive(Drop)]
 struct Four {
     came: [AtomicU64; 4],
-    /// The jobs that were done before they came to the gate, and the comings of other jobs.
+    /// The number of jobs that ran before they entered the gate, and of arrivals of other jobs.
     wrong: AtomicU64,
 }
 
 impl Four {
-    /// Returns the count of a job, and `wrong` if it is none of the four.
+    /// Returns the count of a job, or `wrong` if it is none of the four.
     fn count(&self, job: usize) -> &AtomicU64 {
         self.came.get(job).unwrap_or(&self.wrong)
     }
@@ -42,7 +42,7 @@ impl Work for Four {
     }
 }
 
-/// Each job comes to the gate before it is done, whether workers draw the jobs or one does them all.
+/// Each job enters the gate before it runs, whether several workers draw the jobs or one worker does all of them.
 #[test]
 fn gate_before_job(rt: HostRuntime) {
     for workers in [1, 2, 4] {

@@ -2,7 +2,8 @@
 
 use crate::building::cut_for;
 
-/// No deeper than was asked for, nor than gives each worker 32 jobs, or 64 where it has 4,096 changes.
+/// The split depth is at most the given depth. It gives each worker at most 32 jobs, or 64 if there are 4,096 changes
+/// for each.
 #[test]
 fn cut_for_a_pool(rt: HostRuntime) {
     for (workers, changes, depth, cut) in [

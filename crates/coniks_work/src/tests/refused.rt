@@ -1,4 +1,4 @@
-//! Jobs that are refused memory, and claims that can't be had.
+//! Jobs that run out of memory, and claims that cannot be allocated.
 
 ghost use Rattle.std.specs.Prelude.{ℕ};
 
@@ -7,7 +7,7 @@ use crate::pool::{all_parts, alone};
 use crate::work::Work;
 use coniks_tree::{OutOfMemory, Part};
 
-/// Five jobs, of which the fourth is refused memory, if any is.
+/// Five jobs. The fourth returns `OutOfMemory` if `refuses` is set.
 #[derive(Drop)]
 struct Five {
     refuses: bool,
@@ -27,7 +27,7 @@ impl Work for Five {
     }
 }
 
-/// A refusal in one job is the answer of all, on whatever thread the job is.
+/// If one job runs out of memory, on any thread, `all_parts` and `alone` return `OutOfMemory`.
 #[test]
 fn one_job_refused(rt: HostRuntime) {
     let work = Five { refuses: true };
@@ -39,7 +39,7 @@ fn one_job_refused(rt: HostRuntime) {
     assert!(rt; matches!(parts, Err(OutOfMemory)));
 }
 
-/// Without claims the caller's thread does all jobs.
+/// Without claims, the caller's thread does all jobs.
 #[test]
 fn without_claims(rt: HostRuntime) {
     let work = Five { refuses: false };

@@ -10,7 +10,7 @@ use coniks_work::{Gate, build};
 use std::alloc::{AllocError, Global};
 use std::thread::Threads;
 
-/// `a`, `d`, `c` and `b`, each with a key, in the order of their indices.
+/// Returns `a`, `d`, `c` and `b`, each with a key, in the order of their indices.
 pub fn four() -> [Bound; 4] {
     [
         (index_of(0, 0), b'a', b'k'),
@@ -20,13 +20,13 @@ pub fn four() -> [Bound; 4] {
     ]
 }
 
-/// The changes of a first epoch that binds these.
+/// Returns the changes of a first epoch that binds these.
 pub fn changes_of(alloc: Global, bindings: &[Bound]) -> Result<Vec<Change>, AllocError> {
     let records = records_of(alloc, &Sha256Hash, bindings)?;
     Ok(changes_to(alloc, 0, &records)?)
 }
 
-/// How many nodes a first epoch of these takes, and its root's hash.
+/// Returns the number of nodes of a first epoch that binds these, and its root's hash.
 pub fn first_epoch<G: Gate + Sync, R: Threads + Sync>(
     rt: &R,
     alloc: Global,

@@ -9,7 +9,7 @@ use coniks_tree::{OutOfMemory, Root};
 use coniks_work::{Open, build};
 use std::thread::Threads;
 
-/// Adds the epoch that binds what an older root shows and, over it, these, which are in the order of their indices.
+/// Adds the epoch with the entries of an older root, overwritten by these bindings in the order of their indices.
 pub fn add_by_three<R: Threads + Sync>(
     rt: &R,
     epochs: &mut Epochs<Sha256Hash>,

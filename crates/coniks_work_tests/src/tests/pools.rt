@@ -1,4 +1,4 @@
-//! Workers that do the jobs of one batch. Their digests were computed by another program.
+//! Workers that do the jobs of one batch. Another program computed the digests.
 
 use crate::tests::batches::{changes_of, first_epoch, four};
 use coniks_test_support::{Bound, Counts, Crowd, Meeting, digest, index_below, index_of};
@@ -7,7 +7,7 @@ use std::alloc::{AllocError, Global};
 
 const OF_FOUR: &str = "0d10d652bba80545e24f4d5e24bf33580588fb0d17ee964d3213748e6d7e6145";
 
-/// Of two jobs the first is held until the second has come, so they are on two threads.
+/// Two jobs run on two threads at once: the gate holds the first job until the second arrives.
 #[test]
 fn two_jobs_at_once(rt: HostRuntime) {
     let both = [
@@ -31,7 +31,7 @@ fn entered_once(rt: HostRuntime) {
     assert!(rt; root == digest(OF_FOUR));
 }
 
-/// Of two workers one is held at its job until the other has come with the three that are left.
+/// One of two workers draws the three remaining jobs while the gate holds the other worker at the first job.
 #[test]
 fn draws_move(rt: HostRuntime) {
     let gate = Meeting::of(4);
@@ -41,7 +41,7 @@ fn draws_move(rt: HostRuntime) {
     assert!(rt; root == digest(OF_FOUR));
 }
 
-/// Forty names, whose indices have forty first bytes, in the order of their indices.
+/// Returns forty names, whose indices have different first bytes, in the order of their indices.
 fn forty(alloc: Global) -> Result<Vec<Bound>, AllocError> {
     let mut names = Vec::new(alloc);
     for j in 0..40u8 {
@@ -75,7 +75,7 @@ fn jobs_of_four(rt: HostRuntime) {
     assert!(rt; none.len() == 0);
 }
 
-/// Sixteen names below each first byte, as many as a batch has, in the order of their indices.
+/// Returns 16 names for each first byte, as many as the largest batch has, in the order of their indices.
 fn most(alloc: Global) -> Result<Vec<Bound>, AllocError> {
     let mut names = Vec::new(alloc);
     for first in 0..=255u8 {
@@ -86,7 +86,7 @@ fn most(alloc: Global) -> Result<Vec<Bound>, AllocError> {
     Ok(names)
 }
 
-/// As many changes as a batch has, as many jobs as there can be, and as many workers.
+/// The largest batch splits into up to 4,096 jobs, and 64 workers build the same root at each split depth.
 #[test]
 fn most_jobs(rt: HostRuntime) {
     let names = most(rt.alloc()).expect(&rt, "memory");
@@ -101,7 +101,7 @@ fn most_jobs(rt: HostRuntime) {
     }
 }
 
-/// Of 256 jobs each of 64 workers is held at its first until all 64 have come, so they are on 64 threads.
+/// 64 workers run on 64 threads at once: the gate holds each at its first of 256 jobs until all 64 arrive.
 #[test]
 fn as_many_workers_as_asked_for(rt: HostRuntime) {
     let names = most(rt.alloc()).expect(&rt, "memory");

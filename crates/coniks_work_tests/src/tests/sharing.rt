@@ -1,16 +1,16 @@
-//! Epochs that share nodes. Their digests were computed by another program.
+//! Epochs that share nodes. Another program computed the digests.
 
 use crate::tests::epochs::add_by_three;
 use coniks_proof::Sha256Hash;
 use coniks_test_support::{Epochs, digest, index_of};
 
-/// The root over three names with another key on the right.
+/// The root of an epoch over three names that changes the key on the right.
 const OF_RIGHT: &str = "3561a57a963e7a5b825887fc338f85e89b699fc6361bcb0f383fa49ae4b04042";
 
-/// The root over three names with another key on the left.
+/// The root of an epoch over three names that changes a key on the left.
 const OF_LEFT: &str = "b5063d4525c3124b7a8d522defec315c34c57cdf81a8bc137f90e8bf66663f79";
 
-/// Over three names a change on the right, one on the left, and none: how many nodes each takes at each depth.
+/// At each depth, a change on the right of three names adds 2 nodes, one on the left adds 5, and no change adds none.
 #[test]
 fn second_epochs(rt: HostRuntime) {
     let a = index_of(0, 0);
@@ -49,8 +49,8 @@ fn nothing(rt: HostRuntime) {
     assert!(rt; epochs.hash(none.root) == digest(want));
 }
 
-/// An epoch that is refused memory, in whatever thread, leaves the tree as it was, and can be added then. Each growth can
-/// be made to fail by `rt try --test --fail-alloc`.
+/// A failed allocation, in any thread, leaves the tree unchanged, and a second call adds the epoch. Each allocation can
+/// be made to fail with `rt try --test --fail-alloc`.
 #[test]
 fn as_it_was(rt: HostRuntime) {
     let a = index_of(0, 0);

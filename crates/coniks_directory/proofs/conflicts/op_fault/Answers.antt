@@ -13,7 +13,7 @@ returns-in-Some-clause-fault c = λ index_of registry before p e.
     let kind : kind_fault (op_kind c.args.op.now.kind) c.is_named-2.result ≡ option_map fault_is c.fault_of_kind.result = sym c.fault_of_kind.ensures in
     rw (c.requires.named, c.requires.keyed, ← c.is_named.ensures index_of before e, c.if-is_named.false, ← c.is_named-2.ensures index_of registry p, kind, c.in-Some.is) refl
 
--- neither is the name among the earlier ones, nor has its kind an error: only a clash is left
+-- the name isn't among the earlier ones, and the kind has no error: only a clash is left
 pub returns-then-is_other-clause-fault : goal.returns-then-is_other-clause-fault
 returns-then-is_other-clause-fault c = λ index_of registry before p e.
     let op = c.args.op.now in

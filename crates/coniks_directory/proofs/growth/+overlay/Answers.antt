@@ -8,7 +8,7 @@ use Rattle.coniks_directory.proofs.GrowthLemmas.{aligned-side, listed-more, over
 use Rattle.coniks_directory.proofs.growth.+overlay.Goals.{then-is_empty-2-via-then-is_empty-2, then-is_empty-2-via-else-is_empty-2+then-level-eq-MAX_LEVEL}
 use Rattle.coniks_directory.proofs.growth.+overlay.Goals as goal
 
--- nothing changes
+-- there are no changes
 pub returns-then-is_empty-clause-lists : goal.returns-then-is_empty-clause-lists
 returns-then-is_empty-clause-lists t c = λ aligned.
     let none = nil_from_length c.args.changes.now (grind (arith, nat_tests, c.is_empty.ensures, c.if-is_empty.true)) in
@@ -18,7 +18,7 @@ pub returns-then-is_empty-clause-placed : goal.returns-then-is_empty-clause-plac
 returns-then-is_empty-clause-placed t c = λ records old new placed.
     subst (AllPlaced records) (sym c.in_ok-extend_from_slice.ensures.items) (AllPlaced-append records c.args.all.now.items c.args.entries.now placed old)
 
--- there are no entries, or one at most
+-- there are no entries, or the level is the last one
 pub returns-then-is_empty-2-clause-lists : goal.returns-then-is_empty-2-clause-lists
 returns-then-is_empty-2-clause-lists t c = λ aligned.
     let cs = c.args.changes.now in
@@ -35,7 +35,7 @@ pub returns-then-is_empty-2-clause-placed : goal.returns-then-is_empty-2-clause-
 returns-then-is_empty-2-clause-placed t c = λ records old new placed.
     subst (AllPlaced records) (sym c.in_ok-extend_from_slice-2.ensures.items) (AllPlaced-append records c.args.all.now.items c.args.changes.now placed new)
 
--- one side after the other
+-- one side comes after the other
 pub returns-clause-lists : goal.returns-clause-lists
 returns-clause-lists t c = λ aligned.
     let k = c.args.level in

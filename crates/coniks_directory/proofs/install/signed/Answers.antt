@@ -1,11 +1,11 @@
 use Rattle.std.proofs.Common.{add-zero, refl, sym}
 use Rattle.coniks_directory.proofs.install.signed.Goals as goal
 
--- nothing is signed where there is no room
+-- nothing is signed if there is no room
 pub returns-then-is_err-clause-unsigned : goal.returns-then-is_err-clause-unsigned
 returns-then-is_err-clause-unsigned g c = (refl, sym (add-zero _), refl)
 
--- and one signature is, where there is
+-- and one signature is made if there is room
 pub returns-in-Some-clause-made : goal.returns-in-Some-clause-made
 returns-in-Some-clause-made g c = c.in-Some.ensures.made
 

@@ -5,7 +5,7 @@ use Rattle.coniks_directory.proofs.judge.judge_one.Goals.{After-op_fault}
 use Rattle.coniks_directory.proofs.judge.judge_one.Given as given
 use Rattle.coniks_directory.proofs.judge.judge_one.Goals as goal
 
--- what `op_fault` answers is the error by the registry and by the earlier operations
+-- `op_fault` returns the error that follows from the registry and the earlier operations
 fault_in : (g : given.Over) (c : goal.After-op_fault g) → (hash : List ℕ → List ℕ) (nonce : List ℕ) (registry : Registry) (bound : List Registered)
     → ShowsLatest hash (g.X.IndexSource.index_of c.args.source.now) nonce (table_of c.args.tree.now) c.args.root registry
     → ArePendingRecords hash (g.X.IndexSource.index_of c.args.source.now) bound c.args.pending.now.records.items c.args.pending.now.numbers

@@ -2,7 +2,7 @@
 
 use crate::tests::refused::{first_epoch, tell};
 
-/// Room for the first nodes, records, epochs and entries.
+/// An install returns `OutOfMemory` if an allocation for nodes, records, epochs or entries fails.
 #[test]
 fn refused_in_turn(rt: HostRuntime) {
     tell(&rt, |clerk| first_epoch(&rt, clerk));

@@ -2,7 +2,7 @@
 
 use crate::tests::refused::{look_up_three, tell};
 
-/// A key, a key of an older epoch and an absence.
+/// A lookup of a key, a key of an older epoch or an absent name returns `OutOfMemory` if an allocation fails.
 #[test]
 fn refused_in_turn(rt: HostRuntime) {
     tell(&rt, |clerk| look_up_three(&rt, clerk));

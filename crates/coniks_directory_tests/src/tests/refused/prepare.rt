@@ -2,7 +2,7 @@
 
 use crate::tests::refused::{second_epoch, tell};
 
-/// If a lone worker builds the epoch, each failed allocation is the call's.
+/// If one worker builds the epoch, each failed allocation fails the call.
 #[test]
 fn refused_in_turn(rt: HostRuntime) {
     tell(&rt, |clerk| second_epoch(&rt, clerk, 1));

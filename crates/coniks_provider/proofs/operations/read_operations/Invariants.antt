@@ -5,7 +5,7 @@ use Rattle.coniks_provider.specs.Lines.{batch_from}
 use Rattle.coniks_provider.proofs.OperationsLemmas.{after}
 use Rattle.coniks_provider.proofs.operations.read_operations.Given as goal
 
--- what was found, and what the rest of the list gives, are what the list gives; there are as many indices as operations
+-- the result for the list is what was found, followed by the result for the rest; there are as many indices as operations
 abbrev pub invariant-loop-place : goal.invariant-loop-place
 invariant-loop-place l = record {
   found : batch_from 0 (items_view l.list) ≡ after (indexed l.ops.items l.indices.items) (batch_from l.place (items_view (drop l.place l.list)));

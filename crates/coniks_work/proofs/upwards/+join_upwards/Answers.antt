@@ -12,7 +12,7 @@ use Rattle.coniks_work.proofs.upwards.+join_upwards.Given as given
 use Rattle.coniks_work.proofs.upwards.+join_upwards.Goals as goal
 use Rattle.coniks_work.proofs.upwards.+join_upwards.Goals.{After-sides}
 
--- ---- no changes, or the cutting depth
+-- ---- no changes, or the split depth
 
 pub returns-then-is_empty-clause-grown : goal.returns-then-is_empty-clause-grown
 returns-then-is_empty-clause-grown g t c =
@@ -35,7 +35,7 @@ returns-then-level-depth-clause-grown g t c =
     subst (IsNewPart (hashing (g.H.Hash32.digest_of c.args.old.now.h.now) c.args.old.now.nonce.now.0)
     (table_of c.args.old.now.tree.now) c.args.old.now.root p (entries_in c.args.changes.now)) last.1 one.2
 
--- ---- above it: the parts of the right side are taken first, and then those of the left one
+-- ---- above the split depth: the parts of the right side are taken first, then those of the left side
 
 on_sides : (g : given.Over) (t : ℕ) (c : goal.After-sides g t) (before mine : List Part)
     → AreNewParts (hashing (g.H.Hash32.digest_of c.args.old.now.h.now) c.args.old.now.nonce.now.0) (table_of c.args.old.now.tree.now) c.args.old.now.root
@@ -80,7 +80,7 @@ returns-clause-taken g t c = λ before mine is grown.
     (grown_as _ _ _ false c.args.depth c.args.prefix.now (entries_in c.args.changes.now) s.left
     c.len-level.ensures.len c.child-below_left.ensures c.sides.ensures.front s.on_left)
 
--- both sides have grown, and they are joined
+-- the two grown sides are joined
 pub returns-clause-grown : goal.returns-clause-grown
 returns-clause-grown g t c =
     let p = c.args.prefix.now in

@@ -4,7 +4,7 @@ use Rattle.coniks_directory.specs.SuppliedBatches.{IsFresh, indexed, named_in}
 use Rattle.coniks_directory.proofs.SuppliedBatchLemmas.{IsFirstOther}
 use Rattle.coniks_directory.proofs.directory.Directory.indices_with.Given as goal
 
--- of the names up to the place, those that aren't registered have the indices that come first
+-- the names up to the place that aren't registered have their first indices
 abbrev pub invariant-loop-place : goal.invariant-loop-place
 invariant-loop-place g l = record {
   fresh : IsFresh (latest_registry (history_of l.self.state)) l.fresh (named_in (take l.place (indexed l.batch.ops.now l.batch.indices.now)));

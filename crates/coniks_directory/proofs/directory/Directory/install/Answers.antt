@@ -7,7 +7,7 @@ use Rattle.coniks_directory.proofs.directory.Directory.install.Goals.{In_default
 use Rattle.coniks_directory.proofs.directory.Directory.install.Given as given
 use Rattle.coniks_directory.proofs.directory.Directory.install.Goals as goal
 
--- the update is one of the directory as it is
+-- the update is one of the current directory
 fresh_in : (g : given.Over) (c : In_default g) → IsUpdate (g.H.Hash32.digest_of c.self.inside.h) (g.X.IndexSource.index_of c.self.inside.source) (state_of c.self.inside.held) c.args.update
 fresh_in g c =
     let d = c.self.inside in
@@ -33,7 +33,7 @@ returns-in-Err-signed-clause-unasked g c =
     rw (← c.self.view_is) (c.in-Err-signed.ensures.unasked (body_of hash index_of s.policy (before_at hash None s.chain (length s.chain)) (shown_after s c.args.update c.args.t))
     (λ body signed. signed index_of c.self.invariant u linked))
 
--- a chain that was good is good under the signer as it is now
+-- a chain that was good is good under the current signer
 pub returns-in-Err-signed-clause-good : goal.returns-in-Err-signed-clause-good
 returns-in-Err-signed-clause-good g c = λ good.
     let d = c.self.inside in
@@ -46,7 +46,7 @@ pub enter-requires-clause-fits : goal.enter-requires-clause-fits
 enter-requires-clause-fits g c =
     subst (λ (s : State). Fits (length s.nodes) 0 c.args.update.part) (sym c.signed.ensures.same) (fresh_in g (goal.at.enter-requires-clause-fits g c).In_default).fits
 
--- what is left is an install
+-- the state that is left is that of an install
 left_in : (g : given.Over) (c : goal.After-put_head g) → (let d = c.self.inside in
     Leaves (g.H.Hash32.digest_of d.h) (g.X.IndexSource.index_of d.source) (state_of d.held) (state_of c.enter.new.held) c.args.update c.args.t c.in-Ok.entry)
 left_in g c =

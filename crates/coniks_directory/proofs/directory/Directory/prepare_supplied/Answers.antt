@@ -8,7 +8,7 @@ use Rattle.coniks_directory.proofs.directory.Directory.prepare_supplied.Goals.{I
 use Rattle.coniks_directory.proofs.directory.Directory.prepare_supplied.Given as given
 use Rattle.coniks_directory.proofs.directory.Directory.prepare_supplied.Goals as goal
 
--- a result that is found is what it was said to be
+-- a result that is found is the expected one
 other_is : {a b c : Option ℕ} → b ≡ a → b ≡ c → a ≡ c
 other_is is found = sym is ∙ found
 
@@ -26,7 +26,7 @@ returns-in_default-indices_with-clause-refused g c =
     within_is index_of registry c.args.batch.now.ops.now c.args.batch.now.indices.now c.requires c.args.depth
     c.args.workers c.in_default.ensures.workers c.in_default.ensures.depth c.in_default.ensures.few
 
--- the directory is one by the indices that the batch is checked by
+-- the directory is one with the indices with which the batch is checked
 whole_in : (g : given.Over) (c : In-Ok g) → (let d = c.self.inside in let s = state_of d.held in let it = c.in-Ok.indices in
     Whole (g.H.Hash32.digest_of d.h) (given_index it.fresh (g.X.IndexSource.index_of it.source.now)) s)
 whole_in g c =
@@ -55,7 +55,7 @@ returns-in-Some-clause-refused g c =
 pub update_on-requires-clause-whole : goal.update_on-requires-clause-whole
 update_on-requires-clause-whole g c κs within = whole_in g (goal.at.update_on-requires-clause-whole g c).In-Ok
 
--- the update is one by these indices
+-- the update is one with these indices
 made_in : (g : given.Over) (c : In-Ok-update_on g) → (let d = c.self.inside in let s = state_of d.held in let index_of = g.X.IndexSource.index_of d.source in
     IsUpdateBy (g.H.Hash32.digest_of d.h) (index_in index_of (latest_registry (history_of s)) (indexed c.args.batch.now.ops.now c.args.batch.now.indices.now))
     s (option_map (λ (n : Nonce). n.0) c.args.batch.now.nonce)

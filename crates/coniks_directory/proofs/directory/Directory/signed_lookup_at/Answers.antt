@@ -23,7 +23,7 @@ path-requires g c =
     let d = c.self.inside in
     (c.in-Some.ensures (g.H.Hash32.digest_of d.h) (g.X.IndexSource.index_of d.source) c.self.invariant).holds.known
 
--- the directory is one by the function with the index that was supplied
+-- the directory is one with the function that has the supplied index
 whole_in : (g : given.Over) (c : goal.In-Ok g) → (index_of : List ℕ → List ℕ)
     → AgreeOn (g.X.IndexSource.index_of c.self.inside.source) index_of (latest_registry (history_of (state_of c.self.inside.held)))
     → Whole (g.H.Hash32.digest_of c.self.inside.h) index_of (state_of c.self.inside.held)

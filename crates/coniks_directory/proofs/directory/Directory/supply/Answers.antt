@@ -5,14 +5,14 @@ use Rattle.coniks_directory.proofs.AgreementLemmas.{supplied_agree, update_of_ag
 use Rattle.coniks_directory.proofs.directory.Directory.supply.Given as given
 use Rattle.coniks_directory.proofs.directory.Directory.supply.Goals as goal
 
--- the index may be supplied, as the directory is seen from inside
+-- the index may be supplied, in terms of the directory's fields
 may_in : (g : given.Over) (c : goal.In-Ok g) → (let d = c.self.inside in
     MaySupply (g.X.IndexSource.index_of d.source) (latest_registry (history_of (state_of d.held))) c.args.name.now c.args.index.0)
 may_in g c =
     let kept = rw (← c.self.view_is) at c.if-has_other_index.ensures.no refl in
     record { sized = sym c.if-not-is_name.ensures.value; kept = kept }
 
--- the source as it is now agrees with what it was
+-- the new source agrees with the old one
 agree_in : (g : given.Over) (c : goal.In-Ok g) → (let d = c.self.inside in
     AgreeOn (g.X.IndexSource.index_of d.source) (g.X.IndexSource.index_of c.supply.new.self) (latest_registry (history_of (state_of d.held))))
 agree_in g c =

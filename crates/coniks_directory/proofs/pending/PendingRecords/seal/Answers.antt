@@ -5,7 +5,7 @@ use Rattle.coniks_directory.proofs.pending.PendingRecords.seal.Goals.{After-seal
 use Rattle.coniks_directory.proofs.pending.PendingRecords.seal.Given as given
 use Rattle.coniks_directory.proofs.pending.PendingRecords.seal.Goals as goal
 
--- what is written back to the vector
+-- the records that are written back to the vector
 sealed : (g : given.Over) (c : After-seal_all g) → (let old = c.args.self.now.records in let new = c.seal_all.new.records in
     take old.len (new ++ drop (length new) old.items) ≡ map (sealed_by (g.H.Hash32.digest_of c.args.h.now)) old.items)
 sealed g c =

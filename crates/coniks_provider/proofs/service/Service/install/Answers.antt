@@ -18,7 +18,7 @@ installed_by-requires c =
     let e = c.in-Ok.ensures in
     ap (λ (hs : List Head). last_of hs) (e.heads ∙ ap (heads_of sha256) e.chain) ∙ last_head c.args.self.now.directory.state.chain c.in-Ok.entry
 
--- what was pending
+-- the pending update
 abbrev update : In-Ok → Pending
 update c = c.in-Some.field-0
 

@@ -19,7 +19,7 @@ use Rattle.coniks_provider.proofs.service.Service.prepare.Goals.{Joined-self}
 use Rattle.coniks_provider.proofs.service.Service.prepare.Given as given
 use Rattle.coniks_provider.proofs.service.Service.prepare.Goals as goal
 
--- no number is refused
+-- the number of the epoch isn't refused
 allowed : (g : given.Over) (c : Joined-self g) → provider_number_refusal (provided_of c.args.self.now) c.args.batch.now.epoch ≡ None
 allowed g c = sym c.number_refusal.ensures ∙ ap (option_map provider_outcome_of) c.in_default.is
 

@@ -8,7 +8,7 @@ use Rattle.coniks_tool.proofs.SubcommandLemmas.{IsChosen, faultless-chosen}
 use Rattle.coniks_tool.proofs.cli.settings.settings.Given as given
 use Rattle.coniks_tool.proofs.cli.settings.settings.Goals as goal
 
--- what `clap` says of a command that is `keydir`
+-- if `clap` finds no error for a command that is `keydir`, there is none for `keydir`
 fault_is : (app : App) (words : List (List ℕ)) → app ≡ keydir → (is_simple_and_free app ≡ true → fault_of app words ≡ [])
     → fault_of keydir words ≡ []
 fault_is app words is none = ap (λ (a : App). fault_of a words) (sym is) ∙ none (ap is_simple_and_free is ∙ keydir-is_simple)
@@ -17,7 +17,7 @@ pub returns-in-Err-clause-passes : goal.returns-in-Err-clause-passes
 returns-in-Err-clause-passes g c =
     λ taken. c.refusal.ensures.memory (c.in-Err.ensures.passes (ap (λ (a : App). takes a (map g.S.AsStr.text c.args.words.now)) c.in-Ok.ensures.app ∙ taken))
 
--- `clap` finds no error, and so these are the subcommand and its rows
+-- `clap` finds no error, so these are the subcommand and its rows
 taken : (g : given.Over) (c : goal.In-Some g) → (let words = map g.S.AsStr.text c.args.words.now in
     (fault_of keydir words ≡ []) × (subcommand_of keydir words ≡ Some (c.in-Some.name.now, rows_of (found_of c.in-Some.found.now))))
 taken g c = (fault_is (app_of c.in-Ok.command) (map g.S.AsStr.text c.args.words.now) c.in-Ok.ensures.app c.in-Ok-try_get_matches_from.ensures.kinds, search rules)

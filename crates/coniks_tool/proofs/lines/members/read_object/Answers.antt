@@ -17,7 +17,7 @@ returns-then-is_object c =
     let is_object : is_some (as_object (view c.in-Ok.value)) ≡ true = sym c.is_object.ensures ∙ c.if-is_object.true in
     rw (utf8, told.1, is_object) refl
 
--- a text that isn't read is no object
+-- a line that can't be parsed contains no object
 no_object : (line : List ℕ) (b : Bool) → is_utf8 line ≡ b → (b ≡ true → read line ≡ None) → None ≡ object_in line
 no_object line true utf8 none = let n = none refl in rw (utf8, n) refl
 no_object line false utf8 none = rw utf8 refl

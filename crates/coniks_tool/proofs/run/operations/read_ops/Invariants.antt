@@ -6,7 +6,7 @@ use Rattle.coniks_tool.specs.Operations.{operations_from}
 use Rattle.coniks_tool.proofs.OperationsLemmas.{after}
 use Rattle.coniks_tool.proofs.run.operations.read_ops.Given as goal
 
--- what was found, and what the rest of the list gives, are what the list gives
+-- the result for the list is what was found, followed by the result for the rest
 abbrev pub invariant-loop-place : goal.invariant-loop-place
 invariant-loop-place l =
     operations_from 0 (items_view l.list) ≡ after (map operation_of l.found.items) (operations_from l.place (items_view (drop l.place l.list)))

@@ -10,7 +10,7 @@ use Rattle.coniks_directory.proofs.directory.supplying.Directory+H+SuppliedIndic
 use Rattle.coniks_directory.proofs.directory.supplying.Directory+H+SuppliedIndices.install_supplied.Given as given
 use Rattle.coniks_directory.proofs.directory.supplying.Directory+H+SuppliedIndices.install_supplied.Goals as goal
 
--- the registered names keep their indices, as far as the update's were supplied
+-- the registered names keep their indices, however many of the update's were supplied
 kept_in : (g : given.Over) (c : After-supply_all g)
     → (let d = c.self.inside in AgreeOn (supplied_index d.source) (supplied_index c.supply_all.new.source) (latest_registry (history_of (state_of d.held))))
 kept_in g c =
@@ -24,7 +24,7 @@ kept_in g c =
     subst (λ (xs : List Supplied). AgreeOn (supplied_index d.source) (supplied_index xs) registry) (sym some)
     (kept_agree index d.source (indices_in (take n records)) registry u.agree (held_take index records n u.held))
 
--- so the directory stays one
+-- so the directory still satisfies its invariant
 whole_in : (g : given.Over) (c : After-supply_all g) → Whole (g.H.Hash32.digest_of c.self.inside.h) (supplied_index c.supply_all.new.source) (state_of c.self.inside.held)
 whole_in g c =
     let d = c.self.inside in
@@ -38,7 +38,7 @@ put_in g c =
     of_ok {T = Unit {0}} {E = AllocError} c.supply_all.result _ c.if-is_err.ensures.value c.supply_all.ensures.put in
     read ∙ ap (λ (rs : List Record). put_indices source (indices_in rs)) c.deref.ensures.value
 
--- and it gives each name that the update leaves its index
+-- and it has the index of each name after the update
 agree_in : (g : given.Over) (c : Else-is_err g) (index : List ℕ → List ℕ) → (let d = c.self.inside in let s = state_of d.held in
     IsSuppliedUpdate (g.H.Hash32.digest_of d.h) (supplied_index d.source) s c.args.update index
     → AgreeOn index (supplied_index c.supply_all.new.source) (registry_after s c.args.update))
@@ -49,7 +49,7 @@ agree_in g c index u =
     subst (λ (xs : List Supplied). AgreeOn index (supplied_index xs) (registry_after s c.args.update))
     (sym (put_in g c)) (supplied_all hash index d.source s c.args.update c.self.invariant u.agree u.held)
 
--- an install leaves the source as it is
+-- an install does not change the source
 index_in : (g : given.Over) (c : After-install g) → c.supply_all.new.source ≡ c.install.new.self.index
 index_in g c = sym c.install.ensures.same.index
 
@@ -100,7 +100,7 @@ returns-then-is_err-clause-good g c = λ good. rw (← c.self.view_is) at good
 pub returns-clause-good : goal.returns-clause-good
 returns-clause-good g c = λ good. c.install.ensures.good (rw (← c.self.view_is) at good)
 
--- the body that the signer was asked for is that of the function by which the update was prepared
+-- the body that the signer was asked for is that of the function with which the update was prepared
 pub returns-clause-unasked : goal.returns-clause-unasked
 returns-clause-unasked g c =
     let d = c.self.inside in

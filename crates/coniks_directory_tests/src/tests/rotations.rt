@@ -1,4 +1,4 @@
-//! Epochs that bring a nonce.
+//! Epochs that rotate the nonce.
 
 use crate::tests::answers::{Told, asked_under};
 use crate::tests::clerk::{Clerk, Written, ops_of, with_clerk};
@@ -6,13 +6,13 @@ use coniks_chain::audit;
 use coniks_directory::OpKind::{Change, Register};
 use coniks_directory::{BatchFault, OpFault};
 use coniks_proof::{Head, Nonce, Sha256Hash};
-use coniks_test_support::{NONCE, RENEWED, bytes_of, digest};
+use coniks_test_support::{NEW_NONCE, NONCE, bytes_of, digest};
 use std::process::Abort;
 use std::thread::Threads;
 
 const NAMES: [Written; 2] = [(Register, b'a', b'k'), (Register, b'b', b'k')];
 
-/// The bodies of the first epoch, which registers two names, of one that brings a nonce, and of one after it.
+/// The bodies of the first epoch, which registers two names, of one that rotates the nonce, and of one after it.
 const FIRST: &str =
     "010000000000000001000000000000000046de554c28df523fe8bbcbf7cf90c45cc1f44d29be6fc4bf4fa5fd416437b6ba000000000000000000000000000000000000000000000000000000000000000011111111111111111111111111111111111111111111111111111111111111113333333333333333333333333333333333333333333333333333333333333333";
 
@@ -22,7 +22,7 @@ const SECOND: &str =
 const THIRD: &str =
     "020000000000000003000000000000000271a5ab1ffbaea8cef68c56307aea73c4e7f3a442fdfcf6e0428603a09f859f47de30851ed81f546d856653bd1d26c714ba0c1f52444a80d400f2ff0dcfe2260244444444444444444444444444444444444444444444444444444444444444443333333333333333333333333333333333333333333333333333333333333333";
 
-/// Prepares a batch that may bring a nonce, at a depth with so many workers, and installs it. How many nodes it adds.
+/// Prepares a batch, under a new nonce if there is one, and installs it. Returns the number of nodes that it adds.
 fn install_by<R: Threads + Sync + Abort>(
     rt: &R,
     clerk: &mut Clerk<Sha256Hash>,
@@ -40,13 +40,13 @@ fn install_by<R: Threads + Sync + Abort>(
     nodes
 }
 
-/// Whether the last entry's body has these bytes.
+/// Returns whether the last entry's body has these bytes.
 fn ends_with(rt: &impl Abort, clerk: &Clerk<Sha256Hash>, body: &str) -> bool {
     let last = clerk.directory.chain().last().expect(rt, "an entry");
     last.body.bytes() == bytes_of(body)
 }
 
-/// Installs an epoch that registers two names, one without changes that brings a nonce, and one that brings none.
+/// Installs an epoch that registers two names, one without changes that rotates the nonce, and one that keeps it.
 fn install_three<R: Threads + Sync + Abort>(
     rt: &R,
     clerk: &mut Clerk<Sha256Hash>,
@@ -55,19 +55,19 @@ fn install_three<R: Threads + Sync + Abort>(
 ) {
     assert!(rt; install_by(rt, clerk, 1, None, &NAMES, depth, workers) == 3);
     assert!(rt; ends_with(rt, clerk, FIRST));
-    assert!(rt; install_by(rt, clerk, 2, Some(RENEWED), &[], depth, workers) == 3);
+    assert!(rt; install_by(rt, clerk, 2, Some(NEW_NONCE), &[], depth, workers) == 3);
     assert!(rt; ends_with(rt, clerk, SECOND));
     assert!(rt; install_by(rt, clerk, 3, None, &[], depth, workers) == 0);
     assert!(rt; ends_with(rt, clerk, THIRD));
 }
 
-/// Asserts what a lookup of `b` tells under either nonce.
-fn is_told_under(rt: &impl Abort, clerk: &Clerk<Sha256Hash>, t: u64, opened: Told, renewed: Told) {
+/// Asserts the result of a lookup of `b` under each of the two nonces.
+fn is_told_under(rt: &impl Abort, clerk: &Clerk<Sha256Hash>, t: u64, opened: Told, rotated: Told) {
     assert!(rt; asked_under(&NONCE, &clerk.directory, t, "b") == opened);
-    assert!(rt; asked_under(&RENEWED, &clerk.directory, t, "b") == renewed);
+    assert!(rt; asked_under(&NEW_NONCE, &clerk.directory, t, "b") == rotated);
 }
 
-/// Asserts the head that an audit of the three epochs tells.
+/// Asserts the head that an audit of the three epochs returns.
 fn has_good_chain(rt: &impl Abort, clerk: &Clerk<Sha256Hash>) {
     let head = audit(&Sha256Hash, clerk.directory.chain(), &clerk.signer);
     let head = head.expect(rt, "a good chain");
@@ -79,8 +79,8 @@ fn has_good_chain(rt: &impl Abort, clerk: &Clerk<Sha256Hash>) {
     assert!(rt; head == Some(want));
 }
 
-/// Installs the three epochs, looks up in each, and audits them.
-fn renew_and_ask<R: Threads + Sync + Abort>(rt: &R, clerk: &mut Clerk<Sha256Hash>) {
+/// Installs the three epochs, looks up a name in each, and audits them.
+fn rotate_and_ask<R: Threads + Sync + Abort>(rt: &R, clerk: &mut Clerk<Sha256Hash>) {
     install_three(rt, clerk, 1, 2);
     let key = Told::Key(1, b'k');
     is_told_under(rt, clerk, 1, key, Told::Refused);
@@ -89,13 +89,13 @@ fn renew_and_ask<R: Threads + Sync + Abort>(rt: &R, clerk: &mut Clerk<Sha256Hash
     has_good_chain(rt, clerk);
 }
 
-/// An epoch's proofs hold under the nonce that it has, and the auditor accepts the chain.
+/// Proofs are accepted only under the nonce of their epoch, and an audit accepts the chain.
 #[test]
 fn nonce_from_the_second_epoch_on(rt: HostRuntime) {
-    with_clerk(&rt, 3, |clerk| renew_and_ask(&rt, clerk));
+    with_clerk(&rt, 3, |clerk| rotate_and_ask(&rt, clerk));
 }
 
-/// Installs the three epochs with several workers.
+/// Installs the three epochs with a split depth and a number of workers.
 fn install_three_by<R: Threads + Sync + Abort + AllocGlobal>(rt: &R, depth: usize, workers: usize) {
     with_clerk(rt, 3, |clerk| install_three(rt, clerk, depth, workers));
 }
@@ -109,8 +109,8 @@ fn same_for_every_crew(rt: HostRuntime) {
     }
 }
 
-/// Registers two names, and then installs a batch that brings a nonce, so that it adds this many nodes and the last entry
-/// has this body.
+/// Registers two names, and then installs a batch that rotates the nonce. Asserts the number of nodes that it adds, and
+/// the body of the last entry.
 fn rotates<R: Threads + Sync + Abort>(
     rt: &R,
     clerk: &mut Clerk<Sha256Hash>,
@@ -124,7 +124,7 @@ fn rotates<R: Threads + Sync + Abort>(
     assert!(rt; ends_with(rt, clerk, body));
 }
 
-/// Where a batch brings the latest nonce, the root stays, and all nodes are made anew.
+/// If the new nonce equals the latest one, the root is the same, and all nodes are new.
 #[test]
 fn same_nonce_again(rt: HostRuntime) {
     let body =
@@ -132,39 +132,39 @@ fn same_nonce_again(rt: HostRuntime) {
     with_clerk(&rt, 2, |clerk| rotates(&rt, clerk, NONCE, &[], 3, body));
 }
 
-/// Installs a change and a registration with a nonce, and looks both up.
-fn renew_with_changes<R: Threads + Sync + Abort>(rt: &R, clerk: &mut Clerk<Sha256Hash>) {
+/// Installs a change and a registration under a new nonce, and looks up both names.
+fn rotate_with_changes<R: Threads + Sync + Abort>(rt: &R, clerk: &mut Clerk<Sha256Hash>) {
     let changes = [(Register, b'c', b'k'), (Change, b'a', b'l')];
     let body =
         "0200000000000000020000000000000001401b565952d54840231da87b96d9653a8f4d8e09bbbcfa701769fb762352473e9efd9e7911a2ebeef55ec07b8784e4a86ec0ffd7569f4d6aefdbc195087a129844444444444444444444444444444444444444444444444444444444444444443333333333333333333333333333333333333333333333333333333333333333";
-    rotates(rt, clerk, RENEWED, &changes, 5, body);
+    rotates(rt, clerk, NEW_NONCE, &changes, 5, body);
     for (name, key) in [("a", b'l'), ("c", b'k')] {
-        let told = asked_under(&RENEWED, &clerk.directory, 2, name);
+        let told = asked_under(&NEW_NONCE, &clerk.directory, 2, name);
         assert!(rt; told == Told::Key(2, key));
     }
 }
 
-/// The changes of a batch that brings a nonce are in its tree.
+/// The tree of a batch that rotates the nonce contains the batch's changes.
 #[test]
 fn nonce_with_changes(rt: HostRuntime) {
-    with_clerk(&rt, 2, |clerk| renew_with_changes(&rt, clerk));
+    with_clerk(&rt, 2, |clerk| rotate_with_changes(&rt, clerk));
 }
 
-/// Brings a nonce with the first epoch, which has no names.
-fn renew_nothing<R: Threads + Sync + Abort>(rt: &R, clerk: &mut Clerk<Sha256Hash>) {
+/// Rotates the nonce in the first epoch, which has no names.
+fn rotate_empty<R: Threads + Sync + Abort>(rt: &R, clerk: &mut Clerk<Sha256Hash>) {
     let body =
         "0200000000000000010000000000000000a0ddc03a0f866af24cd3907ceea8793ff9182b0dbbaa0a045ee1491dfb4de455000000000000000000000000000000000000000000000000000000000000000044444444444444444444444444444444444444444444444444444444444444443333333333333333333333333333333333333333333333333333333333333333";
-    assert!(rt; install_by(rt, clerk, 1, Some(RENEWED), &[], 1, 2) == 1);
+    assert!(rt; install_by(rt, clerk, 1, Some(NEW_NONCE), &[], 1, 2) == 1);
     assert!(rt; ends_with(rt, clerk, body));
 }
 
-/// The empty tree under the nonce that the first epoch brings is one node.
+/// If the first epoch is empty and rotates the nonce, its tree is one node under the new nonce.
 #[test]
 fn nonce_of_the_first_epoch(rt: HostRuntime) {
-    with_clerk(&rt, 1, |clerk| renew_nothing(&rt, clerk));
+    with_clerk(&rt, 1, |clerk| rotate_empty(&rt, clerk));
 }
 
-/// The fault of the two names' registration with a nonce, at a depth with so many workers.
+/// Returns the error of the two names' registration under a new nonce, with a split depth and a number of workers.
 fn fault_by<R: Threads + Sync + Abort>(
     rt: &R,
     clerk: &Clerk<Sha256Hash>,
@@ -173,12 +173,13 @@ fn fault_by<R: Threads + Sync + Abort>(
 ) -> Option<BatchFault> {
     let ops = ops_of(clerk.alloc, &NAMES).expect(rt, "memory");
     clerk
-        .prepare_under(rt, Some(RENEWED), &ops, depth, workers)
+        .prepare_under(rt, Some(NEW_NONCE), &ops, depth, workers)
         .err()
 }
 
-/// Registers two names, has their registration with a nonce refused for each of its faults, and installs a plain epoch.
-fn refuse_renewals<R: Threads + Sync + Abort>(rt: &R, clerk: &mut Clerk<Sha256Hash>) {
+/// Registers two names, asserts each error of their registration under a new nonce, and installs an epoch that keeps
+/// the nonce.
+fn refuse_rotations<R: Threads + Sync + Abort>(rt: &R, clerk: &mut Clerk<Sha256Hash>) {
     install_by(rt, clerk, 1, None, &NAMES, 1, 2);
     let taken = BatchFault::At {
         position: 0,
@@ -198,8 +199,8 @@ fn refuse_renewals<R: Threads + Sync + Abort>(rt: &R, clerk: &mut Clerk<Sha256Ha
     assert!(rt; ends_with(rt, clerk, body));
 }
 
-/// A batch that brings a nonce is judged as any other, and one that is refused leaves nonce and version as they were.
+/// A batch that rotates the nonce is checked as any other. A refused one changes neither the nonce nor the version.
 #[test]
 fn nonce_of_a_refused_batch(rt: HostRuntime) {
-    with_clerk(&rt, 2, |clerk| refuse_renewals(&rt, clerk));
+    with_clerk(&rt, 2, |clerk| refuse_rotations(&rt, clerk));
 }
