@@ -23,15 +23,17 @@ const THIRD: &str =
     "020000000000000003000000000000000271a5ab1ffbaea8cef68c56307aea73c4e7f3a442fdfcf6e0428603a09f859f47de30851ed81f546d856653bd1d26c714ba0c1f52444a80d400f2ff0dcfe2260244444444444444444444444444444444444444444444444444444444444444443333333333333333333333333333333333333333333333333333333333333333";
 
 /// Prepares a batch, under a new nonce if there is one, and installs it. Returns the number of nodes that it adds.
+///
+/// `by` is the split depth and the number of workers.
 fn install_by<R: Threads + Sync + Abort>(
     rt: &R,
     clerk: &mut Clerk<Sha256Hash>,
     t: u64,
     new_nonce: Option<Nonce>,
     written: &[Written],
-    depth: usize,
-    workers: usize,
+    by: (usize, usize),
 ) -> usize {
+    let (depth, workers) = by;
     let ops = ops_of(clerk.alloc, written).expect(rt, "memory");
     let update = clerk.prepare_under(rt, new_nonce, &ops, depth, workers);
     let update = update.expect(rt, "an update");
@@ -53,11 +55,11 @@ fn install_three<R: Threads + Sync + Abort>(
     depth: usize,
     workers: usize,
 ) {
-    assert!(rt; install_by(rt, clerk, 1, None, &NAMES, depth, workers) == 3);
+    assert!(rt; install_by(rt, clerk, 1, None, &NAMES, (depth, workers)) == 3);
     assert!(rt; ends_with(rt, clerk, FIRST));
-    assert!(rt; install_by(rt, clerk, 2, Some(NEW_NONCE), &[], depth, workers) == 3);
+    assert!(rt; install_by(rt, clerk, 2, Some(NEW_NONCE), &[], (depth, workers)) == 3);
     assert!(rt; ends_with(rt, clerk, SECOND));
-    assert!(rt; install_by(rt, clerk, 3, None, &[], depth, workers) == 0);
+    assert!(rt; install_by(rt, clerk, 3, None, &[], (depth, workers)) == 0);
     assert!(rt; ends_with(rt, clerk, THIRD));
 }
 
@@ -119,8 +121,8 @@ fn rotates<R: Threads + Sync + Abort>(
     nodes: usize,
     body: &str,
 ) {
-    install_by(rt, clerk, 1, None, &NAMES, 1, 2);
-    assert!(rt; install_by(rt, clerk, 2, Some(nonce), written, 1, 2) == nodes);
+    install_by(rt, clerk, 1, None, &NAMES, (1, 2));
+    assert!(rt; install_by(rt, clerk, 2, Some(nonce), written, (1, 2)) == nodes);
     assert!(rt; ends_with(rt, clerk, body));
 }
 
@@ -154,7 +156,7 @@ fn nonce_with_changes(rt: HostRuntime) {
 fn rotate_empty<R: Threads + Sync + Abort>(rt: &R, clerk: &mut Clerk<Sha256Hash>) {
     let body =
         "0200000000000000010000000000000000a0ddc03a0f866af24cd3907ceea8793ff9182b0dbbaa0a045ee1491dfb4de455000000000000000000000000000000000000000000000000000000000000000044444444444444444444444444444444444444444444444444444444444444443333333333333333333333333333333333333333333333333333333333333333";
-    assert!(rt; install_by(rt, clerk, 1, Some(NEW_NONCE), &[], 1, 2) == 1);
+    assert!(rt; install_by(rt, clerk, 1, Some(NEW_NONCE), &[], (1, 2)) == 1);
     assert!(rt; ends_with(rt, clerk, body));
 }
 
@@ -180,7 +182,7 @@ fn fault_by<R: Threads + Sync + Abort>(
 /// Registers two names, asserts each error of their registration under a new nonce, and installs an epoch that keeps
 /// the nonce.
 fn refuse_rotations<R: Threads + Sync + Abort>(rt: &R, clerk: &mut Clerk<Sha256Hash>) {
-    install_by(rt, clerk, 1, None, &NAMES, 1, 2);
+    install_by(rt, clerk, 1, None, &NAMES, (1, 2));
     let taken = BatchFault::At {
         position: 0,
         fault: OpFault::NameTaken,
@@ -195,7 +197,7 @@ fn refuse_rotations<R: Threads + Sync + Abort>(rt: &R, clerk: &mut Clerk<Sha256H
     }
     let body =
         "010000000000000002000000000000000146de554c28df523fe8bbcbf7cf90c45cc1f44d29be6fc4bf4fa5fd416437b6ba9efd9e7911a2ebeef55ec07b8784e4a86ec0ffd7569f4d6aefdbc195087a129811111111111111111111111111111111111111111111111111111111111111113333333333333333333333333333333333333333333333333333333333333333";
-    assert!(rt; install_by(rt, clerk, 2, None, &[], 1, 2) == 0);
+    assert!(rt; install_by(rt, clerk, 2, None, &[], (1, 2)) == 0);
     assert!(rt; ends_with(rt, clerk, body));
 }
 

@@ -23,8 +23,7 @@ fn change(
     older: Root,
     depth: usize,
     changed: Bound,
-    nodes: usize,
-    hash: &str,
+    (nodes, hash): (usize, &str),
 ) {
     let added = epochs
         .add(Some(older), depth, &[changed])
@@ -52,8 +51,8 @@ fn second_epochs(rt: HostRuntime) {
             .add(None, depth, &three_names())
             .expect(&rt, "memory");
         assert!(rt; first.nodes == 5);
-        change(&rt, &mut epochs, first.root, depth, right, 2, of_right);
-        change(&rt, &mut epochs, first.root, depth, left, 5, of_left);
+        change(&rt, &mut epochs, first.root, depth, right, (2, of_right));
+        change(&rt, &mut epochs, first.root, depth, left, (5, of_left));
         add_nothing(&rt, &mut epochs, first.root, depth);
         assert!(rt; epochs.sizes() == (12, 5));
     }
