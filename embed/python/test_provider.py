@@ -1,5 +1,6 @@
 #!/usr/bin/env python3
-"""Tries coniks.provider over the program `provider`: its errors, a commit that stops at each step, a full disk, and kills.
+"""Tries coniks.provider over the program `provider`: its errors, a commit that stops at each step, an operator's mistakes,
+interrupts at each bytecode, a full disk, and kills.
 
     embed/python/test_provider.py                    over crates/provider/out/provider
     embed/python/test_provider.py PROVIDER KILLS     over another program, killed KILLS times instead of 10
@@ -18,7 +19,9 @@ HERE = Path(__file__).resolve().parent
 sys.dont_write_bytecode = True
 sys.path[:0] = [str(HERE / "provider_tests"), str(HERE.parent.parent / "scripts")]
 
+import interrupts
 import kills
+import mistakes
 import speed
 import stand_ins
 import steps
@@ -43,6 +46,8 @@ def main(words: Sequence[str]) -> int:
         units.try_units(tally.tell, str(program))
         steps.try_steps(tally.tell, str(program))
         steps.try_full_disk(tally.tell, tally.skip, str(program))
+        mistakes.try_mistakes(tally.tell, str(program))
+        interrupts.try_interrupts(tally.tell, str(program))
         kills.try_kills(tally.tell, str(program), int(words[1]) if len(words) > 1 else 10)
     print(tally.line())
     return 1 if tally.failed else 0

@@ -5,7 +5,7 @@ from __future__ import annotations
 from contextlib import ExitStack
 from dataclasses import dataclass
 from pathlib import Path
-from typing import Iterable
+from typing import Any, Iterable
 
 import ecvrf
 from coniks.provider import Epoch, FileLog, Latest, Operation, Provider
@@ -44,13 +44,15 @@ class Secrets:
 
 
 class KeyServer(Secrets):
-    """Registers names and looks them up. The log is its store: a provider that starts goes on where the log ends."""
+    """Registers names and looks them up. The log is its store: a provider that starts goes on where the log ends. A directory is
+    made only if `create` is true."""
 
-    def __init__(self, program: Path, log: Path, signing: bytes, vrf: bytes, nonce: bytes):
+    def __init__(self, program: Path, log: Path, signing: bytes, vrf: bytes, nonce: bytes, create: bool = False):
         super().__init__(signing, vrf)
         with ExitStack() as opened:
-            file = opened.enter_context(FileLog(log))
-            provider = Provider(program, self.index, self.sign, file, policy=self.policy, nonce=nonce, verify=self.verify)
+            file = opened.enter_context(FileLog.create(log) if create else FileLog(log))
+            keys: dict[str, Any] = {"policy": self.policy, "nonce": nonce, "vrf_public_key": self.keys.vrf}
+            provider = Provider(program, self.index, self.sign, file, verify=self.verify, **keys)
             self._directory = opened.enter_context(provider)
             self._opened = opened.pop_all()
 

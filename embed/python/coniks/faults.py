@@ -1,4 +1,5 @@
-"""The errors of `coniks.provider`: one class for each fault of the program, and those of the child, the log and the signer."""
+"""The errors of `coniks.provider`: one class for each fault of the program, and those of the child, the log and the signer. Each
+text names what to do next, and none shows bytes of a line, which may be keys."""
 
 from __future__ import annotations
 
@@ -10,20 +11,27 @@ __all__ = [
     "BoardFull",
     "Closed",
     "Command",
+    "DirectoryExists",
     "EpochNotLater",
     "EpochSpent",
+    "EpochTooFar",
     "Fault",
     "IndexClash",
     "Json",
     "KeyLength",
+    "LogBehind",
     "LogFailed",
+    "LogForked",
+    "LogRefused",
     "Member",
     "NameLength",
     "NameTaken",
     "NameTwice",
     "NameUnknown",
+    "NoDirectory",
     "NotOpen",
     "NotPrepared",
+    "NotText",
     "OtherIndex",
     "Overtaken",
     "ProgramFailed",
@@ -41,17 +49,25 @@ class ProviderError(Exception):
 
 class Fault(ProviderError):
     """The program refuses a line, and nothing is changed. `position` is that of the operation at fault, counted from 0,
-    `latest` the latest epoch, `member` the line's member that is missing or wrong; each is None for other faults."""
+    `latest` the latest epoch, `member` the line's member that is missing or wrong; each is None for other faults. `advice` is
+    what to do next, if that is more than to fix the request."""
 
     said = "the line is refused"
 
-    def __init__(self, position: Optional[int] = None, latest: Optional[int] = None, member: Optional[str] = None):
-        self.position, self.latest, self.member = position, latest, member
+    def __init__(
+        self,
+        position: Optional[int] = None,
+        latest: Optional[int] = None,
+        member: Optional[str] = None,
+        advice: Optional[str] = None,
+    ):
+        self.position, self.latest, self.member, self.advice = position, latest, member, advice
         given = [("operation", position), ("latest epoch", latest), ("member", member)]
-        super().__init__(", ".join([self.said, *(f"{what} {it}" for what, it in given if it is not None)]))
+        text = ", ".join([self.said, *(f"{what} {it}" for what, it in given if it is not None)])
+        super().__init__(text if advice is None else f"{text}: {advice}")
 
     def __reduce__(self) -> tuple[type[Fault], tuple[Any, ...]]:
-        return type(self), (self.position, self.latest, self.member)
+        return type(self), (self.position, self.latest, self.member, self.advice)
 
 
 class Json(Fault):
@@ -136,10 +152,27 @@ class EpochSpent(ProviderError):
 
     def __init__(self, epoch: int, asked: int):
         self.epoch, self.asked = epoch, asked
-        super().__init__(f"epoch {epoch} isn't later than {asked}, for which the signer was asked with other operations")
+        super().__init__(
+            f"epoch {epoch} isn't later than {asked}, for which the signer was asked with other operations: take a later number"
+        )
 
     def __reduce__(self) -> tuple[type[EpochSpent], tuple[int, int]]:
         return type(self), (self.epoch, self.asked)
+
+
+class EpochTooFar(ProviderError):
+    """The epoch number is more than 2^32 above the latest. Numbers only increase, so a mistyped one would end the directory."""
+
+    def __init__(self, epoch: int, latest: int):
+        self.epoch, self.latest = epoch, latest
+        super().__init__(f"epoch {epoch} is more than 2^32 above the latest one, {latest}: pass far=True if it is meant")
+
+    def __reduce__(self) -> tuple[type[EpochTooFar], tuple[int, int]]:
+        return type(self), (self.epoch, self.latest)
+
+
+class NotText(ProviderError, ValueError):
+    """A name has a lone surrogate, so it isn't Unicode text and has no bytes."""
 
 
 class SignerFailed(ProviderError):
@@ -147,15 +180,37 @@ class SignerFailed(ProviderError):
 
 
 class ProgramFailed(ProviderError):
-    """The program ended, took longer than the timeout, or printed what docs/FORMATS.md doesn't define."""
+    """The program ended, took longer than the timeout, or printed what docs/FORMATS.md doesn't define. It is started again and
+    replays the log by itself."""
 
 
 class LogFailed(ProviderError):
-    """The log could not be read or written, or is that of another directory."""
+    """The log could not be read or written, or is that of another directory. If it was written, the line may be stored."""
+
+
+class LogRefused(LogFailed):
+    """The log did not take a line, and it is certain that it will not. The next call may follow at once."""
+
+
+class NoDirectory(LogFailed):
+    """The log is missing or empty, and a directory is made only if the caller asks for one."""
+
+
+class DirectoryExists(LogFailed):
+    """A directory is to be made, but the log already has lines."""
 
 
 class Overtaken(LogFailed):
     """The log has a line at this position already, which another provider appended."""
+
+
+class LogForked(ProviderError):
+    """The log lacks lines that this process has seen in it, or has others in their place. `evidence` of the directory returns
+    what it has seen and what the log has."""
+
+
+class LogBehind(LogForked):
+    """The log ends before the head that a start is to find in it."""
 
 
 class ReplayDiffers(ProviderError):
@@ -163,8 +218,8 @@ class ReplayDiffers(ProviderError):
 
 
 class RestartNeeded(ProviderError):
-    """An earlier error, the cause, left the child and the log apart. `restart` replays the log."""
+    """An earlier error, the cause, left open whether the log has a line. `restart` replays the log. Lookups go on."""
 
 
 class Closed(ProviderError):
-    """The provider is closed."""
+    """The directory is closed."""

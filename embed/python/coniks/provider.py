@@ -1,23 +1,27 @@
 """Runs a CONIKS key directory: the program `provider` as a child process, with your own indices and signatures.
 
-    with FileLog("alice.log") as log, Provider("provider", index, sign, log, policy=policy) as provider:
-        epoch = provider.commit(1, [Register("alice", b"key")])
+    with FileLog("names.log") as log, Provider("provider", index, sign, log, policy=policy) as provider:
+        epoch = provider.commit(provider.latest().epoch + 1, [Register("alice", b"key")])
         found = provider.lookup("alice")
+
+A directory is made once, on purpose: by `create=True`, or over `FileLog.create("names.log")`. A log that is missing or empty
+raises `NoDirectory` otherwise.
 
 `index(name)` returns the 32 bytes at which a name is stored, as the output of a verifiable random function (VRF). It returns
 the same bytes for a name each time. `sign(body)` returns the signature, 64 bytes, of the 145 bytes of a signed tree root
-(STR). `sign` must not call `commit`, `retry`, `restart` or `close`.
+(STR). `sign` must not call `commit`, `retry`, `restart` or `close`. Both are also called in a thread of the provider's own.
 
 The directory is in the child's memory, and the log is its store. Each accepted line is appended to the log, and a new child
-replays it. So the log is a script: `provider < alice.log` prints the same answers. `prepare` lines have the member `body`
-beside those of docs/FORMATS.md, and `install` lines the member `link`. The program ignores both; a replay is compared with
-them.
+replays it. So the log is a script: `provider < names.log` prints the same answers. `prepare` lines have the member `body`
+beside those of docs/FORMATS.md, `install` lines the member `link`, and the `open` line may have `vrf`, the SHA-256 of the
+VRF's public key. The program ignores these; a replay is compared with them.
 
 What holds, if the log keeps each line whose `append` returned:
 
 - An epoch that `commit` returned is in the directory after each restart, with the same entry.
 - The signer is asked for one body per epoch number. It can be asked for that body again.
 - No lookup shows an entry before the log has it.
+- A call that is interrupted only stops waiting. What it began goes on in a thread that no signal interrupts.
 
 An update is pending from the `prepare` line in the log to the `install` line. A provider that starts signs and installs the
 pending update first. If the signer fails, the update stays pending: `retry`, or `commit` of the same operations, asks for
@@ -26,31 +30,49 @@ the same body again, and `commit` under a later epoch number replaces the update
 With `coniks.postgres.PostgresLog` several machines share a log, and a `coniks.replica.Replica` follows it.
 
 Each error is a `ProviderError`. A `Fault` is the program's, one class for each of docs/FORMATS.md, and changes nothing. After
-`ProgramFailed`, `LogFailed`, `Overtaken` or `ReplayDiffers` each call raises `RestartNeeded` until `restart` returns.
+`LogFailed` or `Overtaken` the log may have a line that the child hasn't, or the other way round: `commit` and `retry` raise
+`RestartNeeded` until `restart` returns. `LogRefused` is a `LogFailed` that leaves nothing open. Lookups go on in each case, at
+the latest epoch that the log is known to have. A child that ends is started again without a call.
 """
 
 from __future__ import annotations
 
-import base64
-import fcntl
-import json
 import os
-import secrets
-import select
-import subprocess
-import threading
 import time
-from contextlib import contextmanager
-from dataclasses import dataclass, field
-from typing import Any, Callable, Iterable, Iterator, Mapping, Optional, Sequence, Union
+import weakref
+from typing import Callable, Iterable, Iterator, Optional, Sequence, TypeVar, Union
 
-from . import BODY_LENGTH, ENTRY_LENGTH, _bytes, _number, faults
+from . import Head, _number, faults
+from ._engine import Engine, Setting
+from ._host import Evidence, Host
+from ._lines import (
+    SIGNATURE_LENGTH,
+    Change,
+    Epoch,
+    Index,
+    Latest,
+    Lookup,
+    Operation,
+    Pending,
+    Register,
+    command,
+    entries_of,
+    grouped,
+    lookup_line,
+    lookup_of,
+    prepare_line,
+    sized,
+    text,
+    with_member,
+)
+from ._threads import Worker
 from .faults import *
 from .log import Closing, FileLog, Log, Path, SharedLog
 
 __all__ = [
     "Change",
     "Epoch",
+    "Evidence",
     "Latest",
     "Lookup",
     "Operation",
@@ -62,380 +84,199 @@ __all__ = [
 __all__ += faults.__all__
 __all__ += ["FileLog", "Log", "SharedLog"]
 
-SIGNATURE_LENGTH = 64
-_GET_PIPE_SIZE = 1032  # fcntl.F_GETPIPE_SZ, from Python 3.10 on
-
-
-def _opening() -> bytes:
-    return secrets.token_bytes(32)
-
-
-@dataclass(frozen=True)
-class Register:
-    """Binds a name that isn't registered to a key. The opening blinds the commitment: 32 random bytes, never used twice."""
-
-    name: str
-    key: bytes
-    opening: bytes = field(default_factory=_opening, repr=False)
-
-
-@dataclass(frozen=True)
-class Change:
-    """Binds a registered name to another key."""
-
-    name: str
-    key: bytes
-    opening: bytes = field(default_factory=_opening, repr=False)
-
-
-Operation = Union[Register, Change]
-Index = Callable[[str], bytes]
 Sign = Callable[[bytes], bytes]
 Verify = Callable[[bytes, bytes], bool]
+Result = TypeVar("Result")
+
+# `commit` refuses an epoch number that is further than this above the latest one.
+_FAR = 1 << 32
 
 
-@dataclass(frozen=True)
-class Epoch:
-    """An installed epoch: its number, its root, its entry in the chain (209 bytes) and that entry's link."""
-
-    epoch: int
-    root: bytes
-    link: bytes
-    entry: bytes
-
-
-@dataclass(frozen=True)
-class Pending:
-    """An update that isn't installed, and whose body the signer was or will be asked to sign."""
-
-    epoch: int
-    root: bytes
-    body: bytes
-
-
-@dataclass(frozen=True)
-class Latest:
-    """The latest epoch, its entry's link, the number of registered names, and the number of nodes in the node table. Before
-    the first epoch: 0, 32 zero bytes, 0, 0."""
-
-    epoch: int
-    link: bytes
-    names: int
-    nodes: int
-
-
-@dataclass(frozen=True)
-class Lookup:
-    """A name's proof at an epoch. `coniks.proof_bytes(lookup.proof)` is the proof in bytes, `line` the program's line, which
-    `keydir check` reads."""
-
-    name: str
-    epoch: int
-    index: bytes
-    nonce: bytes
-    root: bytes
-    entry: bytes
-    proof: Mapping[str, Any]
-    line: bytes
-
-
-class _Child:
-    """The program as a child process: lines go in and come out. It is in a session of its own, so that a terminal's interrupt
-    doesn't end it, and it ends with its parent, because its input does."""
-
-    def __init__(self, words: Sequence[str], timeout: Optional[float]):
-        try:
-            pipe = subprocess.PIPE
-            self._process = subprocess.Popen(words, stdin=pipe, stdout=pipe, bufsize=0, start_new_session=True)
-        except OSError as error:
-            raise ProgramFailed(f"the program can't be started: {error}") from error
-        assert self._process.stdin and self._process.stdout
-        self._in, self._out = self._process.stdin.fileno(), self._process.stdout.fileno()
-        self._timeout = timeout
-        self._held, self._at = b"", 0
-        # Lines of this size in all are written before their answers are read. The pipe has room for them, so that the child
-        # and its parent never both wait for the other to read.
-        self.at_once = fcntl.fcntl(self._in, _GET_PIPE_SIZE) // 2
-        self._can_write, self._can_read = select.poll(), select.poll()
-        self._can_write.register(self._in, select.POLLOUT)
-        self._can_read.register(self._out, select.POLLIN)
-        if timeout is not None:
-            os.set_blocking(self._in, False)
-
-    @property
-    def pid(self) -> int:
-        return self._process.pid
-
-    def _wait(self, pipe: select.poll, until: float) -> None:
-        """Waits for a pipe to be ready, if there is a timeout."""
-        if self._timeout is not None and not pipe.poll(max(0, until - time.monotonic()) * 1000):
-            raise ProgramFailed(f"the program didn't answer in {self._timeout} seconds")
-
-    def send(self, data: bytes) -> None:
-        """Writes whole lines."""
-        until, rest = time.monotonic() + (self._timeout or 0), memoryview(data)
-        while rest:
-            try:
-                rest = rest[os.write(self._in, rest) :]
-            except BlockingIOError:
-                self._wait(self._can_write, until)
-            except OSError:
-                raise self._ended() from None
-
-    def receive(self) -> bytes:
-        """Reads a line."""
-        end = self._held.find(b"\n", self._at)
-        if end < 0:
-            until = time.monotonic() + (self._timeout or 0)
-            while end < 0:
-                self._wait(self._can_read, until)
-                more = os.read(self._out, 65536)
-                if not more:
-                    raise self._ended()
-                held = self._held[self._at :]
-                self._held, self._at = held + more, 0
-                end = self._held.find(b"\n", len(held))
-        line = self._held[self._at : end]
-        self._at = end + 1
-        return line
-
-    def _ended(self) -> ProgramFailed:
-        try:
-            return ProgramFailed(f"the program ended with status {self._process.wait(5)}, see its standard error")
-        except subprocess.TimeoutExpired:
-            return ProgramFailed("the program closed its streams")
-
-    def stop(self, seconds: float) -> None:
-        """Ends the program: its input ends, and after some seconds it is killed. The log has all that matters."""
-        assert self._process.stdin and self._process.stdout
-        self._process.stdin.close()
-        try:
-            self._process.wait(seconds)
-        except subprocess.TimeoutExpired:
-            self._process.kill()
-            self._process.wait()
-        self._process.stdout.close()
-
-
-class _Engine:
-    """A child, and how far the log was replayed into it: the position of the next line, the latest epoch, and the pending update
-    with its line."""
-
-    def __init__(self, words: Sequence[str], timeout: Optional[float], log: Log, policy: bytes, nonce: Optional[bytes]):
-        """Starts a child and replays the log."""
-        self._log, self._policy, self._nonce = log, policy, nonce
-        self.position = 0
-        self.latest = Epoch(0, bytes(32), bytes(32), b"")
-        self.chain: list[bytes] = []
-        self.pending: Optional[Pending] = None
-        self.pending_line = b""
-        self.child = _Child(words, timeout)
-        try:
-            for line in self.logged(0):
-                self.take(line)
-        except BaseException:
-            self.child.stop(0)
-            raise
-
-    def open(self) -> None:
-        """Opens a directory, if the log has no line."""
-        if self.position == 0:
-            nonce = self._nonce or secrets.token_bytes(32)
-            line = _line({"cmd": "open", "nonce": nonce.hex(), "policy": self._policy.hex()})
-            _ask(self.child, line)
-            self.append(line)
-
-    def logged(self, position: int) -> Iterator[bytes]:
-        """The lines of the log from a position on."""
-        try:
-            yield from self._log.read(position)
-        except ProviderError:
-            raise
-        except Exception as error:
-            raise LogFailed(f"the log can't be read: {error}") from error
-
-    def take(self, line: bytes) -> None:
-        """Replays the next line of the log."""
-        try:
-            self._replay(line, _object(line, LogFailed))
-        except Fault as fault:
-            raise ReplayDiffers(f"line {self.position} of the log is refused: {fault}") from fault
-        self.position += 1
-
-    def _replay(self, line: bytes, said: Mapping[str, Any]) -> None:
-        """Asks for one line of the log, and compares the answer: of `prepare` the body, and of `install` the link."""
-        answer = _ask(self.child, line)
-        if said.get("cmd") == "open":
-            for name, given in [("policy", self._policy), ("nonce", self._nonce)]:
-                if given is not None and _digits(said, name, 32, LogFailed) != given:
-                    raise LogFailed(f"the log's directory has another {name}")
-        elif said.get("cmd") == "prepare":
-            if answer.get("body") != said.get("body"):
-                raise ReplayDiffers(f"line {self.position} of the log has another body")
-            self.pending, self.pending_line = self.prepared(_number_in(said, "epoch", LogFailed), answer), line
-        elif said.get("cmd") == "install":
-            if answer.get("link") != said.get("link"):
-                raise ReplayDiffers(f"line {self.position} of the log has another link")
-            signature = _digits(said, "signature", SIGNATURE_LENGTH, LogFailed)
-            self.settle(self.installed(signature, answer))
-        else:
-            raise LogFailed(f"line {self.position} of the log is none of a provider")
-
-    def settle(self, epoch: Epoch) -> None:
-        """Notes that the pending update is installed."""
-        self.pending, self.latest = None, epoch
-        self.chain.append(epoch.entry)
-
-    def append(self, line: bytes) -> None:
-        try:
-            self._log.append(self.position, line)
-        except LogFailed:
-            raise
-        except Exception as error:
-            raise LogFailed(f"the log can't be written: {error}") from error
-        self.position += 1
-
-    def prepared(self, epoch: int, answer: Mapping[str, Any]) -> Pending:
-        """The update that the child has prepared. Its body is one of this epoch, after the latest one."""
-        body, root = _digits(answer, "body", BODY_LENGTH), _digits(answer, "root", 32)
-        numbers = epoch.to_bytes(8, "big") + self.latest.epoch.to_bytes(8, "big")
-        if body[1:81] != numbers + root + self.latest.link or body[113:] != self._policy:
-            raise ProgramFailed(f"the body of epoch {epoch} doesn't follow the entry of epoch {self.latest.epoch}")
-        return Pending(epoch, root, body)
-
-    def installed(self, signature: bytes, answer: Mapping[str, Any]) -> Epoch:
-        """The epoch that the child has installed. Its entry is what was signed, with the signature."""
-        pending = self.pending
-        root, link, entry = (_digits(answer, it, size) for it, size in [("root", 32), ("link", 32), ("entry", ENTRY_LENGTH)])
-        epoch = Epoch(_number_in(answer, "epoch"), root, link, entry)
-        if not pending or (epoch.epoch, root, entry) != (pending.epoch, pending.root, pending.body + signature):
-            raise ProgramFailed(f"the entry of epoch {epoch.epoch} isn't what was signed")
-        return epoch
-
-
-_HALFWAY = ProviderError("a call was interrupted")
+def abandoned(work: Worker, host: Host) -> None:
+    work.stop()
+    host.abandon()
 
 
 class Directory(Closing):
-    """What `Provider` and `coniks.replica.Replica` share: a child that answers lookups."""
+    """What `Provider` and `coniks.replica.Replica` share: a child that answers lookups, and a thread that changes the
+    directory."""
 
-    def __init__(self, start: Callable[[], _Engine], index: Index, engine: Optional[_Engine] = None):
-        self._new, self._index, self._engine = start, index, engine
+    def __init__(self, host: Host, index: Index, log: Log, check_indices: bool):
+        self._host, self._index, self._log, self._is_checking = host, index, log, check_indices
         self._is_closed, self._owner = False, os.getpid()
-        # Held while the child answers, until the log has what it must. Lookups go on while the signer is asked.
-        self._asking = threading.Lock()
-        self._broken: Optional[ProviderError] = None if engine else _HALFWAY
+        self._work = Worker()
+        # Why the directory can't be changed before a restart. `_is_logging` is set while a line is appended.
+        self._broken: Optional[Exception] = None
+        self._is_logging = False
+        # A directory that nobody closes ends with its last reference.
+        self._unused = weakref.finalize(self, abandoned, self._work, host)
+        self._unused.atexit = False
 
-    @contextmanager
-    def _steps(self, is_start: bool = False) -> Iterator[_Engine]:
-        """Steps between which the child and the log may differ. A `Fault` or `SignerFailed` changes neither; after all else a
-        restart is needed, whose steps begin with a new engine."""
-        with self._asking:
-            if self._is_closed:
-                raise Closed("the directory is closed")
-            if os.getpid() != self._owner:
-                raise Closed("the directory belongs to the process that this one was forked from")
-            if not is_start and (self._broken or not self._engine):
-                raise RestartNeeded(f"restart() is needed: {self._broken}") from self._broken
-            self._broken = _HALFWAY
+    def _check_open(self) -> None:
+        if self._is_closed:
+            raise Closed("the directory is closed: open it again")
+        if os.getpid() != self._owner:
+            raise Closed("the directory belongs to the process that this one was forked from: open it in one process alone")
+
+    def _check(self) -> None:
+        """Checks that lookups can go on: not if the VRF turned out to be another one."""
+        self._check_open()
+        if isinstance(self._broken, OtherIndex):
+            raise self._needed() from self._broken
+
+    def _needed(self) -> RestartNeeded:
+        return RestartNeeded(f"restart() is needed: {self._broken}")
+
+    def _change(self, work: Callable[[], Result]) -> Result:
+        """Makes a call in the thread that changes the directory, one after another."""
+        self._check_open()
+        self._check_thread()
+        return self._work.call(work)
+
+    def _check_thread(self) -> None:
+        if self._work.is_this_thread():
+            raise ProviderError("the signer called the provider that waits for it: call it after commit returned")
+
+    def _begin(self, start: Callable[[], Engine], with_pending: bool, prepare: Callable[[Engine], object]) -> None:
+        """Replays the log in another child, which gets the place of this one if it shows the same directory. Until then this one
+        answers lookups."""
+        with self._host.changing:
             try:
-                if is_start or not self._engine:
-                    self._stop(0)
-                    self._engine = self._new()
-                yield self._engine
-            except ProviderError as error:
-                self._broken = None if isinstance(error, (Fault, SignerFailed)) and not is_start else error
+                engine = start()
+                try:
+                    if self._is_checking:
+                        engine.check_indices(self._index_of, with_pending)
+                    prepare(engine)
+                except BaseException:
+                    engine.child.stop(0)
+                    raise
+                self._host.exchange(engine)
+            except (LogForked, NoDirectory, OtherIndex) as error:
+                self._broken = error
+                raise
+            except ReplayDiffers as error:
+                self._broken = self._host.forked(error) if self._host.engine else error
                 raise
             self._broken = None
 
-    def _stop(self, seconds: float) -> None:
-        if self._engine:
-            self._engine.child.stop(seconds)
-            self._engine = None
+    def _restarted(self) -> Engine:
+        self._host.begin_anew()
+        return self._host.started()
+
+    def _ready(self) -> Engine:
+        """The engine, if no restart is needed."""
+        if self._is_closed:
+            raise Closed("the directory is closed")
+        if self._broken:
+            raise self._needed() from self._broken
+        return self._host.known
 
     def lookup(self, name: str, epoch: Optional[int] = None) -> Lookup:
         """A name's proof at an epoch, the latest if none is given."""
-        line = self._lookup_line(name, self._epoch(epoch))
-        with self._steps() as engine:
-            engine.child.send(line)
-            return _lookup(engine.child.receive())
-
-    def lookups(self, names: Iterable[str], epoch: Optional[int] = None) -> list[Lookup]:
-        """The proofs of many names at one epoch, in their order: more lookups a second than by `lookup`. Raises the first
-        `Fault` of a name."""
-        epoch = self._epoch(epoch)
-        found: list[Lookup] = []
-        with self._steps() as engine:
-            at_once = engine.child.at_once
-        for lines in _grouped((self._lookup_line(it, epoch) for it in names), at_once):
-            fault: Optional[Fault] = None
-            with self._steps() as engine:
-                engine.child.send(b"".join(lines))
-                for _ in lines:
-                    try:
-                        found.append(_lookup(engine.child.receive()))
-                    except Fault as told:
-                        fault = fault or told
-            if fault:
-                raise fault
+        self._check()
+        at = self._at(epoch)
+        found = self._told(self._host.serve([lookup_line(name, self._index_of(name), at)])[0])
+        if isinstance(found, Fault):
+            raise found
         return found
 
-    def _lookup_line(self, name: str, epoch: int) -> bytes:
-        index, number = self._index_of(name).hex(), _number(epoch, 64, "the epoch")
-        return f'{{"cmd":"lookup","epoch":{number},"index":"{index}","name":{json.dumps(name)}}}\n'.encode()
+    def lookups(self, names: Iterable[str], epoch: Optional[int] = None) -> list[Union[Lookup, ProviderError]]:
+        """The proofs of many names at one epoch, in their order: more lookups a second than by `lookup`. In the place of a name
+        that is refused is its error: a `Fault`, or `NotText`."""
+        self._check()
+        at, found = self._at(epoch), list[Union[Lookup, ProviderError]]()
+        refused: dict[int, ProviderError] = {}
 
-    def _epoch(self, epoch: Optional[int]) -> int:
-        """An epoch, the latest if none is given."""
-        if epoch is not None:
-            return epoch
-        engine = self._engine
-        if engine is None:
-            # A start is under way, or one is needed.
-            with self._steps() as engine:
-                pass
-        return engine.latest.epoch
+        def lines() -> Iterator[bytes]:
+            for number, name in enumerate(names):
+                try:
+                    yield lookup_line(name, self._index_of(name), at)
+                except NotText as error:
+                    refused[number] = error
+
+        for group in grouped(lines(), self._host.known.child.at_once):
+            found += map(self._told, self._host.serve(group))
+        for number in sorted(refused):
+            found.insert(number, refused[number])
+        return found
+
+    def _told(self, line: bytes) -> Union[Lookup, Fault]:
+        try:
+            return lookup_of(line)
+        except Fault as fault:
+            return fault
+        except ProgramFailed:
+            self._host.distrust()
+            raise
+
+    def _at(self, epoch: Optional[int]) -> int:
+        """An epoch, the latest if none is given. The child may have one more, which the log has not."""
+        latest = self._host.known.latest.epoch
+        if epoch is not None and _number(epoch, 64, "the epoch") > latest:
+            raise UnknownEpoch()
+        return latest if epoch is None else epoch
 
     def _index_of(self, name: str) -> bytes:
-        return _sized(self._index(_text(name)), 32, "an index")
+        return sized(self._index(text(name)), 32, "an index")
 
     def latest(self) -> Latest:
         """The latest epoch, and how large the directory is."""
-        with self._steps() as engine:
-            answer = _ask(engine.child, b'{"cmd":"latest"}')
-            epoch, names, nodes = (_number_in(answer, it) for it in ("epoch", "names", "nodes"))
-            return Latest(epoch, _digits(answer, "link", 32), names, nodes)
+        self._check()
+        return self._host.known.size
 
     def chain(self, first: int = 0) -> list[bytes]:
         """The entries of the epochs in their order, 209 bytes each, without the first so many: what an auditor takes."""
-        with self._steps() as engine:
-            return engine.chain[first:]
+        self._check()
+        return self._host.known.chain[first:]
+
+    def evidence(self) -> Optional[Evidence]:
+        """What this process has seen and what the log has, after `LogForked` or `ReplayDiffers`; None if the log has all of it."""
+        return self._host.evidence
+
+    def discard_evidence(self, link: bytes) -> None:
+        """Lets the next `restart` take the log as it is, also if it lacks what this process has seen. `link` is that of the
+        latest epoch, so that no script does it for another directory. Keep the evidence first: clients may have seen it too."""
+        self._change(lambda: self._host.forget(sized(link, 32, "a link")))
 
     @property
     def pid(self) -> Optional[int]:
         """The child's process number."""
-        engine = self._engine
-        return engine.child.pid if engine else None
+        return self._host.engine.child.pid if self._host.engine else None
 
-    def close(self) -> None:
-        """Ends the child. The log stays open, since the caller opened it."""
-        with self._asking:
-            self._is_closed = True
-            self._stop(1)
+    def close(self, seconds: float = 5) -> None:
+        """Ends the child. Waits for a change that is under way, but for the signer at most some seconds: what it signs is then
+        not installed, and a start asks for the same body again. The log stays open, since the caller opened it."""
+        self._check_thread()
+        self._is_closed = True
+        if os.getpid() != self._owner:
+            return
+        self._unused.detach()
+        self._host.is_closed = True
+        self._work.stop()
+        until = time.monotonic() + seconds
+        while not self._work.join(0.02) and (self._is_logging or time.monotonic() < until):
+            pass
+        self._host.close()
 
 
 class Provider(Directory):
     """A directory that the program `provider` keeps, with its log.
 
-    `program` is the program's path, or its path and first arguments. `log` isn't closed by the provider. `policy` is the
-    digest in each entry, 32 bytes, and `nonce` that of the first epoch: 32 random bytes if it is None. Both are in the log
+    `program` is the program's path, or its path and first arguments. `log` isn't closed by the provider. `create` makes a
+    directory: the log must have no line. `policy` is the digest in each entry, 32 bytes, and `nonce` that of the first epoch: 32
+    random bytes if it is None. `vrf_public_key` is the public key of the VRF, whose SHA-256 the log keeps. These are in the log
     from the first start on; later starts raise `LogFailed` if one is given that isn't the log's.
 
     `verify(body, signature)` returns whether a signature is valid, and is called before one is installed: the program verifies
-    none. `workers` and `depth` are the program's options. `timeout` is how many seconds one line may take; without it there is
-    no limit.
+    none. `workers` and `depth` are the program's options. `timeout` is how many seconds the program may take for one answer;
+    without it there is no limit.
 
-    Starting replays the log, then signs and installs the pending update if there is one. If the signer fails, `SignerFailed`
-    is raised. With `sign_pending=False` that update stays pending.
+    `head` is one that an auditor, a client or a replica saw. A log that ends before it raises `LogBehind`, one with another entry
+    `LogForked`: pass it after a log was restored.
+
+    Starting replays the log, and asks for the indices of the first, the last and 64 random operations again: another one raises
+    `OtherIndex`, unless `check_indices` is False. Then the pending update is signed and installed, if there is one. If the
+    signer fails, `SignerFailed` is raised. With `sign_pending=False` that update stays pending.
     """
 
     def __init__(
@@ -447,247 +288,178 @@ class Provider(Directory):
         *,
         policy: bytes,
         nonce: Optional[bytes] = None,
+        vrf_public_key: Optional[bytes] = None,
         verify: Optional[Verify] = None,
         workers: Optional[int] = None,
         depth: Optional[int] = None,
         timeout: Optional[float] = None,
+        create: bool = False,
+        head: Optional[Head] = None,
+        check_indices: bool = True,
         sign_pending: bool = True,
     ):
-        words, policy = _words(program, workers, depth), _sized(policy, 32, "the policy")
-        first = None if nonce is None else _sized(nonce, 32, "the nonce")
-        super().__init__(lambda: _Engine(words, timeout, log, policy, first), index)
-        # `_changing` is held by calls that change the directory, the signer's time included.
-        self._sign, self._verify, self._changing = sign, verify, threading.Lock()
+        first = None if nonce is None else sized(nonce, 32, "the nonce")
+        words, policy = command(program, workers, depth), sized(policy, 32, "the policy")
+        super().__init__(Host(Setting(words, timeout, log, policy, first, vrf_public_key)), index, log, check_indices)
+        self._sign, self._verify = sign, verify
         try:
-            self._start(sign_pending)
+            self._change(lambda: self._start(sign_pending, lambda: self._first(create, head)))
         except BaseException:
             self.close()
             raise
 
     @classmethod
     def _over(cls, directory: Directory, sign: Sign, verify: Optional[Verify]) -> Provider:
-        """A provider that goes on with the engine of another directory."""
+        """A provider that goes on with the child of another directory."""
         provider = cls.__new__(cls)
-        Directory.__init__(provider, directory._new, directory._index, directory._engine)
-        provider._sign, provider._verify, provider._changing = sign, verify, threading.Lock()
+        Directory.__init__(provider, directory._host, directory._index, directory._log, directory._is_checking)
+        provider._sign, provider._verify = sign, verify
         return provider
 
     # What a crash, an exception or a failed append leaves behind, after each step of a commit:
     #
     #   1. the child accepts `prepare`       The log doesn't have the line, and the signer wasn't asked: as if never called.
-    #   2. the log appends it                A start finds the update pending. Its body is the logged one (`_Engine` compares).
+    #   2. the log appends it                A start finds the update pending. Its body is the logged one (`Engine` compares).
     #   3. the signer returns the signature  As after 2: it is asked for the same body again.
-    #   4. the child accepts `install`       As after 2. No lookup has shown the entry, because `_asking` is held up to 5.
+    #   4. the child accepts `install`       As after 2. No lookup has shown the entry: each names an epoch that is in the log.
     #   5. the log appends it                A start finds the epoch installed, with this signature.
     #
     # The log drops a line that a crash has cut. A line whose append failed may be in the log or not: both are rows of this list.
-    # So after an error from 1 to 2, or from 4 to 5, the child isn't asked again before a restart. `_broken` is set before the
-    # first of these steps, and reset after the last. An error in 3 leaves the child and the log as after 2.
+    # So after such an error nothing is added before a restart (`_broken`), and lookups go on. If the log refused the line, it is
+    # not in the log: after 1 the child takes back what was pending before, and after 4 the same line is appended again before
+    # anything else.
+    #
+    # All steps are made by one thread, which no signal interrupts. `changing` is held from 1 to 2 and from 4 to 5, so that a child
+    # which ends is started again only when the engine says what the log has.
     #
     # The epoch numbers of `prepare` lines only rise. The child refuses those up to the latest installed one, and `_prepare`
     # those up to the pending one. So the log has one `prepare` line for a number, and the signer is asked for one body.
 
-    def _start(self, sign_pending: bool) -> None:
-        with self._changing:
-            with self._steps(is_start=True) as engine:
-                engine.open()
-            if engine.pending and sign_pending:
-                self._settle()
+    def _start(self, sign_pending: bool, start: Callable[[], Engine]) -> None:
+        """Replays the log in another child, which is then asked, and signs and installs the pending update."""
 
-    def commit(self, epoch: int, operations: Iterable[Operation], nonce: Optional[bytes] = None) -> Epoch:
+        def open_if_new(engine: Engine) -> None:
+            check_writable(self._log)
+            if engine.position == 0:
+                self._logged(engine.open)
+
+        self._begin(start, sign_pending, open_if_new)
+        if self.pending and sign_pending:
+            self._settle()
+
+    def _first(self, create: bool, head: Optional[Head]) -> Engine:
+        """The engine of the first start, which alone may make a directory."""
+        engine = self._host.started(create or getattr(self._log, "is_new", False))
+        try:
+            if create and engine.position:
+                raise DirectoryExists(f"there is a directory in {self._log}: start without create, or choose another log")
+            if head:
+                engine.check_head(head)
+        except BaseException:
+            engine.child.stop(0)
+            raise
+        return engine
+
+    def commit(self, epoch: int, operations: Iterable[Operation], nonce: Optional[bytes] = None, *, far: bool = False) -> Epoch:
         """Binds names to keys in a new epoch, and returns it once the log has its entry. A `nonce` rehashes the whole tree.
 
         Raises a `Fault` if the program refuses the batch, and then nothing is changed. Raises `SignerFailed` if the signer
         fails: the update stays pending, and `commit` with the same arguments, or `retry`, asks for the same body again.
         Operations have a random opening: pass the same objects. Raises `EpochSpent` for other operations under the epoch of
-        the pending update or an earlier one.
+        the pending update or an earlier one, and `EpochTooFar` for a number more than 2^32 above the latest, unless `far`.
 
-        After `ProgramFailed` or `LogFailed`, call `restart`. The batch is installed if `latest().epoch` is its epoch then.
+        After `ProgramFailed`, or `LogFailed` and then `restart`, the batch is installed if `latest().epoch` is its epoch, and
+        pending if `pending` is its update. After `LogRefused` it is neither, or still pending.
         """
-        line = self._prepare_line(epoch, operations, nonce)
-        with self._changing:
-            self._prepare(epoch, line)
+        self._check()
+        listed = list(operations)
+        line = prepare_line(epoch, listed, nonce, self._index_of)
+        names = sum(isinstance(it, Register) for it in listed)
+        return self._change(lambda: self._commit(epoch, line, names, far))
+
+    def _commit(self, epoch: int, line: bytes, names: int, far: bool) -> Epoch:
+        """Makes the update of a line the pending one, in the child and in the log, and has it signed and installed."""
+        engine = self._ready()
+        pending = engine.update
+        if pending and with_member(line, "body", pending.pending.body) == pending.line:
             return self._settle()
-
-    def _prepare_line(self, epoch: int, operations: Iterable[Operation], nonce: Optional[bytes]) -> bytes:
-        listed: list[dict[str, Any]] = []
-        for it in operations:
-            if not isinstance(it, (Register, Change)):
-                raise TypeError(f"an operation is Register or Change, not {type(it).__name__}")
-            kind, index = type(it).__name__.lower(), self._index_of(it.name).hex()
-            key, opening = base64.b64encode(_bytes(it.key, "a key")).decode(), _sized(it.opening, 32, "an opening").hex()
-            listed.append({"op": kind, "name": it.name, "index": index, "key": key, "opening": opening})
-        new_nonce = {} if nonce is None else {"nonce": _sized(nonce, 32, "the nonce").hex()}
-        return _line({"cmd": "prepare", "epoch": _number(epoch, 64, "the epoch"), **new_nonce, "ops": listed})
-
-    def _prepare(self, epoch: int, line: bytes) -> None:
-        """Makes the update of a line the pending one, in the child and in the log."""
-        with self._steps() as engine:
-            pending, pending_line = engine.pending, engine.pending_line
-        if pending and _with(line, "body", pending.body) == pending_line:
-            return
-        if pending and epoch <= pending.epoch:
-            raise EpochSpent(epoch, pending.epoch)
-        with self._steps() as engine:
-            prepared = engine.prepared(epoch, _ask(engine.child, line))
-            line = _with(line, "body", prepared.body)
-            engine.append(line)
-            engine.pending, engine.pending_line = prepared, line
+        if pending and epoch <= pending.pending.epoch:
+            raise EpochSpent(epoch, pending.pending.epoch)
+        if epoch > engine.latest.epoch + _FAR and not far:
+            raise EpochTooFar(epoch, engine.latest.epoch)
+        if engine.unlogged:
+            self._settle()
+        with self._host.changing:
+            engine = self._host.sound()
+            update = engine.prepare(epoch, line, names)
+            self._logged(lambda: engine.log_prepared(update))
+        return self._settle()
 
     def _settle(self) -> Epoch:
         """Has the pending update signed, and installs it."""
-        pending = self.pending
-        if not pending:
+        engine = self._ready()
+        if engine.update is None:
             raise NotPrepared()
-        signature = self._signature(pending.body)
-        with self._steps() as engine:
-            line = _line({"cmd": "install", "signature": signature.hex()})
-            try:
-                answer = _ask(engine.child, line)
-            except Fault as fault:
-                raise ProgramFailed(f"the program refuses a pending update: {fault}") from fault
-            epoch = engine.installed(signature, answer)
-            engine.append(_with(line, "link", epoch.link))
-            engine.settle(epoch)
-            return epoch
+        body = engine.update.pending.body
+        signature = b"" if engine.unlogged else self._signature(body)
+        with self._host.changing:
+            engine = self._host.sound()
+            if not engine.unlogged:
+                if not engine.update or engine.update.pending.body != body or not signature:
+                    raise ProgramFailed("the program was started again meanwhile, and the update is pending: retry")
+                engine.install(signature)
+            return self._logged(engine.log_installed)
+
+    def _logged(self, append: Callable[[], Result]) -> Result:
+        """Appends a line. After an error that leaves open whether the log has it, a restart is needed."""
+        self._is_logging = True
+        try:
+            if self._is_closed:
+                raise Closed("the directory was closed before the log had the line")
+            return append()
+        except BaseException as error:
+            if not isinstance(error, (LogRefused, Closed)):
+                self._broken = error if isinstance(error, Exception) else ProviderError("a call was interrupted")
+            raise
+        finally:
+            self._is_logging = False
 
     def _signature(self, body: bytes) -> bytes:
         try:
-            signature = _sized(self._sign(body), SIGNATURE_LENGTH, "a signature")
+            signature = sized(self._sign(body), SIGNATURE_LENGTH, "a signature")
             is_valid = self._verify is None or self._verify(body, signature)
         except Exception as error:
-            raise SignerFailed(f"the signer failed: {error}") from error
+            raise SignerFailed(f"the signer failed: {error}. The update is pending: retry") from error
         if is_valid is not True:
-            raise SignerFailed("the signer returned a signature that isn't valid")
+            raise SignerFailed("the signer returned a signature that isn't valid: look at its key. The update is pending")
         return signature
 
     def retry(self) -> Epoch:
         """Has the pending update signed, and installs it. Raises `NotPrepared` if there is none."""
-        with self._changing:
-            with self._steps():
-                pass
-            return self._settle()
+        return self._change(self._settle)
 
     @property
     def pending(self) -> Optional[Pending]:
         """The update that isn't installed, because the signer failed; None if there is none."""
-        engine = self._engine
-        return engine.pending if engine else None
+        engine = self._host.engine
+        return engine.update.pending if engine and engine.update else None
 
     def restart(self, sign_pending: bool = True) -> None:
-        """Ends the child, starts another one, replays the log and signs and installs the pending update, as a start does. If
-        `SignerFailed` is raised, the directory is usable and the update pending."""
-        self._start(sign_pending)
+        """Starts another child, replays the log into it, and ends this one, which answers lookups until then. Signs and installs
+        the pending update, as a start does. If `SignerFailed` is raised, the directory is usable and the update pending.
 
-    def close(self) -> None:
-        """Ends the child. The log stays open, since the caller opened it."""
-        with self._changing:
-            super().close()
+        Raises `LogForked` if the log lacks what this process has seen in it: then lookups go on as before, `evidence` has both,
+        and nothing can be added until the log is whole again, or `discard_evidence` was called.
+        """
+        self._change(lambda: self._start(sign_pending, self._restarted))
+
+
+def check_writable(log: Log) -> None:
+    """Raises `LogFailed` if an append could not succeed, as far as the log tells."""
+    if hasattr(log, "check_writable"):
+        log.check_writable()
 
 
 def entries(log: Log) -> Iterator[bytes]:
     """The entries of all epochs that a log has, in their order, 209 bytes each: what an auditor takes."""
-    body = b""
-    for line in log.read(0):
-        said = _object(line, LogFailed)
-        if said.get("cmd") == "prepare":
-            body = _digits(said, "body", BODY_LENGTH, LogFailed)
-        elif said.get("cmd") == "install":
-            yield body + _digits(said, "signature", SIGNATURE_LENGTH, LogFailed)
-
-
-def _line(members: Mapping[str, Any]) -> bytes:
-    return json.dumps(members, ensure_ascii=False, separators=(",", ":")).encode()
-
-
-def _with(line: bytes, member: str, value: bytes) -> bytes:
-    """A line with one more member, of hexadecimal digits."""
-    return b'%s,"%s":"%s"}' % (line[:-1], member.encode(), value.hex().encode())
-
-
-def _object(line: bytes, error: type[ProviderError]) -> Any:
-    try:
-        members = json.loads(line.decode())
-    except ValueError:
-        members = None
-    if not isinstance(members, dict):
-        raise error(f"a line is no JSON object: {line[:80]!r}")
-    return members
-
-
-def _digits(members: Mapping[str, Any], name: str, size: int, error: type[ProviderError] = ProgramFailed) -> bytes:
-    """The bytes of a member of hexadecimal digits."""
-    try:
-        value = bytes.fromhex(members[name])
-    except (KeyError, TypeError, ValueError):
-        value = b""
-    if len(value) != size:
-        raise error(f"the member {name} isn't {2 * size} hexadecimal digits")
-    return value
-
-
-def _number_in(members: Mapping[str, Any], name: str, error: type[ProviderError] = ProgramFailed) -> int:
-    value = members.get(name)
-    if not isinstance(value, int):
-        raise error(f"the member {name} isn't a number")
-    return value
-
-
-def _words(program: Union[Path, Sequence[str]], workers: Optional[int], depth: Optional[int]) -> list[str]:
-    words = [os.fspath(program)] if isinstance(program, (str, os.PathLike)) else list(program)
-    for option, value in [("--workers", workers), ("--depth", depth)]:
-        words += [] if value is None else [option, str(_number(value, 64, option))]
-    return words
-
-
-def _sized(value: Any, size: int, what: str) -> bytes:
-    value = _bytes(value, what)
-    if len(value) != size:
-        raise ValueError(f"{what} has {size} bytes, not {len(value)}")
-    return bytes(value)
-
-
-def _text(name: Any) -> str:
-    if not isinstance(name, str):
-        raise TypeError(f"a name is text, not {type(name).__name__}")
-    name.encode()
-    return name
-
-
-def _answer(line: bytes) -> Mapping[str, Any]:
-    """What the program printed, if it accepted a line; else raises the fault."""
-    members: Mapping[str, Any] = _object(line, ProgramFailed)
-    if "ok" in members:
-        return members
-    kind = faults.BY_NAME.get(str(members.get("fault")))
-    if kind is None:
-        raise ProgramFailed(f"the program printed {line[:80]!r}")
-    raise kind(members.get("position"), members.get("latest"), members.get("member"))
-
-
-def _ask(child: _Child, line: bytes) -> Mapping[str, Any]:
-    child.send(line + b"\n")
-    return _answer(child.receive())
-
-
-def _lookup(line: bytes) -> Lookup:
-    it = _answer(line)
-    name, proof = it.get("name"), it.get("proof")
-    if not isinstance(name, str) or not isinstance(proof, dict):
-        raise ProgramFailed(f"the program printed {line[:80]!r}")
-    index, nonce, root = (_digits(it, member, 32) for member in ("index", "nonce", "root"))
-    return Lookup(name, _number_in(it, "epoch"), index, nonce, root, _digits(it, "entry", ENTRY_LENGTH), proof, line)
-
-
-def _grouped(lines: Iterable[bytes], size: int) -> Iterator[list[bytes]]:
-    """The lines in groups of at most `size` bytes, or of one line."""
-    group: list[bytes] = []
-    room = size
-    for line in lines:
-        if group and len(line) > room:
-            yield group
-            group, room = [], size
-        group.append(line)
-        room -= len(line)
-    if group:
-        yield group
+    return entries_of(log.read(0))

@@ -19,9 +19,10 @@ import time
 from pathlib import Path
 from typing import Callable, Sequence
 
-from stand_ins import HAS_NACL, HERE, Ed25519, Salted, Scheme, Signer, Tell, append, audited, has_library, lines, opened, shown
-from coniks.provider import Change, Epoch, Fault, FileLog, Operation, ProgramFailed, Provider, ProviderError
-from coniks.provider import Register, RestartNeeded, SignerFailed, entries
+from stand_ins import HAS_NACL, HERE, Ed25519, Salted, Scheme, Signer, Tell, append, audited, has_library, is_new, lines, opened
+from stand_ins import shown
+from coniks.provider import Change, Epoch, Fault, FileLog, Lookup, Operation, ProgramFailed, Provider, Register, SignerFailed
+from coniks.provider import entries
 
 KINDS: dict[str, Callable[[], Scheme]] = {"salted": Salted, "ed25519": Ed25519}
 # After this number of kills a log ends and a new one begins, so that replays stay short.
@@ -59,7 +60,7 @@ def look(room: Path, provider: Provider, seed: int) -> None:
     while True:
         try:
             found = provider.lookup(f"user-{chance.randrange(40)}")
-        except (Fault, RestartNeeded, ProgramFailed):
+        except (Fault, ProgramFailed):
             time.sleep(0.001)
             continue
         if found.entry not in seen:
@@ -79,7 +80,8 @@ def drive(folder: str, program: str, kind: str, seed: int) -> None:
     with FileLog(room / "log") as log:
         while True:
             try:
-                provider = opened(program, log, signer)
+                # A process that was killed may have made the directory or not.
+                provider = opened(program, log, signer, create=is_new(log))
                 break
             except (SignerFailed, ProgramFailed):
                 pass
@@ -91,13 +93,21 @@ def drive(folder: str, program: str, kind: str, seed: int) -> None:
                 epoch = commit(chance, provider, provider.latest().epoch + chance.randrange(1, 3), made)
                 keys = {it.name: base64.b64encode(it.key).decode() for it in made}
                 append(room / "acknowledged", json.dumps([epoch.epoch, epoch.entry.hex(), keys]))
-            except (ProgramFailed, RestartNeeded):
-                while True:
-                    try:
-                        provider.restart()
-                        break
-                    except ProviderError:
-                        pass
+            except ProgramFailed:
+                go_on(chance, provider)
+
+
+def go_on(chance: random.Random, provider: Provider) -> None:
+    """Goes on after the child ended: by `restart`, or by asking for the pending update alone."""
+    while True:
+        try:
+            if chance.randrange(2):
+                provider.restart()
+            if provider.pending:
+                provider.retry()
+            return
+        except (ProgramFailed, SignerFailed):
+            pass
 
 
 def children_of(process: int) -> list[int]:
@@ -117,7 +127,7 @@ def kill(process: int) -> None:
 def check(tell: Tell, what: str, room: Path, program: str, kind: str, library: bool) -> tuple[int, int]:
     """Starts once more, and compares the directory with the lists."""
     signer = Signer(room, KINDS[kind]())
-    with FileLog(room / "log") as log, opened(program, log, signer) as provider:
+    with FileLog(room / "log") as log, opened(program, log, signer, create=is_new(log)) as provider:
         by_epoch = {int.from_bytes(it[1:9], "big"): it for it in entries(log)}
         acknowledged = [json.loads(it) for it in lines(room / "acknowledged")]
         tell(
@@ -126,8 +136,9 @@ def check(tell: Tell, what: str, room: Path, program: str, kind: str, library: b
         )
         for epoch, entry, keys in acknowledged[-20:]:
             found = provider.lookups(keys, epoch)
-            said = {it.name: base64.b64encode(shown(it) or b"").decode() for it in found}
-            tell(f"{what}: epoch {epoch} has its keys", said == keys and all(it.entry.hex() == entry for it in found), (said, keys))
+            right = [it for it in found if isinstance(it, Lookup) and it.entry.hex() == entry]
+            said = {it.name: base64.b64encode(shown(it) or b"").decode() for it in right}
+            tell(f"{what}: epoch {epoch} has its keys", said == keys, (said, keys))
         tell(
             f"{what}: each entry shown is in the chain",
             all(it in by_epoch.values() for it in map(bytes.fromhex, lines(room / "shown"))),

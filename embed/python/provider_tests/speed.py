@@ -7,7 +7,7 @@ import resource
 import tempfile
 import time
 from pathlib import Path
-from typing import Callable
+from typing import Callable, Sequence
 
 from stand_ins import KEY, Salted, Signer, index, opened
 from coniks.provider import FileLog, Lookup, Register
@@ -20,13 +20,13 @@ def main(program: str, names: int = 100_000, lookups: int = 20_000) -> int:
         signer, chance = Signer(room, Salted()), random.Random(20261126)
         with FileLog(Path(room) / "log") as log:
             start = time.monotonic()
-            with opened(program, log, signer) as provider:
+            with opened(program, log, signer, create=True) as provider:
                 for epoch, first in enumerate(range(0, names, BATCH), 1):
                     made = [Register(f"user-{it}", KEY) for it in range(first, min(names, first + BATCH))]
                     provider.commit(epoch, made)
                 tell("commits", names, "names", time.monotonic() - start)
                 asked = [f"user-{chance.randrange(names)}" for _ in range(lookups)]
-                calls: list[tuple[str, Callable[[], list[Lookup]]]] = [
+                calls: list[tuple[str, Callable[[], Sequence[object]]]] = [
                     ("lookup", lambda: [provider.lookup(it) for it in asked]),
                     ("lookups", lambda: provider.lookups(asked)),
                 ]
@@ -34,7 +34,7 @@ def main(program: str, names: int = 100_000, lookups: int = 20_000) -> int:
                     start, user = time.monotonic(), resource.getrusage(resource.RUSAGE_SELF).ru_utime
                     found = look()
                     took, used = time.monotonic() - start, resource.getrusage(resource.RUSAGE_SELF).ru_utime - user
-                    assert [it.name for it in found] == asked
+                    assert [it.name for it in found if isinstance(it, Lookup)] == asked
                     tell(what, lookups, "lookups", took, f", of which Python's own {used:.2f} s")
             start = time.monotonic()
             with opened(program, log, signer) as provider:

@@ -6,6 +6,7 @@ from __future__ import annotations
 import hashlib
 import json
 import os
+import signal
 import subprocess
 import sys
 import tempfile
@@ -34,6 +35,8 @@ try:
 except ImportError:
     HAS_NACL = False
 
+# How a line ends that `append` wrote whole.
+END = " ."
 POLICY = bytes([7]) * 32
 KEY = bytes([9]) * 32
 
@@ -60,15 +63,25 @@ def index(name: str) -> bytes:
 
 
 def append(file: Path, text: str) -> None:
-    """Appends a line, so that it is there if the process is killed afterwards."""
+    """Appends a line, so that it is there if the process is killed afterwards. One that is killed meanwhile may cut it."""
     place = os.open(file, os.O_WRONLY | os.O_CREAT | os.O_APPEND, 0o600)
-    os.write(place, f"{text}\n".encode())
+    os.write(place, f"\n{text}{END}".encode())
     os.fsync(place)
     os.close(place)
 
 
 def lines(file: Union[str, Path]) -> list[str]:
-    return Path(file).read_text().splitlines() if Path(file).exists() else []
+    """The lines that were appended whole."""
+    there = Path(file).read_text().splitlines() if Path(file).exists() else []
+    return [it[: -len(END)] for it in there if it.endswith(END)]
+
+
+def soon(call: Callable[[], object], seconds: float = 20) -> bool:
+    """Waits until a call returns something true. Returns whether it did."""
+    until = time.monotonic() + seconds
+    while not (is_so := bool(call())) and time.monotonic() < until:
+        time.sleep(0.005)
+    return is_so
 
 
 @contextmanager
@@ -147,6 +160,28 @@ def opened(program: str, log: provider.Log, signer: Signer, **more: Any) -> prov
     return provider.Provider(program, index, signer, log, policy=POLICY, verify=signer.verify, **more)
 
 
+def is_new(log: provider.Log) -> bool:
+    """Whether a log has no line, or doesn't exist."""
+    try:
+        return next(iter(log.read(0)), None) is None
+    except provider.NoDirectory:
+        return True
+
+
+def kill_child(own: provider.Directory) -> None:
+    """Kills the child, and waits until it has ended."""
+    pid = own.pid or 0
+    os.kill(pid, signal.SIGKILL)
+    soon(lambda: own.pid != pid or has_ended(pid))
+
+
+def has_ended(pid: int) -> bool:
+    try:
+        return Path(f"/proc/{pid}/stat").read_text().split()[2] == "Z"
+    except OSError:
+        return True
+
+
 def has_library() -> bool:
     try:
         return bool(coniks.library_version())
@@ -183,7 +218,7 @@ def shown(found: provider.Lookup) -> Optional[bytes]:
 
 def fake(told: str) -> int:
     """Prints one of these lines for each that it reads; in place of a line, `end N` ends with a status and `wait N` waits."""
-    for line in lines(told):
+    for line in Path(told).read_text().splitlines():
         if not sys.stdin.readline():
             return 0
         if line.startswith("end "):

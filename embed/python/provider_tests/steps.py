@@ -8,15 +8,14 @@ from __future__ import annotations
 
 import errno
 import os
-import signal
 import tempfile
-from contextlib import contextmanager
+from contextlib import contextmanager, nullcontext
 from pathlib import Path
 from typing import Any, Callable, Iterator, NoReturn, Optional, Union
 from unittest import mock
 
-from stand_ins import Salted, Signer, Tell, audited, has_library, opened, small_disk
-from coniks.provider import FileLog, Log, LogFailed, ProgramFailed, Provider, ProviderError, Register, RestartNeeded, SignerFailed
+from stand_ins import Salted, Signer, Tell, audited, has_library, is_new, kill_child, opened, small_disk
+from coniks.provider import FileLog, LogFailed, LogRefused, Provider, ProviderError, Register, SignerFailed, UnknownEpoch
 from coniks.provider import entries
 
 Hook = Callable[[], object]
@@ -29,7 +28,7 @@ class Stop(BaseException):
 class HookedLog:
     """A log over another one that calls a function before and after an append."""
 
-    def __init__(self, log: Log) -> None:
+    def __init__(self, log: FileLog) -> None:
         self.log = log
         self.before: Callable[[bytes], object] = lambda line: None
         self.after: Callable[[bytes], object] = lambda line: None
@@ -42,6 +41,9 @@ class HookedLog:
     def read(self, position: int) -> Iterator[bytes]:
         return self.log.read(position)
 
+    def check_writable(self) -> None:
+        self.log.check_writable()
+
 
 class Stage:
     """A directory with one epoch, whose next commit is stopped."""
@@ -50,20 +52,22 @@ class Stage:
         self.room, self.program = Path(room), program
         self.file = FileLog(self.room / "log")
         self.log, self.signer = HookedLog(self.file), Signer(room, Salted())
-        self.provider = opened(program, self.log, self.signer)
+        self.provider = opened(program, self.log, self.signer, create=True)
         self.first = self.provider.commit(1, [Register("first", b"key")])
 
     def kill_child(self, *_: object) -> None:
-        assert self.provider.pid and self.provider._engine
-        os.kill(self.provider.pid, signal.SIGKILL)
-        self.provider._engine.child._process.wait()
+        kill_child(self.provider)
 
-    def start_again(self, is_new: bool) -> None:
-        """Goes on after a stop: by `restart`, or from the file alone."""
+    def start_again(self, how: str) -> None:
+        """Goes on after a stop: by `restart`, from the file alone, or by the next call, if nothing is open."""
         self.log.before = self.log.after = lambda line: None
         self.signer.before = lambda: None
-        if not is_new:
+        if how == "restart":
             return self.provider.restart()
+        if how == "next":
+            if self.provider.pending:
+                self.provider.retry()
+            return None
         self.close()
         self.file = FileLog(self.room / "log")
         self.log = HookedLog(self.file)
@@ -118,18 +122,21 @@ def hooks() -> Iterator[tuple[str, Callable[[Stage], object], Optional[type[Base
 
     stop: Callable[[Stage], Hook] = lambda _: stopped()
     full: Callable[[Stage], Hook] = lambda _: stopped(no_disk)
+    none: Callable[[Stage], Hook] = lambda _: stopped(LogRefused("told to refuse"))
     dead: Callable[[Stage], Hook] = lambda stage: stage.kill_child
-    yield "the child ends before", lambda stage: stage.kill_child(), ProgramFailed, False
+    yield "the child ends before", lambda stage: stage.kill_child(), None, True
     yield "an interrupt before `prepare` is logged", before_log(b"prepare", stop), Stop, False
     yield "the log fails before `prepare`", before_log(b"prepare", full), LogFailed, False
+    yield "the log refuses `prepare`", before_log(b"prepare", none), LogRefused, False
     yield "an interrupt after `prepare` is logged", after_log(b"prepare", stop), Stop, True
     yield "the log fails after `prepare`", after_log(b"prepare", full), LogFailed, True
-    yield "the child ends as `prepare` is logged", after_log(b"prepare", dead), ProgramFailed, True
+    yield "the child ends as `prepare` is logged", after_log(b"prepare", dead), None, True
     yield "an interrupt in the signer", in_signer(stop), Stop, True
-    yield "the child ends as the signer is asked", in_signer(dead), ProgramFailed, True
+    yield "the child ends as the signer is asked", in_signer(dead), None, True
     yield "the signer fails", in_signer(lambda _: stopped(TimeoutError())), SignerFailed, True
     yield "an interrupt before `install` is logged", before_log(b"install", stop), Stop, True
     yield "the log fails before `install`", before_log(b"install", full), LogFailed, True
+    yield "the log refuses `install`", before_log(b"install", none), LogRefused, True
     yield "an interrupt after `install` is logged", after_log(b"install", stop), Stop, True
     yield "the log fails after `install`", after_log(b"install", full), LogFailed, True
     yield "the child ends as `install` is logged", after_log(b"install", dead), None, True
@@ -155,64 +162,82 @@ def check(tell: Tell, what: str, stage: Stage, is_logged: bool, library: bool) -
     tell(f"{what}: the chain is audited", audited(entries(stage.log), stage.signer.keys, library))
 
 
-def commit_stopped(stage: Stage, error: Optional[type[BaseException]], needs_restart: bool = True) -> Optional[str]:
-    """Commits epoch 2, which must raise the error, or return if it is None. Then a lookup must go on, or need a restart. Returns
-    what is wrong, or None."""
+def commit_stopped(stage: Stage, error: Optional[type[BaseException]]) -> Optional[str]:
+    """Commits epoch 2, which must raise the error, or return if it is None. Then a lookup must go on, at an epoch that the log
+    has, and a commit only if nothing is open. Returns what is wrong, or None."""
     try:
         stage.provider.commit(2, [Register("second", b"key")])
     except (ProviderError, Stop) as raised:
-        if error is None or not isinstance(raised, error):
+        if error is None or type(raised) is not error:
             return f"raised {raised!r}"
     else:
-        if error is not None:
+        if error:
             return "returned"
+    stage.log.before = stage.log.after = lambda line: None
+    stage.signer.before = lambda: None
+    found, latest = stage.provider.lookup("first"), stage.provider.latest()
+    logged = [*entries(stage.file)] if not stage.file._is_bad else [stage.first.entry]
+    if found.entry not in logged or stage.provider.chain()[-1] != found.entry or latest.epoch != found.epoch:
+        return f"a lookup showed {found!r}"
     try:
-        stage.provider.lookup("first")
-    except (RestartNeeded, ProgramFailed) as raised:
-        return None if needs_restart else f"a lookup raised {raised!r}"
-    return "a lookup went on" if needs_restart else None
+        stage.provider.lookup("first", 2)
+    except UnknownEpoch:
+        if found.epoch == 2:
+            return "the latest epoch can't be looked up"
+    else:
+        if found.epoch != 2:
+            return "an epoch was shown that isn't the log's"
+    return None
 
 
 def try_steps(tell: Tell, program: str) -> None:
     library = has_library()
     for what, set_up, error, is_logged in hooks():
-        for is_new in (False, True):
+        for how in ("new", "restart", "next"):
+            if how == "next" and error not in (None, LogRefused, SignerFailed):
+                continue
             with tempfile.TemporaryDirectory() as room:
                 stage = Stage(room, program)
                 set_up(stage)
-                # A signer that stops leaves the child and the log as they were.
-                told = commit_stopped(stage, error, "signer" not in what or "child" in what)
+                told = commit_stopped(stage, error)
                 tell(f"{what}: commit", told is None, told)
-                stage.start_again(is_new)
-                check(tell, f"{what}, {'new' if is_new else 'restart'}", stage, is_logged, library)
+                stage.start_again(how)
+                check(tell, f"{what}, {how}", stage, is_logged, library)
                 stage.close()
     for what, name, number in disks():
         with tempfile.TemporaryDirectory() as room:
             stage = Stage(room, program)
             with failing(stage, name, number):
-                told = commit_stopped(stage, LogFailed)
+                told = commit_stopped(stage, LogRefused)
             tell(f"{what}: commit", told is None, told)
-            stage.start_again(False)
+            stage.start_again("next")
             check(tell, what, stage, number == 2, library)
             stage.close()
     try_undone(tell, program, library)
 
 
 def try_undone(tell: Tell, program: str, library: bool) -> None:
-    """A sync fails, and the line that it leaves can't be dropped: the log fails until it is opened again."""
-    with tempfile.TemporaryDirectory() as room:
-        stage = Stage(room, program)
-        with failing(stage, "fsync", 1), mock.patch.object(os, "ftruncate", stopped(OSError(errno.EIO, "told to fail"))):
-            told = commit_stopped(stage, LogFailed)
-        tell("a line that can't be dropped: commit", told is None, told)
-        try:
-            stage.start_again(False)
-            tell("a line that can't be dropped: restart", False)
-        except LogFailed:
-            tell("a line that can't be dropped: restart", True)
-        stage.start_again(True)
-        check(tell, "a line that can't be dropped", stage, True, library)
-        stage.close()
+    """A sync fails, and the line that it leaves can't be dropped, or its dropping can't be synced: the log fails until it is
+    opened again."""
+    cut = stopped(OSError(errno.EIO, "told to fail"))
+    for what, name, told_to_fail in [("dropped", "ftruncate", cut), ("known to be dropped", "fsync", cut)]:
+        with tempfile.TemporaryDirectory() as room:
+            stage = Stage(room, program)
+            with failing(stage, "fsync", 1) if name == "ftruncate" else nullcontext(), mock.patch.object(os, name, told_to_fail):
+                told = commit_stopped(stage, LogFailed)
+            tell(f"a line that can't be {what}: commit", told is None, told)
+            for again in (1, 2):
+                try:
+                    stage.start_again("restart")
+                    tell(f"a line that can't be {what}: restart {again}", False)
+                except LogFailed as raised:
+                    tell(f"a line that can't be {what}: restart {again}", type(raised) is LogFailed, repr(raised))
+            found = stage.provider.lookup("first")
+            tell(f"a line that can't be {what}: lookups go on", found.entry == stage.first.entry)
+            stage.start_again("new")
+            # What a disk does that can't sync is not known: here the first line is there, and the second is dropped.
+            check(tell, f"a line that can't be {what}", stage, name == "ftruncate", library)
+            stage.close()
 
 
 def try_full_disk(tell: Tell, skip: Callable[[str, str], None], program: str, rounds: int = 8) -> None:
@@ -230,11 +255,14 @@ def fill(tell: Tell, room: Path, program: str, rounds: int, library: bool) -> No
         signer.file = Path(elsewhere) / "asked"
         ballast.write_bytes(bytes(160 << 10))
         for turn in range(rounds):
-            with FileLog(room / "log") as log, opened(program, log, signer) as provider:
+            with FileLog(room / "log") as log, opened(program, log, signer, create=is_new(log)) as provider:
                 fill_once(turn, provider, there)
                 if turn % 2 == 0:
                     os.truncate(ballast, ballast.stat().st_size - (16 << 10))
-                    provider.restart()
+                    if provider.pending:
+                        provider.retry()
+                    made = provider.commit(provider.latest().epoch + 1, [])
+                    there[made.epoch] = made.entry
             if turn % 2:
                 with FileLog(room / "log") as log:
                     tell(f"full disk {turn}: the log opens while the disk is full", list(log.read(0)))
@@ -258,5 +286,5 @@ def fill_once(turn: int, provider: Provider, there: dict[int, bytes]) -> None:
             epoch += 1
             made = provider.commit(epoch, [Register(f"user-{epoch}-{it}", b"k" * (700 * (turn + 1))) for it in range(1 + turn % 3)])
             there[epoch] = made.entry
-    except LogFailed:
+    except LogRefused:
         pass

@@ -3,9 +3,11 @@
 from __future__ import annotations
 
 import copy
+import gc
 import json
 import os
 import pickle
+import random
 import signal
 import stat
 import subprocess
@@ -13,13 +15,14 @@ import sys
 import tempfile
 import threading
 import time
+from collections import Counter
 from pathlib import Path
 from typing import Any, Callable, Iterable, Iterator, Optional, cast
 from unittest import mock
 
-import stand_ins
-from stand_ins import HERE, POLICY, Salted, Signer, Tell, audited, index, opened, shown
+from stand_ins import HERE, POLICY, Salted, Signer, Tell, audited, has_ended, index, kill_child, opened, shown, soon
 from coniks import provider
+from coniks._engine import Sample
 from coniks.provider import Change, Epoch, FileLog, Lookup, Provider, Register, entries
 
 FAULTS: dict[str, dict[str, Any]] = {
@@ -42,7 +45,7 @@ class Room:
         self._folder = tempfile.TemporaryDirectory()
         self.room = Path(self._folder.name)
         self.program, self.signer = program, Signer(self.room, Salted())
-        self.log = FileLog(self.room / "log")
+        self.log = FileLog.create(self.room / "log")
         self.provider = opened(program, self.log, self.signer, **more)
 
     def __enter__(self) -> Room:
@@ -83,7 +86,9 @@ def faked(room: str, answers: Iterable[str]) -> list[str]:
 
 
 class OneLine:
-    """A log in memory."""
+    """A log in memory, in which a directory may be made."""
+
+    is_new = True
 
     def __init__(self) -> None:
         self.lines: list[bytes] = []
@@ -102,15 +107,8 @@ def try_named_faults(tell: Tell) -> None:
     tell("faults: each has a class", {it.__name__ for it in provider.Fault.__subclasses__()} == FAULTS.keys())
     for name, members in FAULTS.items():
         with tempfile.TemporaryDirectory() as room:
-            program = faked(
-                room,
-                [
-                    OPEN,
-                    json.dumps({"fault": name} | members),
-                    '{"epoch":0,"link":"%s","names":0,"nodes":0,"ok":"latest"}' % ("0" * 64),
-                ],
-            )
-            with Provider(program, index, Salted().sign, OneLine(), policy=POLICY) as it:
+            told = json.dumps({"fault": name} | members)
+            with Provider(faked(room, [OPEN, told, told]), index, Salted().sign, OneLine(), policy=POLICY) as it:
                 whole = {part: members.get(part) for part in ("position", "latest", "member")}
                 raised = raises(tell, f"fault {name}", getattr(provider, name), lambda: it.commit(1, []), **whole)
                 for copied in (copy.copy(raised), pickle.loads(pickle.dumps(raised))):
@@ -118,7 +116,7 @@ def try_named_faults(tell: Tell) -> None:
                         f"fault {name}, copied",
                         type(copied) is type(raised) and str(copied) == str(raised) and vars(copied) == vars(raised),
                     )
-                tell(f"fault {name}: the provider goes on", it.latest().epoch == 0)
+                raises(tell, f"fault {name}: the provider goes on", getattr(provider, name), lambda: it.lookup("alice"), **whole)
 
 
 def try_real_faults(tell: Tell, program: str) -> None:
@@ -127,7 +125,7 @@ def try_real_faults(tell: Tell, program: str) -> None:
     with Room(program) as it, tempfile.TemporaryDirectory() as other:
         by_name: Callable[[str], bytes] = lambda name: known.get(name) or index(name)
         with FileLog(Path(other) / "log") as log, Provider(
-            program, by_name, it.signer.keys.sign, log, policy=POLICY, workers=2, depth=3
+            program, by_name, it.signer.keys.sign, log, policy=POLICY, workers=2, depth=3, create=True
         ) as own:
             first = own.commit(5, [Register("alice", b"key"), Register("bob", b"key")])
             before, size = own.latest(), os.path.getsize(Path(other) / "log")
@@ -164,24 +162,23 @@ def try_real_faults(tell: Tell, program: str) -> None:
                 ("an epoch that isn't there", "UnknownEpoch", lambda: own.lookup("bob", 4), {}),
                 ("an empty name", "NameLength", lambda: own.lookup(""), {"position": None}),
                 ("another index of a lookup", "OtherIndex", lambda: own.lookup("alice"), {"position": None}),
-                (
-                    "one of many lookups",
-                    "OtherIndex",
-                    lambda: own.lookups(["bob"] * 500 + ["alice"] + ["bob"] * 500),
-                    {"position": None},
-                ),
             ]
             for what, error, call, attributes in calls:
                 raises(tell, f"fault: {what}", getattr(provider, error), call, **attributes)
                 tell(f"fault: {what}, changes nothing", own.latest() == before and os.path.getsize(Path(other) / "log") == size)
             tell("fault: lookups go on after one", shown(own.lookup("bob")) == b"key")
+            many = own.lookups(["bob"] * 500 + ["alice", "\ud800", ""] + ["bob"] * 500)
+            kinds = [type(one).__name__ for one in many]
+            wanted = ["Lookup"] * 500 + ["OtherIndex", "NotText", "NameLength"] + ["Lookup"] * 500
+            tell("many lookups: each has its result or its error", kinds == wanted)
             second = own.commit(6, [Change("bob", b"other")], nonce=bytes(31) + b"\1")
             tell("the nonce is rotated", second.entry[0] == 2 and second.entry[81:113] == bytes(31) + b"\1")
             tell("an older epoch is looked up", own.lookup("bob", 5).entry == first.entry and shown(own.lookup("bob", 5)) == b"key")
             tell("the latest epoch is looked up", own.lookup("bob").entry == second.entry and shown(own.lookup("bob")) == b"other")
             tell("a name that isn't there", shown(own.lookup("nobody")) is None)
             many = own.lookups(["bob", "nobody", 'bob é " \\ \u0001'] * 300)
-            tell("many lookups are those of each", [shown(it) for it in many] == [b"other", None, None] * 300)
+            seen = [shown(one) for one in many if isinstance(one, Lookup)]
+            tell("many lookups are those of each", seen == [b"other", None, None] * 300)
             tell("many lookups of none", own.lookups([]) == [])
             tell("the latest", own.latest().link == second.link and own.latest().names == 2 and own.latest().epoch == 6)
             kept = [bytes.fromhex(json.loads(it)["link"]) for it in log.read(0) if b'"link"' in it]
@@ -209,9 +206,12 @@ def try_arguments(tell: Tell, program: str) -> None:
             ("a short nonce", ValueError, lambda: own.commit(1, [], nonce=b"short")),
             ("an epoch of text", TypeError, lambda: own.commit(cast(Any, "1"), [])),
             ("an epoch too large", ValueError, lambda: own.commit(1 << 64, [])),
+            ("an epoch too far", provider.EpochTooFar, lambda: own.commit((1 << 64) - 1, [])),
+            ("an epoch just too far", provider.EpochTooFar, lambda: own.commit((1 << 32) + 1, [])),
             ("a negative epoch", ValueError, lambda: own.lookup("alice", -1)),
             ("a lookup of bytes", TypeError, lambda: own.lookup(cast(Any, b"alice"))),
-            ("a lookup of half a pair", UnicodeEncodeError, lambda: own.lookup("\ud800")),
+            ("a lookup of half a pair", provider.NotText, lambda: own.lookup("\ud800")),
+            ("an operation of half a pair", provider.NotText, lambda: own.commit(1, [Register("\udcff", b"key")])),
         ]
         for what, error, call in calls:
             raises(tell, f"arguments: {what}", error, call)
@@ -235,6 +235,8 @@ def try_arguments(tell: Tell, program: str) -> None:
             with Provider(program, wrong, Salted().sign, OneLine(), policy=POLICY) as other:
                 raises(tell, f"arguments: {what}", error, lambda: other.lookup("alice"))
         tell("arguments: the provider goes on", own.commit(1, [Register("alice", b"key")]).epoch == 1)
+        tell("arguments: an epoch as far as it may be", own.commit((1 << 32) + 1, []).epoch == (1 << 32) + 1)
+        tell("arguments: an epoch too far that is meant", own.commit(1 << 40, [], far=True).epoch == 1 << 40)
         tell("openings differ", Register("a", b"k").opening != Register("a", b"k").opening and len(Change("a", b"k").opening) == 32)
         own.close()
         own.close()
@@ -289,7 +291,7 @@ def try_program(tell: Tell, program: str) -> None:
             raises(tell, f"the program {what}", provider.ProgramFailed, start)
             tell(f"the program {what}: in time", time.monotonic() - begun < 15)
             if own:
-                raises(tell, f"the program {what}: the next call", provider.RestartNeeded, own.latest)
+                tell(f"the program {what}: the chain is there", own.chain() == [] and own.latest().epoch == 0)
                 own.close()
     raises(
         tell,
@@ -299,24 +301,66 @@ def try_program(tell: Tell, program: str) -> None:
     )
     with Room(program, timeout=60) as it:
         made = it.provider.commit(1, [Register(f"user-{n}", bytes(16000)) for n in range(200)])
-        assert it.provider.pid
-        os.kill(it.provider.pid, signal.SIGKILL)
-        raises(tell, "a child that was killed", provider.ProgramFailed, lambda: it.provider.lookup("user-1"))
-        for call in [
-            it.provider.latest,
-            it.provider.retry,
-            lambda: it.provider.commit(2, []),
-            lambda: it.provider.lookups(["user-1"]),
-        ]:
-            raises(tell, "a child that was killed: each call", provider.RestartNeeded, call)
-        it.provider.restart()
-        tell(
-            "a child that was killed: restart",
-            it.provider.lookup("user-1").entry == made.entry and it.provider.latest().names == 200,
-        )
         before = it.provider.pid
         it.provider.restart()
         tell("a restart without need", it.provider.pid != before and it.provider.latest().epoch == 1)
+        calls: list[tuple[str, Callable[[], object]]] = [
+            ("a lookup", lambda: it.provider.lookup("user-1").entry == made.entry),
+            ("lookups", lambda: isinstance(it.provider.lookups(["user-1"])[0], Lookup)),
+            ("a commit", lambda: it.provider.commit(2, [Register("next", b"key")]).epoch == 2),
+            ("no call", lambda: soon(lambda: it.provider.pid != before)),
+        ]
+        for what, call in calls:
+            before = it.provider.pid
+            kill_child(it.provider)
+            tell(f"a child that was killed: {what} goes on", call())
+        tell("a child that was killed: all is there", it.provider.latest().names == 201 and len(it.provider.chain()) == 2)
+    with Room(program, timeout=60) as it:
+        it.provider.commit(1, [Register("alice", b"key")])
+        for number in range(5):
+            kill_child(it.provider)
+            tell("a child that ends again and again is started again", it.provider.lookup("alice").epoch == 1)
+        kill_child(it.provider)
+        raises(tell, "a sixth time in a minute: a lookup", provider.ProgramFailed, lambda: it.provider.lookup("alice"))
+        raises(tell, "a sixth time in a minute: a commit", provider.ProgramFailed, lambda: it.provider.commit(2, []))
+        tell("a sixth time in a minute: the chain is there", len(it.provider.chain()) == 1)
+        it.provider.restart()
+        tell("a sixth time in a minute: restart", it.provider.lookup("alice").epoch == 1 and it.provider.commit(2, []).epoch == 2)
+    try_stopped_child(tell, program)
+
+
+def try_stopped_child(tell: Tell, program: str) -> None:
+    """A child that hangs: a call waits for the timeout and no longer, and then another child answers."""
+    with Room(program, timeout=1) as it:
+        it.provider.commit(1, [Register("alice", b"key")])
+        for what, call in [("a lookup", lambda: it.provider.lookup("alice")), ("a commit", lambda: it.provider.commit(2, []))]:
+            assert it.provider.pid
+            os.kill(it.provider.pid, signal.SIGSTOP)
+            start = time.monotonic()
+            raises(tell, f"a child that hangs: {what}", provider.ProgramFailed, cast(Any, call))
+            tell(f"a child that hangs: {what} ends", time.monotonic() - start < 5)
+            tell(f"a child that hangs: after {what}", soon(lambda: is_looked_up(it.provider, "alice")))
+    with Room(program) as it:
+        it.provider.commit(1, [Register("alice", b"key")])
+        assert it.provider.pid
+        os.kill(it.provider.pid, signal.SIGSTOP)
+        waiting = threading.Thread(target=lambda: raises(lambda *_: None, "", Exception, lambda: it.provider.lookup("alice")))
+        waiting.start()
+        it.provider.restart()
+        waiting.join(20)
+        tell("a child that hangs without a timeout: restart", not waiting.is_alive() and it.provider.lookup("alice").epoch == 1)
+        assert it.provider.pid
+        os.kill(it.provider.pid, signal.SIGSTOP)
+        start = time.monotonic()
+        it.provider.close()
+        tell("a child that hangs: close ends", time.monotonic() - start < 5)
+
+
+def is_looked_up(own: Provider, name: str) -> bool:
+    try:
+        return own.lookup(name).name == name
+    except provider.ProgramFailed:
+        return False
 
 
 def try_signer(tell: Tell, program: str) -> None:
@@ -411,7 +455,7 @@ def try_logs(tell: Tell, program: str) -> None:
         raises(tell, "a log that is open", provider.LogFailed, lambda: FileLog(it.room / "log"))
         script = f"import sys; sys.path.insert(0, {str(HERE.parent)!r})\nfrom coniks.provider import FileLog\nFileLog({str(it.room / 'log')!r})"
         ran = subprocess.run([sys.executable, "-c", script], capture_output=True, text=True)
-        tell("a log that another process has open", "another process has the log open" in ran.stderr, ran.stderr)
+        tell("a log that another process has open", "LogFailed: another process has the file" in ran.stderr, ran.stderr)
 
         def start(log: provider.Log = it.log, policy: bytes = POLICY, nonce: Optional[bytes] = None) -> None:
             Provider(program, index, it.signer, log, policy=policy, nonce=nonce).close()
@@ -451,30 +495,37 @@ def try_logs(tell: Tell, program: str) -> None:
             tell("a log that ends before `install`", own.latest().epoch == 2 and it.signer.is_asked_once() and len(log.lines) == 5)
             log.lines.append(b"another provider's")
             raises(tell, "a log that was overtaken", provider.Overtaken, lambda: own.commit(3, []))
-            raises(tell, "a log that was overtaken: the next call", provider.RestartNeeded, own.latest)
+            raises(tell, "a log that was overtaken: the next commit", provider.RestartNeeded, lambda: own.commit(3, []))
+            raises(tell, "a log that was overtaken: retry", provider.RestartNeeded, own.retry)
+            tell("a log that was overtaken: lookups go on", own.lookup("alice").epoch == 2 and len(own.chain()) == 2)
             log.lines.pop()
             own.restart()
             tell("a log that was overtaken: restart", own.commit(3, []).epoch == 3)
             tell("a log that was overtaken: no body", it.signer.is_asked_once() and len(it.signer.asked()[3]) == 1)
         setattr(log, "read", lambda position: 1 // 0)
         raises(tell, "a log that can't be read", provider.LogFailed, lambda: start(log))
-        raises(tell, "a file that can't be made", provider.LogFailed, lambda: FileLog(it.room / "nowhere/log"))
+        raises(tell, "a file that can't be made", provider.LogFailed, lambda: FileLog.create(it.room / "nowhere/log"))
+
+
+# How a log begins.
+FIRST = b'{"cmd":"open"}'
 
 
 def try_file(tell: Tell) -> None:
     """The file of a log: cut lines, positions, and what else it must refuse."""
     with tempfile.TemporaryDirectory() as room:
         file = Path(room) / "log"
-        with FileLog(file) as log:
+        with FileLog.create(file) as log:
             tell("a new log", list(log.read(0)) == [] and file.stat().st_mode & 0o777 == 0o600)
-            for number, line in enumerate([b"first", b"", b"x" * 3_000_000]):
+            raises(tell, "a first line that opens nothing", ValueError, lambda: log.append(0, b"first"))
+            for number, line in enumerate([FIRST, b"", b"x" * 3_000_000]):
                 log.append(number, line)
             raises(tell, "a position that is taken", provider.Overtaken, lambda: log.append(2, b"other"))
             raises(tell, "a position too far", ValueError, lambda: log.append(4, b"other"))
             raises(tell, "a line with a newline", ValueError, lambda: log.append(3, b"a\nb"))
             tell(
                 "what was appended is read",
-                list(log.read(0)) == [b"first", b"", b"x" * 3_000_000] and list(log.read(2)) == [b"x" * 3_000_000],
+                list(log.read(0)) == [FIRST, b"", b"x" * 3_000_000] and list(log.read(2)) == [b"x" * 3_000_000],
             )
             forked = os.fork()
             if not forked:
@@ -486,53 +537,60 @@ def try_file(tell: Tell) -> None:
             tell("a forked process can't append", os.waitstatus_to_exitcode(os.waitpid(forked, 0)[1]) == 7)
         raises(tell, "a closed log", provider.LogFailed, lambda: log.append(3, b""))
         raises(tell, "a closed log is read", provider.LogFailed, lambda: log.read(0))
-        whole = b"first\n\nlast line\n"
-        for size in range(len(whole) + 1):
-            file.write_bytes(whole[:size])
-            with FileLog(file) as log:
-                there = list(log.read(0))
-                log.append(len(there), b"next")
-            wanted = whole[:size].split(b"\n")[:-1]
-            tell(
-                f"a log cut at {size}",
-                there == wanted and file.read_bytes() == b"".join(it + b"\n" for it in [*wanted, b"next"]),
-                there,
-            )
-        synced: list[bool] = []
-        written: list[tuple[bytes, int]] = []
-        sync, write = os.fsync, os.pwrite
-        file.write_bytes(b"first\nlast line\ncut")
+        raises(tell, "a log is made over a log", provider.DirectoryExists, lambda: FileLog.create(file))
+        try_cut(tell, file)
+        try_opened(tell, file)
 
-        def noted_sync(place: int) -> None:
-            synced.append(stat.S_ISDIR(os.fstat(place).st_mode))
-            sync(place)
 
-        def noted_write(place: int, data: bytes, at: int) -> int:
-            written.append((data, at))
-            return write(place, data, at)
+def try_cut(tell: Tell, file: Path) -> None:
+    """A crash has cut the last line, at each byte, or left zeros in its place."""
+    whole = FIRST + b"\n\nlast line\n"
+    for size in range(len(whole) + 1):
+        file.write_bytes(whole[:size])
+        with FileLog(file) as log:
+            there = list(log.read(0))
+            log.append(len(there), b"next" if there else FIRST)
+        wanted = whole[:size].split(b"\n")[:-1]
+        after = b"".join(it + b"\n" for it in [*wanted, b"next" if wanted else FIRST])
+        tell(f"a log cut at {size}", there == wanted and file.read_bytes() == after, there)
+    ends: list[tuple[str, bytes, list[bytes]]] = [
+        ("zeros at the end", FIRST + b"\nsecond" + bytes(5000), [FIRST]),
+        ("a line with zeros", FIRST + b"\nse" + bytes(5000) + b"d\n", [FIRST]),
+        ("zeros after a beginning", FIRST + bytes(9), []),
+        ("a long cut line", FIRST + b"\n" + b"x" * (3 << 20), [FIRST]),
+    ]
+    for what, text, wanted in ends:
+        file.write_bytes(text)
+        with FileLog(file) as log:
+            tell(f"a log with {what}", list(log.read(0)) == wanted)
 
-        with mock.patch.object(os, "fsync", noted_sync), mock.patch.object(os, "pwrite", noted_write):
-            FileLog(file).close()
-        tell(
-            "a log that opens: the last line and the folder are synced",
-            synced == [False, True] and written == [(b"last line\n", 6)],
-        )
-        ends: list[tuple[str, bytes, list[bytes]]] = [
-            ("zeros at the end", b"first\nsecond" + bytes(5000), [b"first"]),
-            ("a line with zeros", b"first\nse" + bytes(5000) + b"d\n", [b"first"]),
-            ("zeros alone", bytes(9), []),
-            ("a long cut line", b"first\n" + b"x" * (3 << 20), [b"first"]),
-        ]
-        for what, text, wanted in ends:
-            file.write_bytes(text)
-            with FileLog(file) as log:
-                tell(f"a log with {what}", list(log.read(0)) == wanted)
+
+def try_opened(tell: Tell, file: Path) -> None:
+    """What is on the disk once a log is open."""
+    synced: list[bool] = []
+    written: list[tuple[bytes, int]] = []
+    sync, write = os.fsync, os.pwrite
+    file.write_bytes(FIRST + b"\nlast line\ncut")
+
+    def noted_sync(place: int) -> None:
+        synced.append(stat.S_ISDIR(os.fstat(place).st_mode))
+        sync(place)
+
+    def noted_write(place: int, data: bytes, at: int) -> int:
+        written.append((data, at))
+        return write(place, data, at)
+
+    with mock.patch.object(os, "fsync", noted_sync), mock.patch.object(os, "pwrite", noted_write):
+        FileLog(file).close()
+    is_well = synced == [False, True] and written == [(b"last line\n", len(FIRST) + 1)]
+    tell("a log that opens: the last line and the folder are synced", is_well)
 
 
 def try_threads(tell: Tell, program: str) -> None:
-    """Lookups from several threads go on while the signer is asked, and show no entry before the log has it."""
+    """Lookups from several threads go on while the signer is asked and while the log appends, and show no entry before the log
+    has it."""
     with Room(program) as it:
-        own, is_over, counted = it.provider, threading.Event(), [0, 0]
+        own, is_over, counted, append = it.provider, threading.Event(), [0, 0, 0], it.log.append
         wrong: list[Lookup] = []
         own.commit(1, [Register("alice", b"1")])
 
@@ -549,6 +607,14 @@ def try_threads(tell: Tell, program: str) -> None:
             time.sleep(0.1)
             counted[1] += counted[0] > before
 
+        def slow_append(position: int, line: bytes) -> None:
+            for is_stored in (False, True):
+                if is_stored:
+                    append(position, line)
+                before = counted[0]
+                time.sleep(0.1)
+                counted[2] += counted[0] > before
+
         it.signer.before = slow
         threads = [threading.Thread(target=look) for _ in range(3)]
         for thread in threads:
@@ -559,11 +625,14 @@ def try_threads(tell: Tell, program: str) -> None:
         changing[0].join()
         for epoch in range(3, 8):
             own.commit(epoch, [Change("alice", b"%d" % epoch)])
+        with mock.patch.object(it.log, "append", slow_append):
+            own.commit(8, [Change("alice", b"8")])
         is_over.set()
         for thread in threads:
             thread.join()
         tell("threads: lookups are right", not wrong and counted[0] > 5, (wrong[:1], counted))
-        tell("threads: they go on while the signer is asked", counted[1] == 6, counted)
+        tell("threads: they go on while the signer is asked", counted[1] == 7, counted)
+        tell("threads: they go on before and after each line is stored", counted[2] == 4, counted)
         forked = os.fork()
         if not forked:
             try:
@@ -572,10 +641,48 @@ def try_threads(tell: Tell, program: str) -> None:
                 os._exit(7)
             os._exit(0)
         tell("threads: a forked process can't use it", os.waitstatus_to_exitcode(os.waitpid(forked, 0)[1]) == 7)
-        tell("threads: the provider goes on", own.latest().epoch == 7)
+        tell("threads: the provider goes on", own.latest().epoch == 8)
+
+
+def try_abandoned(tell: Tell, program: str) -> None:
+    """A provider that nobody closes: its threads and its child end with it."""
+    with tempfile.TemporaryDirectory() as room, FileLog(Path(room) / "log") as log:
+        before = threading.active_count()
+        own = opened(program, log, Signer(room, Salted()), create=True)
+        pid = own.pid or 0
+        tell("a provider that nobody closes: it has threads", threading.active_count() == before + 2)
+        del own
+        gc.collect()
+        tell("a provider that nobody closes: its threads end", soon(lambda: threading.active_count() == before))
+        tell("a provider that nobody closes: its child ends", soon(lambda: has_ended(pid)))
+
+
+def try_sample(tell: Tell) -> None:
+    """Which operations a start compares: the first, the last, and 64 others, each as often as any other."""
+    counts: Counter[str] = Counter()
+    for _ in range(300):
+        sample, listed = Sample(), [{"name": f"{it}", "index": ""} for it in range(1000)]
+        at = 0
+        while at < 1000:
+            size = random.choice([0, 1, 7, 64, 200])
+            sample.add(listed[at : at + size])
+            at += size
+        first, last, *kept = [name for name, _ in sample.all()]
+        if (first, last, len(kept), len({*kept})) != ("0", "999", 64, 64):
+            return tell("a sample has the first, the last and 64 others", False, sample.all())
+        counts.update(kept)
+    parts = [sum(counts[f"{it}"] for it in range(begin, begin + 100)) for begin in range(0, 1000, 100)]
+    # 1,920 in the mean. The standard deviation is 40.
+    tell("a sample has the first, the last and 64 others", True)
+    tell("a sample prefers no operation", all(1720 < it < 2120 for it in parts), parts)
+    small = Sample()
+    small.add([{"name": "a", "index": "1"}, {"name": "b", "index": "2"}])
+    tell("a sample of two", small.all() == [("a", "1"), ("b", "2")] * 2 and small.last() == [("b", "2")] and not Sample().all())
 
 
 def try_units(tell: Tell, program: str) -> None:
+    try_sample(tell)
+    try_abandoned(tell, program)
     try_named_faults(tell)
     try_real_faults(tell, program)
     try_arguments(tell, program)

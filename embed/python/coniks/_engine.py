@@ -1,0 +1,395 @@
+"""The program `provider` as a child process, and how far a log was replayed into it."""
+
+from __future__ import annotations
+
+import fcntl
+import math
+import os
+import random
+import secrets
+import select
+import subprocess
+import threading
+import time
+from dataclasses import dataclass
+from hashlib import sha256
+from typing import Any, Mapping, NamedTuple, Optional, Sequence, Tuple
+
+from . import BODY_LENGTH, ENTRY_LENGTH, Head
+from ._lines import SIGNATURE_LENGTH, Epoch, Index, Latest, Pending, answer, digits, encoded, install_line, members_of, number
+from ._lines import with_member
+from .faults import Fault, LogBehind, LogFailed, LogForked, OtherIndex, ProgramFailed, ProviderError, ReplayDiffers
+from .log import Log
+
+_GET_PIPE_SIZE = 1032  # fcntl.F_GETPIPE_SZ, from Python 3.10 on
+_LINK = b"\x53"  # what the preimage of a link begins with
+
+
+class Child:
+    """The program as a child process: lines go in and come out. It is in a session of its own, so that a terminal's interrupt
+    doesn't end it, and it ends with its parent, because its input does. After an error it isn't asked again."""
+
+    def __init__(self, words: Sequence[str], timeout: Optional[float]):
+        try:
+            pipe = subprocess.PIPE
+            self._process = subprocess.Popen(words, stdin=pipe, stdout=pipe, bufsize=0, start_new_session=True)
+        except OSError as error:
+            raise ProgramFailed(f"the program {words[0]} can't be started: {error.strerror}. Look at its path") from error
+        assert self._process.stdin and self._process.stdout
+        self._in, self._out = self._process.stdin.fileno(), self._process.stdout.fileno()
+        self._timeout, self.is_sound = timeout, True
+        self._held, self._at = b"", 0
+        # Lines of this size in all are written before their answers are read. The pipe has room for them, so that the child
+        # and its parent never both wait for the other to read.
+        self.at_once = fcntl.fcntl(self._in, _GET_PIPE_SIZE) // 2
+        self._can_write, self._can_read = select.poll(), select.poll()
+        self._can_write.register(self._in, select.POLLOUT)
+        self._can_read.register(self._out, select.POLLIN)
+        if timeout is not None:
+            os.set_blocking(self._in, False)
+
+    @property
+    def pid(self) -> int:
+        return self._process.pid
+
+    def ask(self, lines: Sequence[bytes]) -> list[bytes]:
+        """Writes lines with their newlines, and reads an answer for each."""
+        try:
+            self._send(b"".join(lines))
+            return [self._receive() for _ in lines]
+        except BaseException:
+            self.is_sound = False
+            raise
+
+    def _wait(self, pipe: select.poll, until: float) -> None:
+        """Waits for a pipe to be ready, if there is a timeout."""
+        if self._timeout is not None and not pipe.poll(max(0, until - time.monotonic()) * 1000):
+            raise ProgramFailed(f"the program didn't answer in {self._timeout} seconds, and is started again")
+
+    def _send(self, data: bytes) -> None:
+        until, rest = time.monotonic() + (self._timeout or 0), memoryview(data)
+        while rest:
+            try:
+                rest = rest[os.write(self._in, rest) :]
+            except BlockingIOError:
+                self._wait(self._can_write, until)
+            except OSError:
+                raise self._ended() from None
+
+    def _receive(self) -> bytes:
+        end = self._held.find(b"\n", self._at)
+        if end < 0:
+            until = time.monotonic() + (self._timeout or 0)
+            while end < 0:
+                self._wait(self._can_read, until)
+                more = os.read(self._out, 65536)
+                if not more:
+                    raise self._ended()
+                held = self._held[self._at :]
+                self._held, self._at = held + more, 0
+                end = self._held.find(b"\n", len(held))
+        line = self._held[self._at : end]
+        self._at = end + 1
+        return line
+
+    def _ended(self) -> ProgramFailed:
+        try:
+            return ProgramFailed(f"the program ended with status {self._process.wait(5)}: see its standard error")
+        except subprocess.TimeoutExpired:
+            return ProgramFailed("the program closed its streams, and is started again")
+
+    def is_usable(self) -> bool:
+        """Whether the program runs and was never out of step."""
+        self.is_sound = self.is_sound and self._process.poll() is None
+        return self.is_sound
+
+    def kill(self) -> None:
+        """Ends the program at once. Whoever waits for its answer gets an error."""
+        self.is_sound = False
+        self._process.kill()
+
+    def stop(self, seconds: float) -> None:
+        """Ends the program: its input ends, and after some seconds it is killed. The log has all that matters."""
+        assert self._process.stdin and self._process.stdout
+        self._process.stdin.close()
+        try:
+            self._process.wait(seconds)
+        except subprocess.TimeoutExpired:
+            self._process.kill()
+            self._process.wait()
+        self._process.stdout.close()
+
+
+Place = Tuple[str, str]
+
+
+class Sample:
+    """Names and indices of the first, the last and 64 random ones of all operations that it was given: reservoir sampling by Li's
+    algorithm L."""
+
+    def __init__(self, size: int = 64):
+        self._size, self._count, self._weight = size, 0, 1.0
+        self._kept: list[Place] = []
+        self._ends: list[Place] = []
+        self._next = size
+        self._skip()
+
+    def _skip(self) -> None:
+        self._weight *= math.exp(math.log(1 - random.random()) / self._size)
+        self._next += int(math.log(1 - random.random()) / math.log1p(-self._weight)) if self._weight < 1 else 0
+
+    def add(self, operations: Sequence[Any]) -> None:
+        if not operations:
+            return
+        self._ends = [*(self._ends or [place_of(operations[0])])[:1], place_of(operations[-1])]
+        self._kept += map(place_of, operations[: self._size - len(self._kept)])
+        while self._next < self._count + len(operations):
+            self._kept[random.randrange(self._size)] = place_of(operations[self._next - self._count])
+            self._next += 1
+            self._skip()
+        self._count += len(operations)
+
+    def last(self) -> list[Place]:
+        return self._ends[1:]
+
+    def all(self) -> list[Place]:
+        return self._ends + self._kept
+
+
+def place_of(operation: Mapping[str, Any]) -> Place:
+    return operation["name"], operation["index"]
+
+
+@dataclass(frozen=True)
+class Setting:
+    """What the children of a directory are started with."""
+
+    words: Sequence[str]
+    timeout: Optional[float]
+    log: Log
+    policy: bytes
+    nonce: Optional[bytes] = None
+    vrf_public_key: Optional[bytes] = None
+
+
+class Update(NamedTuple):
+    """A pending update with its line, as the log has it: how many names it registers, how many nodes it adds, and its operations."""
+
+    pending: Pending
+    line: bytes
+    names: int
+    nodes: int
+    operations: Sequence[Any] = ()
+
+
+class Engine:
+    """A child, and how far the log was replayed into it: the position of the next line, the latest epoch that the log has, and
+    the pending update. The child answers for these also if it has installed an epoch that the log doesn't have, `unlogged`,
+    since each lookup names its epoch."""
+
+    def __init__(self, setting: Setting):
+        """Starts a child. `replay` replays the log."""
+        self._setting, self.log, self.asking = setting, setting.log, threading.Lock()
+        self.position, self.latest = 0, Epoch(0, bytes(32), bytes(32), b"")
+        self.size = Latest(0, bytes(32), 0, 0)
+        self.chain: list[bytes] = []
+        self.update: Optional[Update] = None
+        self.unlogged: Optional[tuple[bytes, Epoch]] = None
+        # The bodies of logged updates that others replaced, and a sample of the logged operations.
+        self.replaced: list[bytes] = []
+        self._sample = Sample()
+        self.child = Child(setting.words, setting.timeout)
+
+    def ask(self, line: bytes) -> Mapping[str, Any]:
+        with self.asking:
+            [said] = self.child.ask([line + b"\n"])
+        try:
+            return answer(said)
+        except ProgramFailed:
+            self.child.is_sound = False
+            raise
+
+    def open(self) -> None:
+        """Opens a directory, in a log without a line."""
+        members = {
+            "cmd": "open",
+            "nonce": (self._setting.nonce or secrets.token_bytes(32)).hex(),
+            "policy": self._setting.policy.hex(),
+        }
+        if self._setting.vrf_public_key is not None:
+            members["vrf"] = sha256(self._setting.vrf_public_key).hexdigest()
+        line = encoded(members)
+        self.ask(line)
+        self.append(line)
+
+    def replay(self) -> None:
+        """Replays the log from its start."""
+        try:
+            for line in self.log.read(0):
+                self.take(line)
+        except ProviderError:
+            raise
+        except Exception as error:
+            raise LogFailed(f"the log can't be read: {type(error).__name__}. Repair it, and start again") from error
+
+    def take(self, line: bytes) -> None:
+        """Replays the next line of the log, and compares the answer: of `prepare` the body, and of `install` the link."""
+        what = f"line {self.position} of the log"
+        said = members_of(line, LogFailed, what)
+        try:
+            told = self.ask(line)
+        except Fault as fault:
+            raise ReplayDiffers(f"{what} is refused: {fault}. Look whether log and program are this directory's") from fault
+        command = said.get("cmd")
+        if command == "open":
+            self._compare_opening(said)
+        elif command == "prepare":
+            if told.get("body") != said.get("body"):
+                raise ReplayDiffers(f"{what} has another body: look whether log and program are this directory's")
+            operations = said.get("ops", [])
+            names = sum(it.get("op") == "register" for it in operations)
+            pending = self._pending(number(said, "epoch", LogFailed), told)
+            self._prepared(Update(pending, line, names, number(told, "nodes"), operations))
+        elif command == "install":
+            if told.get("link") != said.get("link"):
+                raise ReplayDiffers(f"{what} has another link: look whether log and program are this directory's")
+            epoch = self._installed(digits(said, "signature", SIGNATURE_LENGTH, LogFailed), told)
+            self._settle(epoch)
+        else:
+            raise LogFailed(f"{what} is none of a provider: give the path of a log")
+        self.position += 1
+
+    def _compare_opening(self, said: Mapping[str, Any]) -> None:
+        key = self._setting.vrf_public_key
+        digest = None if key is None or "vrf" not in said else sha256(key).digest()
+        for what, member, given in [
+            ("policy", "policy", self._setting.policy),
+            ("nonce", "nonce", self._setting.nonce),
+            ("public key of the VRF", "vrf", digest),
+        ]:
+            if given is not None and digits(said, member, 32, LogFailed) != given:
+                raise LogFailed(f"the log's directory has another {what}: look whether log and keys belong together")
+
+    def _pending(self, epoch: int, told: Mapping[str, Any]) -> Pending:
+        """The update that the child has prepared. Its body is one of this epoch, after the latest one."""
+        body, root = digits(told, "body", BODY_LENGTH), digits(told, "root", 32)
+        numbers = epoch.to_bytes(8, "big") + self.latest.epoch.to_bytes(8, "big")
+        if body[1:81] != numbers + root + self.latest.link or body[113:] != self._setting.policy:
+            self.child.is_sound = False
+            raise ProgramFailed(f"the body of epoch {epoch} doesn't follow the entry of epoch {self.latest.epoch}")
+        return Pending(epoch, root, body)
+
+    def _prepared(self, update: Update) -> None:
+        if self.update:
+            self.replaced.append(self.update.pending.body)
+        self.update = update
+
+    def prepare(self, epoch: int, line: bytes, names: int) -> Update:
+        """Has the child prepare an update, which isn't in the log yet."""
+        told = self.ask(line)
+        pending = self._pending(epoch, told)
+        return Update(pending, with_member(line, "body", pending.body), names, number(told, "nodes"))
+
+    def log_prepared(self, update: Update) -> None:
+        """Appends the line of a prepared update, which is pending then. If the log refuses the line, what was pending before is
+        pending in the child again."""
+        try:
+            self.append(update.line)
+        except LogFailed:
+            self._withdraw()
+            raise
+        self._prepared(update)
+
+    def _withdraw(self) -> None:
+        if self.update:
+            try:
+                told = self.ask(self.update.line)
+                self.child.is_sound = self.child.is_sound and told.get("body") == self.update.pending.body.hex()
+            except ProviderError:
+                self.child.is_sound = False
+
+    def install(self, signature: bytes) -> None:
+        """Has the child install the pending update. Its epoch is `unlogged` until `log_installed` returns."""
+        line = install_line(signature)
+        try:
+            told = self.ask(line)
+        except Fault as fault:
+            self.child.is_sound = False
+            raise ProgramFailed(f"the program refuses a pending update: {fault}. Retry") from fault
+        epoch = self._installed(signature, told)
+        self.unlogged = with_member(line, "link", epoch.link), epoch
+
+    def log_installed(self) -> Epoch:
+        """Appends the line of the epoch that the child has installed, which is the latest then."""
+        assert self.unlogged
+        line, epoch = self.unlogged
+        self.append(line)
+        self._settle(epoch)
+        return epoch
+
+    def append(self, line: bytes) -> None:
+        try:
+            self.log.append(self.position, line)
+        except LogFailed:
+            raise
+        except Exception as error:
+            raise LogFailed(f"the log can't be written: {type(error).__name__}. Repair it, then restart") from error
+        self.position += 1
+
+    def _installed(self, signature: bytes, told: Mapping[str, Any]) -> Epoch:
+        """The epoch that the child has installed. Its entry is what was signed, with the signature."""
+        pending = self.update.pending if self.update else None
+        root, link, entry = (digits(told, it, size) for it, size in [("root", 32), ("link", 32), ("entry", ENTRY_LENGTH)])
+        epoch = Epoch(number(told, "epoch"), root, link, entry)
+        if not pending or (epoch.epoch, root, entry) != (pending.epoch, pending.root, pending.body + signature):
+            self.child.is_sound = False
+            raise ProgramFailed(f"the entry of epoch {epoch.epoch} isn't what was signed")
+        return epoch
+
+    def _settle(self, epoch: Epoch) -> None:
+        """Notes that the pending update is installed, in the child and in the log."""
+        assert self.update
+        self._sample.add(self.update.operations)
+        self.chain.append(epoch.entry)
+        self.size = Latest(epoch.epoch, epoch.link, self.size.names + self.update.names, self.size.nodes + self.update.nodes)
+        self.latest, self.update, self.unlogged = epoch, None, None
+
+    def follows(self, other: Engine) -> bool:
+        """Whether this log has all that another engine has seen in its log: the entries, and the body that it may have had
+        signed."""
+        count = len(other.chain)
+        if len(self.chain) < count or (count and self.chain[count - 1] != other.chain[-1]):
+            return False
+        if other.update is None:
+            return True
+        asked = [*self.replaced, *(it[:BODY_LENGTH] for it in self.chain[count:])]
+        asked += [self.update.pending.body] if self.update else []
+        return other.update.pending.body in asked
+
+    def check_head(self, head: Head) -> None:
+        """Raises `LogBehind` or `LogForked` if this link isn't that of the entry of this epoch."""
+        if head.epoch > self.latest.epoch:
+            raise LogBehind(
+                f"the log ends at epoch {self.latest.epoch}, before the head of epoch {head.epoch}: restore its last lines"
+            )
+        entry = next((it for it in reversed(self.chain) if int.from_bytes(it[1:9], "big") == head.epoch), b"")
+        if sha256(_LINK + entry).digest() != head.link:
+            raise LogForked(f"the log has another entry of epoch {head.epoch} than the head: look which log is the right one")
+
+    def check_indices(self, index: Index, with_pending: bool) -> None:
+        """Compares the indices of some logged operations with those of a function. Raises `OtherIndex`."""
+        pending = self.update.operations if self.update and with_pending else ()
+        _compare_indices(index, [*self._sample.all(), *map(place_of, [*pending[:1], *pending[-1:]])])
+
+    def check_last_index(self, index: Index) -> None:
+        """The same for the last operation alone."""
+        _compare_indices(index, self._sample.last())
+
+
+def _compare_indices(index: Index, places: Sequence[Place]) -> None:
+    for name, place in places:
+        if place.lower() != index(name).hex():
+            raise OtherIndex(
+                advice="the key of the VRF or its code isn't that of this log. Start with the right one, "
+                "or pass check_indices=False if the log itself has wrong indices"
+            )

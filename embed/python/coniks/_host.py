@@ -1,0 +1,192 @@
+"""Keeps a child that answers lookups, and starts another one if it ends."""
+
+from __future__ import annotations
+
+import threading
+import time
+from collections import deque
+from contextlib import suppress
+from dataclasses import dataclass
+from typing import Optional, Sequence
+
+from . import BODY_LENGTH
+from ._engine import Engine, Setting
+from ._lines import entries_of
+from ._threads import Worker
+from .faults import Closed, LogForked, NoDirectory, ProgramFailed, ProviderError
+
+# A child that ends is started again at most so often in so many seconds.
+_STARTS, _SECONDS = 5, 60
+_FORKED = (
+    "the log lacks what this process has seen in it, or has something else in its place: restore it, "
+    "or keep evidence() and call discard_evidence"
+)
+
+
+@dataclass(frozen=True)
+class Evidence:
+    """A log that isn't the one that this process has seen: the entries of both, 209 bytes each. `bodies` are those after the
+    last entry that both have: what this process has seen there, and what the log has. Either is None if there is none."""
+
+    error: ProviderError
+    known: Sequence[bytes]
+    found: Sequence[bytes]
+    bodies: tuple[Optional[bytes], Optional[bytes]]
+
+
+class Host:
+    """Keeps an engine, and sends lookups to its child in a thread of its own.
+
+    `changing` is held while the child and the log may differ: by the thread that changes the directory, and while another child
+    is started. Lookups need only the engine's own lock, which is held while the child answers.
+    """
+
+    def __init__(self, setting: Setting):
+        self._setting, self.changing = setting, threading.Lock()
+        # `is_closed` also ends a replay. Its child isn't that of `engine` before it is done.
+        self.engine: Optional[Engine] = None
+        self._replaying: Optional[Engine] = None
+        self.is_closed, self._is_forgetful = False, False
+        self.evidence: Optional[Evidence] = None
+        self._starts: deque[float] = deque(maxlen=_STARTS)
+        self._thread = Worker(self._look_after)
+
+    @property
+    def known(self) -> Engine:
+        """The engine, which each start leaves in its place until another one has replayed the log."""
+        if self.engine is None:
+            raise Closed("the directory isn't started")
+        return self.engine
+
+    def serve(self, lines: Sequence[bytes]) -> list[bytes]:
+        """Returns the child's answers to lookups. If the child ended, waits until another one is started."""
+        seconds = self._setting.timeout
+        try:
+            return self._thread.call(lambda: self._serve(lines), seconds)
+        except TimeoutError:
+            raise ProgramFailed(f"no answer in {seconds} seconds: ask again, since the program may be replaying the log") from None
+
+    def _serve(self, lines: Sequence[bytes]) -> list[bytes]:
+        engine = self.known
+        with engine.asking:
+            if engine.child.is_sound:
+                try:
+                    return engine.child.ask(lines)
+                except ProgramFailed:
+                    pass
+        with self.changing:
+            engine = self.sound()
+        with engine.asking:
+            return engine.child.ask(lines)
+
+    def distrust(self) -> None:
+        """Notes that the child printed what isn't defined."""
+        self.known.child.is_sound = False
+
+    def _look_after(self) -> None:
+        """Starts another child if this one ended. If that fails, whoever asks is told."""
+        if self.engine and not self.engine.child.is_usable():
+            with self.changing:
+                self.sound()
+
+    def sound(self) -> Engine:
+        """The engine, whose child is started again if it ended. The caller holds `changing`."""
+        engine = self.known
+        if self.is_closed:
+            raise Closed("the directory is closed")
+        if engine.child.is_usable():
+            return engine
+        now = time.monotonic()
+        if len(self._starts) == _STARTS and self._starts[0] > now - _SECONDS:
+            raise ProgramFailed(f"the program ended {_STARTS} times in {_SECONDS} seconds: see its standard error, then restart")
+        self._starts.append(now)
+        return self.exchange(self.started())
+
+    def started(self, may_create: bool = False) -> Engine:
+        """Another engine, which has replayed the log. One that is missing or has no line raises `NoDirectory`, unless a directory
+        may be made there."""
+        self._replaying = engine = Engine(self._setting)
+        try:
+            if self.is_closed:
+                raise Closed("the directory is closed")
+            try:
+                engine.replay()
+            except NoDirectory:
+                if not may_create:
+                    raise
+            if engine.position == 0 and not may_create:
+                raise NoDirectory(
+                    f"there is no directory in {self._setting.log}: look whether it is the right one, or make one with create=True"
+                )
+        except BaseException:
+            engine.child.stop(0)
+            raise
+        return engine
+
+    def exchange(self, new: Engine) -> Engine:
+        """Puts an engine in the place of this one, if its log has all that this one has seen. The caller holds `changing`."""
+        old = self.engine
+        try:
+            if old and not self._is_forgetful and not new.follows(old):
+                raise self.forked(LogForked(_FORKED), new)
+        except BaseException:
+            new.child.stop(0)
+            raise
+        self.engine, self._is_forgetful = new, False
+        if old:
+            # It may hang in an answer.
+            old.child.kill()
+            with old.asking:
+                old.child.stop(0)
+        return new
+
+    def forked(self, error: ProviderError, new: Optional[Engine] = None) -> ProviderError:
+        """Keeps the evidence of an error, and returns it. Without another engine the log's entries are read from the log."""
+        known = list(self.known.chain)
+        found = list(new.chain) if new else self._entries()
+        both = next((at for at, pair in enumerate(zip(known, found)) if pair[0] != pair[1]), min(len(known), len(found)))
+
+        def after(chain: Sequence[bytes], engine: Optional[Engine]) -> Optional[bytes]:
+            if both < len(chain):
+                return chain[both][:BODY_LENGTH]
+            return engine.update.pending.body if engine and engine.update else None
+
+        self.evidence = Evidence(error, known, found, (after(known, self.known), after(found, new)))
+        return error
+
+    def _entries(self) -> list[bytes]:
+        """The log's entries, as far as they can be read."""
+        found: list[bytes] = []
+        with suppress(ProviderError):
+            for entry in entries_of(self._setting.log.read(0)):
+                found.append(entry)
+        return found
+
+    def forget(self, link: bytes) -> None:
+        """Lets the next start take the log as it is."""
+        if link != self.known.latest.link:
+            raise ValueError("the link isn't that of the latest epoch that this process knows")
+        self.evidence, self._is_forgetful = None, True
+
+    def begin_anew(self) -> None:
+        """Forgets how often the child ended."""
+        self._starts.clear()
+
+    def abandon(self) -> None:
+        """Ends the thread and the child without waiting for either."""
+        self.is_closed = True
+        self._thread.stop()
+        if self.engine:
+            self.engine.child.kill()
+
+    def close(self) -> None:
+        """Ends the thread and the children."""
+        self.is_closed = True
+        self._thread.stop()
+        self._thread.join(0.2)
+        children = {it.child for it in (self.engine, self._replaying) if it}
+        for child in children:
+            child.kill()
+        self._thread.join(1)
+        for child in children:
+            child.stop(1)

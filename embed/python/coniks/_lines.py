@@ -1,0 +1,223 @@
+"""The lines of the program `provider`: what is asked, and what it answers. docs/FORMATS.md defines them."""
+
+from __future__ import annotations
+
+import base64
+import json
+import os
+import secrets
+from dataclasses import dataclass, field
+from typing import Any, Callable, Iterable, Iterator, Mapping, Optional, Sequence, Union
+
+from . import BODY_LENGTH, ENTRY_LENGTH, _bytes, _number, faults
+from .faults import LogFailed, NotText, ProgramFailed, ProviderError
+from .log import Path
+
+SIGNATURE_LENGTH = 64
+
+
+def _opening() -> bytes:
+    return secrets.token_bytes(32)
+
+
+@dataclass(frozen=True)
+class Register:
+    """Binds a name that isn't registered to a key. The opening blinds the commitment: 32 random bytes, never used twice."""
+
+    name: str
+    key: bytes
+    opening: bytes = field(default_factory=_opening, repr=False)
+
+
+@dataclass(frozen=True)
+class Change:
+    """Binds a registered name to another key."""
+
+    name: str
+    key: bytes
+    opening: bytes = field(default_factory=_opening, repr=False)
+
+
+Operation = Union[Register, Change]
+Index = Callable[[str], bytes]
+
+
+@dataclass(frozen=True)
+class Epoch:
+    """An installed epoch: its number, its root, its entry in the chain (209 bytes) and that entry's link."""
+
+    epoch: int
+    root: bytes
+    link: bytes
+    entry: bytes
+
+
+@dataclass(frozen=True)
+class Pending:
+    """An update that isn't installed, and whose body the signer was or will be asked to sign."""
+
+    epoch: int
+    root: bytes
+    body: bytes
+
+
+@dataclass(frozen=True)
+class Latest:
+    """The latest epoch, its entry's link, the number of registered names, and the number of nodes in the node table. Before
+    the first epoch: 0, 32 zero bytes, 0, 0."""
+
+    epoch: int
+    link: bytes
+    names: int
+    nodes: int
+
+
+@dataclass(frozen=True)
+class Lookup:
+    """A name's proof at an epoch. `coniks.proof_bytes(lookup.proof)` is the proof in bytes, `line` the program's line, which
+    `keydir check` reads."""
+
+    name: str
+    epoch: int
+    index: bytes
+    nonce: bytes
+    root: bytes
+    entry: bytes
+    proof: Mapping[str, Any]
+    line: bytes
+
+
+_ENCODER = json.JSONEncoder(ensure_ascii=False, separators=(",", ":"))
+
+
+def encoded(members: Mapping[str, Any]) -> bytes:
+    return _ENCODER.encode(members).encode()
+
+
+def with_member(line: bytes, member: str, value: bytes) -> bytes:
+    """A line with one more member, of hexadecimal digits."""
+    return b'%s,"%s":"%s"}' % (line[:-1], member.encode(), value.hex().encode())
+
+
+def lookup_line(name: str, index: bytes, epoch: int) -> bytes:
+    return f'{{"cmd":"lookup","epoch":{epoch},"index":"{index.hex()}","name":{json.dumps(name)}}}\n'.encode()
+
+
+def install_line(signature: bytes) -> bytes:
+    return b'{"cmd":"install","signature":"%s"}' % signature.hex().encode()
+
+
+def prepare_line(epoch: int, operations: Iterable[Operation], nonce: Optional[bytes], index_of: Index) -> bytes:
+    listed: list[dict[str, Any]] = []
+    for it in operations:
+        if not isinstance(it, (Register, Change)):
+            raise TypeError(f"an operation is Register or Change, not {type(it).__name__}")
+        kind, index = type(it).__name__.lower(), index_of(it.name).hex()
+        key, opening = base64.b64encode(_bytes(it.key, "a key")).decode(), sized(it.opening, 32, "an opening").hex()
+        listed.append({"op": kind, "name": it.name, "index": index, "key": key, "opening": opening})
+    new_nonce = {} if nonce is None else {"nonce": sized(nonce, 32, "the nonce").hex()}
+    return encoded({"cmd": "prepare", "epoch": _number(epoch, 64, "the epoch"), **new_nonce, "ops": listed})
+
+
+def members_of(line: bytes, error: type[ProviderError], what: str) -> Any:
+    """The members of a line. The error's text has no byte of it, since a line may have keys."""
+    try:
+        members = json.loads(line.decode())
+    except (ValueError, RecursionError):
+        members = None
+    if not isinstance(members, dict):
+        raise error(f"{what} is no JSON object: look what wrote it")
+    return members
+
+
+def digits(members: Mapping[str, Any], name: str, size: int, error: type[ProviderError] = ProgramFailed) -> bytes:
+    """The bytes of a member of hexadecimal digits."""
+    try:
+        value = bytes.fromhex(members[name])
+    except (KeyError, TypeError, ValueError):
+        value = b""
+    if len(value) != size:
+        raise error(f"the member {name} isn't {2 * size} hexadecimal digits")
+    return value
+
+
+def number(members: Mapping[str, Any], name: str, error: type[ProviderError] = ProgramFailed) -> int:
+    value = members.get(name)
+    if not isinstance(value, int):
+        raise error(f"the member {name} isn't a number")
+    return value
+
+
+def answer(line: bytes) -> Mapping[str, Any]:
+    """What the program printed, if it accepted a line; else raises the fault."""
+    members: Mapping[str, Any] = members_of(line, ProgramFailed, "what the program printed")
+    if "ok" in members:
+        return members
+    kind = faults.BY_NAME.get(str(members.get("fault")))
+    if kind is None:
+        raise ProgramFailed("the program printed neither an answer nor a fault of docs/FORMATS.md: look which program it is")
+    raise kind(members.get("position"), members.get("latest"), members.get("member"))
+
+
+def lookup_of(line: bytes) -> Lookup:
+    it = answer(line)
+    name, proof = it.get("name"), it.get("proof")
+    if not isinstance(name, str) or not isinstance(proof, dict):
+        raise ProgramFailed("the program printed a lookup without name or proof: look which program it is")
+    index, nonce, root = (digits(it, member, 32) for member in ("index", "nonce", "root"))
+    return Lookup(name, number(it, "epoch"), index, nonce, root, digits(it, "entry", ENTRY_LENGTH), proof, line)
+
+
+def latest_of(members: Mapping[str, Any]) -> Latest:
+    epoch, names, nodes = (number(members, it) for it in ("epoch", "names", "nodes"))
+    return Latest(epoch, digits(members, "link", 32), names, nodes)
+
+
+def entries_of(lines: Iterable[bytes]) -> Iterator[bytes]:
+    """The entries of the epochs that are installed by these lines."""
+    body = b""
+    for line in lines:
+        said = members_of(line, LogFailed, "a line of the log")
+        if said.get("cmd") == "prepare":
+            body = digits(said, "body", BODY_LENGTH, LogFailed)
+        elif said.get("cmd") == "install":
+            yield body + digits(said, "signature", SIGNATURE_LENGTH, LogFailed)
+
+
+def grouped(lines: Iterable[bytes], size: int) -> Iterator[list[bytes]]:
+    """The lines in groups of at most `size` bytes, or of one line."""
+    group: list[bytes] = []
+    room = size
+    for line in lines:
+        if group and len(line) > room:
+            yield group
+            group, room = [], size
+        group.append(line)
+        room -= len(line)
+    if group:
+        yield group
+
+
+def command(program: Union[Path, Sequence[str]], workers: Optional[int], depth: Optional[int]) -> list[str]:
+    """The program with its arguments."""
+    words = [os.fspath(program)] if isinstance(program, (str, os.PathLike)) else list(program)
+    for option, value in [("--workers", workers), ("--depth", depth)]:
+        words += [] if value is None else [option, str(_number(value, 64, option))]
+    return words
+
+
+def sized(value: Any, size: int, what: str) -> bytes:
+    value = _bytes(value, what)
+    if len(value) != size:
+        raise ValueError(f"{what} has {size} bytes, not {len(value)}")
+    return bytes(value)
+
+
+def text(name: Any) -> str:
+    if not isinstance(name, str):
+        raise TypeError(f"a name is text, not {type(name).__name__}")
+    try:
+        name.encode()
+    except UnicodeEncodeError:
+        raise NotText("a name has a lone surrogate: decode it as UTF-8 before it is used") from None
+    return name

@@ -1,0 +1,84 @@
+"""Threads that make calls for others. Python runs signal handlers in the main thread alone, so no interrupt stops one halfway."""
+
+from __future__ import annotations
+
+import threading
+from contextlib import suppress
+from queue import Empty, SimpleQueue
+from typing import Any, Callable, Optional, TypeVar
+
+from .faults import Closed
+
+Result = TypeVar("Result")
+
+
+class Worker:
+    """A thread that makes the calls that others ask for, one after another. A caller that is interrupted only stops waiting.
+
+    `idle` is called each second in which nothing is asked. Callers and the thread share nothing but queues, whose operations
+    are single calls in C: an exception at any bytecode of a caller leaves no lock behind.
+    """
+
+    def __init__(self, idle: Optional[Callable[[], object]] = None):
+        self._jobs: SimpleQueue[Any] = SimpleQueue()
+        self._idle, self._is_over = idle, False
+        self._thread = threading.Thread(target=self._run, daemon=True)
+        self._thread.start()
+
+    def call(self, work: Callable[[], Result], seconds: Optional[float] = None) -> Result:
+        """Returns what a call returns, or raises what it raises. Raises `TimeoutError` if that takes longer: the call goes on."""
+        reply: SimpleQueue[Any] = SimpleQueue()
+        self._jobs.put((work, reply))
+        if self._is_over:
+            self._refuse()
+        try:
+            is_well, result = reply.get(timeout=seconds)
+        except Empty:
+            raise TimeoutError() from None
+        if not is_well:
+            raise result
+        return result  # type: ignore[no-any-return]
+
+    def stop(self) -> None:
+        """Ends the thread after the call that it makes. Later ones raise `Closed`."""
+        self._jobs.put(None)
+
+    def join(self, seconds: float) -> bool:
+        """Waits for the thread to end, at most some seconds. Returns whether it has."""
+        self._thread.join(seconds)
+        return not self._thread.is_alive()
+
+    def is_this_thread(self) -> bool:
+        return threading.get_ident() == self._thread.ident
+
+    def _run(self) -> None:
+        while True:
+            try:
+                job = self._jobs.get(timeout=1 if self._idle else None)
+            except Empty:
+                # Nobody waits for what it returns, and an error must not end the thread.
+                with suppress(Exception):
+                    assert self._idle
+                    self._idle()
+                continue
+            if job is None:
+                break
+            work, reply = job
+            try:
+                reply.put((True, work()))
+            except BaseException as error:
+                reply.put((False, error))
+            del job, work, reply
+        # Whoever asks from here on sees that the thread is over, and refuses the job itself.
+        self._is_over = True
+        self._refuse()
+
+    def _refuse(self) -> None:
+        """Refuses what is asked and will not be done."""
+        while True:
+            try:
+                job = self._jobs.get_nowait()
+            except Empty:
+                return
+            if job is not None:
+                job[1].put((False, Closed("the directory is closed")))

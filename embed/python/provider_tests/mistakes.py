@@ -1,0 +1,601 @@
+"""What an operator does wrong: another file, an old backup, exchanged keys, two services over one log.
+
+After each mistake the signer was asked for one body per epoch, no lookup contradicts an earlier one, and the error's text says
+what to do next.
+"""
+
+from __future__ import annotations
+
+import gzip
+import json
+import os
+import shutil
+import stat
+import subprocess
+import tempfile
+import threading
+import time
+from contextlib import ExitStack, suppress
+from functools import partial
+from pathlib import Path
+from typing import Any, Callable, Optional
+from unittest import mock
+
+from stand_ins import POLICY, Salted, Signer, Tell, index, lines, opened, shown, small_disk
+import coniks
+from coniks import provider
+from coniks.provider import Change, DirectoryExists, EpochNotLater, EpochSpent, EpochTooFar, FileLog, LogBehind, LogFailed
+from coniks.provider import LogForked
+from coniks.provider import LogRefused, Lookup, NoDirectory, OtherIndex, Overtaken, ProgramFailed, Provider, ProviderError, Register
+from coniks.provider import ReplayDiffers, RestartNeeded, SignerFailed, entries
+
+Call = Callable[[], object]
+
+
+def signals(begun: threading.Event, is_let: threading.Event) -> None:
+    """A signer that tells that it was asked, and waits."""
+    begun.set()
+    is_let.wait(20)
+
+
+def file_of(own: Provider) -> FileLog:
+    assert isinstance(own._log, FileLog)
+    return own._log
+
+
+def other_index(name: str) -> bytes:
+    """The index under another key of the VRF."""
+    return index("another key, " + name)
+
+
+class Service:
+    """A directory with two epochs, and what its clients have seen. `log` is its file."""
+
+    def __init__(self, tell: Tell, program: str) -> None:
+        self._told, self.program, self._rooms = tell, program, ExitStack()
+        self.room = Path(self._rooms.enter_context(tempfile.TemporaryDirectory()))
+        self.log, self.signer = self.room / "log", Signer(self.room, Salted())
+        self.shown: dict[tuple[str, int], Lookup] = {}
+        self.own = self.opened(FileLog.create(self.log))
+        self.commit(1, Register("alice", b"1"), Register("bob", b"1"))
+        self.old = self.log.read_bytes()
+        self.commit(2, Change("alice", b"2"))
+
+    def opened(self, log: Optional[FileLog] = None, **more: Any) -> Provider:
+        """Starts a provider. Without a log it opens the file."""
+        file = self._rooms.enter_context(log or FileLog(self.log))
+        with ExitStack() as failing:
+            failing.callback(file.close)
+            settings: dict[str, Any] = {"index": index, "policy": POLICY, "verify": self.signer.verify, **more}
+            own = Provider(self.program, settings.pop("index"), self.signer, file, **settings)
+            failing.pop_all()
+        return self._rooms.enter_context(own)
+
+    def commit(self, epoch: int, *operations: provider.Operation) -> provider.Epoch:
+        made = self.own.commit(epoch, operations)
+        self.look()
+        return made
+
+    def look(self, own: Optional[Provider] = None) -> bool:
+        """Looks names up, and compares what is shown with what was shown."""
+        own = own or self.own
+        latest, is_well = own.latest().epoch, True
+        for name in ("alice", "bob", "no"):
+            for epoch in range(1, latest + 1):
+                with suppress(provider.UnknownEpoch):
+                    found = own.lookup(name, epoch)
+                    is_well = is_well and self.shown.setdefault((name, epoch), found) == found
+        return is_well and latest >= max(epoch for _, epoch in self.shown)
+
+    def stop(self, own: Optional[Provider] = None) -> None:
+        """Closes a provider and its log."""
+        own = own or self.own
+        own.close()
+        file_of(own).close()
+
+    def tell(self, what: str, is_well: object, why: object = "") -> None:
+        self._told(f"mistake: {what}", is_well, why)
+
+    def refuses(self, what: str, error: type[ProviderError], call: Call) -> None:
+        """A call raises the error, whose text says what to do, and shows no key or opening of the log."""
+        try:
+            returned = call()
+        except ProviderError as raised:
+            text = str(raised)
+            says_next = any(mark in text for mark in (": ", ", ", ". ")) and len(text) > 30
+            return self.tell(what, type(raised) is error and says_next and "opening" not in text, repr(raised))
+        self.tell(what, False, f"returned {returned!r}")
+
+    def is_one_chain(self, what: str) -> None:
+        """The signer was asked for one body per epoch."""
+        self.tell(f"{what}: one body for each epoch", self.signer.is_asked_once(), self.signer.asked())
+
+    def goes_on(self, what: str) -> None:
+        """Lookups go on as before."""
+        self.tell(f"{what}: lookups go on", self.look())
+
+    def close(self) -> None:
+        self._rooms.close()
+
+
+def try_paths(it: Service) -> None:
+    """A path that isn't the log's."""
+    for what, name in [("a mistyped path", "lgo"), ("another folder", "nowhere/log")]:
+        it.refuses(what, NoDirectory, lambda: it.opened(FileLog(it.room / name)))
+        it.tell(f"{what}: no file is made", not (it.room / name).exists())
+        it.refuses(f"{what}, read by an auditor", NoDirectory, lambda: list(entries(FileLog(it.room / name))))
+    (it.room / "empty").touch(0o600)
+    it.refuses("an empty file", NoDirectory, lambda: it.opened(FileLog(it.room / "empty")))
+    files = [
+        ("a key", os.urandom(36).replace(b"\n", b"k").replace(b"{", b"k")),
+        ("a text", b"some\nlines\n"),
+        ("zeros", bytes(4096)),
+    ]
+    files += [("JSON", b'{"cmd":"opener"}\n'), ("a compressed log", gzip.compress(it.old)), ("an empty line", b"\n" + it.old)]
+    for what, data in files:
+        file = it.room / "file"
+        file.write_bytes(data)
+        file.chmod(0o600)
+        it.refuses(f"{what} for the log", LogFailed, lambda: FileLog(file))
+        it.refuses(f"{what} for a new log", LogFailed, lambda: FileLog.create(file))
+        it.tell(f"{what} for the log: left as it is", file.read_bytes() == data)
+    os.mkfifo(it.room / "pipe", 0o600)
+    for what, path in [("a folder", it.room), ("a device", Path("/dev/null")), ("a pipe", it.room / "pipe")]:
+        it.refuses(f"{what} for the log", LogFailed, lambda: FileLog(path, mode=0o777))
+
+
+def try_creating(it: Service) -> None:
+    """A directory is made where there is one."""
+    size = it.log.stat().st_size
+    it.stop()
+    it.refuses("create over a directory's file", DirectoryExists, lambda: FileLog.create(it.log))
+    it.refuses("create=True over a directory", DirectoryExists, lambda: it.opened(create=True))
+    it.tell("create over a directory: the file is as it was", it.log.stat().st_size == size)
+    it.own = it.opened()
+    it.goes_on("create over a directory")
+    new = it.opened(FileLog(it.room / "new"), create=True)
+    it.tell("create=True makes the file", new.latest().epoch == 0 and stat.S_IMODE((it.room / "new").stat().st_mode) == 0o600)
+
+
+def try_rights(it: Service) -> None:
+    it.stop()
+    for mode in (0o640, 0o604, 0o622, 0o700):
+        it.log.chmod(mode)
+        it.refuses(f"a log with the rights {mode:o}", LogFailed, lambda: FileLog(it.log))
+    it.log.chmod(0o640)
+    it.own = it.opened(FileLog(it.log, mode=0o640))
+    it.goes_on("a log whose rights are allowed")
+
+
+def try_moved(it: Service) -> None:
+    """The file is deleted, moved, or another one has its path, while it is open."""
+
+    def copied() -> None:
+        shutil.copy(it.log, it.room / "copy")
+        os.replace(it.room / "copy", it.log)
+
+    moves: list[tuple[str, Call]] = [
+        ("deleted", it.log.unlink),
+        ("moved", lambda: os.rename(it.log, it.room / "elsewhere")),
+        ("replaced by a copy", copied),
+    ]
+    for what, move in moves:
+        data = it.log.read_bytes()
+        move()
+        it.refuses(
+            f"a log that was {what}", LogRefused, lambda: it.commit(it.own.latest().epoch + 1, Register(f"new {what}", b"key"))
+        )
+        it.goes_on(f"a log that was {what}")
+        asked = len(it.signer.asked())
+        with suppress(ProviderError):
+            it.own.restart()
+        it.goes_on(f"a log that was {what}, after restart")
+        it.tell(f"a log that was {what}: nothing is signed", len(it.signer.asked()) == asked)
+        it.stop()
+        it.log.write_bytes(data)
+        it.log.chmod(0o600)
+        it.own = it.opened()
+        it.commit(it.own.latest().epoch + 1)
+        it.is_one_chain(f"a log that was {what}")
+    # As a second provider opens what has the path now, before the first one commits.
+    shutil.copy(it.log, it.room / "copy")
+    os.replace(it.room / "copy", it.log)
+    second = it.opened()
+    made = second.commit(second.latest().epoch + 1, [Register("carol", b"second")])
+    it.refuses("two providers over one path", LogRefused, lambda: it.own.commit(made.epoch, [Register("carol", b"first")]))
+    it.is_one_chain("two providers over one path")
+    it.stop(second)
+    it.stop()
+    it.own = it.opened()
+    write = os.pwrite
+
+    def moved_meanwhile(place: int, data: bytes, at: int) -> int:
+        os.rename(it.log, it.room / "elsewhere")
+        return write(place, data, at)
+
+    epoch = it.own.latest().epoch + 1
+    with mock.patch.object(os, "pwrite", moved_meanwhile):
+        it.refuses("a log that is moved during an append", LogFailed, lambda: it.own.commit(epoch, []))
+    it.tell("a log that is moved during an append: nothing is signed", epoch not in it.signer.asked())
+    it.goes_on("a log that is moved during an append")
+    os.rename(it.room / "elsewhere", it.log)
+    it.stop()
+    it.own = it.opened()
+    it.stop()
+    link = it.room / "link"
+    shutil.copy(it.log, it.room / "other")
+    link.symlink_to(it.log)
+    by_link = it.opened(FileLog(link))
+    link.unlink()
+    link.symlink_to(it.room / "other")
+    it.refuses("a link that leads elsewhere", LogRefused, lambda: by_link.commit(99, []))
+
+
+def try_changed(it: Service) -> None:
+    """The file is cut or written while it is open."""
+    size = it.log.stat().st_size
+    changes: list[tuple[str, Call]] = [
+        ("emptied", lambda: os.truncate(it.log, 0)),
+        ("cut in a line", lambda: os.truncate(it.log, size - 9)),
+        ("cut to its first epoch", lambda: os.truncate(it.log, len(it.old))),
+        ("appended to", lambda: os.truncate(it.log, size + 9)),
+    ]
+    data = it.log.read_bytes()
+    for what, change in changes:
+        change()
+        after = it.log.read_bytes()
+        it.refuses(f"a log that was {what}", LogRefused, lambda: it.own.commit(3, [Register("new", b"key")]))
+        it.tell(f"a log that was {what}: nothing is written", it.log.read_bytes() == after and 3 not in it.signer.asked())
+        it.goes_on(f"a log that was {what}")
+        it.log.write_bytes(data)
+    it.commit(3)
+    it.is_one_chain("a log that was changed")
+
+
+def try_backups(it: Service) -> None:
+    """An old backup, half a backup, and the log of another directory, while the process runs and at a new start."""
+    it.commit(3, Change("bob", b"3"))
+    whole, head = it.log.read_bytes(), coniks.Head(3, it.own.latest().link)
+    with tempfile.TemporaryDirectory() as room:
+        with FileLog.create(Path(room) / "log") as log, opened(it.program, log, Signer(room, Salted())) as other:
+            for epoch in (1, 2, 3, 4):
+                other.commit(epoch, [Register(f"other {epoch}", b"key")])
+        foreign = (Path(room) / "log").read_bytes()
+    backups = [("an old backup", it.old), ("half a backup", whole[: len(whole) // 2]), ("another directory's log", foreign)]
+    for what, data in backups:
+        # The service opens its log again, as after an error of the disk.
+        file_of(it.own).close()
+        it.log.write_bytes(data)
+        file_of(it.own).__init__(it.log)  # type: ignore[misc]
+        it.refuses(f"{what}: restart", LogForked, it.own.restart)
+        it.refuses(f"{what}: restart again", LogForked, it.own.restart)
+        it.refuses(f"{what}: commit", RestartNeeded, lambda: it.own.commit(4, []))
+        it.goes_on(what)
+        seen = it.own.evidence()
+        found = [*entries(it.own._log)]
+        it.tell(f"{what}: the evidence has both chains", seen and (seen.known, seen.found) == (it.own.chain(), found))
+        bodies = (
+            it.own.chain()[len(found)][:145] if len(found) < 3 else it.own.chain()[0][:145],
+            None if len(found) < 3 else found[0][:145],
+        )
+        it.tell(f"{what}: the evidence has the bodies", seen and seen.bodies == bodies)
+        it.tell(f"{what}: evidence is discarded by name alone", refuses_link(it.own))
+    it.own.discard_evidence(head.link)
+    it.own.restart()
+    it.tell("a log that is taken after all", it.own.latest().epoch == 4 and it.own.evidence() is None)
+    file_of(it.own).close()
+    it.log.write_bytes(foreign[: foreign.rindex(b"\n", 0, -1) + 1])
+    file_of(it.own).__init__(it.log)  # type: ignore[misc]
+    it.refuses("what was discarded once: a later restart", LogForked, lambda: it.own.restart(sign_pending=False))
+    it.stop()
+    for what, data in backups:
+        it.log.write_bytes(data)
+        error = LogForked if data == foreign else LogBehind
+        it.refuses(f"{what}: a start with a head", error, lambda: it.opened(head=head))
+        it.tell(f"{what}: nothing is written", it.log.read_bytes().startswith(data[: data.rfind(b"\n")]))
+    it.log.write_bytes(whole)
+    it.own = it.opened(head=head)
+    it.goes_on("the whole log with a head")
+    it.signer.fails = 1
+    it.refuses("a signer that fails", SignerFailed, lambda: it.own.commit(4, [Register("dora", b"key")]))
+    whole = it.log.read_bytes()
+    file_of(it.own).close()
+    it.log.write_bytes(whole[: whole.rindex(b"\n", 0, -1) + 1])
+    file_of(it.own).__init__(it.log)  # type: ignore[misc]
+    it.refuses("a log that lost a body that may be signed", LogForked, it.own.restart)
+    seen = it.own.evidence()
+    it.tell("a log that lost a body: the evidence has it", seen and [*it.signer.asked()[4]] == [seen.bodies[0]])
+    file_of(it.own).close()
+    it.log.write_bytes(whole)
+    file_of(it.own).__init__(it.log)  # type: ignore[misc]
+    it.own.restart()
+    it.tell("a log that has the body again", it.own.latest().epoch == 4)
+    it.is_one_chain("backups")
+
+
+def refuses_link(own: Provider) -> bool:
+    try:
+        own.discard_evidence(bytes(32))
+        return False
+    except ValueError:
+        return True
+
+
+def try_keys(it: Service) -> None:
+    """Keys that were exchanged."""
+    it.stop()
+    before, asked = it.log.read_bytes(), len(it.signer.asked())
+    it.refuses("another key of the VRF", OtherIndex, lambda: it.opened(index=other_index))
+    it.refuses("another policy", LogFailed, lambda: it.opened(policy=bytes(32)))
+    it.refuses("another nonce", LogFailed, lambda: it.opened(nonce=bytes(32)))
+    it.tell("other keys: nothing is written or signed", it.log.read_bytes() == before and len(it.signer.asked()) == asked)
+    it.own = it.opened(index=other_index, check_indices=False)
+    it.refuses("another key of the VRF that is forced", OtherIndex, lambda: it.own.commit(3, [Change("alice", b"3")]))
+    it.stop()
+    current = [index]
+    it.own = it.opened(index=lambda name: current[0](name))
+    current[0] = other_index
+    it.refuses("a key of the VRF that changes: a commit", OtherIndex, lambda: it.own.commit(3, [Change("alice", b"3")]))
+    it.refuses("a key of the VRF that changes: restart", OtherIndex, it.own.restart)
+    it.refuses("a key of the VRF that changes: a lookup", RestartNeeded, lambda: it.own.lookup("alice"))
+    current[0] = index
+    it.own.restart()
+    it.goes_on("a key of the VRF that is the right one again")
+    it.stop()
+    # A writer with another key left an update pending.
+    it.own = it.opened(index=other_index, check_indices=False)
+    it.signer.fails = 1
+    it.refuses("an update under another key", SignerFailed, lambda: it.own.commit(4, [Register("frank", b"key")]))
+    it.stop()
+    it.refuses("a pending update under another key", OtherIndex, it.opened)
+    it.own = it.opened(sign_pending=False)
+    it.commit(5, Register("frank", b"key"))
+    it.tell("the update is replaced", it.own.lookup("frank").epoch == 5)
+    it.is_one_chain("other keys")
+    keyed = it.room / "keyed"
+    it.stop(it.opened(FileLog.create(keyed), vrf_public_key=b"key 1"))
+    it.refuses("another public key of the VRF", LogFailed, lambda: it.opened(FileLog(keyed), vrf_public_key=b"key 2"))
+    for key in (b"key 1", None):
+        it.stop(it.opened(FileLog(keyed), vrf_public_key=key))
+    # By `printf 'key 1' | sha256sum`.
+    digest = "227ba5f2c6c9109fe5c44a0696f393379607493a377f522ee27d9a7ae3227d89"
+    it.tell("the log has the digest of the VRF's public key", json.loads(keyed.read_text())["vrf"] == digest)
+
+
+def try_signers(it: Service) -> None:
+    """Signers that do what they must not."""
+    calls: list[tuple[str, Call]] = [
+        ("commits", lambda: it.own.commit(9, [])),
+        ("retries", lambda: it.own.retry()),
+        ("restarts", lambda: it.own.restart()),
+        ("closes", lambda: it.own.close()),
+    ]
+    for what, call in calls:
+        it.signer.before = call
+        it.refuses(f"a signer that {what}", SignerFailed, lambda: it.own.commit(3, []) if not it.own.pending else it.own.retry())
+    it.signer.before = None
+    it.stop()
+    it.own = it.opened()
+    it.tell("a start installs what was pending", it.own.latest().epoch == 3)
+    signed = it.own.chain()[-1][145:]
+    keys, it.signer.keys = it.signer.keys, Salted()
+    setattr(it.signer.keys, "sign", lambda body: signed)
+    it.refuses("the signature of another epoch", SignerFailed, lambda: it.own.commit(4, []))
+    it.signer.keys = keys
+    it.tell("the right signature", it.own.retry().epoch == 4)
+    is_let, hangs = threading.Event(), threading.Event()
+    it.signer.before = partial(signals, hangs, is_let)
+    failed: list[BaseException] = []
+
+    def commits() -> None:
+        try:
+            epoch = it.own.latest().epoch + 1
+            it.own.commit(epoch, [Register(f"eve {epoch}", b"key")])
+        except ProviderError as error:
+            failed.append(error)
+
+    thread = threading.Thread(target=commits)
+    thread.start()
+    hangs.wait(20)
+    started = time.monotonic()
+    it.own.close(0.5)
+    it.tell("close doesn't wait for a signer that hangs", time.monotonic() - started < 5)
+    file_of(it.own).close()
+    is_let.set()
+    thread.join(20)
+    it.signer.before = None
+    it.tell("what it signs then is not installed", [type(error) for error in failed] == [provider.Closed], failed)
+    it.own = it.opened()
+    it.tell("a start asks for the same body", shown(it.own.lookup("eve 5")) == b"key")
+    # A line that is being appended is not left behind: the caller closes the log next.
+    log = file_of(it.own)
+    append, appended = log.append, [0]
+
+    def slow_append(position: int, line: bytes) -> None:
+        is_appending.set()
+        time.sleep(0.5)
+        append(position, line)
+        appended[0] += 1
+
+    is_appending = threading.Event()
+    with mock.patch.object(log, "append", slow_append):
+        thread = threading.Thread(target=commits)
+        thread.start()
+        is_appending.wait(20)
+        it.own.close(0)
+    log.close()
+    thread.join(20)
+    it.tell("close waits for an append", appended == [1] and not log._is_bad, appended)
+    it.own = it.opened()
+    it.is_one_chain("signers")
+
+
+def try_refusals(it: Service) -> None:
+    """A log that refuses a line, and whose next lines it takes."""
+    log = file_of(it.own)
+
+    def refuses(*_: object) -> None:
+        raise LogRefused("the log is told to refuse: try again")
+
+    it.signer.fails = 1
+    it.refuses("a pending update", SignerFailed, lambda: it.own.commit(3, [Register("carol", b"3")]))
+    with mock.patch.object(log, "append", refuses):
+        it.refuses("a later update that isn't logged", LogRefused, lambda: it.own.commit(4, [Register("carol", b"4")]))
+    it.tell("the pending update is still that of the log", it.own.retry().epoch == 3 and shown(it.own.lookup("carol")) == b"3")
+    append = log.append
+
+    def refuses_install(position: int, line: bytes) -> None:
+        if line.startswith(b'{"cmd":"install"'):
+            refuses()
+        append(position, line)
+
+    mine = [Register("dora", b"4")]
+    with mock.patch.object(log, "append", refuses_install):
+        for call in (lambda: it.own.commit(4, mine), it.own.retry, lambda: it.own.commit(4, mine), lambda: it.own.commit(5, [])):
+            it.refuses("an epoch that isn't logged", LogRefused, call)
+            it.goes_on("an epoch that isn't logged")
+            it.tell("an epoch that isn't logged is not shown", it.own.latest().epoch == 3 and shown(it.own.lookup("dora")) is None)
+    it.commit(5, Change("dora", b"5"))
+    it.tell("the next commit logs it first", [entry[8] for entry in entries(log)] == [1, 2, 3, 4, 5])
+    it.tell("the signer was asked once for it", [entry[8] for entry in asked_of(it)].count(4) == 1)
+    it.is_one_chain("refusals")
+
+
+def asked_of(it: Service) -> list[bytes]:
+    return [bytes.fromhex(line) for line in lines(it.signer.file)]
+
+
+def try_numbers(it: Service) -> None:
+    """A clock that was set back, and mistyped numbers."""
+    it.refuses("a clock that was set back", EpochNotLater, lambda: it.own.commit(1, [Register("new", b"key")]))
+    it.refuses("the number of the latest epoch", EpochNotLater, lambda: it.own.commit(2, [Register("new", b"key")]))
+    it.refuses("the largest number", EpochTooFar, lambda: it.own.commit((1 << 64) - 1, []))
+    it.signer.fails = 1
+    it.refuses("a signer that fails", SignerFailed, lambda: it.own.commit(4, [Register("new", b"key")]))
+    it.refuses("the same number for other operations", EpochSpent, lambda: it.own.commit(4, [Register("new", b"other")]))
+    it.refuses("a number before the pending one", EpochSpent, lambda: it.own.commit(3, [Register("new", b"key")]))
+    it.own.retry()
+    it.goes_on("numbers")
+    it.is_one_chain("numbers")
+
+
+def try_services(it: Service) -> None:
+    """Two services over one log, and a process that forks."""
+    it.refuses("a second service over the file", LogFailed, it.opened)
+    log = it.own._log
+    second = it._rooms.enter_context(opened(it.program, log, it.signer))
+    made = second.commit(3, [Register("carol", b"second")])
+    it.refuses("two providers over one open log", Overtaken, lambda: it.own.commit(3, [Register("carol", b"first")]))
+    it.goes_on("two providers over one open log")
+    it.own.restart()
+    it.tell("the slower one restarts", it.own.lookup("carol").entry == made.entry)
+    # Another service replaces an update that this one left pending.
+    it.signer.fails = 1
+    it.refuses("an update that stays pending", SignerFailed, lambda: it.own.commit(4, [Register("dora", b"4")]))
+    second.restart(sign_pending=False)
+    second.commit(5, [Register("dora", b"5")])
+    it.own.restart()
+    it.tell("an update that another service replaced", shown(it.own.lookup("dora")) == b"5" and it.own.evidence() is None)
+    is_committing, may_go = threading.Event(), threading.Event()
+    it.signer.before = partial(signals, is_committing, may_go)
+    thread = threading.Thread(target=lambda: it.own.commit(6, []))
+    thread.start()
+    is_committing.wait(20)
+    forked = os.fork()
+    if not forked:
+        calls: list[Call] = [it.own.latest, lambda: it.own.lookup("alice"), lambda: it.own.commit(7, []), it.own.restart]
+        closed = 0
+        for call in calls:
+            try:
+                call()
+            except provider.Closed:
+                closed += 1
+        it.own.close()
+        os._exit(closed)
+    may_go.set()
+    thread.join(20)
+    it.signer.before = None
+    it.tell("a process that forks while it commits", os.waitstatus_to_exitcode(os.waitpid(forked, 0)[1]) == 4)
+    it.goes_on("a process that forked")
+    it.is_one_chain("two services")
+
+
+def try_programs(it: Service) -> None:
+    """Another program, or another version of it."""
+    it.stop()
+    before = it.log.read_bytes()
+    programs = [
+        ("a program that isn't there", ["/nowhere"]),
+        ("a file that is no program", [str(it.log)]),
+        ("another program", ["/bin/cat"]),
+        ("a program that ends", ["/bin/true"]),
+        ("a program that prints too much", ["/bin/sh", "-c", "exec yes {}"]),
+        ("wrong options", [it.program, "--wrong"]),
+    ]
+    for what, words in programs:
+        with FileLog(it.log) as log:
+            it.refuses(what, ProgramFailed, lambda: Provider(words, index, it.signer, log, policy=POLICY))
+    it.tell("other programs: the log is as it was", it.log.read_bytes() == before)
+    it.own = it.opened()
+    it.goes_on("the right program")
+
+
+def try_edits(it: Service) -> None:
+    """A log that was edited."""
+    it.stop()
+    lines = it.log.read_bytes().splitlines(keepends=True)
+    deep = b'{"cmd":"open","deep":' + b"[" * 100_000 + b"]" * 100_000 + b"}\n"
+    edits: list[tuple[str, type[ProviderError], list[bytes]]] = [
+        ("an edited key", ReplayDiffers, [lines[0], lines[1].replace(b'"key":"MQ=="', b'"key":"Mg=="', 1), *lines[2:]]),
+        ("a line less", ReplayDiffers, [*lines[:2], *lines[3:]]),
+        ("lines in another order", ReplayDiffers, [lines[0], lines[3], lines[4], lines[1], lines[2]]),
+        ("two logs in one", ReplayDiffers, lines + lines),
+        ("a line twice", ReplayDiffers, [*lines[:3], lines[2], *lines[3:]]),
+        ("a line nested deeply", LogFailed, [deep]),
+        ("a line that isn't UTF-8", LogFailed, [*lines, b'{"cmd":"prepare","name":"\xff"}\n']),
+        ("a line of another tool", LogFailed, [*lines, b"hello\n"]),
+        ("a lookup in the log", LogFailed, [*lines, b'{"cmd":"latest"}\n']),
+        ("no signature", LogFailed, [*lines[:2], lines[2].replace(b"signature", b"signatures"), *lines[3:]]),
+    ]
+    for what, error, wanted in edits:
+        it.log.write_bytes(b"".join(wanted))
+        kinds = (error,) if error is ReplayDiffers else (LogFailed, ReplayDiffers)
+        try:
+            it.opened()
+            it.tell(what, False, "opened")
+        except ProviderError as raised:
+            it.tell(what, isinstance(raised, kinds) and b"MQ==" not in str(raised).encode() and ":" in str(raised), repr(raised))
+    it.log.write_bytes(b"".join(lines))
+    it.own = it.opened()
+    it.goes_on("the log as it was")
+    it.is_one_chain("edits")
+
+
+def try_disks(it: Service) -> None:
+    """A disk that is mounted read-only while the service runs."""
+    with small_disk("256k") as room:
+        if not room.is_mount():
+            return
+        own = it.opened(FileLog(room / "log"), create=True)
+        own.commit(1, [Register("alice", b"key")])
+        subprocess.run(["mount", "-o", "remount,ro", str(room)], capture_output=True)
+        with suppress(ProviderError):
+            own.commit(2, [])
+        subprocess.run(["mount", "-o", "remount,rw", str(room)], capture_output=True)
+        it.tell("a disk that was read-only", own.commit(3, []).epoch == 3 and own.lookup("alice").epoch == 3)
+        it.stop(own)
+
+
+MISTAKES: list[Callable[[Service], None]] = [
+    try_paths, try_creating, try_rights, try_moved, try_changed, try_backups, try_keys, try_signers, try_refusals, try_numbers,
+    try_services, try_programs, try_edits, try_disks,
+]  # fmt: skip
+
+
+def try_mistakes(tell: Tell, program: str) -> None:
+    for mistake in MISTAKES:
+        service = Service(tell, program)
+        try:
+            mistake(service)
+        finally:
+            service.close()
