@@ -1,10 +1,11 @@
 #!/usr/bin/env python3
-"""Tries coniks.postgres and coniks.replica over a private PostgreSQL and the program `provider`: their errors, a cluster of three
-processes that fails at random moments, and the transcript of examples/cluster.
+"""Tries coniks.postgres and coniks.replica over a private PostgreSQL and the program `provider`: their errors, an operator's
+mistakes, a cluster of three processes that fails at random moments, and the transcript of examples/cluster.
 
     embed/python/test_cluster.py                    over crates/provider/out/provider
-    embed/python/test_cluster.py PROVIDER FAULTS    over another program, with FAULTS faults instead of 8
-    embed/python/test_cluster.py --speed PROVIDER   prints lookups of one replica and of three, and how long a takeover takes
+    embed/python/test_cluster.py PROVIDER FAULTS    over another program, with FAULTS faults instead of 9
+    embed/python/test_cluster.py --speed PROVIDER   prints lookups of one replica and of three, how long a takeover takes, and
+                                                    lookups while PostgreSQL is stopped
 
 The last line is `N passed, M failed`, with `, K skipped` if a tool isn't there.
 """
@@ -26,12 +27,16 @@ import tools
 from tally import Tally
 
 
-def try_all(tally: Tally, program: str, faults: int = 8) -> None:
+def try_all(tally: Tally, program: str, faults: int = 9) -> None:
+    import cluster_mistakes
+    import logs
     import replicas
     import runs
     import stand_ins
 
+    logs.try_logs(tally.tell, program)
     replicas.try_replicas(tally.tell, program)
+    cluster_mistakes.try_mistakes(tally.tell, program)
     runs.try_faults(tally, program, faults)
     if not (stand_ins.HAS_NACL and stand_ins.has_library()):
         return tally.skip("the transcript of examples/cluster", "PyNaCl and embed/build")

@@ -60,14 +60,27 @@ class Database(AbstractContextManager["Database"]):
     def is_running(self) -> bool:
         return self._server.poll() is None
 
-    def kill(self) -> None:
-        """Kills the server and the processes that it started, as a crash of its machine does."""
+    def send(self, number: int) -> None:
+        """Sends a signal to the processes that the server started."""
         with suppress(FileNotFoundError):
             for it in Path(f"/proc/{self._server.pid}/task/{self._server.pid}/children").read_text().split():
                 with suppress(ProcessLookupError):
-                    os.kill(int(it), signal.SIGKILL)
+                    os.kill(int(it), number)
+
+    def kill(self) -> None:
+        """Kills the server and the processes that it started, as a crash of its machine does."""
+        self.send(signal.SIGKILL)
         self._server.kill()
         self._server.wait()
+
+    def stop(self) -> None:
+        """Stops the server and the processes that it started, until `go_on`. It accepts connections, and answers none."""
+        self._server.send_signal(signal.SIGSTOP)
+        self.send(signal.SIGSTOP)
+
+    def go_on(self) -> None:
+        self.send(signal.SIGCONT)
+        self._server.send_signal(signal.SIGCONT)
 
     def __exit__(self, *_: object) -> None:
         self.kill()

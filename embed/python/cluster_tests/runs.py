@@ -11,22 +11,58 @@ from collections import Counter
 from concurrent.futures import ThreadPoolExecutor
 from contextlib import ExitStack, suppress
 from functools import partial
-from typing import Any, Iterator
+from pathlib import Path
+from types import FrameType
+from typing import Any, Iterator, Optional
 
 from coniks.postgres import PostgresLog
-from coniks.provider import Change, Epoch, Latest, LogFailed, Lookup, NameUnknown, Operation, Overtaken, ProviderError, Register
-from coniks.provider import RestartNeeded, entries
+from coniks.provider import (
+    Change,
+    Closed,
+    Epoch,
+    EpochNotLater,
+    EpochSpent,
+    Latest,
+    LogFailed,
+    LogRefused,
+    Lookup,
+    NameUnknown,
+    Operation,
+)
+from coniks.provider import Overtaken, ProgramFailed, ProviderError, Register, RestartNeeded, entries
 from database import Database, soon
+from kills import children_of, kill
 from node import SPAWN, Node
-from stand_ins import HAS_NACL, Ed25519, Salted, Scheme, Signer, audited, has_library, lines, shown, small_disk
+from stand_ins import HAS_NACL, HERE, Ed25519, Salted, Scheme, Signer, audited, has_library, lines, opened, shown, small_disk
 from tally import Tally
 
 FAULTS = ["kill writer", "pause writer", "kill database", "cut connections", "start writers", "fill disk"]
+FAULTS += ["interrupt members", "kill children", "stop database"]
+PACKAGE = str(HERE.parent / "coniks") + os.sep
 # The number of faults on one cluster. A new cluster then replaces it, so that replays stay short.
 FAULTS_OF_ROOM = 20
 # By `Salted`, two signatures of one body differ.
 SCHEMES: list[type[Scheme]] = [Ed25519, Salted] if HAS_NACL else [Salted]
 CUT = "SELECT pg_terminate_backend(pid) FROM pg_stat_activity WHERE application_name = 'coniks_log' AND random() < 0.7"
+
+
+class Interrupted(ProviderError):
+    """What a member's signal handler raises."""
+
+
+def interrupt(_: int, frame: Optional[FrameType]) -> None:
+    """Raises an exception if a call of the package is under way, but for `close`, after which the service ends."""
+    names = []
+    while frame:
+        if frame.f_code.co_filename.startswith(PACKAGE):
+            names.append(frame.f_code.co_name)
+        frame = frame.f_back
+    if names and "close" not in names:
+        raise Interrupted("a signal handler raised")
+
+
+# What a fault excuses. A commit that was interrupted goes on, so the next one may come too late.
+EXCUSED = (LogFailed, RestartNeeded, ProgramFailed, NameUnknown, Interrupted, Closed, EpochSpent, EpochNotLater)
 
 
 class Trapped(PostgresLog):
@@ -36,6 +72,7 @@ class Trapped(PostgresLog):
     def __init__(self, conninfo: str, trap: Any, patience: float) -> None:
         super().__init__(conninfo, patience=patience)
         self.trap = trap
+        signal.signal(signal.SIGUSR1, interrupt)
 
     def append(self, position: int, line: bytes) -> None:
         self._step()
@@ -61,12 +98,18 @@ class Member(Node):
         """What a call returns, or its error if a fault excuses it. A provider that was overtaken may not know a name yet."""
         try:
             return self.call(call, *arguments)
-        except (LogFailed, RestartNeeded, NameUnknown) as error:
+        except EXCUSED as error:
             self.told[f"{type(error).__name__} told"] += 1
             if isinstance(error, NameUnknown) and self.commits():
                 raise
-            if not isinstance(error, (Overtaken, NameUnknown)):
-                with suppress(ProviderError):
+            with suppress(ProviderError):
+                if isinstance(error, Closed):
+                    # The promotion was interrupted: repeated, it returns the provider.
+                    self.call("lead")
+                elif isinstance(error, EpochSpent):
+                    # So was a commit, which left its update pending.
+                    self.call("retry")
+                elif isinstance(error, (LogFailed, RestartNeeded)) and not isinstance(error, (Overtaken, LogRefused)):
                     self.call("restart")
             return error
 
@@ -81,8 +124,13 @@ class Member(Node):
 
     def commits(self) -> bool:
         """Whether this is the member that commits. One that was overtaken learns it."""
-        latest = self.surely("latest")
-        return bool(self.is_writer and latest and self.surely("commit", latest.epoch + 1, []))
+        until = time.monotonic() + 120
+        while self.is_writer and time.monotonic() < until:
+            # A commit that was interrupted may install an epoch meanwhile.
+            latest = self.surely("latest")
+            if latest and isinstance(self.tried("commit", latest.epoch + 1, []), Epoch):
+                return True
+        return False
 
     def signal(self, number: int, steps: int = 0) -> None:
         """Sends a signal after some steps, or after two seconds without them."""
@@ -104,9 +152,13 @@ class Cluster(ExitStack):
         self.names, self.wrong = list[str](), list[str]()
         self.signer = Signer(self.enter_context(tempfile.TemporaryDirectory()), scheme())
         self.database = self.enter_context(Database(self.enter_context(small_disk("80m"))))
+        with PostgresLog.create(self.database.conninfo) as log:
+            opened(program, log, self.signer).close()
         self.members = [Member(self, True)]
         self.members[0].surely("commit", 1, [])
         self.members += [Member(self, False) for _ in range(2)]
+        for it in self.members:
+            it.surely("latest")
 
     def strike(self, fault: str) -> None:
         """Causes a fault while each provider commits and all members look up."""
@@ -171,6 +223,27 @@ class Cluster(ExitStack):
 
     def start_writers(self) -> None:
         list(self._pool.map(Member.surely, self.members, ["lead"] * len(self.members)))
+
+    def interrupt_members(self) -> None:
+        """A signal handler of each member raises again and again."""
+        for _ in range(self.chance.randrange(1, 30)):
+            for it in self.members:
+                with suppress(ProcessLookupError):
+                    os.kill(it.process.pid or 0, signal.SIGUSR1)
+            time.sleep(self.chance.uniform(0, 0.02))
+
+    def kill_children(self) -> None:
+        """The program of some members ends, and is started again without a call."""
+        for it in self.chance.sample(self.members, self.chance.randrange(1, 4)):
+            for child in children_of(it.process.pid or 0):
+                if "provider" in Path(f"/proc/{child}/cmdline").read_text():
+                    kill(child)
+
+    def stop_database(self) -> None:
+        """PostgreSQL answers nothing for some time: its processes are stopped."""
+        self.database.stop()
+        time.sleep(self.chance.uniform(0.2, 1.5))
+        self.database.go_on()
 
     def fill_disk(self) -> None:
         ballast = self.database.folder / "ballast"

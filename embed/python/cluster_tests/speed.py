@@ -1,4 +1,5 @@
-"""Measures the lookups of one replica and of three at once, the processors that they use, and the time of a takeover."""
+"""Measures the lookups of one replica and of three at once, the processors that they use, the time of a takeover, and lookups while
+PostgreSQL is stopped."""
 
 from __future__ import annotations
 
@@ -7,14 +8,16 @@ import random
 import statistics
 import tempfile
 import time
+from collections import Counter
 from concurrent.futures import ThreadPoolExecutor
 from functools import partial
 from pathlib import Path
+from threading import Event, Thread
 from typing import Sequence
 from unittest import mock
 
 from coniks.postgres import PostgresLog
-from coniks.provider import Provider, Register
+from coniks.provider import Provider, ProviderError, Register
 from coniks.replica import Replica
 from database import Database
 from node import Node
@@ -75,13 +78,51 @@ def measure_takeover(log: PostgresLog, program: str, own: Provider, behind: int)
     return new
 
 
-def main(program: str, names: int = 100_000, seconds: float = 3, rounds: int = 5) -> int:
-    with tempfile.TemporaryDirectory() as folder, Database(Path(folder)) as database, PostgresLog(database.conninfo) as log:
+def paced(own: Provider, names: int, seconds: float, rate: int = 200) -> list[float]:
+    """The times of lookups that are begun so many times a second."""
+    chance, start, took = random.Random(), time.monotonic(), list[float]()
+    for number in range(int(seconds * rate)):
+        time.sleep(max(0, start + number / rate - time.monotonic()))
+        begun = time.monotonic()
+        own.lookup(f"user-{chance.randrange(names)}")
+        took.append(time.monotonic() - begun)
+    return took
+
+
+def measure_outage(database: Database, own: Provider, names: int, seconds: float) -> None:
+    """Lookups while PostgreSQL answers nothing and a commit is tried each second, and those of before."""
+    told = Counter[str]()
+
+    def commits() -> None:
+        while not is_over.wait(1):
+            try:
+                own.commit(own.latest().epoch + 1, [])
+            except ProviderError as error:
+                told[type(error).__name__] += 1
+
+    for what, is_away in [("before", False), ("while PostgreSQL is stopped", True)]:
+        is_over, committing = Event(), Thread(target=commits)
+        if is_away:
+            database.stop()
+        committing.start()
+        took = sorted(paced(own, names, seconds))
+        is_over.set()
+        committing.join()
+        median, most = took[len(took) // 2] * 1e3, took[len(took) * 99 // 100] * 1e3
+        print(
+            f"{what}: {len(took)} lookups in {seconds:.0f} s, none failed, p50 {median:.2f} ms, p99 {most:.2f} ms, commits: {dict(told)}"
+        )
+    database.go_on()
+
+
+def main(program: str, names: int = 100_000, seconds: float = 3, rounds: int = 5, outage: float = 30) -> int:
+    with tempfile.TemporaryDirectory() as folder, Database(Path(folder)) as database, PostgresLog.create(database.conninfo) as log:
         own = Provider(program, index, Salted().sign, log, policy=POLICY)
         for epoch, first in enumerate(range(0, names, BATCH), 1):
             own.commit(epoch, [Register(f"user-{it}", KEY) for it in range(first, min(names, first + BATCH))])
         measure_lookups(database.conninfo, program, names, seconds, rounds)
         for behind in (0, 1, 10):
             own = measure_takeover(log, program, own, behind)
+        measure_outage(database, own, names, outage)
         own.close()
     return 0

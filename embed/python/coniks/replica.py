@@ -15,9 +15,12 @@ import time
 from dataclasses import dataclass
 from typing import Optional, Sequence, Union
 
-from .faults import LogFailed
+from ._engine import Setting
+from ._host import Host
+from ._lines import Index, command, sized
+from .faults import LogForked, OtherIndex, ReplayDiffers, SignerFailed
 from .log import Path, SharedLog
-from .provider import Directory, Index, Provider, Sign, Verify, _Engine, _sized, _words
+from .provider import Directory, Provider, Sign, Verify, check_writable
 
 __all__ = ["Lag", "Replica"]
 
@@ -35,8 +38,9 @@ class Lag:
 class Replica(Directory):
     """A directory that follows a log. Starting replays the log; then a thread follows it.
 
-    The arguments are those of `Provider` without the signer. If the child's answer isn't the logged one, each call raises
-    `RestartNeeded` until `restart` returns, and its cause is `ReplayDiffers`. If the log can't be read, lookups go on.
+    The arguments are those of `Provider` without the signer. If the child's answer isn't the logged one, or the log lost lines,
+    the replica stays at the epoch that it has: lookups go on, `lag().error` is the cause, `evidence` has both chains, and
+    `follow` and `promote` raise `RestartNeeded` until `restart` returns. If the log can't be read, it follows again later.
     """
 
     def __init__(
@@ -46,68 +50,119 @@ class Replica(Directory):
         index: Index,
         *,
         policy: bytes,
+        vrf_public_key: Optional[bytes] = None,
         workers: Optional[int] = None,
         depth: Optional[int] = None,
         timeout: Optional[float] = None,
+        check_indices: bool = True,
     ):
-        words, policy = _words(program, workers, depth), _sized(policy, 32, "the policy")
-        super().__init__(lambda: _Engine(words, timeout, log, policy, None), index)
-        self._log, self._lines = log, 0
+        words, policy = command(program, workers, depth), sized(policy, 32, "the policy")
+        super().__init__(Host(Setting(words, timeout, log, policy, None, vrf_public_key)), index, log, check_indices)
+        self._shared, self._lines, self._since = log, 0, time.monotonic()
         self._error: Optional[Exception] = None
-        self.restart()
+        self._promoted: Optional[Provider] = None
+        try:
+            self.restart()
+        except BaseException:
+            self.close()
+            raise
         threading.Thread(target=self._run, daemon=True).start()
 
     def restart(self) -> None:
-        """Ends the child, starts another one and replays the log."""
-        self._since = time.monotonic()
-        with self._steps(is_start=True):
-            pass
+        """Starts another child, replays the log into it, and ends this one, which answers lookups until then. Raises `LogForked`
+        if the log lacks what this replica has seen in it."""
+        self._change(self._restart)
+
+    def _restart(self) -> None:
+        start = time.monotonic()
+        self._begin(self._restarted, False, lambda engine: None)
+        self._since, self._error = start, None
 
     def _run(self) -> None:
         """Follows the log until the replica is closed."""
         while not self._is_closed:
             try:
-                position = self._position()
+                position = self._host.known.position
                 # A replica that isn't notified looks each second.
-                self._lines = self._log.wait(position, 1)
+                self._lines = self._shared.wait(position, 1)
                 if self._lines < position:
-                    raise LogFailed(f"the log has {self._lines} lines, of which {position} were replayed: it lost some")
+                    self._change(lambda: self._note_loss(position))
                 self.follow()
                 self._error = None
             except Exception as error:
                 self._error = error
                 time.sleep(0.2)
 
-    def _position(self) -> int:
-        with self._steps() as engine:
-            return engine.position
+    def _note_loss(self, position: int) -> None:
+        """Notes that the log has fewer lines than were replayed. Until a restart nothing is taken from it."""
+        if not self._broken and position == self._host.known.position:
+            lost = f"the log has {self._lines} lines, of which {position} were replayed: it lost some. Restore it, then restart"
+            self._broken = self._host.forked(LogForked(lost))
 
     def follow(self) -> None:
         """Replays the lines that the log has now. A replica does it by itself, soon after they were appended."""
-        start, position = time.monotonic(), self._position()
-        for number, line in enumerate(self._log.read(position), position):
-            with self._steps() as engine:
-                # Another thread may have replayed it.
-                if number == engine.position:
-                    engine.take(line)
+        self._change(self._follow)
+
+    def _follow(self) -> None:
+        start, engine = time.monotonic(), self._ready()
+        size = engine.size
+        try:
+            for number, line in enumerate(self._log.read(engine.position), engine.position):
+                with self._host.changing:
+                    engine = self._host.sound()
+                    # A child that was started again may have replayed it.
+                    if number == engine.position:
+                        engine.take(line)
+            if self._is_checking and engine.size != size:
+                engine.check_last_index(self._index_of)
+        except OtherIndex as error:
+            self._broken = error
+            raise
+        except ReplayDiffers as error:
+            self._broken = self._host.forked(error)
+            raise
         self._since = start
 
     def lag(self) -> Lag:
         """How far the replica is behind."""
-        with self._asking:
-            replayed = self._engine.position if self._engine else 0
-            return Lag(max(0, self._lines - replayed), time.monotonic() - self._since, self._broken or self._error)
+        lines = max(0, self._lines - self._host.known.position)
+        return Lag(lines, time.monotonic() - self._since, self._broken or self._error)
 
     def promote(self, sign: Sign, *, verify: Optional[Verify] = None, sign_pending: bool = True) -> Provider:
-        """Makes a provider of the replica, which is closed. It replays only what the replica hasn't, then signs and installs the
-        pending update if there is one; other calls wait meanwhile. Raises `SignerFailed`, or `LogFailed` if the log can't be read,
-        and then the replica goes on. After another error, as `Overtaken`, it goes on after `restart`."""
-        self.follow()
-        with self._steps() as engine:
-            engine.open()
-            provider = Provider._over(self, sign, verify)
-            if provider.pending and sign_pending:
-                provider.retry()
-            self._engine = None
-        self.close()
-        return provider
+        """Makes a provider of the replica, which is closed. It replays only what the replica hasn't, asks for some indices again,
+        then signs and installs the pending update if there is one; lookups go on meanwhile.
+
+        Raises `SignerFailed`, or `LogFailed` if the log can't be read or written, and then the replica goes on. After another
+        error, as `Overtaken`, it goes on after `restart`. A call that was interrupted can be repeated.
+        """
+        if self._promoted is None:
+            self._change(lambda: self._promote(sign, verify, sign_pending))
+        self._work.stop()
+        assert self._promoted
+        return self._promoted
+
+    def _promote(self, sign: Sign, verify: Optional[Verify], sign_pending: bool) -> None:
+        check_writable(self._log)
+        self._follow()
+        engine = self._host.known
+        if self._is_checking:
+            engine.check_indices(self._index_of, sign_pending)
+        provider = Provider._over(self, sign, verify)
+        try:
+            if engine.update and sign_pending:
+                provider._settle()
+        except BaseException as error:
+            provider._work.stop()
+            self._broken = provider._broken
+            if not isinstance(error, SignerFailed):
+                # What the child has installed may not be what the log will have.
+                self._host.distrust()
+            raise
+        self._unused.detach()
+        self._promoted, self._is_closed = provider, True
+
+    def close(self, seconds: float = 5) -> None:
+        """Ends the child, unless a provider has taken it over."""
+        if self._promoted is None:
+            return super().close(seconds)
+        self._work.stop()
