@@ -259,7 +259,9 @@ def log_of_python(program: Path, file: Path) -> Optional[Path]:
     index: Callable[[str], bytes] = lambda name: digest(b"index of ", name.encode())
     signatures = iter([bytes(64)])
     policy = bytes([7]) + bytes(31)
-    with provider.FileLog(file) as log, provider.Provider(program, index, lambda body: next(signatures), log, policy=policy) as own:
+    with provider.FileLog.create(file) as log, provider.Provider(
+        program, index, lambda body: next(signatures), log, policy=policy
+    ) as own:
         own.commit(1, [provider.Register("alice", b"key")])
         try:
             own.commit(2, [provider.Register("bob \u00e9", b"key")])

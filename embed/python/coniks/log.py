@@ -108,7 +108,7 @@ class FileLog(Closing):
                 raise LogFailed(f"{self} can't be made: its folder is missing") from None
             raise
         except FileExistsError:
-            raise Overtaken(f"another process has made {self}: close this log, and look who writes to it") from None
+            raise Overtaken(f"another process has made {self} meanwhile: it writes to it, so close this log") from None
         except OSError as error:
             raise LogFailed(f"{self} can't be opened: {error.strerror}") from error
         try:
@@ -186,7 +186,9 @@ class FileLog(Closing):
             self._open(os.O_RDWR | os.O_CREAT | os.O_EXCL)
         count, end = self._end
         if position < count:
-            raise Overtaken(f"{self} has {count} lines, so position {position} is taken: look who writes to it, then restart")
+            raise Overtaken(
+                f"{self} has {count} lines, so position {position} is taken: another provider writes to it, so close this one"
+            )
         if position > count:
             raise ValueError(f"the log has {count} lines, so the next position isn't {position}")
         self._check_place(LogRefused, end)
