@@ -1,661 +1,538 @@
 package coniks
 
 import (
-	"bufio"
 	"bytes"
-	"crypto/rand"
-	"encoding/hex"
-	"encoding/json"
+	"context"
 	"errors"
 	"fmt"
-	"io"
-	"os"
-	"os/exec"
+	"runtime"
+	"strconv"
 	"sync"
-	"syscall"
+	"sync/atomic"
 	"time"
-	"unicode/utf8"
 )
 
-// The errors of a provider, which errors.Is compares. An error that the program prints is a *Fault.
-var (
-	ErrProgramFailed = errors.New("the program ended, took too long, or printed what docs/FORMATS.md doesn't define")
-	ErrLogFailed     = errors.New("the log could not be read or written, or is that of another directory")
-	ErrOvertaken     = errors.New("the log has a line at this position already")
-	ErrReplayDiffers = errors.New("the program answers a line of the log otherwise than when it was appended")
-	ErrSignerFailed  = errors.New("the signer failed, and the update stays pending")
-	ErrEpochSpent    = errors.New("the signer was asked with other operations for this epoch number or a later one")
-	ErrRestartNeeded = errors.New("an earlier error left the child and the log apart, call Restart")
-	ErrClosed        = errors.New("the provider is closed")
-)
+// farEpochs is how far above the latest one an epoch number may be without CommitFar.
+const farEpochs = 1 << 32
 
-// FaultName is a name of docs/FORMATS.md: errors.Is(err, NameTaken) reports whether an error is this fault.
-type FaultName string
+// closeTime is how long Close waits for a change that is under way.
+const closeTime = 5 * time.Second
 
-// The faults of the program.
-const (
-	Json          FaultName = "Json"
-	Command       FaultName = "Command"
-	Member        FaultName = "Member"
-	NotOpen       FaultName = "NotOpen"
-	AlreadyOpen   FaultName = "AlreadyOpen"
-	BatchTooLong  FaultName = "BatchTooLong"
-	NameLength    FaultName = "NameLength"
-	KeyLength     FaultName = "KeyLength"
-	NameTwice     FaultName = "NameTwice"
-	NameTaken     FaultName = "NameTaken"
-	NameUnknown   FaultName = "NameUnknown"
-	OtherIndex    FaultName = "OtherIndex"
-	IndexClash    FaultName = "IndexClash"
-	EpochNotLater FaultName = "EpochNotLater"
-	BoardFull     FaultName = "BoardFull"
-	NotPrepared   FaultName = "NotPrepared"
-	UnknownEpoch  FaultName = "UnknownEpoch"
-)
+// lookupsAtOnce is how many lookups of Lookups are sent before their answers are awaited.
+const lookupsAtOnce = 512
 
-func (it FaultName) Error() string { return string(it) }
-
-// Fault is the error of a line that the program refuses. Nothing is changed. Position is that of the operation at fault,
-// counted from 0, Latest the latest epoch, Member the line's member that is missing or wrong; each is nil or empty for other
-// faults.
-type Fault struct {
-	Name     FaultName
-	Position *int
-	Latest   *uint64
-	Member   string
-}
-
-func (it *Fault) Error() string {
-	text := "the program refuses the line: " + string(it.Name)
-	if it.Position != nil {
-		text += fmt.Sprintf(", operation %d", *it.Position)
-	}
-	if it.Latest != nil {
-		text += fmt.Sprintf(", latest epoch %d", *it.Latest)
-	}
-	if it.Member != "" {
-		text += ", member " + it.Member
-	}
-	return text
-}
-
-// Is compares the name.
-func (it *Fault) Is(target error) bool { return target == error(it.Name) }
-
-// ProviderError is an error of this package with its cause.
-type ProviderError struct{ Kind, Cause error }
-
-func (it *ProviderError) Error() string        { return it.Kind.Error() + ": " + it.Cause.Error() }
-func (it *ProviderError) Is(target error) bool { return target == it.Kind }
-func (it *ProviderError) Unwrap() error        { return it.Cause }
-
-func failed(kind error, format string, arguments ...any) error {
-	return &ProviderError{kind, fmt.Errorf(format, arguments...)}
-}
-
-// Operation binds a name to a key. Register and Change make one.
-type Operation struct {
-	Op      string
-	Name    string
-	Key     []byte
-	Opening [32]byte
-}
-
-// Register binds a name that isn't registered. The opening, which blinds the commitment, is random.
-func Register(name string, key []byte) Operation {
-	return Operation{"register", name, key, random32()}
-}
-
-// Change binds a registered name to another key.
-func Change(name string, key []byte) Operation { return Operation{"change", name, key, random32()} }
-
-func random32() (out [32]byte) {
-	if _, err := rand.Read(out[:]); err != nil {
-		panic(err)
-	}
-	return out
-}
-
-// Epoch is an installed epoch: its number, root, its entry in the chain, and that entry's link.
-type Epoch struct {
-	Epoch      uint64
-	Root, Link [32]byte
-	Entry      []byte
-}
-
-// Pending is an update that isn't installed, and whose body the signer was or will be asked to sign.
-type Pending struct {
-	Epoch uint64
-	Root  [32]byte
-	Body  []byte
-}
-
-// Latest is the latest epoch, its entry's link, and the numbers of registered names and of nodes in the node table.
-type Latest struct {
-	Epoch        uint64
-	Link         [32]byte
-	Names, Nodes uint64
-}
-
-// Found is a name's proof at an epoch. Line is the program's line, which `keydir check` reads.
-type Found struct {
-	Name               string
-	Epoch              uint64
-	Index, Nonce, Root [32]byte
-	Entry              []byte
-	Proof              json.RawMessage
-	Line               []byte
-}
-
-// Settings are what a provider is started with.
+// Settings are what a provider is started with. Program, Index, Sign and Log are required.
+//
+// Index and Sign are called in goroutines of the provider. They have no context, since a commit goes on after its caller has
+// gone: give them a time limit of their own. A panic in them is returned as their error.
 type Settings struct {
 	Program []string                            // the program `provider` with its arguments
 	Index   func(name string) ([32]byte, error) // the index of a name, the same each time
-	Sign    func(body []byte) ([]byte, error)   // the signature, 64 bytes, of a body; must not call Commit, Retry, Restart or Close
+	Sign    func(body []byte) ([]byte, error)   // the signature, 64 bytes, of a body; must not call Commit, Retry, Restart, Shutdown or Close
 	Log     Log                                 // isn't closed by the provider
 	Policy  [32]byte                            // the digest in each entry
 	Nonce   *[32]byte                           // that of the first epoch, random if nil
 	Verify  func(body, signature []byte) bool   // if not nil, called before a signature is installed: the program verifies none
-	Timeout time.Duration                       // how long one line may take, without limit if 0
+	Timeout time.Duration                       // how long the program may take for one answer, without limit if 0
+	// Create makes a directory, in a log that has no line. Without it only a log that is new makes one (see Log).
+	Create bool
+	// VRFPublicKey is the public key of the VRF. The log of a new directory keeps its SHA-256, and a later start with another key
+	// is ErrLogFailed. If it is nil, nothing is kept or compared.
+	VRFPublicKey []byte
+	// Head, if not nil, is a head that an auditor, a client or a replica saw: pass it after a log was restored. StartProvider
+	// returns ErrLogBehind if the log ends before it, and ErrLogForked if the log has another entry under its number.
+	Head *Head
+	// SkipIndexCheck leaves out the comparison of the indices that StartProvider makes.
+	SkipIndexCheck bool
 	// LeavePending leaves an update pending that a start finds. Without it the start signs and installs it.
 	LeavePending bool
+}
+
+// check returns an error if something that is required is missing.
+func (it *Settings) check() error {
+	switch {
+	case len(it.Program) == 0:
+		return failed(ErrProgramFailed, "no program is given: set Program to the path of provider")
+	case it.Index == nil || it.Sign == nil || it.Log == nil:
+		return errors.New("Index, Sign or Log is missing: set each of them")
+	}
+	return nil
+}
+
+// index returns the index of a name. A name that isn't UTF-8 would be another name in a line.
+func (it *Settings) index(name string) (index [32]byte, err error) {
+	if err := checkText(name); err != nil {
+		return index, err
+	}
+	err = guarded(func() (err error) { index, err = it.Index(name); return err })
+	return index, err
 }
 
 // Provider is a directory that the program `provider` keeps as a child process, with its log.
 //
 // The log is the directory's store: each accepted line is appended to it, and a new child replays it. If the log keeps each
-// line whose Append returned, then an epoch that Commit returned is there after each restart with the same entry, the signer
-// is asked for one body per epoch number, and no lookup shows an entry before the log has it. The log's lines are those of the
-// package for Python, whose module coniks.provider lists what a failure leaves after each step.
+// line whose Append returned nil, then
 //
-// After an error that is no *Fault and neither ErrSignerFailed, ErrEpochSpent nor one of an argument, each call returns
-// ErrRestartNeeded until Restart returns nil or ErrSignerFailed. All calls can be used from several goroutines.
+//   - an epoch that Commit returned is there after each restart, with the same entry;
+//   - the signer is asked for one body per epoch number, but perhaps more than once for that body;
+//   - no lookup shows an entry before the log has it.
+//
+// An update is pending from its line `prepare` in the log to its line `install`. What a failure of Commit leaves depends on its
+// last step:
+//
+//   - The child has prepared the update: as if Commit was never called.
+//   - The log has the line `prepare`: the update is pending. A start, Retry or Commit of the same operations asks the signer for
+//     the same body and installs it.
+//   - The signer returned a signature, or the child has installed the update: the same. No lookup shows the entry, since each
+//     names an epoch that the log has.
+//   - The log has the line `install`: the epoch is installed, with this signature.
+//
+// After a *Fault, ErrSignerFailed, ErrEpochSpent, ErrEpochTooFar, ErrNotText or ErrLogRefused the next call may follow at once. A
+// line `install` that the log refused is appended again before anything else. After another ErrLogFailed, as ErrOvertaken, the
+// log may have the line or not: Commit and Retry return ErrRestartNeeded until Restart returns nil or ErrSignerFailed. Lookups go
+// on in each case, at the latest epoch that the log is known to have.
+//
+// A child that ends, is late by Timeout or prints something undefined is started again without a call, at most 5 times within a
+// minute. Lookups wait for it, at most Timeout. A Commit that waits for its answer returns ErrProgramFailed; the update is pending
+// if Pending returns it.
+//
+// A call whose context is done returns ctx.Err(). A Commit, Retry or Restart that has begun goes on to its end without its caller:
+// Latest and Pending show what became of it. All calls can be used from several goroutines.
 type Provider struct {
-	settings Settings
-	changing sync.Mutex // held by calls that change the directory, the signer's time included
-	asking   sync.Mutex // held from a line to its reply, until the log has what it must
-	child    *child
-	closed   bool
-	broken   error
-	position int
-	latest   Epoch
-	pending  *Pending
-	line     []byte // the pending update's, as it is in the log
+	settings *Settings
+	host     *host
+	changing chan none     // has an element while the directory is changed, the signer's time included
+	signer   atomic.Uint64 // the goroutine that waits for the signer or for indices, 0 if none does
+	once     sync.Once
+	closing  chan none // closed once Shutdown was called
+	closed   chan none // closed once it has ended the child
 }
 
-var errHalfway = errors.New("a call was interrupted")
-
-// StartProvider starts the child, replays the log, and signs and installs the pending update if there is one.
-func StartProvider(settings Settings) (*Provider, error) {
-	it := &Provider{settings: settings}
-	if err := it.start(!settings.LeavePending); err != nil {
-		it.Close()
+// StartProvider starts the child and replays the log. Then it makes a directory if the log has none and Create is set, or the log
+// is new; else a log that is missing or has no line is ErrNoDirectory, and one with lines is ErrDirectoryExists if Create is set.
+//
+// The indices of the first, the last and 64 random operations of the log are asked again: another one is the fault OtherIndex,
+// since the VRF isn't that of this directory. Then the pending update is signed and installed, if there is one. If the signer
+// fails, ErrSignerFailed is returned and no provider. A start whose context is done may have made the directory.
+func StartProvider(ctx context.Context, settings Settings) (*Provider, error) {
+	if err := settings.check(); err != nil {
+		return nil, err
+	}
+	it := &Provider{
+		settings: &settings, host: newHost(&settings),
+		changing: make(chan none, 1), closing: make(chan none), closed: make(chan none),
+	}
+	_, err := wait(ctx, it.closed, func() (none, error) {
+		it.changing <- none{}
+		defer func() { <-it.changing }()
+		log, is := settings.Log.(interface{ IsNew() bool })
+		mayCreate := settings.Create || is && log.IsNew()
+		return none{}, it.start(plan{mayCreate, settings.Create, !settings.LeavePending, settings.Head})
+	})
+	if err != nil {
+		ended, end := context.WithCancel(context.Background())
+		end()
+		it.Shutdown(ended)
 		return nil, err
 	}
 	return it, nil
 }
 
-// Restart ends the child, starts another one, replays the log, and signs and installs the pending update. If it returns
-// ErrSignerFailed, the directory is usable and the update pending.
-func (it *Provider) Restart() error { return it.start(true) }
-
-// Close ends the child.
-func (it *Provider) Close() {
-	it.changing.Lock()
-	defer it.changing.Unlock()
-	it.asking.Lock()
-	defer it.asking.Unlock()
-	it.closed = true
-	if it.child != nil {
-		it.child.stop()
-		it.child = nil
+// start replays the log in another child, and signs and installs the pending update.
+func (it *Provider) start(plan plan) error {
+	err := it.asSigner(func() error { return it.host.renew(plan) })
+	if err != nil || !plan.signPending || it.host.current().view().update == nil {
+		return err
 	}
-}
-
-// steps makes steps between which the child and the log may differ. A *Fault changes neither; after all else a restart is
-// needed, also if the call panics.
-func (it *Provider) steps(call func() error) error {
-	it.asking.Lock()
-	defer it.asking.Unlock()
-	if it.closed {
-		return ErrClosed
-	}
-	if it.broken != nil {
-		return &ProviderError{ErrRestartNeeded, it.broken}
-	}
-	it.broken = errHalfway
-	err := call()
-	it.broken = err
-	if fault := (*Fault)(nil); errors.As(err, &fault) {
-		it.broken = nil
-	}
+	_, err = it.settle()
 	return err
 }
 
-func (it *Provider) start(signPending bool) error {
-	it.changing.Lock()
-	defer it.changing.Unlock()
-	if err := it.begin(); err != nil {
-		return err
-	}
-	if it.pending == nil || !signPending {
-		return nil
-	}
-	_, err := it.settle()
+// Restart starts another child, replays the log into it, and ends this one, which answers lookups until then. It signs and
+// installs the pending update, as StartProvider does. If it returns ErrSignerFailed, the directory is usable and the update
+// pending.
+//
+// It returns ErrLogForked if the log lacks what this process has seen in it. Then lookups go on as before, Evidence has both, and
+// nothing can be added until the log is whole again or DiscardEvidence was called. After another error, as of a log that can't be
+// read, lookups go on too; but after the fault OtherIndex they return ErrRestartNeeded. It never makes a directory.
+func (it *Provider) Restart(ctx context.Context) error {
+	_, err := change(ctx, it, func() (none, error) { return none{}, it.start(plan{signPending: true}) })
 	return err
 }
 
-func (it *Provider) begin() error {
-	it.asking.Lock()
-	defer it.asking.Unlock()
-	if it.closed {
-		return ErrClosed
-	}
-	it.broken = errHalfway
-	it.broken = it.replayAll()
-	return it.broken
-}
-
-// replayAll starts a child and replays the log, or opens a directory if the log has no line.
-func (it *Provider) replayAll() (err error) {
-	if it.child != nil {
-		it.child.stop()
-	}
-	if it.child, err = startChild(it.settings.Program, it.settings.Timeout); err != nil {
-		return err
-	}
-	it.position, it.pending, it.line, it.latest = 0, nil, nil, Epoch{}
-	err = it.settings.Log.Read(0, func(line []byte) error {
-		if err := it.replay(line); err != nil {
-			return err
-		}
-		it.position++
-		return nil
-	})
-	if known := (*ProviderError)(nil); err != nil && !errors.As(err, &known) {
-		return &ProviderError{ErrLogFailed, err}
-	}
-	if err != nil || it.position > 0 {
-		return err
-	}
-	nonce := random32()
-	if it.settings.Nonce != nil {
-		nonce = *it.settings.Nonce
-	}
-	line := encode(map[string]any{"cmd": "open", "nonce": digits(nonce[:]), "policy": digits(it.settings.Policy[:])})
-	if _, err := it.child.ask(line); err != nil {
-		return failed(ErrProgramFailed, "%v", err)
-	}
-	return it.append(line)
-}
-
-// replay sends one line of the log, and compares the reply: the body of `prepare`, the link of `install`.
-func (it *Provider) replay(line []byte) error {
-	line = append([]byte(nil), line...)
-	var said members
-	if err := json.Unmarshal(line, &said); err != nil {
-		return failed(ErrLogFailed, "line %d is no JSON object", it.position)
-	}
-	answer, err := it.child.ask(line)
-	if fault := (*Fault)(nil); errors.As(err, &fault) {
-		return failed(ErrReplayDiffers, "line %d is refused: %v", it.position, err)
-	}
-	if err != nil {
-		return err
-	}
-	switch said.Cmd {
-	case "open":
-		if !bytes.Equal(said.Policy, it.settings.Policy[:]) || it.settings.Nonce != nil && !bytes.Equal(said.Nonce, it.settings.Nonce[:]) {
-			return failed(ErrLogFailed, "the log's directory has another policy or nonce")
-		}
-	case "prepare":
-		if !bytes.Equal(answer.Body, said.Body) {
-			return failed(ErrReplayDiffers, "line %d has another body", it.position)
-		}
-		it.pending, err = it.prepared(said.Epoch, answer)
-		it.line = line
-	case "install":
-		if !bytes.Equal(answer.Link, said.Link) {
-			return failed(ErrReplayDiffers, "line %d has another link", it.position)
-		}
-		it.latest, err = it.installed(said.Signature, answer)
-		it.pending = nil
-	default:
-		return failed(ErrLogFailed, "line %d is none of a provider", it.position)
-	}
-	return err
-}
-
-func (it *Provider) append(line []byte) error {
-	if err := it.settings.Log.Append(it.position, line); err != nil {
-		return &ProviderError{ErrLogFailed, err}
-	}
-	it.position++
-	return nil
-}
-
-// prepared returns the update that the child has prepared. Its body is one of this epoch, after the latest one.
-func (it *Provider) prepared(epoch uint64, answer *members) (*Pending, error) {
-	pending := &Pending{Epoch: epoch, Body: answer.Body}
-	wanted := []byte(nil)
-	for _, number := range []uint64{epoch, it.latest.Epoch} {
-		for bits := 56; bits >= 0; bits -= 8 {
-			wanted = append(wanted, byte(number>>bits))
-		}
-	}
-	wanted = append(append(wanted, answer.Root...), it.latest.Link[:]...)
-	if len(answer.Body) != 145 || !take(&pending.Root, answer.Root) || !bytes.Equal(answer.Body[1:81], wanted) || !bytes.Equal(answer.Body[113:], it.settings.Policy[:]) {
-		return nil, failed(ErrProgramFailed, "the body of epoch %d doesn't follow the entry of epoch %d", epoch, it.latest.Epoch)
-	}
-	return pending, nil
-}
-
-// installed returns the epoch that the child has installed. Its entry is what was signed, with the signature.
-func (it *Provider) installed(signature []byte, answer *members) (Epoch, error) {
-	epoch := Epoch{Epoch: answer.Epoch, Entry: answer.Entry}
-	if it.pending == nil || !take(&epoch.Root, answer.Root) || !take(&epoch.Link, answer.Link) || len(epoch.Entry) != 209 ||
-		epoch.Epoch != it.pending.Epoch || epoch.Root != it.pending.Root || !bytes.Equal(epoch.Entry[:145], it.pending.Body) || !bytes.Equal(epoch.Entry[145:], signature) {
-		return Epoch{}, failed(ErrProgramFailed, "the entry of epoch %d isn't what was signed", answer.Epoch)
-	}
-	return epoch, nil
-}
-
-// Commit binds names to keys in a new epoch, and returns it once the log has its entry. A nonce, if not nil, rehashes the
-// whole tree.
+// Commit binds names to keys in a new epoch, and returns it once the log has its entry. A nonce, if not nil, rehashes the whole
+// tree.
 //
 // It returns a *Fault if the program refuses the batch, and then nothing is changed. If it returns ErrSignerFailed, the update
 // stays pending: Commit of the same operations, openings included, or Retry asks for the same body again. It returns
-// ErrEpochSpent for other operations under the epoch of the pending update or an earlier one.
-func (it *Provider) Commit(epoch uint64, operations []Operation, nonce *[32]byte) (Epoch, error) {
-	line, err := it.prepareLine(epoch, operations, nonce)
-	if err != nil {
-		return Epoch{}, err
-	}
-	it.changing.Lock()
-	defer it.changing.Unlock()
-	if err := it.prepare(epoch, line); err != nil {
-		return Epoch{}, err
-	}
-	return it.settle()
+// ErrEpochSpent for other operations under the epoch of the pending update or an earlier one, and ErrEpochTooFar for a number that
+// is more than 2^32 above the latest.
+//
+// After ErrProgramFailed, after ErrLogFailed and Restart, or if the context was done, the batch is installed if Latest has its
+// epoch number, and pending if Pending returns its update. After ErrLogRefused it is neither, or still pending.
+func (it *Provider) Commit(ctx context.Context, epoch uint64, operations []Operation, nonce *[32]byte) (Epoch, error) {
+	return it.commit(ctx, epoch, operations, nonce, false)
 }
 
-func (it *Provider) prepareLine(epoch uint64, operations []Operation, nonce *[32]byte) ([]byte, error) {
-	type operation struct {
-		Op      string `json:"op"`
-		Name    string `json:"name"`
-		Index   digits `json:"index"`
-		Key     []byte `json:"key"`
-		Opening digits `json:"opening"`
-	}
-	line := struct {
-		Cmd   string      `json:"cmd"`
-		Epoch uint64      `json:"epoch"`
-		Nonce digits      `json:"nonce,omitempty"`
-		Ops   []operation `json:"ops"`
-	}{"prepare", epoch, nil, []operation{}}
-	if nonce != nil {
-		line.Nonce = nonce[:]
-	}
+// CommitFar is Commit without ErrEpochTooFar. Epoch numbers only increase, so after 2^64 - 1 no other epoch can follow.
+func (it *Provider) CommitFar(ctx context.Context, epoch uint64, operations []Operation, nonce *[32]byte) (Epoch, error) {
+	return it.commit(ctx, epoch, operations, nonce, true)
+}
+
+func (it *Provider) commit(ctx context.Context, epoch uint64, operations []Operation, nonce *[32]byte, isFar bool) (Epoch, error) {
+	// The caller may change these after its context is done.
+	operations = append([]Operation(nil), operations...)
 	for at := range operations {
-		op := &operations[at]
-		index, err := it.index(op.Name)
-		if err != nil {
-			return nil, err
+		operations[at].Key = append([]byte(nil), operations[at].Key...)
+	}
+	if nonce != nil {
+		copied := *nonce
+		nonce = &copied
+	}
+	if err := it.mayChange(); err != nil {
+		return Epoch{}, err
+	}
+	return wait(ctx, it.closed, func() (Epoch, error) {
+		indices := make([][32]byte, len(operations))
+		for at := range operations {
+			err := ctx.Err()
+			if err == nil {
+				indices[at], err = it.settings.index(operations[at].Name)
+			}
+			if err != nil {
+				return Epoch{}, err
+			}
 		}
-		// An empty key is the text "", as it would be null otherwise.
-		line.Ops = append(line.Ops, operation{op.Op, op.Name, index[:], append([]byte{}, op.Key...), op.Opening[:]})
-	}
-	return encode(line), nil
-}
-
-// index returns the index of a name. A name that isn't UTF-8 would be another name in a line.
-func (it *Provider) index(name string) ([32]byte, error) {
-	if !utf8.ValidString(name) {
-		return [32]byte{}, errors.New("a name is UTF-8")
-	}
-	return it.settings.Index(name)
+		if err := it.begin(ctx); err != nil {
+			return Epoch{}, err
+		}
+		defer func() { <-it.changing }()
+		if err := it.prepare(ctx, epoch, prepareLine(epoch, operations, indices, nonce), isFar); err != nil {
+			return Epoch{}, err
+		}
+		return it.settle()
+	})
 }
 
 // prepare makes the update of a line the pending one, in the child and in the log.
-func (it *Provider) prepare(epoch uint64, line []byte) error {
-	if err := it.steps(func() error { return nil }); err != nil {
-		return err
-	}
-	if it.pending != nil && bytes.Equal(with(line, "body", it.pending.Body), it.line) {
-		return nil
-	}
-	if it.pending != nil && epoch <= it.pending.Epoch {
-		return failed(ErrEpochSpent, "epoch %d, asked for %d", epoch, it.pending.Epoch)
-	}
-	return it.steps(func() error {
-		answer, err := it.child.ask(line)
+func (it *Provider) prepare(ctx context.Context, epoch uint64, line []byte, isFar bool) error {
+	return it.host.step(ctx, func(engine *engine) error {
+		seen := engine.view()
+		if before := seen.update; before != nil {
+			if bytes.Equal(with(line, "body", before.pending.Body), before.line) {
+				return nil
+			}
+			if asked := before.pending.Epoch; epoch <= asked {
+				return failed(ErrEpochSpent, "epoch %d isn't later than %d, for which the signer was asked with other operations: "+
+					"take a later number", epoch, asked)
+			}
+		}
+		if latest := seen.latest.Epoch; !isFar && epoch > latest && epoch-latest > farEpochs {
+			return failed(ErrEpochTooFar, "epoch %d is more than 2^32 above the latest one, %d: call CommitFar if it is meant",
+				epoch, latest)
+		}
+		if engine.unlogged != nil {
+			if _, err := it.logInstalled(engine); err != nil {
+				return err
+			}
+		}
+		update, err := engine.prepare(it.host.life, epoch, line)
 		if err != nil {
 			return err
 		}
-		pending, err := it.prepared(epoch, answer)
-		if err != nil {
+		if err := it.host.append(func() error { return engine.append(update.line) }); err != nil {
+			engine.withdraw(it.host.life)
 			return err
 		}
-		logged := with(line, "body", pending.Body)
-		if err := it.append(logged); err != nil {
-			return err
-		}
-		it.pending, it.line = pending, logged
+		engine.setUpdate(update)
 		return nil
 	})
 }
 
 // settle has the pending update signed, and installs it.
 func (it *Provider) settle() (made Epoch, err error) {
-	if it.pending == nil {
-		return Epoch{}, &Fault{Name: NotPrepared}
-	}
-	signature, err := it.settings.Sign(append([]byte(nil), it.pending.Body...))
-	if err == nil && (len(signature) != 64 || it.settings.Verify != nil && !it.settings.Verify(it.pending.Body, signature)) {
-		err = errors.New("the signature isn't valid")
-	}
-	if err != nil {
-		return Epoch{}, &ProviderError{ErrSignerFailed, err}
-	}
-	err = it.steps(func() error {
-		line := encode(map[string]any{"cmd": "install", "signature": digits(signature)})
-		answer, err := it.child.ask(line)
-		if err != nil {
-			// No fault, but a program that differs from the log.
-			return failed(ErrProgramFailed, "%v", err)
-		}
-		if made, err = it.installed(signature, answer); err != nil {
+	var body []byte
+	err = it.host.step(it.host.life, func(engine *engine) (err error) {
+		switch update := engine.view().update; {
+		case update == nil:
+			return &Fault{Name: NotPrepared}
+		case engine.unlogged != nil:
+			made, err = it.logInstalled(engine)
 			return err
+		default:
+			body = update.pending.Body
+			return nil
 		}
-		if err := it.append(with(line, "link", made.Link[:])); err != nil {
-			return err
-		}
-		it.pending, it.latest = nil, made
-		return nil
 	})
+	if err != nil || body == nil {
+		return made, err
+	}
+	signature, err := it.signature(body)
 	if err != nil {
 		return Epoch{}, err
 	}
-	return made, nil
+	err = it.host.step(it.host.life, func(engine *engine) (err error) {
+		if update := engine.view().update; update == nil || !bytes.Equal(update.pending.Body, body) {
+			return failed(ErrProgramFailed, "the program was started again meanwhile, and the log has another pending update: check Pending")
+		}
+		if err := engine.install(it.host.life, signature); err != nil {
+			return err
+		}
+		made, err = it.logInstalled(engine)
+		return err
+	})
+	return made, err
+}
+
+// logInstalled appends the line of the epoch that the child has installed, which is the latest then.
+func (it *Provider) logInstalled(engine *engine) (Epoch, error) {
+	made := engine.unlogged
+	if err := it.host.append(func() error { return engine.append(made.line) }); err != nil {
+		return Epoch{}, err
+	}
+	engine.settle(made.epoch, made.size)
+	return made.epoch, nil
+}
+
+// signature asks the signer.
+func (it *Provider) signature(body []byte) (signature []byte, err error) {
+	isValid := true
+	err = it.asSigner(func() error {
+		return guarded(func() (err error) {
+			signature, err = it.settings.Sign(append([]byte(nil), body...))
+			if err == nil && len(signature) == signatureLength && it.settings.Verify != nil {
+				isValid = it.settings.Verify(append([]byte(nil), body...), append([]byte(nil), signature...))
+			}
+			return err
+		})
+	})
+	switch {
+	case err != nil:
+		return nil, failed(ErrSignerFailed, "the signer failed, and the update is pending, so call Retry: %w", err)
+	case len(signature) != signatureLength:
+		return nil, failed(ErrSignerFailed, "a signature has 64 bytes, not %d: the update is pending, so repair Sign and call Retry",
+			len(signature))
+	case !isValid:
+		return nil, failed(ErrSignerFailed, "the signature isn't valid: the update is pending, so check the signer's key and call Retry")
+	}
+	return signature, nil
 }
 
 // Retry has the pending update signed, and installs it. It returns the fault NotPrepared if there is none.
-func (it *Provider) Retry() (Epoch, error) {
-	it.changing.Lock()
-	defer it.changing.Unlock()
-	if err := it.steps(func() error { return nil }); err != nil {
-		return Epoch{}, err
+func (it *Provider) Retry(ctx context.Context) (Epoch, error) {
+	return change(ctx, it, it.settle)
+}
+
+// Pending returns the update that isn't installed, because the signer, the program or the log failed; nil if there is none.
+func (it *Provider) Pending() *Pending {
+	update := it.host.current().view().update
+	if update == nil {
+		return nil
 	}
-	return it.settle()
+	pending := update.pending
+	pending.Body = append([]byte(nil), pending.Body...)
+	return &pending
 }
 
-// Pending returns the update that isn't installed, because the signer failed; nil if there is none.
-func (it *Provider) Pending() (pending *Pending, err error) {
-	err = it.steps(func() error {
-		if it.pending != nil {
-			copied := *it.pending
-			pending = &copied
-		}
-		return nil
-	})
-	return pending, err
-}
+// Latest returns the latest epoch that the log has, and how large the directory is.
+func (it *Provider) Latest() Latest { return it.host.current().view().size }
 
-// Lookup returns a name's proof at an epoch, the latest if it is 0.
-func (it *Provider) Lookup(name string, epoch uint64) (found Found, err error) {
-	index, err := it.index(name)
-	if err != nil {
-		return Found{}, err
+// Chain returns the entries of the epochs in their order, 209 bytes each, without the first so many: what an auditor takes.
+func (it *Provider) Chain(first int) [][]byte {
+	chain := it.host.current().view().chain
+	if first < 0 {
+		first = 0
 	}
-	err = it.steps(func() error {
-		if epoch == 0 {
-			epoch = it.latest.Epoch
-		}
-		line := encode(map[string]any{"cmd": "lookup", "epoch": epoch, "index": digits(index[:]), "name": name})
-		answer, err := it.child.ask(line)
-		if err != nil {
-			return err
-		}
-		found = Found{Name: answer.Name, Epoch: answer.Epoch, Entry: answer.Entry, Proof: answer.Proof, Line: answer.line}
-		if !take(&found.Index, answer.Index) || !take(&found.Nonce, answer.Nonce) || !take(&found.Root, answer.Root) {
-			return failed(ErrProgramFailed, "a lookup lacks a member")
-		}
-		return nil
-	})
-	return found, err
+	if first > len(chain) {
+		first = len(chain)
+	}
+	return copies(chain[first:])
 }
 
-// Latest returns the latest epoch, and how large the directory is. Before the first epoch all is 0.
-func (it *Provider) Latest() (latest Latest, err error) {
-	err = it.steps(func() error {
-		answer, err := it.child.ask([]byte(`{"cmd":"latest"}`))
-		if err != nil {
-			return err
-		}
-		latest = Latest{Epoch: answer.Epoch, Names: answer.Names, Nodes: answer.Nodes}
-		if !take(&latest.Link, answer.Link) {
-			return failed(ErrProgramFailed, "the latest epoch lacks its link")
-		}
-		return nil
-	})
-	return latest, err
+// Pid returns the process number of the child.
+func (it *Provider) Pid() int { return it.host.current().child.pid }
+
+// Evidence returns what this process has seen and what the log had, after ErrLogForked or ErrReplayDiffers, until DiscardEvidence;
+// nil if no log was another one.
+func (it *Provider) Evidence() *Evidence {
+	it.host.mutex.Lock()
+	defer it.host.mutex.Unlock()
+	return it.host.evidence
 }
 
-// Entries calls each with the entries of all epochs that a log has, in their order: what an auditor takes.
-func Entries(log Log, each func(entry []byte) error) error {
-	var body []byte
-	return log.Read(0, func(line []byte) error {
-		var said members
-		if err := json.Unmarshal(line, &said); err != nil {
-			return failed(ErrLogFailed, "a line is no JSON object")
-		}
-		switch said.Cmd {
-		case "prepare":
-			body = said.Body
-		case "install":
-			return each(append(append([]byte(nil), body...), said.Signature...))
-		}
-		return nil
-	})
+// DiscardEvidence drops the evidence. If the log still lacks what this process has seen, the next Restart takes it as it is. The
+// link is that of the latest epoch, so that no script does it for another directory. Keep Evidence first: clients may have seen it
+// too.
+func (it *Provider) DiscardEvidence(link [32]byte) error {
+	if it.Evidence() == nil {
+		return errors.New("there is no evidence to discard: call Restart first")
+	}
+	if link != it.Latest().Link {
+		return errors.New("the link isn't that of the latest epoch that this process knows: compare Latest")
+	}
+	it.host.forget()
+	return nil
 }
 
-// digits are bytes that a line has as hexadecimal digits.
-type digits []byte
-
-func (it digits) MarshalText() ([]byte, error) { return []byte(hex.EncodeToString(it)), nil }
-
-func (it *digits) UnmarshalText(text []byte) (err error) {
-	*it, err = hex.DecodeString(string(text))
+// Shutdown ends the child, after the change that is under way. It waits for that until the context is done, and then returns
+// ctx.Err(): an update that is signed later isn't installed but stays pending. Other calls return ErrClosed from then on. The log
+// stays open, since the caller opened it.
+func (it *Provider) Shutdown(ctx context.Context) (err error) {
+	if it.isSigner() {
+		return errSigner
+	}
+	isFirst := false
+	it.once.Do(func() {
+		isFirst = true
+		close(it.closing)
+	})
+	if !isFirst {
+		select {
+		case <-it.closed:
+			return nil
+		case <-ctx.Done():
+			return ctx.Err()
+		}
+	}
+	select {
+	case it.changing <- none{}:
+	default:
+		select {
+		case it.changing <- none{}:
+		case <-ctx.Done():
+			err = ctx.Err()
+		}
+	}
+	it.host.close()
+	close(it.closed)
 	return err
 }
 
-// members are those of all lines that are read here.
-type members struct {
-	Cmd, Ok, Name                                            string
-	Epoch, Names, Nodes                                      uint64
-	Body, Root, Link, Entry, Index, Nonce, Policy, Signature digits
-	Proof                                                    json.RawMessage
-	line                                                     []byte
+// Close is Shutdown with a limit of 5 seconds.
+func (it *Provider) Close() error {
+	ctx, cancel := context.WithTimeout(context.Background(), closeTime)
+	defer cancel()
+	if err := it.Shutdown(ctx); errors.Is(err, context.DeadlineExceeded) {
+		return fmt.Errorf("a change was under way for more than %v, so its update stays pending: %w", closeTime, err)
+	} else if err != nil {
+		return err
+	}
+	return nil
 }
 
-func encode(line any) []byte {
-	text, err := json.Marshal(line)
-	if err != nil {
-		panic(err)
-	}
-	return text
+// none is no value.
+type none = struct{}
+
+// made is what the steps of a call return.
+type made[Result any] struct {
+	result Result
+	err    error
 }
 
-// with returns a line with one more member, of hexadecimal digits.
-func with(line []byte, member string, value []byte) []byte {
-	return []byte(fmt.Sprintf(`%s,"%s":"%x"}`, line[:len(line)-1], member, value))
+// wait makes steps in a goroutine and returns what they return. It stops waiting once the context is done, or closed is, and the
+// steps go on.
+func wait[Result any](ctx context.Context, closed <-chan none, steps func() (Result, error)) (result Result, err error) {
+	if err := ctx.Err(); err != nil {
+		return result, err
+	}
+	done := make(chan made[Result], 1)
+	go func() {
+		it := made[Result]{err: errors.New("a function of the caller ended the goroutine of a call")}
+		defer func() { done <- it }()
+		it.result, it.err = steps()
+	}()
+	err = ErrClosed
+	select {
+	case it := <-done:
+		return it.result, it.err
+	case <-ctx.Done():
+		err = ctx.Err()
+	case <-closed:
+	}
+	select {
+	case it := <-done:
+		return it.result, it.err
+	default:
+		return result, err
+	}
 }
 
-func take(out *[32]byte, from []byte) bool { return copy(out[:], from) == 32 && len(from) == 32 }
-
-// child is the program as a child process. It is in a session of its own, so that a terminal's interrupt doesn't end it, and
-// it ends with its parent, because its input does.
-type child struct {
-	command *exec.Cmd
-	in      io.WriteCloser
-	out     *bufio.Reader
-	timeout time.Duration
+// change makes steps that change the directory, one call after another.
+func change[Result any](ctx context.Context, it *Provider, steps func() (Result, error)) (result Result, err error) {
+	if err := it.mayChange(); err != nil {
+		return result, err
+	}
+	return wait(ctx, it.closed, func() (Result, error) {
+		if err := it.begin(ctx); err != nil {
+			return result, err
+		}
+		defer func() { <-it.changing }()
+		return steps()
+	})
 }
 
-func startChild(program []string, timeout time.Duration) (*child, error) {
-	if len(program) == 0 {
-		return nil, failed(ErrProgramFailed, "no program is given")
+// mayChange returns an error if this goroutine can't change the directory.
+func (it *Provider) mayChange() error {
+	if it.isSigner() {
+		return errSigner
 	}
-	command := exec.Command(program[0], program[1:]...)
-	command.Stderr = os.Stderr
-	command.SysProcAttr = &syscall.SysProcAttr{Setsid: true}
-	in, err := command.StdinPipe()
-	if err != nil {
-		return nil, &ProviderError{ErrProgramFailed, err}
-	}
-	out, err := command.StdoutPipe()
-	if err != nil {
-		return nil, &ProviderError{ErrProgramFailed, err}
-	}
-	if err := command.Start(); err != nil {
-		return nil, &ProviderError{ErrProgramFailed, err}
-	}
-	return &child{command, in, bufio.NewReaderSize(out, 65536), timeout}, nil
+	return it.isOpen()
 }
 
-// ask writes a line and reads the reply. The error of a refused line is a *Fault, and any other is ErrProgramFailed.
-func (it *child) ask(line []byte) (*members, error) {
-	if it.timeout > 0 {
-		defer time.AfterFunc(it.timeout, func() { it.command.Process.Kill() }).Stop()
+func (it *Provider) isOpen() error {
+	select {
+	case <-it.closing:
+		return ErrClosed
+	default:
+		return nil
 	}
-	_, err := it.in.Write(append(append(make([]byte, 0, len(line)+1), line...), '\n'))
-	var text []byte
+}
+
+// begin waits until no other call changes the directory. If the context is done before, nothing was begun.
+func (it *Provider) begin(ctx context.Context) error {
+	select {
+	case it.changing <- none{}:
+	case <-ctx.Done():
+		return ctx.Err()
+	case <-it.closing:
+		return ErrClosed
+	}
+	err := ctx.Err()
 	if err == nil {
-		text, err = it.out.ReadBytes('\n')
+		err = it.isOpen()
 	}
 	if err != nil {
-		return nil, failed(ErrProgramFailed, "it ended: %w", err)
+		<-it.changing
 	}
-	text = text[:len(text)-1]
-	answer := &members{line: text}
-	if err := json.Unmarshal(text, answer); err == nil && answer.Ok != "" {
-		return answer, nil
-	}
-	var fault struct {
-		Fault    FaultName
-		Position *int
-		Latest   *uint64
-		Member   string
-	}
-	if err := json.Unmarshal(text, &fault); err != nil || fault.Fault == "" {
-		return nil, failed(ErrProgramFailed, "it printed %.80q", text)
-	}
-	return nil, &Fault{fault.Fault, fault.Position, fault.Latest, fault.Member}
+	return err
 }
 
-// stop ends the program. The log has all that matters.
-func (it *child) stop() {
-	it.in.Close()
-	it.command.Process.Kill()
-	it.command.Wait()
+var errSigner = errors.New("a function of the settings called the provider that waits for it: call it after Commit has returned")
+
+// asSigner makes a call of the caller's functions while the directory is changed.
+func (it *Provider) asSigner(call func() error) error {
+	it.signer.Store(goroutine())
+	defer it.signer.Store(0)
+	return call()
+}
+
+// isSigner reports whether this goroutine is the one that waits for the signer. It would wait for itself.
+func (it *Provider) isSigner() bool { return it.signer.Load() == goroutine() }
+
+// goroutine returns the number of this goroutine, which the runtime tells in a stack trace alone.
+func goroutine() uint64 {
+	var text [64]byte
+	words := bytes.Fields(text[:runtime.Stack(text[:], false)])
+	number, _ := strconv.ParseUint(string(words[1]), 10, 64)
+	return number
+}
+
+// guarded makes a call of the caller's code. A panic there is an error, since it is in a goroutine of the provider.
+func guarded(call func() error) (err error) {
+	defer func() {
+		if it := recover(); it != nil {
+			err = fmt.Errorf("panic: %v", it)
+		}
+	}()
+	return call()
 }

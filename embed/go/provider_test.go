@@ -2,161 +2,52 @@ package coniks
 
 import (
 	"bytes"
-	"crypto/ed25519"
-	"crypto/sha256"
+	"encoding/json"
 	"errors"
 	"fmt"
+	"math"
 	"os"
-	"path/filepath"
 	"strings"
 	"sync"
 	"testing"
 )
 
-// room is a directory over the program that CONIKS_PROVIDER names, whose signer lists the bodies that it is asked for.
-type room struct {
-	t        *testing.T
-	settings Settings
-	log      *hookedLog
-	provider *Provider
-	key      ed25519.PrivateKey
-	asked    map[string]bool
-	fails    int
-}
-
-// hookedLog is a file's log that calls a function before and after an append.
-type hookedLog struct {
-	*FileLog
-	before, after func(line []byte) error
-}
-
-func (it *hookedLog) Append(position int, line []byte) error {
-	if err := it.before(line); err != nil {
-		return err
-	}
-	if err := it.FileLog.Append(position, line); err != nil {
-		return err
-	}
-	return it.after(line)
-}
-
-func indexOf(name string) ([32]byte, error) { return sha256.Sum256([]byte("index of " + name)), nil }
-
-func nothing([]byte) error { return nil }
-
-func newRoom(t *testing.T) *room {
-	program := os.Getenv("CONIKS_PROVIDER")
-	if program == "" {
-		t.Skip("CONIKS_PROVIDER names no program")
-	}
-	it := &room{t: t, key: ed25519.NewKeyFromSeed(make([]byte, 32)), asked: map[string]bool{}}
-	verify := func(body, signature []byte) bool {
-		return ed25519.Verify(it.key.Public().(ed25519.PublicKey), body, signature)
-	}
-	it.settings = Settings{Program: []string{program, "--workers", "2"}, Index: indexOf, Sign: it.sign, Verify: verify, Policy: [32]byte{7}}
-	it.open(filepath.Join(t.TempDir(), "log"))
-	t.Cleanup(func() { it.provider.Close(); it.log.Close() })
-	return it
-}
-
-func (it *room) open(path string) {
-	log, err := OpenFileLog(path)
-	if err != nil {
-		it.t.Fatal(err)
-	}
-	it.log = &hookedLog{log, nothing, nothing}
-	it.settings.Log = it.log
-	if it.provider, err = StartProvider(it.settings); err != nil {
-		it.t.Fatal(err)
-	}
-}
-
-// again starts from the file alone.
-func (it *room) again() {
-	path := it.log.file.Name()
-	it.provider.Close()
-	it.log.Close()
-	it.open(path)
-}
-
-func (it *room) sign(body []byte) ([]byte, error) {
-	it.asked[string(body)] = true
-	if it.fails > 0 {
-		it.fails--
-		return nil, errors.New("told to fail")
-	}
-	return ed25519.Sign(it.key, body), nil
-}
-
-func (it *room) commit(epoch uint64, operations ...Operation) Epoch {
-	it.t.Helper()
-	made, err := it.provider.Commit(epoch, operations, nil)
-	if err != nil {
-		it.t.Fatal(err)
-	}
-	return made
-}
-
-// check compares the epochs of the log with those wanted, follows the chain, and counts the bodies of each epoch.
-func (it *room) check(wanted ...uint64) {
-	it.t.Helper()
-	var epochs []uint64
-	link, before := make([]byte, 32), make([]byte, 8)
-	err := Entries(it.log, func(entry []byte) error {
-		if !it.settings.Verify(entry[:145], entry[145:]) || !bytes.Equal(entry[9:17], before) || !bytes.Equal(entry[49:81], link) {
-			return fmt.Errorf("an entry doesn't follow: %x", entry)
-		}
-		epochs = append(epochs, uint64(entry[8]))
-		sum := sha256.Sum256(append([]byte{0x53}, entry...))
-		link, before = sum[:], entry[1:9]
-		return nil
-	})
-	if err != nil || fmt.Sprint(epochs) != fmt.Sprint(wanted) {
-		it.t.Error(err, epochs, wanted)
-	}
-	bodies := map[string]bool{}
-	for body := range it.asked {
-		if bodies[body[1:9]] {
-			it.t.Error("two bodies for an epoch")
-		}
-		bodies[body[1:9]] = true
-	}
-}
-
-func (it *room) wants(err, wanted error) {
-	it.t.Helper()
-	if !errors.Is(err, wanted) {
-		it.t.Errorf("%v, not %v", err, wanted)
-	}
-}
-
 func TestProviderCommitsAndLooksUp(t *testing.T) {
-	it := newRoom(t)
-	first := it.commit(1, Register("alice", []byte("key")), Register("bob é\"\u0001", []byte("key")))
+	it := newDirectory(t)
+	if latest := it.provider.Latest(); latest != (Latest{}) || len(it.provider.Chain(0)) != 0 || it.provider.Pending() != nil {
+		t.Error(latest)
+	}
+	_, err := it.provider.Lookup(background, "alice", 0)
+	it.wants(err, UnknownEpoch)
+	first := it.commit(1, Register("alice", []byte("key")), Register("bob é\"\u0001<&>\u2028\x7f", []byte("key")))
 	second := it.commit(3, Change("alice", []byte("other")))
 	for epoch, wanted := range map[uint64]Epoch{0: second, 1: first, 3: second} {
-		found, err := it.provider.Lookup("alice", epoch)
+		found, err := it.provider.Lookup(background, "alice", epoch)
 		if err != nil || !bytes.Equal(found.Entry, wanted.Entry) || found.Root != wanted.Root || found.Epoch != wanted.Epoch {
 			t.Error(found, err)
 		}
 	}
-	latest, err := it.provider.Latest()
-	if err != nil || latest.Epoch != 3 || latest.Link != second.Link || latest.Names != 2 {
-		t.Error(latest, err)
+	latest := it.provider.Latest()
+	if latest.Epoch != 3 || latest.Link != second.Link || latest.Names != 2 || latest.Nodes == 0 {
+		t.Error(latest)
 	}
-	it.again()
-	if found, err := it.provider.Lookup("bob é\"\u0001", 3); err != nil || !bytes.Equal(found.Entry, second.Entry) {
-		t.Error(found, err)
+	it.reopen()
+	if again := it.provider.Latest(); again != latest {
+		t.Error(again, latest)
 	}
-	third, err := it.provider.Commit(4, nil, &[32]byte{9})
+	it.shows("bob é\"\u0001<&>\u2028\x7f", second)
+	third, err := it.provider.Commit(background, 4, nil, &[32]byte{9})
 	if err != nil || third.Entry[0] != 2 || third.Entry[81] != 9 {
 		t.Error(third, err)
+	}
+	if chain := it.provider.Chain(2); len(chain) != 1 || !bytes.Equal(chain[0], third.Entry) || len(it.provider.Chain(9)) != 0 {
+		t.Error(chain)
 	}
 	it.check(1, 3, 4)
 }
 
-func TestProviderFaultsChangeNothing(t *testing.T) {
-	it := newRoom(t)
+func TestFaultsChangeNothing(t *testing.T) {
+	it := newDirectory(t)
 	it.commit(5, Register("alice", []byte("key")))
 	for _, wrong := range []struct {
 		fault      FaultName
@@ -170,130 +61,222 @@ func TestProviderFaultsChangeNothing(t *testing.T) {
 		{EpochNotLater, 5, nil},
 		{Member, 6, []Operation{{Op: "remove", Name: "alice"}}},
 	} {
-		_, err := it.provider.Commit(wrong.epoch, wrong.operations, nil)
+		_, err := it.provider.Commit(background, wrong.epoch, wrong.operations, nil)
 		it.wants(err, wrong.fault)
 		if fault := (*Fault)(nil); !errors.As(err, &fault) || (fault.Latest != nil) != (wrong.fault == EpochNotLater) {
 			t.Error(err)
 		}
 	}
-	_, err := it.provider.Lookup("alice", 4)
-	it.wants(err, UnknownEpoch)
-	_, err = it.provider.Retry()
-	it.wants(err, NotPrepared)
-	if _, err = it.provider.Lookup("\xff", 0); err == nil || errors.Is(err, ErrRestartNeeded) {
-		t.Error(err)
+	for _, epoch := range []uint64{4, 6, math.MaxUint64} {
+		_, err := it.provider.Lookup(background, "alice", epoch)
+		it.wants(err, UnknownEpoch)
 	}
+	_, err := it.provider.Retry(background)
+	it.wants(err, NotPrepared)
+	_, err = it.provider.Lookup(background, "\xff", 0)
+	it.wants(err, ErrNotText)
+	_, err = it.provider.Commit(background, 6, []Operation{Register("\xed\xa0\x80", []byte("key"))}, nil)
+	it.wants(err, ErrNotText)
 	it.commit(6)
 	it.check(5, 6)
 }
 
+func TestErrorsOfTheFunctionsOfTheSettings(t *testing.T) {
+	it := newDirectory(t)
+	it.commit(1, Register("alice", []byte("key")))
+	wrong := errors.New("the VRF is away")
+	it.provider.settings.Index = func(name string) ([32]byte, error) { return [32]byte{}, wrong }
+	_, err := it.provider.Lookup(background, "alice", 0)
+	it.wants(err, wrong)
+	_, err = it.provider.Commit(background, 2, []Operation{Register("bob", []byte("key"))}, nil)
+	it.wants(err, wrong)
+	it.provider.settings.Index = func(name string) ([32]byte, error) { panic("broken") }
+	if _, err = it.provider.Lookup(background, "alice", 0); err == nil || !strings.Contains(err.Error(), "broken") {
+		t.Error(err)
+	}
+	it.provider.settings.Index = otherIndexOf
+	_, err = it.provider.Lookup(background, "alice", 0)
+	it.wants(err, OtherIndex)
+	if fault := (*Fault)(nil); !errors.As(err, &fault) || fault.Advice == "" {
+		t.Error(err)
+	}
+	it.provider.settings.Index = indexOf
+	it.provider.settings.Verify = func(body, signature []byte) bool { panic("broken") }
+	_, err = it.provider.Commit(background, 2, nil, nil)
+	it.wants(err, ErrSignerFailed)
+	it.provider.settings.Verify = func(body, signature []byte) bool { return false }
+	_, err = it.provider.Retry(background)
+	it.wants(err, ErrSignerFailed)
+	it.provider.settings.Verify = it.verify
+	it.provider.settings.Sign = func(body []byte) ([]byte, error) { return body[:63], nil }
+	_, err = it.provider.Retry(background)
+	it.wants(err, ErrSignerFailed)
+	it.provider.settings.Sign = func(body []byte) ([]byte, error) { body[1]++; return it.sign(body) }
+	_, err = it.provider.Retry(background)
+	it.wants(err, ErrSignerFailed)
+	it.asked = map[string]int{}
+	it.provider.settings.Sign = it.sign
+	_, err = it.provider.Retry(background)
+	it.good(err)
+	it.check(1, 2)
+}
+
 func TestSignerFails(t *testing.T) {
-	it := newRoom(t)
+	it := newDirectory(t)
 	mine := []Operation{Register("alice", []byte("key"))}
-	it.fails = 2
-	_, err := it.provider.Commit(2, mine, nil)
+	it.failing(2)
+	_, err := it.provider.Commit(background, 2, mine, nil)
 	it.wants(err, ErrSignerFailed)
-	_, err = it.provider.Commit(2, []Operation{Register("alice", []byte("key"))}, nil)
+	_, err = it.provider.Commit(background, 2, []Operation{Register("alice", []byte("key"))}, nil)
 	it.wants(err, ErrEpochSpent)
-	_, err = it.provider.Commit(1, mine, nil)
+	_, err = it.provider.Commit(background, 1, mine, nil)
 	it.wants(err, ErrEpochSpent)
-	_, err = it.provider.Retry()
+	_, err = it.provider.Retry(background)
 	it.wants(err, ErrSignerFailed)
-	if pending, err := it.provider.Pending(); err != nil || pending == nil || pending.Epoch != 2 {
-		t.Error(pending, err)
+	if pending := it.provider.Pending(); pending == nil || pending.Epoch != 2 || len(pending.Body) != 145 {
+		t.Error(pending)
 	}
 	it.commit(2, mine...)
-	it.fails = 1
-	_, err = it.provider.Commit(3, nil, nil)
+	it.failing(1)
+	_, err = it.provider.Commit(background, 3, nil, nil)
 	it.wants(err, ErrSignerFailed)
 	it.commit(4)
-	it.fails = 1
-	_, err = it.provider.Commit(5, nil, nil)
+	it.failing(1)
+	_, err = it.provider.Commit(background, 5, nil, nil)
 	it.wants(err, ErrSignerFailed)
-	it.again()
+	it.failing(1)
+	it.wants(it.provider.Restart(background), ErrSignerFailed)
+	it.shows("alice", Epoch{Epoch: 4, Entry: it.provider.Chain(1)[0]})
+	it.close()
+	it.failing(1)
+	log, err := OpenFileLog(it.path)
+	it.good(err)
+	it.over(log)
+	_, err = StartProvider(background, it.settings)
+	it.wants(err, ErrSignerFailed)
+	it.settings.LeavePending = true
+	it.start()
+	if pending := it.provider.Pending(); pending == nil || pending.Epoch != 5 {
+		t.Error(pending)
+	}
+	it.settings.LeavePending = false
+	it.reopen()
 	it.check(2, 4, 5)
 }
 
-func TestProviderStopsAtEachStep(t *testing.T) {
-	full := func([]byte) error { return errors.New("full") }
-	for _, kind := range []string{"prepare", "install"} {
-		for _, when := range []string{"before", "after"} {
-			for _, isNew := range []bool{false, true} {
-				it := newRoom(t)
-				first := it.commit(1, Register("alice", []byte("key")))
-				hook := func(line []byte) error {
-					if strings.HasPrefix(string(line), `{"cmd":"`+kind) {
-						return full(line)
-					}
-					return nil
-				}
-				if when == "before" {
-					it.log.before = hook
-				} else {
-					it.log.after = hook
-				}
-				_, err := it.provider.Commit(2, nil, nil)
-				it.wants(err, ErrLogFailed)
-				_, err = it.provider.Lookup("alice", 0)
-				it.wants(err, ErrRestartNeeded)
-				it.log.before, it.log.after = nothing, nothing
-				if isNew {
-					it.again()
-				} else if err := it.provider.Restart(); err != nil {
-					t.Fatal(err)
-				}
-				it.commit(3)
-				if kind == "prepare" && when == "before" {
-					it.check(1, 3)
-				} else {
-					it.check(1, 2, 3)
-				}
-				if found, err := it.provider.Lookup("alice", 1); err != nil || !bytes.Equal(found.Entry, first.Entry) {
-					t.Error(found, err)
-				}
-			}
-		}
+func TestLastEpochNumbers(t *testing.T) {
+	it := newDirectory(t)
+	_, err := it.provider.Commit(background, 1<<32+1, nil, nil)
+	it.wants(err, ErrEpochTooFar)
+	it.commit(1 << 32)
+	_, err = it.provider.Commit(background, math.MaxUint64, nil, nil)
+	it.wants(err, ErrEpochTooFar)
+	made, err := it.provider.CommitFar(background, math.MaxUint64, []Operation{Register("alice", []byte("key"))}, nil)
+	if err != nil || made.Epoch != math.MaxUint64 {
+		t.Error(made, err)
 	}
+	for _, epoch := range []uint64{0, 1, math.MaxUint64} {
+		_, err = it.provider.CommitFar(background, epoch, nil, nil)
+		it.wants(err, EpochNotLater)
+	}
+	it.reopen()
+	it.shows("alice", made)
+	it.check(1<<32, math.MaxUint64)
 }
 
-func TestChildEnds(t *testing.T) {
-	it := newRoom(t)
-	it.commit(1, Register("alice", []byte("key")))
-	it.provider.child.command.Process.Kill()
-	_, err := it.provider.Lookup("alice", 0)
-	it.wants(err, ErrProgramFailed)
-	_, err = it.provider.Commit(2, nil, nil)
-	it.wants(err, ErrRestartNeeded)
-	if err := it.provider.Restart(); err != nil {
-		t.Fatal(err)
+func TestManyLookups(t *testing.T) {
+	it := newDirectory(t)
+	var operations []Operation
+	var names []string
+	for number := 0; number < 700; number++ {
+		names = append(names, fmt.Sprintf("user-%d", number))
+		if number%2 == 0 {
+			operations = append(operations, Register(names[number], bytes.Repeat([]byte{byte(number)}, 1+number*20)))
+		}
 	}
+	first := it.commit(1, operations...)
 	it.commit(2)
-	it.check(1, 2)
-	it.provider.Close()
-	_, err = it.provider.Latest()
-	it.wants(err, ErrClosed)
+	names[3], names[5], names[6] = "", "\xff", strings.Repeat("x", 256)
+	results, err := it.provider.Lookups(background, names, 1)
+	it.good(err)
+	if len(results) != len(names) {
+		t.Fatal(len(results))
+	}
+	for number, result := range results {
+		switch {
+		case number == 3 || number == 6:
+			it.wants(result.Err, NameLength)
+		case number == 5:
+			it.wants(result.Err, ErrNotText)
+		case result.Err != nil || result.Found.Name != names[number] || !bytes.Equal(result.Found.Entry, first.Entry) ||
+			bytes.Contains(result.Found.Line, []byte(`"kind":"here"`)) != (number%2 == 0):
+			t.Fatal(number, result)
+		}
+	}
+	if results, err = it.provider.Lookups(background, []string{"user-0", "user-2"}, 3); err != nil || len(results) != 2 {
+		t.Fatal(results, err)
+	}
+	it.wants(results[1].Err, UnknownEpoch)
+	if results, err = it.provider.Lookups(background, nil, 0); err != nil || len(results) != 0 {
+		t.Fatal(results, err)
+	}
+	it.provider.settings.Index = func(name string) ([32]byte, error) {
+		if name == "user-2" {
+			return otherIndexOf(name)
+		}
+		return indexOf(name)
+	}
+	results, err = it.provider.Lookups(background, []string{"user-2", "user-4"}, 0)
+	it.good(err)
+	it.wants(results[0].Err, OtherIndex)
+	it.good(results[1].Err)
+}
+
+// All lookups of a call are at one epoch, also if another is committed meanwhile.
+func TestLookupsAreAtOneEpoch(t *testing.T) {
+	it := newDirectory(t)
+	it.commit(1, Register("alice", []byte("key")))
+	for epoch := uint64(0); epoch < 2; epoch++ {
+		it.provider.settings.Index = func(name string) ([32]byte, error) {
+			if name == "bob" {
+				it.commit(it.provider.Latest().Epoch + 1)
+			}
+			return indexOf(name)
+		}
+		before := it.provider.Latest().Epoch
+		results, err := it.provider.Lookups(background, []string{"\xff", "alice", "bob", "alice", "bob", "alice"}, epoch*before)
+		it.good(err)
+		for _, result := range results[1:] {
+			if result.Found.Epoch != before {
+				t.Error(before, result)
+			}
+		}
+		if it.provider.Latest().Epoch != before+2 {
+			t.Error(it.provider.Latest())
+		}
+	}
+	_, err := it.provider.Lookup(background, "alice", 0)
+	it.good(err)
 }
 
 func TestLookupsGoOnWhileTheSignerIsAsked(t *testing.T) {
-	it := newRoom(t)
+	it := newDirectory(t)
 	it.commit(1, Register("alice", []byte("key")))
-	sign := it.settings.Sign
 	entries := make(chan []byte, 64)
-	it.provider.settings.Sign = func(body []byte) ([]byte, error) {
-		found, err := it.provider.Lookup("alice", 0)
+	it.holding(func() {
+		found, err := it.provider.Lookup(background, "alice", 0)
 		if err != nil {
-			return nil, err
+			t.Error(err)
 		}
 		entries <- found.Entry
-		return sign(body)
-	}
+	})
 	var group sync.WaitGroup
 	for range [3]int{} {
 		group.Add(1)
 		go func() {
 			defer group.Done()
 			for range [50]int{} {
-				if _, err := it.provider.Lookup("alice", 0); err != nil {
+				if _, err := it.provider.Lookup(background, "alice", 0); err != nil {
 					t.Error(err)
 				}
 			}
@@ -301,7 +284,7 @@ func TestLookupsGoOnWhileTheSignerIsAsked(t *testing.T) {
 	}
 	for epoch := uint64(2); epoch < 6; epoch++ {
 		it.commit(epoch, Change("alice", []byte("other")))
-		if entry := <-entries; uint64(entry[8]) != epoch-1 {
+		if entry := <-entries; number(entry) != epoch-1 {
 			t.Error("an entry that isn't installed was shown")
 		}
 	}
@@ -309,27 +292,25 @@ func TestLookupsGoOnWhileTheSignerIsAsked(t *testing.T) {
 	it.check(1, 2, 3, 4, 5)
 }
 
-func TestLogOfAnotherDirectory(t *testing.T) {
-	it := newRoom(t)
+func TestSignerThatCallsTheProvider(t *testing.T) {
+	it := newDirectory(t)
+	var told []error
+	it.holding(func() {
+		_, err := it.provider.Commit(background, 2, nil, nil)
+		told = append(told, err)
+		_, err = it.provider.Retry(background)
+		told = append(told, err, it.provider.Restart(background), it.provider.Shutdown(background), it.provider.Close())
+	})
 	it.commit(1)
-	if _, err := OpenFileLog(it.log.file.Name()); err == nil {
-		t.Error("two processes have the log")
+	if len(told) != 5 {
+		t.Fatal(told)
 	}
-	it.wants(it.log.Append(1, nil), ErrOvertaken)
-	it.provider.Close()
-	other := it.settings
-	other.Policy = [32]byte{8}
-	_, err := StartProvider(other)
-	it.wants(err, ErrLogFailed)
-	text, _ := os.ReadFile(it.log.file.Name())
-	path := filepath.Join(t.TempDir(), "edited")
-	os.WriteFile(path, bytes.Replace(text, []byte(`"body":"01`), []byte(`"body":"02`), 1), 0o600)
-	if other.Log, err = OpenFileLog(path); err != nil {
-		t.Fatal(err)
+	for _, err := range told {
+		it.wants(err, errSigner)
 	}
-	other.Policy = it.settings.Policy
-	_, err = StartProvider(other)
-	it.wants(err, ErrReplayDiffers)
+	it.holding(nil)
+	it.commit(2)
+	it.check(1, 2)
 }
 
 // CONIKS_LOG names a log of the package for Python, with one epoch and an update that is pending.
@@ -338,36 +319,68 @@ func TestLogOfPython(t *testing.T) {
 	if path == "" {
 		t.Skip("CONIKS_LOG names no log")
 	}
-	it := newRoom(t)
-	it.provider.Close()
-	it.log.Close()
-	it.open(path)
-	latest, err := it.provider.Latest()
-	if err != nil || latest.Epoch != 2 || latest.Names != 2 || len(it.asked) != 1 {
-		t.Error(latest, err)
-	}
-	if found, err := it.provider.Lookup("bob é", 2); err != nil || found.Epoch != 2 {
-		t.Error(found, err)
+	text, err := os.ReadFile(path)
+	for _, isSigned := range []bool{true, false} {
+		it := newRoom(t)
+		it.good(err)
+		it.good(os.WriteFile(it.path, text, 0o600))
+		it.settings.LeavePending = !isSigned
+		it.reopen()
+		if !isSigned {
+			// The same operations have the same line here.
+			it.commit(2, it.pendingOperations()...)
+		}
+		if latest := it.provider.Latest(); latest.Epoch != 2 || latest.Names < 2 || len(it.asked) != 1 {
+			t.Error(latest)
+		}
+		if found, err := it.provider.Lookup(background, "bob é", 2); err != nil || found.Epoch != 2 {
+			t.Error(found, err)
+		}
 	}
 }
 
-func TestCutLines(t *testing.T) {
-	whole := "first\n\nlast line\n"
-	for size := 0; size <= len(whole); size++ {
-		path := filepath.Join(t.TempDir(), "log")
-		os.WriteFile(path, []byte(whole[:size]), 0o600)
-		log, err := OpenFileLog(path)
-		if err != nil {
-			t.Fatal(err)
-		}
-		count := strings.Count(whole[:size], "\n")
-		if err := log.Append(count, []byte("next")); err != nil {
-			t.Error(err)
-		}
-		log.Close()
-		wanted := whole[:strings.LastIndex(whole[:size], "\n")+1] + "next\n"
-		if text, _ := os.ReadFile(path); string(text) != wanted {
-			t.Errorf("%q", text)
+// pendingOperations are those of the log's last line.
+func (it *room) pendingOperations() (operations []Operation) {
+	var said struct {
+		Ops []struct {
+			Op, Name string
+			Key      []byte
+			Opening  digits
 		}
 	}
+	lines := it.lines()
+	it.good(json.Unmarshal([]byte(lines[len(lines)-1]), &said))
+	for _, op := range said.Ops {
+		operations = append(operations, Operation{op.Op, op.Name, op.Key, *(*[32]byte)(op.Opening)})
+	}
+	return operations
+}
+
+func TestEntriesOfWrongLogs(t *testing.T) {
+	for _, text := range []string{"[]", "{\"cmd\":\"install\"}", "{\"cmd\":7}", "null", strings.Repeat("[", 1<<20)} {
+		err := Entries(listed{text}, func([]byte) error { return nil })
+		if !errors.Is(err, ErrLogFailed) || strings.Contains(err.Error(), "[[") {
+			t.Error(err)
+		}
+	}
+	entry := errors.New("enough")
+	body, signature := strings.Repeat("0", 290), strings.Repeat("0", 128)
+	log := listed{fmt.Sprintf(`{"cmd":"prepare","body":"%s"}`, body), fmt.Sprintf(`{"cmd":"install","signature":"%s"}`, signature)}
+	if err := Entries(log, func([]byte) error { return entry }); err != entry {
+		t.Error(err)
+	}
+}
+
+// listed is a log in memory that refuses each line.
+type listed []string
+
+func (it listed) Append(int, []byte) error { return ErrLogRefused }
+
+func (it listed) Read(position int, each func(line []byte) error) error {
+	for _, line := range it[position:] {
+		if err := each([]byte(line)); err != nil {
+			return err
+		}
+	}
+	return nil
 }

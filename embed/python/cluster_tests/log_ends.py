@@ -49,7 +49,7 @@ def try_stop(tell: Tell, database: Database) -> None:
         start = time.monotonic()
         for it in (patient, hasty):
             it.close()
-        tell("stop: a close", time.monotonic() - start < 0.5, time.monotonic() - start)
+        tell("stop: a close", time.monotonic() - start < 1, time.monotonic() - start)
         waits.join(3)
         tell("stop: what a close ends", not waits.is_alive())
     finally:
@@ -84,12 +84,14 @@ def try_hosts(tell: Tell, database: Database) -> None:
     with silent() as host:
         conninfo = f"host={host} dbname=keys password=hunter2"
         for what in ("that never answers whole", "that never answers"):
-            says(tell, f"hosts: one {what}", LogFailed, lambda: PostgresLog(conninfo, patience=1), "session in time", seconds=2)
+            says(tell, f"hosts: one {what}", LogFailed, lambda: PostgresLog(conninfo, patience=1), "session in time", seconds=3)
         several = f"{database.conninfo} host={host},{database.folder} target_session_attrs=read-write"
         start = time.monotonic()
         with PostgresLog(several, "t", patience=2) as log:
             took = time.monotonic() - start
             tell("hosts: the next one is tried", str(log).endswith(f"at {database.folder}") and took < 2, f"{took:.1f} s: {log}")
+        with PostgresLog(f"{database.conninfo} host=/no,{database.folder}", "t") as log:
+            tell("hosts: one that refuses", str(log).endswith(f"at {database.folder}"), log)
         start = time.monotonic()
         with PostgresLog(f"{several} connect_timeout=1", "t", patience=60) as log:
             tell("hosts: after connect_timeout", time.monotonic() - start < 5, time.monotonic() - start)

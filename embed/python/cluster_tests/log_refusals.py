@@ -49,6 +49,17 @@ TABLES = [
 # The states of errors after which a line is certainly not stored, and of those after which it may be.
 CERTAIN = "22001 23502 23514 25006 40001 40P01 42501 42P01 53100 53200 53400 54000 55000 55P03 58030 P0001 XX000".split()
 UNSURE = "08006 40003 57014 57P01 57P03".split()
+# A table whose inserts fail with the state in another table. The texts show the line, as those of a careless function do.
+FAILING = [
+    "CREATE TABLE state (code text)",
+    "INSERT INTO state VALUES ('')",
+    """CREATE FUNCTION is_well(line bytea) RETURNS bool LANGUAGE plpgsql AS $$ DECLARE state text; BEGIN
+        SELECT code INTO state FROM state;
+        IF state <> '' THEN RAISE EXCEPTION USING ERRCODE = state, DETAIL = line::text,
+            MESSAGE = CASE WHEN state LIKE '22%' OR state LIKE 'P0%' THEN line::text ELSE 'no ' || state END; END IF;
+        RETURN state = ''; END $$""",
+    f"CREATE TABLE t ({COLUMNS}, CHECK (is_well(line)), CHECK (line <> 'hunter2'))",
+]
 
 
 def says(tell: Tell, what: str, error: type[Exception], call: Callable[[], object], *words: str, seconds: float = 5) -> str:
@@ -116,10 +127,13 @@ def try_tables(tell: Tell, database: Database) -> None:
         tell("tables: an older layout, after its advice", [*log.read(0)] == [b"zero", b"one"])
         database.execute("CREATE TRIGGER same BEFORE UPDATE ON t EXECUTE FUNCTION suppress_redundant_updates_trigger()")
         says(tell, "tables: one that changed", LogRefused, log.check_writable, "DROP TRIGGER")
+    with PostgresLog(database.conninfo, "late") as log:
+        database.execute(f"CREATE UNLOGGED TABLE late ({COLUMNS})")
+        says(tell, "tables: one that comes after the log was opened", LogRefused, lambda: log.append(0, b"hunter2"), "SET LOGGED")
     temporary = PostgresLog(f"{database.conninfo} options='-c search_path=pg_temp'", "other")
     says(tell, "tables: a temporary one", LogRefused, lambda: temporary.append(0, b"hunter2"), "temporary")
     temporary.close()
-    database.execute("DROP TABLE t")
+    database.execute("DROP TABLE t;DROP TABLE late")
 
 
 def try_settings(tell: Tell, database: Database) -> None:
@@ -230,48 +244,29 @@ def try_recovery(tell: Tell, database: Database, log: PostgresLog) -> None:
     tell("standby: the primary again", [*log.read(2)] == [b"two", b"three"])
 
 
+def fail(database: Database, code: str) -> None:
+    """Lets each insert fail with a state, or none of them."""
+    database.execute(f"UPDATE state SET code = '{code}'")
+
+
 def try_refusals(tell: Tell, database: Database) -> None:
     """Errors of PostgreSQL at an append, which a constraint raises with a chosen state."""
-    database.execute("CREATE TABLE state (code text);INSERT INTO state VALUES ('')")
-    database.execute(
-        """CREATE FUNCTION is_well(line bytea) RETURNS bool LANGUAGE plpgsql AS $$ DECLARE state text; BEGIN
-        SELECT code INTO state FROM state;
-        IF state <> '' THEN RAISE EXCEPTION USING ERRCODE = state, DETAIL = line::text,
-            MESSAGE = CASE WHEN state LIKE '22%' OR state LIKE 'P0%' THEN line::text ELSE 'no ' || state END; END IF;
-        RETURN state = ''; END $$"""
-    )
-    database.execute(
-        f"CREATE TABLE t ({COLUMNS});ALTER TABLE t ADD CHECK (is_well(line));ALTER TABLE t ADD CHECK (line <> 'hunter2')"
-    )
-
-    def state(code: str) -> None:
-        database.execute(f"UPDATE state SET code = '{code}'")
-
-    def insert_then_fail(*words: Any) -> None:
-        log._insert(*words)
-        state("53100")
-
-    log, hasty = PostgresLog(database.conninfo, "t"), PostgresLog(database.conninfo, "t", patience=0.3)
+    for query in FAILING:
+        database.execute(query)
+    log, hasty = PostgresLog(database.conninfo, "t"), PostgresLog(database.conninfo, "t", patience=0.5)
     for code in CERTAIN:
-        state(code)
+        fail(database, code)
         says(tell, f"refusals: {code} is certain", LogRefused, lambda: log.append(0, b"hunter2"), code, "isn't stored")
     for code in UNSURE:
-        state(code)
+        fail(database, code)
         says(tell, f"refusals: {code} isn't certain", LogFailed, lambda: hasty.append(0, b"hunter2"), code, "or not")
-    threading.Timer(0.3, state, [""]).start()
+    threading.Timer(0.3, fail, [database, ""]).start()
     log.append(0, b"later")
     tell("refusals: an append is tried again", [*log.read(0)] == [b"later"])
-    says(tell, "refusals: a constraint, and no row is shown", LogRefused, lambda: log.append(1, b"hunter2"), "23514", "constraint")
-    database.execute("ALTER TABLE t ADD UNIQUE (line)")
-    says(tell, "refusals: another unique column", LogRefused, lambda: log.append(1, b"later"), "23505", "t_line_key")
-    with lost(log, insert_then_fail):
-        says(tell, "refusals: after a try that may be stored", LogFailed, lambda: log.append(1, b"one"), "53100", "or not")
-    tell("refusals: as that one is", [*log.read(0)] == [b"later", b"one"])
     hasty._pool.shrink()
     with mock.patch.object(hasty._pool, "_check", side_effect=psycopg.OperationalError("lost")):
-        says(
-            tell, "refusals: a session that is lost before the try", LogRefused, lambda: hasty.append(2, b""), "isn't stored: lost"
-        )
+        says(tell, "refusals: a session that is lost at once", LogRefused, lambda: hasty.append(2, b""), "isn't stored: lost")
+    try_constraints(tell, database, log)
     log.close()
     hasty.close()
     with small_disk("8m") as folder:
@@ -279,6 +274,21 @@ def try_refusals(tell: Tell, database: Database) -> None:
             shutil.chown(folder, USER, USER)
             try_full_disk(tell, database, folder)
     database.execute("DROP TABLE t;DROP TABLE state")
+
+
+def try_constraints(tell: Tell, database: Database, log: PostgresLog) -> None:
+    """Constraints that a table may have beside the primary key, the last one after a try that may be stored."""
+
+    def insert_then_fail(*words: Any) -> None:
+        log._insert(*words)
+        fail(database, "53100")
+
+    says(tell, "refusals: a constraint, and no row is shown", LogRefused, lambda: log.append(1, b"hunter2"), "23514", "constraint")
+    database.execute("ALTER TABLE t ADD UNIQUE (line)")
+    says(tell, "refusals: another unique column", LogRefused, lambda: log.append(1, b"later"), "23505", "t_line_key")
+    with lost(log, insert_then_fail):
+        says(tell, "refusals: after a try that may be stored", LogFailed, lambda: log.append(1, b"one"), "53100", "or not")
+    tell("refusals: as that one is", [*log.read(0)] == [b"later", b"one"])
 
 
 def try_full_disk(tell: Tell, database: Database, folder: Path) -> None:

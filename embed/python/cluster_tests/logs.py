@@ -149,9 +149,10 @@ def try_waits(tell: Tell, database: Database, mine: PostgresLog, other: Postgres
     tell("log: a line before a missing one", next(reader) == b"49")
     says(tell, "log: a missing line", LogFailed, lambda: next(reader), "lacks line 50", "restore")
     raises(tell, "log: nothing is appended in its place", LogRefused, lambda: mine.append(51, b""))
-    # The session that this leaves is known to have ended before a line is sent.
     mine.check_writable()
     database.kill()
+    # A session that has ended is noticed before a line is sent in it.
+    tell("log: a session that has ended", soon(lambda: mine._pool._sessions[0].arrives(0)))
     says(
         tell,
         "log: an append without PostgreSQL",
@@ -190,7 +191,7 @@ def try_standby(tell: Tell, database: Database, mine: PostgresLog, other: Postgr
     tell("standby: PostgreSQL waits for it", soon(lambda: commits_wait(database)))
     read: list[bytes] = []
     waiting = [threading.Thread(target=other.append, args=(107, b"cut"))]
-    waiting.append(threading.Thread(target=lambda: read.extend(mine.read(107))))
+    waiting.append(threading.Thread(target=lambda: read.extend(other.read(107))))
     waiting[0].start()
     tell("standby: an append waits", soon(lambda: len(database.execute(WAITS)) == 1))
     says(tell, "standby: another append at its position", LogRefused, lambda: mine.append(107, b"hunter2"), "55P03")
@@ -218,8 +219,8 @@ def try_standby(tell: Tell, database: Database, mine: PostgresLog, other: Postgr
         it.join()
     log.close()
     tell("standby: the line is read", read == [b"cut"])
-    with mock.patch.object(mine, "_rows", wraps=mine._rows) as rows:
-        read = [*mine.read(107)]
+    with mock.patch.object(other, "_rows", wraps=other._rows) as rows:
+        read = [*other.read(107)]
     queries = [it.args[1] for it in rows.call_args_list]
     tell("standby: a read waits after its rows, and only then", queries == ["read", "replicated", "read"])
 
@@ -227,7 +228,7 @@ def try_standby(tell: Tell, database: Database, mine: PostgresLog, other: Postgr
 def try_signal(tell: Tell, database: Database, log: PostgresLog) -> None:
     """An append that waits for a standby ends by an interrupt, as by Ctrl-C. Its commit isn't cancelled in the server."""
     was = signal.signal(signal.SIGALRM, signal.default_int_handler)
-    signal.setitimer(signal.ITIMER_REAL, 0.5)
+    signal.setitimer(signal.ITIMER_REAL, 1)
     try:
         log.append(1, b"one")
         tell("standby: an append that is interrupted", False)

@@ -162,11 +162,13 @@ class Host:
                 found.append(entry)
         return found
 
-    def forget(self, link: bytes) -> None:
-        """Lets the next start take the log as it is."""
+    def forget(self, link: bytes, is_forked: bool) -> None:
+        """Drops the evidence. If the log is still the other one, the next start takes it as it is."""
+        if self.evidence is None:
+            raise ProviderError("there is no evidence to discard: restart first")
         if link != self.known.latest.link:
             raise ValueError("the link isn't that of the latest epoch that this process knows")
-        self.evidence, self._is_forgetful = None, True
+        self.evidence, self._is_forgetful = None, is_forked
 
     def begin_anew(self) -> None:
         """Forgets how often the child ended."""

@@ -281,6 +281,9 @@ class PostgresLog(Closing):
         self._replicate(session)
 
     def _write(self, session: Session, row: dict[str, Any]) -> None:
+        if row["position"] == 0:
+            # The table may have been made after the session was checked.
+            self._check(session)
         session.warned.clear()
         try:
             rows = self._rows(session, "append", row)

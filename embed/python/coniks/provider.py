@@ -230,13 +230,16 @@ class Directory(Closing):
         return self._host.known.chain[first:]
 
     def evidence(self) -> Optional[Evidence]:
-        """What this process has seen and what the log has, after `LogForked` or `ReplayDiffers`; None if the log has all of it."""
+        """What this process has seen and what the log had, after `LogForked` or `ReplayDiffers`, until `discard_evidence`; None if no
+        log was another one."""
         return self._host.evidence
 
     def discard_evidence(self, link: bytes) -> None:
-        """Lets the next `restart` take the log as it is, also if it lacks what this process has seen. `link` is that of the
-        latest epoch, so that no script does it for another directory. Keep the evidence first: clients may have seen it too."""
-        self._change(lambda: self._host.forget(sized(link, 32, "a link")))
+        """Drops the evidence. If the log still lacks what this process has seen, the next `restart` takes it as it is. `link` is
+        that of the latest epoch, so that no script does it for another directory. Keep the evidence first: clients may have seen
+        it too."""
+        is_forked = isinstance(self._broken, (LogForked, ReplayDiffers))
+        self._change(lambda: self._host.forget(sized(link, 32, "a link"), is_forked))
 
     @property
     def pid(self) -> Optional[int]:

@@ -309,7 +309,15 @@ def try_backups(it: Service) -> None:
     it.log.write_bytes(whole)
     file_of(it.own).__init__(it.log)  # type: ignore[misc]
     it.own.restart()
-    it.tell("a log that has the body again", it.own.latest().epoch == 4)
+    it.tell("a log that has the body again", it.own.latest().epoch == 4 and it.own.evidence())
+    # The log is whole, so what is discarded is the evidence alone.
+    it.own.discard_evidence(it.own.latest().link)
+    it.refuses("no evidence to discard", ProviderError, lambda: it.own.discard_evidence(it.own.latest().link))
+    whole = it.log.read_bytes()
+    file_of(it.own).close()
+    it.log.write_bytes(whole[: whole.rindex(b"\n", 0, -1) + 1])
+    file_of(it.own).__init__(it.log)  # type: ignore[misc]
+    it.refuses("evidence that was discarded, and another loss", LogForked, lambda: it.own.restart(sign_pending=False))
     it.is_one_chain("backups")
 
 

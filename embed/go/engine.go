@@ -1,0 +1,433 @@
+package coniks
+
+import (
+	"bytes"
+	"context"
+	"crypto/sha256"
+	"encoding/binary"
+	"errors"
+	"fmt"
+	"sync"
+)
+
+// replayBytes and replayLines are how much of a log is sent to the child before the answers are awaited.
+const (
+	replayBytes = 1 << 20
+	replayLines = 64
+)
+
+const checkReplay = "check that log and program are this directory's"
+
+// update is a pending update, with its line as the log has it and, after a replay, its operations.
+type update struct {
+	pending    Pending
+	line       []byte
+	operations []indexed
+}
+
+// unlogged is an epoch that the child has installed and the log refused, with its line.
+type unlogged struct {
+	line  []byte
+	epoch Epoch
+	size  Latest
+}
+
+// view is what the log says, as far as it is known to have it.
+type view struct {
+	latest Epoch
+	size   Latest
+	chain  [][]byte // is only appended to
+	update *update
+}
+
+// engine is a child, and how far the log was replayed into it. The child also answers for the epochs that the log has if it has
+// installed one more, since each lookup names its epoch.
+//
+// Whoever holds the steps of the host changes it. Others read its view.
+type engine struct {
+	settings *Settings
+	child    *child
+	position int    // how many lines the log has
+	opening  []byte // the log's first line
+	unlogged *unlogged
+	replaced [][]byte // the bodies of logged updates that others replaced
+	sample   sample
+
+	mutex sync.Mutex
+	seen  view
+}
+
+func (it *engine) view() view {
+	it.mutex.Lock()
+	defer it.mutex.Unlock()
+	return it.seen
+}
+
+func (it *engine) setUpdate(update *update) {
+	it.mutex.Lock()
+	defer it.mutex.Unlock()
+	it.seen.update = update
+}
+
+// settle notes that the log has the pending update's epoch.
+func (it *engine) settle(epoch Epoch, size Latest) {
+	it.mutex.Lock()
+	defer it.mutex.Unlock()
+	it.seen.latest, it.seen.size, it.seen.update = epoch, size, nil
+	it.seen.chain = append(it.seen.chain, epoch.Entry)
+	it.unlogged = nil
+}
+
+// replay replays the log from its start, in which mustBeNew allows no line.
+func (it *engine) replay(ctx context.Context, mustBeNew bool) error {
+	replayer := &replayer{engine: it, ctx: ctx}
+	err := it.read(func(line []byte) error {
+		if mustBeNew {
+			return failed(ErrDirectoryExists, "there is a directory in %s: start without Create, or check that it is the right log",
+				nameOf(it.settings.Log))
+		}
+		return replayer.send(append([]byte(nil), line...))
+	})
+	if err != nil {
+		return err
+	}
+	return replayer.takeTo(0, 0)
+}
+
+// replayer sends a log's lines to the child, some of them before it takes the answers to earlier ones.
+type replayer struct {
+	engine      *engine
+	ctx         context.Context
+	sent        []sentLine
+	size, count int
+}
+
+type sentLine struct {
+	said     *logged
+	question *question
+}
+
+func (it *replayer) send(line []byte) error {
+	said, err := replayable(line, it.count)
+	if err != nil {
+		// An error of an earlier line goes first.
+		if earlier := it.takeTo(0, 0); earlier != nil {
+			return earlier
+		}
+		return err
+	}
+	it.sent = append(it.sent, sentLine{said, it.engine.child.send(line)[0]})
+	it.size, it.count = it.size+len(line), it.count+1
+	return it.takeTo(replayBytes, replayLines)
+}
+
+// takeTo takes answers until at most so many bytes of lines, and so many lines, are without one.
+func (it *replayer) takeTo(size, lines int) error {
+	for len(it.sent) > lines || it.size > size && len(it.sent) > 0 {
+		first := it.sent[0]
+		told, err := first.question.wait(it.ctx)
+		if err != nil {
+			return err
+		}
+		if err := it.engine.take(first.said, told); err != nil {
+			return err
+		}
+		it.sent, it.size = it.sent[1:], it.size-len(first.said.line)
+	}
+	return nil
+}
+
+// read calls each with the lines of the log. An error of the log is ErrLogFailed.
+func (it *engine) read(each func(line []byte) error) error {
+	var stopped error
+	err := guarded(func() error {
+		return it.settings.Log.Read(0, func(line []byte) error {
+			if stopped == nil {
+				stopped = each(line)
+			}
+			return stopped
+		})
+	})
+	if stopped != nil {
+		return stopped
+	}
+	return logError(err, "the log can't be read, repair it and start again")
+}
+
+func replayable(line []byte, position int) (*logged, error) {
+	said, err := loggedOf(line, fmt.Sprintf("line %d of the log", position))
+	if err != nil {
+		return nil, err
+	}
+	if it := said.command; it != "open" && it != "prepare" && it != "install" {
+		return nil, failed(ErrLogFailed, "line %d of the log is none of a provider: check that it is the log of a provider", position)
+	}
+	return said, nil
+}
+
+// take compares the child's answer to the next line of the log: the body of `prepare`, the link of `install`.
+func (it *engine) take(said *logged, told []byte) error {
+	answer, err := answerOf(told, said.command)
+	if fault := (*Fault)(nil); errors.As(err, &fault) {
+		return failed(ErrReplayDiffers, "line %d of the log is refused, %s: %w", it.position, checkReplay, err)
+	}
+	if err != nil {
+		it.child.fail(err)
+		return err
+	}
+	switch said.command {
+	case "open":
+		it.opening, err = said.line, it.compareOpening(said)
+	case "prepare":
+		err = it.takePrepare(said, answer)
+	case "install":
+		err = it.takeInstall(said, answer)
+	}
+	it.position++
+	return err
+}
+
+func (it *engine) compareOpening(said *logged) error {
+	what := ""
+	switch key := sha256.Sum256(it.settings.VRFPublicKey); {
+	case !bytes.Equal(said.policy, it.settings.Policy[:]):
+		what = "policy"
+	case it.settings.Nonce != nil && !bytes.Equal(said.nonce, it.settings.Nonce[:]):
+		what = "nonce"
+	case it.settings.VRFPublicKey != nil && said.vrf != nil && !bytes.Equal(said.vrf, key[:]):
+		what = "public key of the VRF"
+	default:
+		return nil
+	}
+	return failed(ErrLogFailed, "the log's directory has another %s: check that log and keys belong together", what)
+}
+
+func (it *engine) takePrepare(said *logged, answer *answer) error {
+	if !bytes.Equal(answer.Body, said.body) {
+		return failed(ErrReplayDiffers, "line %d of the log has another body: %s", it.position, checkReplay)
+	}
+	pending, err := it.pendingOf(said.epoch, answer)
+	if err != nil {
+		return err
+	}
+	if before := it.seen.update; before != nil {
+		it.replaced = append(it.replaced, before.pending.Body)
+	}
+	it.setUpdate(&update{pending, said.line, operationsOf(said)})
+	return nil
+}
+
+func (it *engine) takeInstall(said *logged, answer *answer) error {
+	if !bytes.Equal(answer.Link, said.link) {
+		return failed(ErrReplayDiffers, "line %d of the log has another link: %s", it.position, checkReplay)
+	}
+	epoch, err := it.installedOf(said.signature, answer)
+	if err != nil {
+		return err
+	}
+	it.sample.add(it.seen.update.operations)
+	it.settle(epoch, Latest{})
+	return nil
+}
+
+// measure asks how large the directory is at the latest epoch.
+func (it *engine) measure(ctx context.Context) error {
+	told, err := it.child.ask(ctx, latestLine, "latest")
+	if err != nil {
+		return err
+	}
+	size, err := it.sizeOf(told, it.seen.latest)
+	if err != nil {
+		return err
+	}
+	it.mutex.Lock()
+	defer it.mutex.Unlock()
+	it.seen.size = size
+	return nil
+}
+
+// distrust ends a child that printed something wrong. Another one is started.
+func (it *engine) distrust(format string, arguments ...any) error {
+	err := failed(ErrProgramFailed, format+": check that it is the program provider", arguments...)
+	it.child.fail(err)
+	return err
+}
+
+func (it *engine) sizeOf(told *answer, latest Epoch) (Latest, error) {
+	size := Latest{Epoch: told.Epoch, Names: told.Names, Nodes: told.Nodes}
+	if !take(&size.Link, told.Link) || size.Epoch != latest.Epoch || size.Link != latest.Link {
+		return Latest{}, it.distrust("the program has another latest epoch than %d", latest.Epoch)
+	}
+	return size, nil
+}
+
+// pendingOf returns the update that the child has prepared. Its body is one of this epoch, after the latest one.
+func (it *engine) pendingOf(epoch uint64, told *answer) (Pending, error) {
+	pending, latest := Pending{Epoch: epoch, Body: told.Body}, it.seen.latest
+	if len(told.Body) != bodyLength || !take(&pending.Root, told.Root) ||
+		!bytes.Equal(told.Body[1:81], bodyStart(epoch, told.Root, latest)) || !bytes.Equal(told.Body[113:], it.settings.Policy[:]) {
+		return Pending{}, it.distrust("the body of epoch %d doesn't follow the entry of epoch %d", epoch, latest.Epoch)
+	}
+	return pending, nil
+}
+
+// installedOf returns the epoch that the child has installed. Its entry is what was signed, with the signature.
+func (it *engine) installedOf(signature []byte, told *answer) (Epoch, error) {
+	epoch, update := Epoch{Epoch: told.Epoch, Entry: told.Entry}, it.seen.update
+	if update == nil || !take(&epoch.Root, told.Root) || !take(&epoch.Link, told.Link) || len(epoch.Entry) != entryLength ||
+		epoch.Epoch != update.pending.Epoch || epoch.Root != update.pending.Root ||
+		!bytes.Equal(epoch.Entry[:bodyLength], update.pending.Body) || !bytes.Equal(epoch.Entry[bodyLength:], signature) {
+		return Epoch{}, it.distrust("the entry of epoch %d isn't what was signed", told.Epoch)
+	}
+	return epoch, nil
+}
+
+// open makes a directory in a log without a line.
+func (it *engine) open(ctx context.Context) error {
+	nonce, vrf := random32(), []byte(nil)
+	if it.settings.Nonce != nil {
+		nonce = *it.settings.Nonce
+	}
+	if it.settings.VRFPublicKey != nil {
+		key := sha256.Sum256(it.settings.VRFPublicKey)
+		vrf = key[:]
+	}
+	line := openLine(nonce, it.settings.Policy, vrf)
+	_, err := it.child.ask(ctx, line, "open")
+	if fault := (*Fault)(nil); errors.As(err, &fault) {
+		return it.distrust("the program refuses to open a directory, %v", err)
+	}
+	if err == nil {
+		err = it.append(line)
+	}
+	it.opening = line
+	return err
+}
+
+// prepare has the child prepare an update, which the log doesn't have yet. The *Fault of a refused line changes nothing.
+func (it *engine) prepare(ctx context.Context, epoch uint64, line []byte) (*update, error) {
+	told, err := it.child.ask(ctx, line, "prepare")
+	if err != nil {
+		return nil, err
+	}
+	pending, err := it.pendingOf(epoch, told)
+	if err != nil {
+		return nil, err
+	}
+	return &update{pending: pending, line: with(line, "body", pending.Body)}, nil
+}
+
+// withdraw makes the log's update pending in the child again, after the log has refused another one.
+func (it *engine) withdraw(ctx context.Context) {
+	if before := it.seen.update; before != nil {
+		told, err := it.child.ask(ctx, before.line, "prepare")
+		if err != nil || !bytes.Equal(told.Body, before.pending.Body) {
+			it.distrust("the program prepares a logged update otherwise than before")
+		}
+	}
+}
+
+// install has the child install the pending update. Its epoch is unlogged until its line is appended.
+func (it *engine) install(ctx context.Context, signature []byte) error {
+	line := installLine(signature)
+	questions := it.child.send(line, latestLine)
+	told, err := it.told(ctx, questions[0], "install")
+	if err != nil {
+		return err
+	}
+	epoch, err := it.installedOf(signature, told)
+	if err != nil {
+		return err
+	}
+	if told, err = it.told(ctx, questions[1], "latest"); err != nil {
+		return err
+	}
+	size, err := it.sizeOf(told, epoch)
+	if err == nil {
+		it.unlogged = &unlogged{with(line, "link", epoch.Link[:]), epoch, size}
+	}
+	return err
+}
+
+// told returns the answer to a line that the program must accept.
+func (it *engine) told(ctx context.Context, question *question, command string) (*answer, error) {
+	line, err := question.wait(ctx)
+	if err != nil {
+		return nil, err
+	}
+	told, err := answerOf(line, command)
+	if fault := (*Fault)(nil); errors.As(err, &fault) {
+		return nil, it.distrust("the program refuses a pending update, %v", err)
+	}
+	if err != nil {
+		it.child.fail(err)
+	}
+	return told, err
+}
+
+func (it *engine) append(line []byte) error {
+	err := guarded(func() error { return it.settings.Log.Append(it.position, line) })
+	if err != nil {
+		return logError(err, "the log can't be written, so the line may be stored or not; repair it, then call Restart")
+	}
+	it.position++
+	return nil
+}
+
+// follows reports whether this log has all that another engine has seen in its log: the first line, the entries, and the body
+// that it may have had signed.
+func (it *engine) follows(other *engine) bool {
+	mine, theirs := it.seen, other.seen
+	if len(mine.chain) < len(theirs.chain) || !bytes.Equal(it.opening, other.opening) {
+		return false
+	}
+	for at, entry := range theirs.chain {
+		if !bytes.Equal(mine.chain[at], entry) {
+			return false
+		}
+	}
+	if theirs.update == nil {
+		return true
+	}
+	body := theirs.update.pending.Body
+	for _, entry := range mine.chain[len(theirs.chain):] {
+		if bytes.Equal(entry[:bodyLength], body) {
+			return true
+		}
+	}
+	for _, replaced := range it.replaced {
+		if bytes.Equal(replaced, body) {
+			return true
+		}
+	}
+	return mine.update != nil && bytes.Equal(mine.update.pending.Body, body)
+}
+
+// checkHead returns an error if the log hasn't the entry of a head.
+func (it *engine) checkHead(head Head) error {
+	if latest := it.seen.latest.Epoch; head.Epoch > latest {
+		return failed(ErrLogBehind, "the log ends at epoch %d, before the head of epoch %d: restore its last lines", latest, head.Epoch)
+	}
+	for _, entry := range it.seen.chain {
+		if binary.BigEndian.Uint64(entry[1:9]) == head.Epoch && sha256.Sum256(append([]byte{linkTag}, entry...)) == head.Link {
+			return nil
+		}
+	}
+	return failed(ErrLogForked, "the log has another entry of epoch %d than the head: check which log is the right one", head.Epoch)
+}
+
+// checkIndices compares the indices of some logged operations with those of the settings.
+func (it *engine) checkIndices(ctx context.Context, withPending bool) error {
+	if pending := it.seen.update; pending != nil && withPending {
+		it.sample.add(pending.operations)
+	}
+	return it.sample.check(ctx, it.settings.index)
+}
+
+// forgetOperations drops what only a start needs.
+func (it *engine) forgetOperations() {
+	it.sample = sample{}
+	if it.seen.update != nil {
+		it.seen.update.operations = nil
+	}
+}

@@ -1,0 +1,485 @@
+package coniks
+
+import (
+	"bytes"
+	"context"
+	"errors"
+	"sync"
+	"time"
+)
+
+// A child that ends is started again by itself, at most so often within so much time.
+const (
+	mostStarts = 5
+	startsTime = time.Minute
+)
+
+// pauses are how long a start waits that follows so many that failed.
+var pauses = []time.Duration{0, 100 * time.Millisecond, time.Second, 5 * time.Second, 10 * time.Second}
+
+// Evidence is what a restart found in a log that lacks what this process has seen in it, or has something else in its place.
+// Known and Found are the entries of both, 209 bytes each. KnownBody and FoundBody are the bodies after the last entry that both
+// have: what this process has seen there, and what the log has. Either is nil if there is none.
+type Evidence struct {
+	Err                  error // ErrLogForked or ErrReplayDiffers
+	Known, Found         [][]byte
+	KnownBody, FoundBody []byte
+}
+
+// host keeps an engine, whose child answers lookups, and starts another one if the child ends.
+type host struct {
+	settings *Settings
+	life     context.Context // is done once the provider is closed
+	end      context.CancelFunc
+
+	// steps is held while the child and the log may differ: by who changes the directory, but not while the signer is asked, and
+	// while another child replays the log. Lookups don't need it.
+	steps sync.Mutex
+
+	mutex       sync.Mutex
+	children    sync.WaitGroup
+	isClosed    bool
+	engine      *engine
+	replaying   *child
+	changed     chan none // closed when something of this changes
+	down        error     // why no child answers and none is being started
+	broken      error     // why nothing can be added before a restart
+	evidence    *Evidence
+	isForgetful bool
+	starts      []time.Time
+}
+
+func newHost(settings *Settings) *host {
+	it := &host{settings: settings, changed: make(chan none)}
+	it.life, it.end = context.WithCancel(context.Background())
+	return it
+}
+
+// set changes what the mutex guards, and wakes those who wait for a change.
+func (it *host) set(change func()) {
+	it.mutex.Lock()
+	defer it.mutex.Unlock()
+	change()
+	close(it.changed)
+	it.changed = make(chan none)
+}
+
+func (it *host) current() *engine {
+	it.mutex.Lock()
+	defer it.mutex.Unlock()
+	return it.engine
+}
+
+// ready returns the engine once its child can be asked. It waits for one that is being started, at most Timeout.
+func (it *host) ready(ctx context.Context) (*engine, error) {
+	var late <-chan time.Time
+	for {
+		it.mutex.Lock()
+		engine, changed, down, isClosed := it.engine, it.changed, it.down, it.isClosed
+		it.mutex.Unlock()
+		switch {
+		case isClosed:
+			return nil, ErrClosed
+		case engine.child.isUsable():
+			return engine, nil
+		case down != nil:
+			return nil, down
+		case late == nil && it.settings.Timeout > 0:
+			timer := time.NewTimer(it.settings.Timeout)
+			defer timer.Stop()
+			late = timer.C
+		}
+		select {
+		case <-changed:
+		case <-late:
+			return nil, failed(ErrProgramFailed, "no program answered within %v: ask again, since it may be replaying the log",
+				it.settings.Timeout)
+		case <-ctx.Done():
+			return nil, ctx.Err()
+		}
+	}
+}
+
+// step makes a call between whose begin and end the child and the log may differ.
+func (it *host) step(ctx context.Context, call func(*engine) error) error {
+	for {
+		if err := it.needed(); err != nil {
+			return err
+		}
+		engine, err := it.ready(ctx)
+		if err != nil {
+			return err
+		}
+		if isDone, err := it.stepOf(engine, call); isDone {
+			return it.orClosed(err)
+		}
+	}
+}
+
+func (it *host) stepOf(engine *engine, call func(*engine) error) (bool, error) {
+	it.steps.Lock()
+	defer it.steps.Unlock()
+	if it.current() != engine || !engine.child.isUsable() {
+		return false, nil
+	}
+	if err := it.needed(); err != nil {
+		return true, err
+	}
+	return true, call(engine)
+}
+
+// needed returns ErrRestartNeeded after an error that left open what the log has.
+func (it *host) needed() error {
+	it.mutex.Lock()
+	defer it.mutex.Unlock()
+	if it.broken != nil {
+		return failed(ErrRestartNeeded, "call Restart first: %w", it.broken)
+	}
+	return nil
+}
+
+// canLookUp returns an error if the VRF turned out to be another one: lookups would show absence proofs at wrong indices.
+func (it *host) canLookUp() error {
+	it.mutex.Lock()
+	broken := it.broken
+	it.mutex.Unlock()
+	if errors.Is(broken, OtherIndex) {
+		return it.needed()
+	}
+	return nil
+}
+
+// append appends a line by a call of the engine. After an error that leaves open whether the log has it, nothing can be added
+// before a restart; also if the call doesn't return.
+func (it *host) append(call func() error) error {
+	isClosed := false
+	it.set(func() {
+		if isClosed = it.isClosed; !isClosed {
+			it.broken = errHalfway
+		}
+	})
+	if isClosed {
+		return ErrClosed
+	}
+	err := call()
+	it.set(func() {
+		if it.broken = err; errors.Is(err, ErrLogRefused) {
+			it.broken = nil
+		}
+	})
+	return err
+}
+
+var errHalfway = failed(ErrLogFailed, "an append was cut short, so the line may be stored or not: call Restart")
+
+// orClosed replaces the error of a call that the end of the provider has cut short.
+func (it *host) orClosed(err error) error {
+	if it.life.Err() != nil && (errors.Is(err, context.Canceled) || errors.Is(err, errReplaced)) {
+		return ErrClosed
+	}
+	return err
+}
+
+// build returns another engine, which has replayed the log. The caller has the steps.
+func (it *host) build(mayCreate, mustBeNew bool) (*engine, error) {
+	child, err := startChild(it.settings.Program, it.settings.Timeout)
+	if err != nil {
+		return nil, err
+	}
+	isClosed := false
+	it.set(func() {
+		if isClosed = it.isClosed; !isClosed {
+			it.replaying = child
+			it.children.Add(1)
+			go func() { <-child.ended; it.children.Done() }()
+		}
+	})
+	if isClosed {
+		child.stop(0)
+		return nil, ErrClosed
+	}
+	engine := &engine{settings: it.settings, child: child}
+	err = engine.replay(it.life, mustBeNew)
+	if errors.Is(err, ErrNoDirectory) && mayCreate {
+		err = nil
+	} else if err == nil && engine.position == 0 && !mayCreate {
+		err = failed(ErrNoDirectory, "there is no directory in %s: check that it is the right log, or make a directory by Create",
+			nameOf(it.settings.Log))
+	}
+	if err == nil && engine.position > 0 {
+		err = engine.measure(it.life)
+	}
+	if err != nil {
+		it.discard(engine)
+		return nil, it.orClosed(err)
+	}
+	return engine, nil
+}
+
+// discard ends the child of an engine that isn't used.
+func (it *host) discard(engine *engine) {
+	engine.child.stop(0)
+	it.set(func() { it.replaying = nil })
+}
+
+// exchange puts an engine in the place of this one. The caller has the steps.
+func (it *host) exchange(engine *engine, more func()) error {
+	err := error(nil)
+	old := it.current()
+	it.set(func() {
+		if it.isClosed {
+			err = ErrClosed
+			return
+		}
+		it.engine, it.replaying, it.down = engine, nil, nil
+		more()
+	})
+	if err != nil {
+		engine.child.stop(0)
+		return err
+	}
+	if old != nil {
+		// What was sent to it is still answered.
+		go old.child.stop(endTime)
+	}
+	go it.watch(engine)
+	return nil
+}
+
+// plan is what a start does: whether it may make a directory, or must, whether it will sign the pending update, and which head
+// the log must have.
+type plan struct {
+	mayCreate, mustBeNew, signPending bool
+	head                              *Head
+}
+
+// renew replays the log in another child, which gets the place of this one if its log has all that this one has seen. Until then
+// this one answers lookups.
+func (it *host) renew(plan plan) error {
+	it.steps.Lock()
+	defer it.steps.Unlock()
+	it.set(func() { it.starts = nil })
+	engine, err := it.build(plan.mayCreate, plan.mustBeNew)
+	if err == nil {
+		if err = it.prove(engine, plan); err != nil {
+			it.discard(engine)
+		}
+	}
+	if err != nil {
+		it.note(err)
+		return it.orClosed(err)
+	}
+	return it.exchange(engine, func() { it.broken, it.isForgetful = nil, false })
+}
+
+// prove does what a start does before its engine is used: it compares head, chain and indices, and makes the directory.
+func (it *host) prove(engine *engine, plan plan) error {
+	if plan.head != nil {
+		if err := engine.checkHead(*plan.head); err != nil {
+			return err
+		}
+	}
+	it.mutex.Lock()
+	isForgetful := it.isForgetful
+	it.mutex.Unlock()
+	if !isForgetful {
+		if err := it.compare(engine); err != nil {
+			return err
+		}
+	}
+	if !it.settings.SkipIndexCheck {
+		if err := engine.checkIndices(it.life, plan.signPending); err != nil {
+			return err
+		}
+	}
+	if log, is := it.settings.Log.(interface{ CheckWritable() error }); is {
+		if err := guarded(log.CheckWritable); err != nil {
+			return logError(err, "the log can't be written, repair it and start again")
+		}
+	}
+	engine.forgetOperations()
+	if engine.position > 0 {
+		return nil
+	}
+	return engine.open(it.life)
+}
+
+// note keeps an error of a start after which nothing can be added before another one.
+func (it *host) note(err error) {
+	if errors.Is(err, ErrReplayDiffers) && it.current() != nil {
+		it.keepEvidence(err, nil)
+	}
+	for _, kind := range []error{ErrLogForked, ErrNoDirectory, ErrReplayDiffers, OtherIndex} {
+		if errors.Is(err, kind) {
+			it.set(func() { it.broken = err })
+		}
+	}
+}
+
+// compare returns ErrLogForked if an engine's log isn't the one that this process has seen.
+func (it *host) compare(engine *engine) error {
+	if old := it.current(); old == nil || engine.follows(old) {
+		return nil
+	}
+	err := failed(ErrLogForked, "the log lacks what this process has seen in it, or has something else in its place: restore it, "+
+		"or keep Evidence and call DiscardEvidence")
+	it.keepEvidence(err, engine)
+	return err
+}
+
+// keepEvidence keeps what this process has seen and what the log has. Without another engine the log is read, as far as it can
+// be.
+func (it *host) keepEvidence(err error, engine *engine) {
+	known, found := it.current().view(), view{}
+	if engine != nil {
+		found = engine.view()
+	} else {
+		guarded(func() error {
+			return Entries(it.settings.Log, func(entry []byte) error {
+				found.chain = append(found.chain, entry)
+				return nil
+			})
+		})
+	}
+	both := 0
+	for both < len(known.chain) && both < len(found.chain) && bytes.Equal(known.chain[both], found.chain[both]) {
+		both++
+	}
+	evidence := &Evidence{err, copies(known.chain), copies(found.chain), known.bodyAt(both), found.bodyAt(both)}
+	it.set(func() { it.evidence = evidence })
+}
+
+// bodyAt returns the body after so many entries: that of the next entry, or of the pending update.
+func (it view) bodyAt(count int) []byte {
+	switch {
+	case count < len(it.chain):
+		return append([]byte(nil), it.chain[count][:bodyLength]...)
+	case it.update != nil:
+		return append([]byte(nil), it.update.pending.Body...)
+	}
+	return nil
+}
+
+func copies(entries [][]byte) [][]byte {
+	out := make([][]byte, len(entries))
+	for at, entry := range entries {
+		out[at] = append([]byte(nil), entry...)
+	}
+	return out
+}
+
+// watch starts another child if that of this engine ends by itself.
+func (it *host) watch(engine *engine) {
+	<-engine.child.ended
+	var last error
+	for failures := 0; it.pause(engine, failures, last); failures++ {
+		if last = it.revive(engine); last == nil {
+			return
+		}
+	}
+}
+
+// pause waits until a child may be started, after so many starts that failed. It returns false if none is needed.
+func (it *host) pause(engine *engine, failures int, last error) bool {
+	if failures >= len(pauses) {
+		failures = len(pauses) - 1
+	}
+	until := time.Now().Add(pauses[failures])
+	it.mutex.Lock()
+	if len(it.starts) == mostStarts {
+		if free := it.starts[0].Add(startsTime); free.After(until) {
+			until = free
+		}
+	}
+	it.mutex.Unlock()
+	if wait := time.Until(until); wait > pauses[len(pauses)-1] {
+		err := failed(ErrProgramFailed, "the program was started %d times within %v: read its standard error and call Restart; "+
+			"it is started again in %v", mostStarts, startsTime, wait.Round(time.Second))
+		if last != nil {
+			err = failed(ErrProgramFailed, "%w: %v", err, last)
+		}
+		it.set(func() {
+			if it.engine == engine {
+				it.down = err
+			}
+		})
+	}
+	timer := time.NewTimer(time.Until(until))
+	defer timer.Stop()
+	for {
+		it.mutex.Lock()
+		isOver, changed := it.isClosed || it.engine != engine, it.changed
+		it.mutex.Unlock()
+		if isOver {
+			return false
+		}
+		select {
+		case <-timer.C:
+			return true
+		case <-changed:
+		}
+	}
+}
+
+// revive starts another child in the place of one that ended. It signs nothing, and nothing that needed a restart before goes on
+// without one. It returns nil if no other try makes sense: another child runs, or the log is known to be another one.
+func (it *host) revive(engine *engine) error {
+	it.steps.Lock()
+	defer it.steps.Unlock()
+	if it.current() != engine {
+		return nil
+	}
+	if broken := it.needed(); errors.Is(broken, ErrLogForked) || errors.Is(broken, ErrReplayDiffers) {
+		it.set(func() { it.down = broken })
+		return nil
+	}
+	it.set(func() {
+		it.starts, it.down = append(it.starts, time.Now()), nil
+		if len(it.starts) > mostStarts {
+			it.starts = it.starts[1:]
+		}
+	})
+	another, err := it.build(false, false)
+	if err == nil {
+		if err = it.compare(another); err != nil {
+			it.discard(another)
+		}
+	}
+	if err == nil {
+		another.forgetOperations()
+		return it.exchange(another, func() {})
+	}
+	it.note(err)
+	return err
+}
+
+// forget drops the evidence. If the log is still the other one, the next restart takes it as it is.
+func (it *host) forget() {
+	it.set(func() {
+		it.evidence, it.isForgetful = nil, errors.Is(it.broken, ErrLogForked) || errors.Is(it.broken, ErrReplayDiffers)
+	})
+}
+
+// close ends the children.
+func (it *host) close() {
+	var children []*child
+	it.set(func() {
+		it.isClosed = true
+		if it.engine != nil {
+			children = append(children, it.engine.child)
+		}
+		if it.replaying != nil {
+			it.replaying.fail(ErrClosed)
+		}
+	})
+	it.end()
+	for _, child := range children {
+		child.stop(endTime)
+	}
+	done := make(chan none)
+	go func() { it.children.Wait(); close(done) }()
+	select {
+	case <-done:
+	case <-time.After(endTime):
+	}
+}

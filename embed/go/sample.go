@@ -1,0 +1,80 @@
+package coniks
+
+import (
+	"context"
+	"encoding/binary"
+	"encoding/json"
+	"fmt"
+	"math/rand"
+)
+
+const sampleSize = 64
+
+// indexed is an operation as a line has it, without its key.
+type indexed struct {
+	Name  string `json:"name"`
+	Index digits `json:"index"`
+}
+
+// sample keeps the first, the last and 64 random ones of the operations that it is given, each of these with equal chances.
+type sample struct {
+	chance      *rand.Rand
+	count       int
+	kept        []indexed
+	first, last *indexed
+}
+
+func (it *sample) add(operations []indexed) {
+	if it.chance == nil {
+		seed := random32()
+		it.chance = rand.New(rand.NewSource(int64(binary.BigEndian.Uint64(seed[:]))))
+	}
+	for at := range operations {
+		operation := operations[at]
+		if it.first == nil {
+			it.first = &operation
+		}
+		it.last = &operation
+		it.count++
+		if len(it.kept) < sampleSize {
+			it.kept = append(it.kept, operation)
+		} else if place := it.chance.Intn(it.count); place < sampleSize {
+			it.kept[place] = operation
+		}
+	}
+}
+
+// check asks for the indices of the operations again, each name once. Another index than the logged one is OtherIndex.
+func (it *sample) check(ctx context.Context, index func(name string) ([32]byte, error)) error {
+	asked := map[string]bool{}
+	operations := it.kept
+	if it.first != nil {
+		operations = append([]indexed{*it.first, *it.last}, operations...)
+	}
+	for _, operation := range operations {
+		if asked[operation.Name] {
+			continue
+		}
+		asked[operation.Name] = true
+		if err := ctx.Err(); err != nil {
+			return err
+		}
+		found, err := index(operation.Name)
+		if err != nil {
+			return fmt.Errorf("the index of a registered name can't be computed, check the VRF: %w", err)
+		}
+		if string(found[:]) != string(operation.Index) {
+			return &Fault{Name: OtherIndex, Advice: "the key of the VRF or its code isn't that of this log, so start with the right " +
+				"one, or set SkipIndexCheck if the log itself has wrong indices"}
+		}
+	}
+	return nil
+}
+
+// operationsOf returns the operations of a line; none if it lacks them, which the program refuses.
+func operationsOf(said *logged) (operations []indexed) {
+	if json.Unmarshal(said.operations, &operations) != nil {
+		return nil
+	}
+	return operations
+}
