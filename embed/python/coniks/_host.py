@@ -43,7 +43,7 @@ class Host:
 
     def __init__(self, setting: Setting):
         self._setting, self.changing = setting, threading.Lock()
-        # `is_closed` also ends a replay. Its child isn't that of `engine` before it is done.
+        # The child of a replay isn't that of `engine` before it is done.
         self.engine: Optional[Engine] = None
         self._replaying: Optional[Engine] = None
         self.is_closed, self._is_forgetful = False, False
@@ -127,6 +127,8 @@ class Host:
         """Puts an engine in the place of this one, if its log has all that this one has seen. The caller holds `changing`."""
         old = self.engine
         try:
+            if self.is_closed:
+                raise Closed("the directory is closed")
             if old and not self._is_forgetful and not new.follows(old):
                 raise self.forked(LogForked(_FORKED), new)
         except BaseException:

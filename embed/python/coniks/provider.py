@@ -93,6 +93,7 @@ _FAR = 1 << 32
 
 
 def abandoned(work: Worker, host: Host) -> None:
+    """Ends what a directory had that nobody closed."""
     work.stop()
     host.abandon()
 
@@ -103,8 +104,9 @@ class Directory(Closing):
 
     def __init__(self, host: Host, index: Index, log: Log, check_indices: bool):
         self._host, self._index, self._log, self._is_checking = host, index, log, check_indices
-        self._is_closed, self._owner = False, os.getpid()
-        self._work = Worker()
+        # A closed directory begins no other call. What is under way then ends before the directory is over, or fails.
+        self._is_closed = self._is_over = False
+        self._work, self._owner = Worker(), os.getpid()
         # Why the directory can't be changed before a restart. `_is_logging` is set while a line is appended.
         self._broken: Optional[Exception] = None
         self._is_logging = False
@@ -131,7 +133,12 @@ class Directory(Closing):
         """Makes a call in the thread that changes the directory, one after another."""
         self._check_open()
         self._check_thread()
-        return self._work.call(work)
+
+        def begun() -> Result:
+            self._check_open()
+            return work()
+
+        return self._work.call(begun)
 
     def _check_thread(self) -> None:
         if self._work.is_this_thread():
@@ -165,8 +172,6 @@ class Directory(Closing):
 
     def _ready(self) -> Engine:
         """The engine, if no restart is needed."""
-        if self._is_closed:
-            raise Closed("the directory is closed")
         if self._broken:
             raise self._needed() from self._broken
         return self._host.known
@@ -221,12 +226,12 @@ class Directory(Closing):
 
     def latest(self) -> Latest:
         """The latest epoch, and how large the directory is."""
-        self._check()
+        self._check_open()
         return self._host.known.size
 
     def chain(self, first: int = 0) -> list[bytes]:
         """The entries of the epochs in their order, 209 bytes each, without the first so many: what an auditor takes."""
-        self._check()
+        self._check_open()
         return self._host.known.chain[first:]
 
     def evidence(self) -> Optional[Evidence]:
@@ -247,17 +252,20 @@ class Directory(Closing):
         return self._host.engine.child.pid if self._host.engine else None
 
     def close(self, seconds: float = 5) -> None:
-        """Ends the child. Waits for a change that is under way, but for the signer at most some seconds: what it signs is then
-        not installed, and a start asks for the same body again. The log stays open, since the caller opened it."""
+        """Ends the child. Waits for a change that is under way, at most some seconds, and for an append in any case. What the
+        signer returns later is not installed, and a start asks for the same body again. The log stays open, since the caller
+        opened it."""
         self._check_thread()
         self._is_closed = True
         if os.getpid() != self._owner:
             return
         self._unused.detach()
-        self._host.is_closed = True
         self._work.stop()
         until = time.monotonic() + seconds
-        while not self._work.join(0.02) and (self._is_logging or time.monotonic() < until):
+        while not self._work.join(0.02) and time.monotonic() < until:
+            pass
+        self._is_over = True
+        while self._is_logging and not self._work.join(0.02):
             pass
         self._host.close()
 
@@ -308,7 +316,7 @@ class Provider(Directory):
         try:
             self._change(lambda: self._start(sign_pending, lambda: self._first(create, head)))
         except BaseException:
-            self.close()
+            self.close(0)
             raise
 
     @classmethod
@@ -417,7 +425,7 @@ class Provider(Directory):
         """Appends a line. After an error that leaves open whether the log has it, a restart is needed."""
         self._is_logging = True
         try:
-            if self._is_closed:
+            if self._is_over:
                 raise Closed("the directory was closed before the log had the line")
             return append()
         except BaseException as error:

@@ -64,7 +64,7 @@ class Replica(Directory):
         try:
             self.restart()
         except BaseException:
-            self.close()
+            self.close(0)
             raise
         threading.Thread(target=self._run, daemon=True).start()
 
@@ -152,6 +152,8 @@ class Replica(Directory):
             if engine.update and sign_pending:
                 provider._settle()
         except BaseException as error:
+            # It must not end the child that the replica goes on with.
+            provider._unused.detach()
             provider._work.stop()
             self._broken = provider._broken
             if not isinstance(error, SignerFailed):

@@ -435,6 +435,20 @@ def try_signers(it: Service) -> None:
     thread.join(20)
     it.tell("close waits for an append", appended == [1] and not log._is_bad, appended)
     it.own = it.opened()
+    # A signer that returns in time is waited for.
+    epoch, begun = it.own.latest().epoch + 1, threading.Event()
+    failed.clear()
+    it.signer.before = lambda: begun.set() or time.sleep(0.3)  # type: ignore[func-returns-value]
+    thread = threading.Thread(target=commits)
+    thread.start()
+    begun.wait(20)
+    it.own.close()
+    thread.join(20)
+    it.signer.before = None
+    it.tell("close waits for a signer", not failed and it.own._host.known.latest.epoch == epoch, failed)
+    file_of(it.own).close()
+    it.own = it.opened()
+    it.tell("what it signed in time is installed", it.own.latest().epoch == epoch)
     it.is_one_chain("signers")
 
 
