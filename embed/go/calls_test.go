@@ -341,13 +341,16 @@ func TestCloseAtRandom(t *testing.T) {
 		}()
 		time.Sleep(time.Duration(rand.Intn(5000)) * time.Microsecond)
 		ctx, cancel := context.WithTimeout(background, time.Duration(rand.Intn(5000))*time.Microsecond)
-		it.provider.Shutdown(ctx)
+		closed := it.provider.Shutdown(ctx)
 		cancel()
 		err := <-done
 		if err != nil && !errors.Is(err, ErrClosed) && !errors.Is(err, ErrLogFailed) {
 			t.Error(err)
 		}
 		it.reopen()
+		if latest := it.provider.Latest().Epoch; closed == nil && (latest == epoch) != (err == nil) {
+			t.Error("what a commit returned that Shutdown waited for isn't what the log has:", err)
+		}
 		if latest := it.provider.Latest().Epoch; latest == epoch {
 			epochs = append(epochs, epoch)
 		} else if err == nil {

@@ -34,7 +34,7 @@ func (it *Provider) Lookup(ctx context.Context, name string, epoch uint64) (Foun
 	if err := it.isOpen(); err != nil {
 		return Found{}, err
 	}
-	return wait(ctx, it.closed, func() (Found, error) {
+	return wait(ctx, it.closed, func(*func()) (Found, error) {
 		all := &lookups{it, ctx, epoch, epoch != 0}
 		one, err := all.begin(name)
 		if err != nil {
@@ -55,7 +55,7 @@ func (it *Provider) Lookups(ctx context.Context, names []string, epoch uint64) (
 		return nil, err
 	}
 	names = append([]string(nil), names...)
-	return wait(ctx, it.closed, func() ([]LookupResult, error) {
+	return wait(ctx, it.closed, func(*func()) ([]LookupResult, error) {
 		all, begun := &lookups{it, ctx, epoch, epoch != 0}, []*lookup(nil)
 		results := make([]LookupResult, 0, len(names))
 		for at := 0; at < len(names) || len(begun) > 0; {

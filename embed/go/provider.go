@@ -122,9 +122,9 @@ func StartProvider(ctx context.Context, settings Settings) (*Provider, error) {
 		settings: &settings, host: newHost(&settings),
 		changing: make(chan none, 1), closing: make(chan none), closed: make(chan none),
 	}
-	_, err := wait(ctx, it.closed, func() (none, error) {
+	_, err := wait(ctx, it.closed, func(last *func()) (none, error) {
 		it.changing <- none{}
-		defer func() { <-it.changing }()
+		*last = func() { <-it.changing }
 		log, is := settings.Log.(interface{ IsNew() bool })
 		mayCreate := settings.Create || is && log.IsNew()
 		return none{}, it.start(plan{mayCreate, settings.Create, !settings.LeavePending, settings.Head})
@@ -156,7 +156,7 @@ func (it *Provider) start(plan plan) error {
 // nothing can be added until the log is whole again or DiscardEvidence was called. After another error, as of a log that can't be
 // read, lookups go on too; but after the fault OtherIndex they return ErrRestartNeeded. It never makes a directory.
 func (it *Provider) Restart(ctx context.Context) error {
-	_, err := change(ctx, it, func() (none, error) { return none{}, it.start(plan{signPending: true}) })
+	_, err := change(ctx, it, nil, func() (none, error) { return none{}, it.start(plan{signPending: true}) })
 	return err
 }
 
@@ -189,24 +189,16 @@ func (it *Provider) commit(ctx context.Context, epoch uint64, operations []Opera
 		copied := *nonce
 		nonce = &copied
 	}
-	if err := it.mayChange(); err != nil {
-		return Epoch{}, err
-	}
-	return wait(ctx, it.closed, func() (Epoch, error) {
-		indices := make([][32]byte, len(operations))
-		for at := range operations {
-			err := ctx.Err()
-			if err == nil {
+	indices := make([][32]byte, len(operations))
+	ask := func() (err error) {
+		for at := 0; at < len(operations) && err == nil; at++ {
+			if err = ctx.Err(); err == nil {
 				indices[at], err = it.settings.index(operations[at].Name)
 			}
-			if err != nil {
-				return Epoch{}, err
-			}
 		}
-		if err := it.begin(ctx); err != nil {
-			return Epoch{}, err
-		}
-		defer func() { <-it.changing }()
+		return err
+	}
+	return change(ctx, it, ask, func() (Epoch, error) {
 		if err := it.prepare(ctx, epoch, prepareLine(epoch, operations, indices, nonce), isFar); err != nil {
 			return Epoch{}, err
 		}
@@ -320,7 +312,7 @@ func (it *Provider) signature(body []byte) (signature []byte, err error) {
 
 // Retry has the pending update signed, and installs it. It returns the fault NotPrepared if there is none.
 func (it *Provider) Retry(ctx context.Context) (Epoch, error) {
-	return change(ctx, it, it.settle)
+	return change(ctx, it, nil, it.settle)
 }
 
 // Pending returns the update that isn't installed, because the signer, the program or the log failed; nil if there is none.
@@ -430,18 +422,22 @@ type made[Result any] struct {
 }
 
 // wait makes steps in a goroutine and returns what they return. It stops waiting once the context is done, or closed is, and the
-// steps go on.
-func wait[Result any](ctx context.Context, closed <-chan none, steps func() (Result, error)) (result Result, err error) {
+// steps go on. The steps may defer a call until their result is there to be returned.
+func wait[Result any](ctx context.Context, closed <-chan none, steps func(last *func()) (Result, error)) (Result, error) {
+	var nothing Result
 	if err := ctx.Err(); err != nil {
-		return result, err
+		return nothing, err
 	}
 	done := make(chan made[Result], 1)
 	go func() {
-		it := made[Result]{err: errors.New("a function of the caller ended the goroutine of a call")}
-		defer func() { done <- it }()
-		it.result, it.err = steps()
+		it, last := made[Result]{err: errors.New("a function of the caller ended the goroutine of a call")}, func() {}
+		defer func() {
+			done <- it
+			last()
+		}()
+		it.result, it.err = steps(&last)
 	}()
-	err = ErrClosed
+	err := ErrClosed
 	select {
 	case it := <-done:
 		return it.result, it.err
@@ -453,30 +449,33 @@ func wait[Result any](ctx context.Context, closed <-chan none, steps func() (Res
 	case it := <-done:
 		return it.result, it.err
 	default:
-		return result, err
+		return nothing, err
 	}
 }
 
-// change makes steps that change the directory, one call after another.
-func change[Result any](ctx context.Context, it *Provider, steps func() (Result, error)) (result Result, err error) {
-	if err := it.mayChange(); err != nil {
-		return result, err
+// change makes steps that change the directory, one call after another. The first steps, which may be nil, don't change it yet.
+func change[Result any](ctx context.Context, it *Provider, first func() error, steps func() (Result, error)) (Result, error) {
+	var nothing Result
+	if it.isSigner() {
+		return nothing, errSigner
 	}
-	return wait(ctx, it.closed, func() (Result, error) {
-		if err := it.begin(ctx); err != nil {
-			return result, err
+	if err := it.isOpen(); err != nil {
+		return nothing, err
+	}
+	return wait(ctx, it.closed, func(last *func()) (Result, error) {
+		var nothing Result
+		if first != nil {
+			if err := first(); err != nil {
+				return nothing, err
+			}
 		}
-		defer func() { <-it.changing }()
+		if err := it.begin(ctx); err != nil {
+			return nothing, err
+		}
+		// Shutdown waits for this. It finds that the call has its result.
+		*last = func() { <-it.changing }
 		return steps()
 	})
-}
-
-// mayChange returns an error if this goroutine can't change the directory.
-func (it *Provider) mayChange() error {
-	if it.isSigner() {
-		return errSigner
-	}
-	return it.isOpen()
 }
 
 func (it *Provider) isOpen() error {
