@@ -13,7 +13,7 @@ import threading
 import time
 from dataclasses import dataclass
 from hashlib import sha256
-from typing import Any, Mapping, NamedTuple, Optional, Sequence, Tuple
+from typing import Any, Iterable, Mapping, NamedTuple, Optional, Sequence, Tuple
 
 from . import BODY_LENGTH, ENTRY_LENGTH, Head
 from ._lines import SIGNATURE_LENGTH, Epoch, Index, Latest, Pending, answer, digits, encoded, install_line, members_of, number
@@ -52,11 +52,18 @@ class Child:
     def pid(self) -> int:
         return self._process.pid
 
-    def ask(self, lines: Sequence[bytes]) -> list[bytes]:
-        """Writes lines with their newlines, and reads an answer for each."""
+    def send(self, lines: Iterable[bytes]) -> None:
+        """Writes lines with their newlines. Each gets an answer."""
         try:
             self._send(b"".join(lines))
-            return [self._receive() for _ in lines]
+        except BaseException:
+            self.is_sound = False
+            raise
+
+    def receive(self, count: int) -> list[bytes]:
+        """Reads the next answers."""
+        try:
+            return [self._receive() for _ in range(count)]
         except BaseException:
             self.is_sound = False
             raise
@@ -202,7 +209,8 @@ class Engine:
 
     def ask(self, line: bytes) -> Mapping[str, Any]:
         with self.asking:
-            [said] = self.child.ask([line + b"\n"])
+            self.child.send([line, b"\n"])
+            [said] = self.child.receive(1)
         try:
             return answer(said)
         except ProgramFailed:

@@ -7,7 +7,8 @@ import time
 from collections import deque
 from contextlib import suppress
 from dataclasses import dataclass
-from typing import Optional, Sequence
+from queue import Empty, SimpleQueue
+from typing import Any, Iterable, Iterator, Optional, Sequence
 
 from . import BODY_LENGTH
 from ._engine import Engine, Setting
@@ -17,6 +18,8 @@ from .faults import Closed, LogForked, NoDirectory, ProgramFailed, ProviderError
 
 # A child that ends is started again at most so often in so many seconds.
 _STARTS, _SECONDS = 5, 60
+# The bytes of a group of lookups, and how many groups are sent ahead.
+_GROUP, _AHEAD = 4096, 32
 _FORKED = (
     "the log lacks what this process has seen in it, or has something else in its place: restore it, "
     "or keep evidence() and call discard_evidence"
@@ -49,6 +52,8 @@ class Host:
         self.is_closed, self._is_forgetful = False, False
         self.evidence: Optional[Evidence] = None
         self._starts: deque[float] = deque(maxlen=_STARTS)
+        # Groups of lookups that wait for the thread, each with where its answers go.
+        self._asked: SimpleQueue[Any] = SimpleQueue()
         self._thread = Worker(self._look_after)
 
     @property
@@ -58,26 +63,72 @@ class Host:
             raise Closed("the directory isn't started")
         return self.engine
 
-    def serve(self, lines: Sequence[bytes]) -> list[bytes]:
-        """Returns the child's answers to lookups. If the child ended, waits until another one is started."""
+    @property
+    def group_size(self) -> int:
+        """The bytes of a group of lookups, of which the pipe to the child has room for two at least."""
+        return min(_GROUP, self.known.child.at_once)
+
+    def serve(self, groups: Iterable[Sequence[bytes]]) -> Iterator[list[bytes]]:
+        """The child's answers to groups of lookups, one group after another. Some groups are sent ahead, so that the child works
+        while the answers of others are read. If the child ended, waits until another one is started."""
+        waiting: deque[SimpleQueue[Any]] = deque()
+        for lines in groups:
+            reply: SimpleQueue[Any] = SimpleQueue()
+            self._asked.put((lines, reply))
+            self._thread.begin(self._serve, reply)
+            waiting.append(reply)
+            if len(waiting) > _AHEAD:
+                yield self._answers(waiting.popleft())
+        while waiting:
+            yield self._answers(waiting.popleft())
+
+    def _answers(self, reply: SimpleQueue[Any]) -> list[bytes]:
         seconds = self._setting.timeout
         try:
-            return self._thread.call(lambda: self._serve(lines), seconds)
-        except TimeoutError:
+            is_well, answers = reply.get(timeout=seconds)
+        except Empty:
             raise ProgramFailed(f"no answer in {seconds} seconds: ask again, since the program may be replaying the log") from None
+        if not is_well:
+            raise answers
+        return answers  # type: ignore[no-any-return]
 
-    def _serve(self, lines: Sequence[bytes]) -> list[bytes]:
-        engine = self.known
+    def _serve(self) -> None:
+        """Sends the groups that wait, and answers them. Those that a child which ends leaves are sent to another one."""
+        asked = self._taken()
+        failure: BaseException = ProgramFailed("the program ended while it was asked: ask again, since it is started again")
+        for is_again in (False, True):
+            try:
+                self._serve_groups(asked, self.known if not is_again else self._revived())
+            except BaseException as error:
+                failure = error
+            if not asked:
+                return
+        while asked:
+            asked.popleft()[1].put((False, failure))
+
+    def _serve_groups(self, asked: deque[Any], engine: Engine) -> None:
         with engine.asking:
-            if engine.child.is_sound:
-                try:
-                    return engine.child.ask(lines)
-                except ProgramFailed:
-                    pass
+            if not engine.child.is_sound:
+                return
+            engine.child.send(line for lines, _ in asked for line in lines)
+            while asked:
+                lines, reply = asked[0]
+                reply.put((True, engine.child.receive(len(lines))))
+                asked.popleft()
+
+    def _revived(self) -> Engine:
         with self.changing:
-            engine = self.sound()
-        with engine.asking:
-            return engine.child.ask(lines)
+            return self.sound()
+
+    def _taken(self) -> deque[Any]:
+        """The groups that wait, as many as the pipe to the child has room for."""
+        taken: deque[Any] = deque()
+        room = self.known.child.at_once
+        with suppress(Empty):
+            while room > 0:
+                taken.append(self._asked.get_nowait())
+                room -= sum(map(len, taken[-1][0]))
+        return taken
 
     def distrust(self) -> None:
         """Notes that the child printed what isn't defined."""

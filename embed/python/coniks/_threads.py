@@ -25,16 +25,19 @@ class Worker:
         self._thread = threading.Thread(target=self._run, daemon=True)
         self._thread.start()
 
-    def call(self, work: Callable[[], Result], seconds: Optional[float] = None) -> Result:
-        """Returns what a call returns, or raises what it raises. Raises `TimeoutError` if that takes longer: the call goes on."""
-        reply: SimpleQueue[Any] = SimpleQueue()
-        self._jobs.put((work, reply))
+    def begin(self, work: Callable[[], object], reply: SimpleQueue[Any]) -> None:
+        """Has the thread make a call that answers by itself. If the thread has ended, the reply is `Closed`."""
+        self._jobs.put((work, reply, False))
         if self._is_over:
             self._refuse()
-        try:
-            is_well, result = reply.get(timeout=seconds)
-        except Empty:
-            raise TimeoutError() from None
+
+    def call(self, work: Callable[[], Result]) -> Result:
+        """Returns what a call returns, or raises what it raises."""
+        reply: SimpleQueue[Any] = SimpleQueue()
+        self._jobs.put((work, reply, True))
+        if self._is_over:
+            self._refuse()
+        is_well, result = reply.get()
         if not is_well:
             raise result
         return result  # type: ignore[no-any-return]
@@ -63,9 +66,11 @@ class Worker:
                 continue
             if job is None:
                 break
-            work, reply = job
+            work, reply, is_answered = job
             try:
-                reply.put((True, work()))
+                result = work()
+                if is_answered:
+                    reply.put((True, result))
             except BaseException as error:
                 reply.put((False, error))
             del job, work, reply

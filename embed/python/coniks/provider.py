@@ -180,7 +180,8 @@ class Directory(Closing):
         """A name's proof at an epoch, the latest if none is given."""
         self._check()
         at = self._at(epoch)
-        found = self._told(self._host.serve([lookup_line(name, self._index_of(name), at)])[0])
+        [answers] = self._host.serve([[lookup_line(name, self._index_of(name), at)]])
+        found = self._told(answers[0])
         if isinstance(found, Fault):
             raise found
         return found
@@ -199,8 +200,8 @@ class Directory(Closing):
                 except NotText as error:
                     refused[number] = error
 
-        for group in grouped(lines(), self._host.known.child.at_once):
-            found += map(self._told, self._host.serve(group))
+        for answers in self._host.serve(grouped(lines(), self._host.group_size)):
+            found += map(self._told, answers)
         for number in sorted(refused):
             found.insert(number, refused[number])
         return found
