@@ -45,12 +45,7 @@ func TestCloseWhileTheSignerHangs(t *testing.T) {
 
 // A child that hangs doesn't keep Close.
 func TestCloseWhileTheChildHangs(t *testing.T) {
-	it := newRoom(t)
-	it.withStandIn()
-	log, err := CreateFileLog(it.path)
-	it.good(err)
-	it.over(log)
-	it.start()
+	it := newStandInDirectory(t)
 	it.commit(1, Register("alice", []byte("key")))
 	it.tell("lookup hang")
 	done := make(chan error)

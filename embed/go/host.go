@@ -8,13 +8,13 @@ import (
 	"time"
 )
 
-// A child that ends is started again by itself, at most so often within so much time.
+// The most starts of children that ended, and the time in which they are counted.
 const (
 	mostStarts = 5
 	startsTime = time.Minute
 )
 
-// pauses are how long a start waits that follows so many that failed.
+// pauses are how long a start waits after 0, 1, 2, 3, and 4 or more failed ones.
 var pauses = []time.Duration{0, 100 * time.Millisecond, time.Second, 5 * time.Second, 10 * time.Second}
 
 // Evidence is what a restart found in a log that lacks what this process has seen in it, or has something else in its place.
@@ -349,7 +349,7 @@ func (it *host) keepEvidence(err error, engine *engine) {
 	it.set(func() { it.evidence = evidence })
 }
 
-// bodyAt returns the body after so many entries: that of the next entry, or of the pending update.
+// bodyAt returns the body after the first count entries: that of the next entry, or of the pending update.
 func (it view) bodyAt(count int) []byte {
 	switch {
 	case count < len(it.chain):
@@ -379,7 +379,7 @@ func (it *host) watch(engine *engine) {
 	}
 }
 
-// pause waits until a child may be started, after so many starts that failed. It returns false if none is needed.
+// pause waits until a child may be started, after some failed starts. It returns false if none is needed.
 func (it *host) pause(engine *engine, failures int, last error) bool {
 	if failures >= len(pauses) {
 		failures = len(pauses) - 1

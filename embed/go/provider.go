@@ -329,7 +329,7 @@ func (it *Provider) Pending() *Pending {
 // Latest returns the latest epoch that the log has, and how large the directory is.
 func (it *Provider) Latest() Latest { return it.host.current().view().size }
 
-// Chain returns the entries of the epochs in their order, 209 bytes each, without the first so many: what an auditor takes.
+// Chain returns the entries of the epochs in their order, 209 bytes each, from number first on, counted from 0: what an auditor takes.
 func (it *Provider) Chain(first int) [][]byte {
 	chain := it.host.current().view().chain
 	if first < 0 {

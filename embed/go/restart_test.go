@@ -298,12 +298,7 @@ func TestChildIsStartedAgain(t *testing.T) {
 
 // At most 5 starts within a minute; then lookups fail at once, and Restart starts a child.
 func TestChildThatEndsAgainAndAgain(t *testing.T) {
-	it := newRoom(t)
-	it.withStandIn()
-	log, err := CreateFileLog(it.path)
-	it.good(err)
-	it.over(log)
-	it.start()
+	it := newStandInDirectory(t)
 	made := it.commit(1, Register("alice", []byte("key")))
 	for range [mostStarts]int{} {
 		it.awaitChild(it.kill())
@@ -311,10 +306,10 @@ func TestChildThatEndsAgainAndAgain(t *testing.T) {
 	it.kill()
 	start := time.Now()
 	for range [2]int{} {
-		_, err = it.provider.Lookup(background, "alice", 0)
+		_, err := it.provider.Lookup(background, "alice", 0)
 		it.wants(err, ErrProgramFailed)
 	}
-	_, err = it.provider.Commit(background, 2, nil, nil)
+	_, err := it.provider.Commit(background, 2, nil, nil)
 	it.wants(err, ErrProgramFailed)
 	if !strings.Contains(err.Error(), "5 times") || time.Since(start) > startsTime/2 {
 		t.Error(err)

@@ -211,6 +211,17 @@ func (it *room) withStandIn() {
 	it.settings.Program = append([]string{os.Args[0], "stand-in", it.told}, it.settings.Program...)
 }
 
+// newStandInDirectory makes a directory whose program is started by the stand-in.
+func newStandInDirectory(t *testing.T) *room {
+	it := newRoom(t)
+	it.withStandIn()
+	log, err := CreateFileLog(it.path)
+	it.good(err)
+	it.over(log)
+	it.start()
+	return it
+}
+
 // tell tells the stand-in what to do at the next line that has a word in it.
 func (it *room) tell(text string) {
 	it.good(os.WriteFile(it.told+"-", []byte(text), 0o600))

@@ -233,8 +233,7 @@ func TestLogRefusesInstallAndTheChildEnds(t *testing.T) {
 func TestLookupsDuringASlowAppend(t *testing.T) {
 	it := newDirectory(t)
 	latest := it.commit(1, Register("alice", []byte("key")))
-	for epoch, kind := range map[uint64]string{2: "prepare", 3: "install"} {
-		_ = epoch
+	for _, kind := range []string{"prepare", "install"} {
 		writing, goOn := make(chan bool), make(chan bool)
 		it.log.hook(at(kind, func([]byte) error { writing <- true; <-goOn; return nil }), nothing)
 		done := make(chan Epoch)

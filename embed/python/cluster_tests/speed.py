@@ -79,7 +79,7 @@ def measure_takeover(log: PostgresLog, program: str, own: Provider, behind: int)
 
 
 def paced(own: Provider, names: int, seconds: float, rate: int = 200) -> list[float]:
-    """The times of lookups that are begun so many times a second."""
+    """The times of lookups, of which `rate` are begun each second."""
     chance, start, took = random.Random(), time.monotonic(), list[float]()
     for number in range(int(seconds * rate)):
         time.sleep(max(0, start + number / rate - time.monotonic()))

@@ -16,7 +16,7 @@ from ._lines import entries_of
 from ._threads import Worker
 from .faults import Closed, LogForked, NoDirectory, ProgramFailed, ProviderError
 
-# A child that ends is started again at most so often in so many seconds.
+# The most starts of a child that ended, and the seconds in which they are counted.
 _STARTS, _SECONDS = 5, 60
 # The bytes of a group of lookups, and how many groups are sent ahead.
 _GROUP, _AHEAD = 4096, 32
@@ -65,7 +65,7 @@ class Host:
 
     @property
     def group_size(self) -> int:
-        """The bytes of a group of lookups, of which the pipe to the child has room for two at least."""
+        """The bytes of a group of lookups. The pipe to the child has room for at least two groups."""
         return min(_GROUP, self.known.child.at_once)
 
     def serve(self, groups: Iterable[Sequence[bytes]]) -> Iterator[list[bytes]]:
@@ -135,7 +135,7 @@ class Host:
         self.known.child.is_sound = False
 
     def _look_after(self) -> None:
-        """Starts another child if this one ended. If that fails, whoever asks is told."""
+        """Starts another child if this one ended. If that fails, the next lookup or change returns the error."""
         if self.engine and not self.engine.child.is_usable():
             with self.changing:
                 self.sound()

@@ -248,7 +248,7 @@ class Pool:
         raise Failure("; ".join(reasons), is_lost=True)
 
     def shrink(self, size: int = 0) -> None:
-        """Closes sessions until so many are left."""
+        """Closes sessions until `size` are left."""
         with suppress(IndexError):
             while len(self._sessions) > size:
                 self._sessions.pop(0).close()

@@ -211,7 +211,7 @@ class PostgresLog(Closing):
             raise Failure(wrong[found][1].format(table=self._table, role=role, schema=schema))
 
     def check_writable(self) -> None:
-        """Raises `LogRefused` if an append could not succeed: for want of a right, at a standby, or if transactions are read
+        """Raises `LogRefused` if an append could not succeed: if the role lacks a right, at a standby, or if transactions are read
         only."""
         self._do("written", self._pool, self._check_rights, refused=LogRefused)
 

@@ -231,7 +231,7 @@ class Directory(Closing):
         return self._host.known.size
 
     def chain(self, first: int = 0) -> list[bytes]:
-        """The entries of the epochs in their order, 209 bytes each, without the first so many: what an auditor takes."""
+        """The entries of the epochs in their order, 209 bytes each, from number `first` on, counted from 0: what an auditor takes."""
         self._check_open()
         return self._host.known.chain[first:]
 
