@@ -18,6 +18,7 @@ del sys.modules["proofs"]
 sys.path.insert(0, str(HERE.parent / "cases/second"))
 import bytelists
 import chain
+import evidence as evidence
 from members import Fault
 
 judge: Callable[..., Optional[bytes]] = sys.modules["proofs"].judge
@@ -135,6 +136,13 @@ def link(_: int, entry: bytes, place: bytes) -> Answer:
     return (0, bytelists.link(entry)) if len(entry) == 209 else (48, place)
 
 
+def convicts(_: int, a: bytes, b: bytes, kind: bytes) -> Answer:
+    if len(a) != 209 or len(b) != 209:
+        return 48, kind
+    found = evidence.kind(a, b)
+    return (0, struct.pack("=I", 1 + evidence.KINDS.index(found))) if found else (50, kind)
+
+
 def text(status: int, place: bytes) -> Answer:
     whole = TEXTS.get(status, b"")
     return len(whole), (whole[: len(place) - 1] + b"\0" + place[len(whole) + 1 :] if place else b"")
@@ -144,7 +152,7 @@ def version(_: int) -> Answer:
     return (VERSION,)
 
 
-CALLS: list[Callable[..., Answer]] = [check, begin, feed, head, step, entry_body, body_bytes, link, text, version]
+CALLS: list[Callable[..., Answer]] = [check, begin, feed, head, step, entry_body, body_bytes, link, text, version, convicts]
 
 
 def some_state(chance: Random) -> bytes:
@@ -170,9 +178,19 @@ def some_entry(chance: Random, state: bytes, root: bytes, nonce: bytes) -> bytes
     return bytes(made)
 
 
+def some_second(chance: Random, entry: bytes) -> bytes:
+    """An entry that is like another one, or nearly so."""
+    made = bytearray(entry)
+    for _ in range(chance.randrange(3) if made else 0):
+        place = chance.choice([0, 8, 16, 48, 112, 144, 208, chance.randrange(209)])
+        if place < len(made):
+            made[place] = (made[place] + chance.choice([1, 1, 2, 255])) % 256
+    return bytes(made if chance.randrange(8) else made[:-1])
+
+
 def some_call(chance: Random, lines: Sequence[samples.Line]) -> Call:
     """A call's number, its number and its arguments."""
-    call = chance.choice([0, 0, 0, 2, 2, 4, 4, 4, 4, *range(10)])
+    call = chance.choice([0, 0, 0, 2, 2, 4, 4, 4, 4, *range(11)])
     given, name, proof = samples.mutated(chance, chance.choice(lines))
     state, verdict = some_state(chance), chance.choice([1, 1, 1, 1, 1, 1, 0, 2, 2**32 - 1])
     if chance.randrange(2):
@@ -198,6 +216,7 @@ def some_call(chance: Random, lines: Sequence[samples.Line]) -> Call:
                 FILL * chance.choice([0, 1, 2, chance.randrange(80), 128]),
             ),
             (0,),
+            (0, entry, some_second(chance, entry), FILL * 4),
         ][call],
     )
 

@@ -9,6 +9,7 @@ from __future__ import annotations
 import base64
 import copy
 import hashlib
+import itertools
 import json
 import os
 import pickle
@@ -23,6 +24,7 @@ from types import ModuleType
 from typing import Any, Callable, Iterator, Optional, Protocol, Sequence, Union
 
 import case_files
+import model
 import proofs
 import tools
 
@@ -30,6 +32,7 @@ HERE = Path(__file__).resolve().parent
 TOP = HERE.parent
 OUT = HERE / "out"
 PROVIDER = TOP / "crates/provider/out/provider"
+EVIDENCE = TOP / "cases/evidence.jsonl"
 KEY = bytes(32)
 SEED = 20261126
 COUNT = 1000
@@ -209,6 +212,19 @@ def of_monitor(chance: random.Random, program: Path) -> Iterator[Request]:
                 yield request, f"refused {status if answer.get('member') == 'proof' else number_of(answer)}"
 
 
+def of_evidence(chance: random.Random) -> Iterator[Request]:
+    """Pairs of entries, those of the cases among them."""
+    pairs = [(it["a"], it["b"], it["kind"]) for it in map(json.loads, EVIDENCE.read_text("utf-8").splitlines())]
+    entries = [it for _ in range(40) for it in chain(chance, 3)]
+    entries += [it for it in (changed(chance, it) for it in entries) if len(it) == len(entries[0])]
+    chosen = [(chance.choice(entries), chance.choice(entries)) for _ in range(COUNT)]
+    pairs += [(a.hex(), b.hex(), model.evidence.kind(a, b)) for a, b in chosen]
+    for a, b, kind in pairs:
+        yield f"convicts {a} {b}", str(1 + model.evidence.KINDS.index(kind) if kind else 0)
+        yield f"convicts {a[2:]} {b}", "refused 48"
+        yield f"convicts {a} {b}00", "refused 48"
+
+
 def of_entries(chance: random.Random) -> Iterator[Request]:
     """Bodies, links, texts and the version."""
     for entry in chain(chance, 100):
@@ -232,7 +248,8 @@ def header_version() -> str:
 
 def requests_of(program: Path, lines: Sequence[proofs.Line]) -> list[Request]:
     chance = random.Random(SEED)
-    return [*of_check(chance, program, lines), *of_audit(chance, program), *of_monitor(chance, program), *of_entries(chance)]
+    of_chains = [*of_audit(chance, program), *of_monitor(chance, program)]
+    return [*of_check(chance, program, lines), *of_chains, *of_evidence(chance), *of_entries(chance)]
 
 
 def try_requests(tell: Tell, side: str, words: Sequence[Union[str, Path]], requests: Sequence[Request], **more: Any) -> None:
@@ -435,6 +452,31 @@ def try_python_faults(tell: Tell, coniks: ModuleType, lines: Sequence[proofs.Lin
             tell("a wrong argument", True)
 
 
+def try_forks(tell: Tell, coniks: ModuleType) -> None:
+    """All forks of small chains contain a pair that convicts, at the first place at which they differ, and no other two chains
+    do. Each chain is a good one."""
+    chains = model.evidence.chains(6, 5)
+    for it in chains:
+        auditor = coniks.Auditor()
+        for entry in it:
+            auditor.feed(entry, True)
+    found: dict[tuple[bytes, bytes], object] = {}
+    forks, wrong = 0, []
+    for one, other in itertools.combinations(chains, 2):
+        place = next((at for at, (a, b) in enumerate(zip(one, other)) if a[:145] != b[:145]), None)
+        is_fork = not (model.evidence.begins(one, other) or model.evidence.begins(other, one))
+        forks += is_fork
+        kinds = [found.setdefault(it, coniks.convicts(*it)) if it not in found else found[it] for it in zip(one, other)]
+        first = next((at for at, kind in enumerate(kinds) if kind), None)
+        if (
+            first != place
+            or (first is not None) != is_fork
+            or (first is not None and kinds[first] is not coniks.EvidenceKind.OVERLAP)
+        ):
+            wrong.append((one, other))
+    tell(f"{forks} forks of {len(chains)} chains convict", len(chains) == 665 and forks == 218248 and not wrong, wrong[:1])
+
+
 def try_python_copies(tell: Tell, coniks: ModuleType, lines: Sequence[proofs.Line]) -> None:
     """Copies, and unpickled ones, continue from the state of the first one, and do not change it."""
     line = next(it for it in lines if coniks.Body.of_entry(bytes.fromhex(it["entry"])).previous_epoch == 0)
@@ -524,6 +566,7 @@ def try_all(tell: Tell, skip: Skip, program: Path, coniks: ModuleType, lines: Se
     try_watch(tell, program)
     try_python_faults(tell, coniks, lines)
     try_python_copies(tell, coniks, lines)
+    try_forks(tell, coniks)
     try_python_lines(tell, coniks)
     requests = requests_of(program, lines)
     with tempfile.TemporaryDirectory() as room:

@@ -112,7 +112,17 @@ enum coniks_status {
 
     /* of calls that take an entry, and of coniks_auditor_head */
     CONIKS_E_ENTRY_LENGTH = 48, /* the entry does not have 209 bytes */
-    CONIKS_E_NO_ENTRY = 49      /* no entry was accepted yet */
+    CONIKS_E_NO_ENTRY = 49,     /* no entry was accepted yet */
+
+    /* of coniks_convicts */
+    CONIKS_NO_EVIDENCE = 50 /* the entries are no evidence of equivocation */
+};
+
+/* Why two entries, signed with one key, are evidence that its owner equivocated. */
+enum coniks_evidence {
+    CONIKS_OVERLAP = 1,      /* different bodies whose intervals (previous epoch, epoch] overlap */
+    CONIKS_OTHER_POLICY = 2, /* different policy digests */
+    CONIKS_MALFORMED = 3     /* one is in no chain: its version, its epochs or its first link is wrong */
 };
 
 /* A nonce, a root, an index or a link. */
@@ -212,6 +222,17 @@ void coniks_body_bytes(const coniks_body *body, coniks_bytes145 *bytes);
 /* Writes the link of an entry, which the next entry contains. Returns CONIKS_GOOD or CONIKS_E_ENTRY_LENGTH. */
 CONIKS_NODISCARD CONIKS_NONNULL(3)
 uint32_t coniks_link(const uint8_t *entry, size_t entry_length, coniks_bytes32 *link);
+
+/*
+ * Compares two entries that were signed with one key: whether they are evidence that its owner equivocated. Verify both
+ * signatures first. A key signs one chain, and nothing else; so no two entries of an honest owner are evidence. If two good
+ * chains part, the first entries with different bodies are evidence, whatever their epochs are.
+ *
+ * Returns CONIKS_GOOD if they are, and writes the first kind of `enum coniks_evidence` that applies. Returns
+ * CONIKS_NO_EVIDENCE if they are not, and CONIKS_E_ENTRY_LENGTH if one of them does not have 209 bytes.
+ */
+CONIKS_NODISCARD CONIKS_NONNULL(5)
+uint32_t coniks_convicts(const uint8_t *a, size_t a_length, const uint8_t *b, size_t b_length, uint32_t *kind);
 
 /*
  * Writes the text of an error's status, in English and ASCII, and a zero byte after it, as snprintf does. Writes at most

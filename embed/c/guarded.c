@@ -17,7 +17,7 @@
 enum { MOST = 7, ROOM = 1 << 16 };
 
 /* The arguments of a call: `r` is read, `w` is written. */
-static const char *const calls[] = {"rrrrrww", "w", "wr", "rww", "wrrrrr", "rw", "rw", "rw", "w", ""};
+static const char *const calls[] = {"rrrrrww", "w", "wr", "rww", "wrrrrr", "rw", "rw", "rw", "w", "", "rrw"};
 
 static uint8_t *areas[MOST], *at[MOST], given[MOST][ROOM];
 static size_t lengths[MOST];
@@ -76,8 +76,10 @@ static size_t answer(int call, uint32_t number)
         return coniks_link(at[0], lengths[0], B32(1));
     case 8:
         return coniks_text(number, at[0], lengths[0]);
-    default:
+    case 9:
         return coniks_version();
+    default:
+        return coniks_convicts(at[0], lengths[0], at[1], lengths[1], (uint32_t *)at[2]);
     }
 }
 

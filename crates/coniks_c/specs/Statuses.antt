@@ -7,6 +7,8 @@ use Rattle.coniks_proof.specs.declared.checker.CheckFault.{CheckFault}
 use Rattle.coniks_proof.specs.declared.wire.WireFault.{WireFault}
 use Rattle.coniks_chain.specs.Chain.{place_of}
 use Rattle.coniks_chain.specs.declared.auditor.AuditFault.{AuditFault}
+use Rattle.coniks_chain.specs.declared.evidence.EvidenceKind.{EvidenceKind}
+use Rattle.coniks_chain.specs.declared.evidence.EvidenceKind.TheVariants.{Overlap, OtherPolicy, Malformed}
 use Rattle.coniks_chain.specs.declared.seen.Seen.{Seen}
 use Rattle.coniks_chain.specs.declared.seen.Seen.TheVariants.{Same, Changed, Absent}
 use Rattle.coniks_c.specs.declared.text.Refusal.{Refusal}
@@ -22,6 +24,12 @@ abbrev pub status_of_seen : Seen → ℕ
 status_of_seen Same = 0
 status_of_seen Absent = 1
 status_of_seen Changed = 9
+
+-- the number of a kind of evidence
+abbrev pub number_of_kind : EvidenceKind → ℕ
+number_of_kind Overlap = 1
+number_of_kind OtherPolicy = 2
+number_of_kind Malformed = 3
 
 -- an error of a proof, of bytes that are not a proof, and of an entry
 abbrev pub IsCheckStatus : ℕ → Type 0

@@ -8,6 +8,7 @@
 mod auditor;
 mod check;
 mod entries;
+mod evidence;
 mod monitor;
 mod status;
 mod text;
@@ -17,6 +18,7 @@ mod version;
 pub use auditor::{coniks_auditor_begin, coniks_auditor_feed, coniks_auditor_head};
 pub use check::coniks_check;
 pub use entries::{coniks_body_bytes, coniks_entry_body, coniks_link};
+pub use evidence::coniks_convicts;
 pub use monitor::coniks_monitor_step;
 pub use text::coniks_text;
 pub use values::{Bytes32, Bytes145, EntryBody, RawAuditorState};

@@ -4,9 +4,9 @@ ghost use Rattle.std.specs.Prelude.{◌≡◌, ◌+◌};
 ghost use Rattle.coniks_proof.specs.Faults.{number};
 ghost use Rattle.coniks_proof.specs.Wire.{order};
 ghost use Rattle.coniks_chain.specs.Chain.{place_of};
-ghost use Rattle.coniks_c.specs.Statuses.{status_of_seen};
+ghost use Rattle.coniks_c.specs.Statuses.{number_of_kind, status_of_seen};
 
-use coniks_chain::{AuditFault, Seen};
+use coniks_chain::{AuditFault, EvidenceKind, Seen};
 use coniks_proof::{CheckFault, WireFault};
 
 /// What was asked for is so: a proof shows a key, an entry follows, a client sees what it expects, bytes were written.
@@ -23,6 +23,9 @@ pub const ENTRY_LENGTH: u32 = 48;
 
 /// No entry was accepted yet.
 pub const NO_ENTRY: u32 = 49;
+
+/// Two entries are no evidence of equivocation.
+pub const NO_EVIDENCE: u32 = 50;
 
 /// The status of an error of a proof, 2 to 8.
 pub fn check_status(fault: CheckFault) -> u32
@@ -80,5 +83,16 @@ pub fn seen_status(seen: Seen) -> u32
         Seen::Same => GOOD,
         Seen::Absent => ABSENT,
         Seen::Changed => CHANGED,
+    }
+}
+
+/// The number of a kind of evidence, 1 to 3.
+pub fn kind_number(kind: EvidenceKind) -> u32
+    ensures { result ≡ number_of_kind kind }
+{
+    match kind {
+        EvidenceKind::Overlap => 1,
+        EvidenceKind::OtherPolicy => 2,
+        EvidenceKind::Malformed => 3,
     }
 }

@@ -57,11 +57,11 @@ whole bs size bytes t t_prev root previous nonce policy is_t is_t_prev is_root i
 pub same_number : (m n : ℕ) → m < 2 ^ 64 → n < 2 ^ 64 → to_be_bytes w64 m ≡ to_be_bytes w64 n → m ≡ n
 same_number m n hm hn e = sym (from_be_bytes-to_be_bytes_8 m hm) ∙ ap (from_be_bytes w64) e ∙ from_be_bytes-to_be_bytes_8 n hn
 
-abbrev made : ℕ → ℕ → ℕ → List ℕ → List ℕ → List ℕ → List ℕ → Body
+abbrev pub made : ℕ → ℕ → ℕ → List ℕ → List ℕ → List ℕ → List ℕ → Body
 made version t t_prev root previous nonce policy =
     record { version = version; t = t; t_prev = t_prev; root = record { 0 = root }; previous = record { 0 = previous }; nonce = record { 0 = nonce }; policy = policy }
 
-same_made : (v v' t t' p p' : ℕ) (r r' l l' n n' q q' : List ℕ) → v ≡ v' → t ≡ t' → p ≡ p' → r ≡ r' → l ≡ l' → n ≡ n' → q ≡ q' → made v t p r l n q ≡ made v' t' p' r' l' n' q'
+pub same_made : (v v' t t' p p' : ℕ) (r r' l l' n n' q q' : List ℕ) → v ≡ v' → t ≡ t' → p ≡ p' → r ≡ r' → l ≡ l' → n ≡ n' → q ≡ q' → made v t p r l n q ≡ made v' t' p' r' l' n' q'
 same_made v v' t t' p p' r r' l l' n n' q q' ev et ep er el en eq = cc
 
 -- a body is known by its bytes

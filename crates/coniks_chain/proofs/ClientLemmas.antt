@@ -1,5 +1,5 @@
 -- Two clients: what their runs have in common.
-use Rattle.std.proofs.Common.{◌≡◌, ◌≢◌, ℕ, zero, suc, ◌<◌, ◌≤◌, List, [], ◌∷◌, length, Bool, Option, Some, None, refl, sym, ap, subst, ◌∙◌, ◌⊎◌, inl, inr, ⊎_elim, arith, get_or}
+use Rattle.std.proofs.Common.{◌≡◌, ℕ, zero, suc, ◌<◌, ◌≤◌, List, length, Bool, Option, Some, None, refl, sym, ap, subst, ◌∙◌, inl, inr, ⊎_elim, arith, get_or}
 use Rattle.std.specs.List.{slice_get}
 use Rattle.std.specs.Option.{option_map}
 use Rattle.std.proofs.lemmas.Option.{slice_get_within, slice_get-get_or, slice_get-map, same_Some}
@@ -11,48 +11,7 @@ use Rattle.coniks_chain.specs.Chain.{Follows, before_of, before_at, GoodChain}
 use Rattle.coniks_chain.specs.Watch.{IsSoundRun, entries_watched}
 use Rattle.coniks_chain.specs.Clients.{IsAcceptedAtEntry, TwoClients}
 use Rattle.coniks_chain.proofs.ChainLemmas.{row}
-
--- equality of entries is decided
-abbrev Decided : {A : Type 0} → A → A → Type 0
-Decided x y = (x ≡ y) ⊎ (x ≢ y)
-
-decide_ℕ : (m n : ℕ) → Decided m n
-decide_ℕ m n = ⊎_elim (λ (less : m < n). inr (λ (e : m ≡ n). omega arith))
-    (λ (le : n ≤ m). ⊎_elim (λ (more : n < m). inr (λ (e : m ≡ n). omega arith)) (λ (ge : m ≤ n). inl (omega arith)) (cases_lt n m)) (cases_lt m n)
-
-decide_list : {A : Type 0} → ((x y : A) → Decided x y) → (xs ys : List A) → Decided xs ys
-decide_list each [] [] = inl refl
-decide_list each [] (y ∷ ys) = inr (λ e. cc)
-decide_list each (x ∷ xs) [] = inr (λ e. cc)
-decide_list each (x ∷ xs) (y ∷ ys) = ⊎_elim
-    (λ head. ⊎_elim (λ tail. inl cc) (λ apart. inr (λ e. apart (cc))) (decide_list each xs ys))
-    (λ apart. inr (λ e. apart (cc)))
-    (each x y)
-
--- part by part
-both : {A B : Type 0} (f : A → B) (x y : A) → Decided (f x) (f y) → ((f x ≡ f y) → Decided x y) → Decided x y
-both f x y part rest = ⊎_elim rest (λ apart. inr (λ e. apart (ap f e))) part
-
-abbrev made : ℕ → ℕ → ℕ → List ℕ → List ℕ → List ℕ → List ℕ → List ℕ → Entry
-made v t p r l n q s = record {
-  body =
-      record { version = v; t = t; t_prev = p; root = record { 0 = r }; previous = record { 0 = l }; nonce = record { 0 = n }; policy = q };
-  signature = record { 0 = s };
-}
-
-same_parts : (v v' t t' p p' : ℕ) (r r' l l' n n' q q' s s' : List ℕ) → v ≡ v' → t ≡ t' → p ≡ p' → r ≡ r' → l ≡ l' → n ≡ n' → q ≡ q' → s ≡ s' → made v t p r l n q s ≡ made v' t' p' r' l' n' q' s'
-same_parts v v' t t' p p' r r' l l' n n' q q' s s' e₁ e₂ e₃ e₄ e₅ e₆ e₇ e₈ = cc
-
-decide_entry : (x y : Entry) → Decided x y
-decide_entry x y =
-    both (λ e. e.body.version) x y (decide_ℕ x.body.version y.body.version) (λ e₁.
-    both (λ e. e.body.t) x y (decide_ℕ x.body.t y.body.t) (λ e₂.
-    both (λ e. e.body.t_prev) x y (decide_ℕ x.body.t_prev y.body.t_prev) (λ e₃.
-    both (λ e. e.body.root.0) x y (decide_list decide_ℕ x.body.root.0 y.body.root.0) (λ e₄.
-    both (λ e. e.body.previous.0) x y (decide_list decide_ℕ x.body.previous.0 y.body.previous.0) (λ e₅.
-    both (λ e. e.body.nonce.0) x y (decide_list decide_ℕ x.body.nonce.0 y.body.nonce.0) (λ e₆.
-    both (λ e. e.body.policy) x y (decide_list decide_ℕ x.body.policy y.body.policy) (λ e₇.
-    both (λ e. e.signature.0) x y (decide_list decide_ℕ x.signature.0 y.signature.0) (λ e₈. inl (same_parts _ _ _ _ _ _ _ _ _ _ _ _ _ _ _ _ e₁ e₂ e₃ e₄ e₅ e₆ e₇ e₈)))))))))
+use Rattle.coniks_chain.proofs.EqualityLemmas.{decide_entry, decide_list}
 
 -- in a good chain later entries have greater epochs
 pub increasing : (hash : List ℕ → List ℕ) (verdict : List ℕ → List ℕ → Bool) (xs : List Entry) (i j : ℕ) (e f : Entry)

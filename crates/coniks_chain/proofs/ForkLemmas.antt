@@ -182,7 +182,7 @@ no_stop hash xs ys e f fork (right_used_up n is) =
     fork.differ (same_Some e f (sym fork.stand.left ∙ ap (slice_get xs) at ∙ sym (later xs n fork.j) ∙ ap (λ es. slice_get es fork.j) is ∙ fork.stand.right))
 no_stop hash xs ys e f fork (links_differ k l d g stand differ) = differ (no_other_place hash xs ys e f k l d g fork stand)
 
-signed_same : (a b : Body) (s t : List ℕ) → a ≡ b → s ≡ t → ◌≡◌ {A = Entry} (record { body = a; signature = record { 0 = s } }) (record { body = b; signature = record { 0 = t } })
+pub signed_same : (a b : Body) (s t : List ℕ) → a ≡ b → s ≡ t → ◌≡◌ {A = Entry} (record { body = a; signature = record { 0 = s } }) (record { body = b; signature = record { 0 = t } })
 signed_same a b s t eb es = cc
 
 -- an entry is known by the bytes that are hashed to its link

@@ -3,6 +3,7 @@ pub mod Chain
 pub mod Seen
 pub mod Watch
 pub mod Fork
+pub mod Evidence
 pub mod Pair
 pub mod Clients
 pub mod Signing

@@ -5,10 +5,13 @@ ghost use Rattle.coniks_proof.specs.Octets.{Octets};
 ghost use Rattle.coniks_proof.specs.declared.paths.Proof.{Proof};
 ghost use Rattle.coniks_chain.specs.Chain.{Continues, Follows, GoodChain, IsFirstRefused, before_at};
 ghost use Rattle.coniks_chain.specs.Clients.{TwoClients};
+ghost use Rattle.coniks_chain.specs.Evidence.{Begins, Convicts, HasBodyOf, HasPolicy, IsFirstEvidence};
 ghost use Rattle.coniks_chain.specs.Watch.{IsFirstUnsound, IsSoundRun, entries_watched};
 ghost use Rattle.coniks_chain.specs.declared.auditor.AuditFault.{AuditFault};
 ghost use Rattle.coniks_chain.specs.declared.auditor.AuditorState.{AuditorState};
 ghost use Rattle.coniks_chain.specs.declared.entry.Entry.{Entry};
+ghost use Rattle.coniks_chain.specs.declared.evidence.Evidence.{Evidence};
+ghost use Rattle.coniks_chain.specs.declared.evidence.EvidenceKind.{EvidenceKind};
 ghost use Rattle.coniks_chain.specs.declared.seen.MonitorFault.{MonitorFault};
 
 /// Proves that a good chain with an entry that follows its last is a good chain.
@@ -58,4 +61,21 @@ pub fn sound_run_is_a_chain()
 /// with different answers under one of its roots.
 pub fn two_clients()
     ensures { TwoClients }
+{}
+
+/// Proves that two chains that part contain evidence, whatever their epochs are.
+///
+/// If of two good chains neither begins the other by bodies, the entries at one place of both are evidence, and
+/// `find_evidence` returns the first such place.
+pub fn forks_convict()
+    ensures { (hash : Octets → Octets) (verdict other : Octets → Octets → Bool) (xs ys : List Entry) → GoodChain hash verdict xs → GoodChain hash other ys
+        → ¬ Begins xs ys → ¬ Begins ys xs → (evidence : Evidence) × IsFirstEvidence xs ys evidence }
+{}
+
+/// Proves that a signer of one chain signs no evidence.
+///
+/// If all bodies that were ever signed are those of one good chain under one policy, no two signed entries are evidence.
+pub fn one_chain_never_convicts()
+    ensures { (hash : Octets → Octets) (verdict : Octets → Octets → Bool) (chain : List Entry) (policy : Octets) (a b : Entry) → GoodChain hash verdict chain
+        → HasPolicy policy chain → HasBodyOf chain a → HasBodyOf chain b → (kind : EvidenceKind) → ¬ Convicts a b kind }
 {}

@@ -3,7 +3,8 @@
 //! A directory signs the root of its tree at each epoch, together with the hash of the entry before it (Melara,
 //! Blankstein, Bonneau, Felten, Freedman: CONIKS, USENIX Security 2015, section 3). An entry is the encoding of one STR.
 //! An auditor verifies such a chain. A client's monitor also checks a proof for its own name at each entry. Two chains
-//! that end in one link are the same, or `extract_history` finds a collision of the hash in them.
+//! that end in one link are the same, or `extract_history` finds a collision of the hash in them. Two chains of one signing
+//! key that part contain two entries that convict the key's owner, and `find_evidence` finds them.
 //!
 //! An auditor takes the entries, and a type that verifies their signatures:
 //!
@@ -32,6 +33,7 @@
 
 pub mod auditor;
 pub mod entry;
+pub mod evidence;
 pub mod history;
 pub mod laws;
 pub mod monitor;
@@ -40,6 +42,7 @@ pub mod signer;
 
 pub use auditor::{AuditFault, Auditor, AuditorState, audit};
 pub use entry::{BODY_BYTES, Body, ENTRY_BYTES, Entry, Signature, link};
+pub use evidence::{Evidence, EvidenceKind, convicts, find_evidence};
 pub use history::extract_history;
 pub use monitor::{Monitor, Wanted};
 pub use seen::{MonitorFault, Seen, Tally};

@@ -147,7 +147,12 @@ pub trait SignatureSource: Verify {
     /// directory promise that such a call was made, once and for the body that is signed.
     ghost gives: { Self → Octets → Option Signature → Self → Type 0 };
 
-    /// Returns a signature for the bytes of a body, or `None` if there is none now.
+    /// Returns a signature for the bytes of a body, or `None` if there is none.
+    ///
+    /// `None` says that the body was not signed, and will not be unless it is asked for again: the caller may install
+    /// another update. If the body is signed all the same, two different bodies follow one entry, and whoever has both
+    /// can convict the signer (`evidence::convicts`). So a caller whose signatures arrive later installs only the same
+    /// update again, or signs through a process that refuses the first body for ever.
     ///
     /// The signature can be a wrong one. No verification result changes.
     fn signature(&mut self, body: &[u8; BODY_BYTES]) -> Option<Signature>

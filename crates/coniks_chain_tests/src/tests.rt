@@ -1,5 +1,6 @@
 //! Worked examples, whose digests and signatures were computed by other programs.
 
+mod evidence;
 mod signers;
 
 use coniks_chain::{

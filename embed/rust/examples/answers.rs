@@ -1,6 +1,6 @@
 //! Replies to the requests of embed/sides.py, one on each line.
 
-use coniks::{Auditor, Body, Error, Monitor, Seen};
+use coniks::{Auditor, Body, Error, EvidenceKind, Monitor, Seen};
 use std::io::{stdin, BufRead};
 
 fn bytes(word: &str) -> Vec<u8> {
@@ -30,6 +30,10 @@ fn body(entry: &[u8]) -> Result<String, Error> {
     let it = Body::of_entry(entry)?;
     let parts = [it.root, it.previous_link, it.nonce, it.policy].map(|it| hex(&it)).join(" ");
     Ok(format!("{} {} {} {parts} {}", it.version, it.epoch, it.previous_epoch, hex(&it.bytes())))
+}
+
+fn kind(it: Option<EvidenceKind>) -> String {
+    it.map_or(0, |kind| kind as u32).to_string()
 }
 
 fn seen(it: Seen) -> String {
@@ -77,6 +81,7 @@ impl Held {
                 "expected".into()
             }
             "step" => self.step(words),
+            "convicts" => said(coniks::convicts(&bytes(words[0]), &bytes(words[1])).map(kind)),
             "link" => said(coniks::link(&bytes(words[0])).map(|it| hex(&it))),
             "body" => said(body(&bytes(words[0]))),
             "text" => coniks::text(words[0].parse().expect("a number"), &mut [0; 128]).into(),

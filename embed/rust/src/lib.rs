@@ -68,6 +68,7 @@ mod c {
         pub fn coniks_entry_body(entry: *const u8, entry_length: usize, body: &mut Body) -> u32;
         pub fn coniks_body_bytes(body: &Body, bytes: &mut [u8; 145]);
         pub fn coniks_link(entry: *const u8, entry_length: usize, link: &mut [u8; 32]) -> u32;
+        pub fn coniks_convicts(a: *const u8, a_length: usize, b: *const u8, b_length: usize, kind: &mut u32) -> u32;
         pub fn coniks_text(status: u32, text: *mut u8, room: usize) -> usize;
         pub fn coniks_version() -> u32;
     }
@@ -76,6 +77,7 @@ mod c {
 const GOOD: u32 = 0;
 const ABSENT: u32 = 1;
 const CHANGED: u32 = 9;
+const NO_EVIDENCE: u32 = 50;
 
 macro_rules! errors {
     ($($(#[$doc:meta])* $name:ident = $number:literal,)*) => {
@@ -337,6 +339,41 @@ pub fn link(entry: &[u8]) -> Result<[u8; 32], Error> {
     // SAFETY: the slice is there for the call, and the link is written by it alone.
     accepted(unsafe { c::coniks_link(entry.as_ptr(), entry.len(), &mut link) })?;
     Ok(link)
+}
+
+/// Why two entries, signed with one key, are evidence that its owner equivocated, by the numbers of `coniks.h`.
+#[derive(Clone, Copy, Debug, PartialEq, Eq, Hash)]
+#[repr(u32)]
+pub enum EvidenceKind {
+    /// The bodies differ, and their intervals (previous epoch, epoch] overlap.
+    Overlap = 1,
+    /// The policy digests differ.
+    OtherPolicy = 2,
+    /// One of the entries is in no chain.
+    Malformed = 3,
+}
+
+/// Returns why two entries are evidence that the owner of a signing key equivocated, or `None` if they are none.
+///
+/// Verify both signatures with that key first.
+///
+/// # Errors
+///
+/// [`Error::EntryLength`].
+pub fn convicts(a: &[u8], b: &[u8]) -> Result<Option<EvidenceKind>, Error> {
+    let mut kind = 0;
+    // SAFETY: the slices are there for the call, and the kind is written by it alone.
+    let status = unsafe { c::coniks_convicts(a.as_ptr(), a.len(), b.as_ptr(), b.len(), &mut kind) };
+    if status == NO_EVIDENCE {
+        return Ok(None);
+    }
+    accepted(status)?;
+    Ok(Some(match kind {
+        1 => EvidenceKind::Overlap,
+        2 => EvidenceKind::OtherPolicy,
+        3 => EvidenceKind::Malformed,
+        other => unreachable!("kind {other} of coniks.h"),
+    }))
 }
 
 /// An entry without its signature.

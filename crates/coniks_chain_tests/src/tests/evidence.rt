@@ -1,0 +1,56 @@
+//! Two entries of one key as evidence, and chains that part.
+
+use crate::tests::flat_entry;
+use coniks_chain::{Entry, Evidence, EvidenceKind, Signature, convicts, find_evidence};
+
+/// Returns an entry with one field of its body changed.
+fn changed(mut entry: Entry, change: impl FnOnce(&mut Entry)) -> Entry {
+    change(&mut entry);
+    entry
+}
+
+/// The kinds, worked out by hand from the intervals (epoch before, epoch].
+#[test]
+fn kinds_of_evidence(rt: HostRuntime) {
+    let two = flat_entry(3, 2, 0);
+    let resigned = changed(two, |it| it.signature = Signature([7; 64]));
+    let other_policy = changed(flat_entry(9, 8, 0), |it| it.body.policy = [9; 32]);
+    let other_version = changed(two, |it| it.body.version = 3);
+    let linked_first = changed(flat_entry(1, 0, 0), |it| it.body.previous.0[31] = 1);
+    let overlap = Some(EvidenceKind::Overlap);
+    let malformed = Some(EvidenceKind::Malformed);
+    for (other, kind) in [
+        (two, None),
+        (resigned, None),
+        (flat_entry(3, 2, 1), overlap),
+        (flat_entry(4, 2, 0), overlap),
+        (flat_entry(9, 0, 0), overlap),
+        (flat_entry(2, 1, 1), None),
+        (flat_entry(4, 3, 1), None),
+        (other_policy, Some(EvidenceKind::OtherPolicy)),
+        (other_version, overlap),
+        (linked_first, malformed),
+        (flat_entry(5, 5, 0), malformed),
+        (flat_entry(0, 0, 0), malformed),
+    ] {
+        assert!(rt; convicts(&two, &other) == kind);
+        assert!(rt; convicts(&other, &two) == kind);
+    }
+}
+
+/// One provider signs epoch 3 for one client and epoch 4 for another, both after epoch 2: no epoch is in both chains.
+#[test]
+fn chains_that_part(rt: HostRuntime) {
+    let both = [flat_entry(1, 0, 0), flat_entry(2, 1, 0)];
+    let ours = [both[0], both[1], flat_entry(3, 2, 0)];
+    let theirs = [both[0], both[1], flat_entry(4, 2, 0), flat_entry(5, 4, 0)];
+    let wanted = Evidence {
+        place: 2,
+        kind: EvidenceKind::Overlap,
+    };
+    assert!(rt; find_evidence(&ours, &theirs) == Some(wanted));
+    assert!(rt; find_evidence(&theirs, &ours) == Some(wanted));
+    assert!(rt; find_evidence(&ours, &both).is_none());
+    assert!(rt; find_evidence(&both, &ours).is_none());
+    assert!(rt; find_evidence(&ours, &[]).is_none());
+}
