@@ -8,6 +8,7 @@ import { load, Refused } from "./out/coniks.js";
 const library = await load(readFileSync(new URL("./out/coniks.wasm", import.meta.url)));
 const data = (word) => Uint8Array.from(Buffer.from(word.replace("-", ""), "hex"));
 const hex = (bytes) => Buffer.from(bytes).toString("hex");
+const KINDS = [null, "overlap", "other policy", "malformed"];
 let [auditor, monitor] = [library.auditor(), null];
 
 const answers = {
@@ -22,6 +23,7 @@ const answers = {
   watch: (name, index) => (monitor = library.monitor(data(name), data(index), null)) && "watched",
   expect: (key) => (monitor.expected = key === "-" ? null : data(key), "expected"),
   step: (entry, verdict, proof) => monitor.step(data(entry), verdict === "1", data(proof)),
+  convicts: (a, b) => String(KINDS.indexOf(library.convicts(data(a), data(b)))),
   link: (entry) => hex(library.link(data(entry))),
   body(entry) {
     const it = library.body(data(entry));

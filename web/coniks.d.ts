@@ -40,6 +40,9 @@ export interface Monitor extends Auditor {
   step(entry: Uint8Array, signatureIsGood: boolean, proof: Uint8Array): Seen;
 }
 
+/** Different bodies whose intervals (previous epoch, epoch] overlap; different policy digests; an entry that no chain contains. */
+export type EvidenceKind = "overlap" | "other policy" | "malformed";
+
 export interface Library {
   /** Returns the key that a proof shows, null if it shows that the name is bound to none. Throws `Refused`. */
   check(nonce: Uint8Array, root: Uint8Array, index: Uint8Array, name: string | Uint8Array, proof: Uint8Array): Uint8Array | null;
@@ -48,6 +51,8 @@ export interface Library {
   monitor(name: string | Uint8Array, index: Uint8Array, expected: Uint8Array | null, state?: Uint8Array): Monitor;
   /** Returns the link of an entry. Throws `Refused`. */
   link(entry: Uint8Array): Uint8Array;
+  /** Returns why two entries, whose signatures are verified, are evidence that their signer equivocated; null if they are none. Throws `Refused`. */
+  convicts(a: Uint8Array, b: Uint8Array): EvidenceKind | null;
   /** Reads the body of an entry and verifies nothing. Throws `Refused`. */
   body(entry: Uint8Array): Body;
   /** Returns the bytes of a body that are signed. */

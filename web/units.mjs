@@ -4,6 +4,7 @@ import { createHash } from "node:crypto";
 import { readFileSync } from "node:fs";
 
 import { bigEndian, bitAt, fromBase64, fromHex, joined, toBase64, toHex } from "./src/bytes.js";
+import { SignedEntries, evidenceDigits, evidenceWords } from "./src/evidence.js";
 import { LONGEST, entryOf, linesOf, lookupOf, numberOf, objectOf, proofBytes } from "./src/lines.js";
 import { sha256 } from "./src/sha256.js";
 import { NOT_VERIFIED, ProviderKey } from "./src/signatures.js";
@@ -141,6 +142,51 @@ for (const digits of orders.flatMap((it) => [it, it.slice(0, 62) + (parseInt(it.
 }
 const broken = new ProviderKey(/** @type {any} */ ({ verify: () => Promise.reject(new Error("refused")) }), /** @type {any} */ ({}));
 same("a browser's error is no valid signature", await broken.verify(entries[0], ""), false);
+
+// Evidence is found in sorted entries exactly if two of them are evidence, by docs/FORMATS.md.
+const numberAt = (/** @type {Uint8Array} */ entry, /** @type {number} */ place) => Number(new DataView(entry.buffer).getBigUint64(place));
+const bodyOf = (/** @type {Uint8Array} */ entry) => toHex(entry.slice(0, 145));
+const isMalformed = (/** @type {Uint8Array} */ it) => ![1, 2].includes(it[0]) || numberAt(it, 1) <= numberAt(it, 9) || (numberAt(it, 9) === 0 && it[49] !== 0);
+
+/** @param {Uint8Array} a @param {Uint8Array} b @returns {number} the kind of evidence, 0 for none */
+function kindOf(a, b) {
+  const [from, to] = [Math.max(numberAt(a, 9), numberAt(b, 9)), Math.min(numberAt(a, 1), numberAt(b, 1))];
+  if (from < to && bodyOf(a) !== bodyOf(b)) return 1;
+  if (a[113] !== b[113]) return 2;
+  return isMalformed(a) || isMalformed(b) ? 3 : 0;
+}
+
+/** @param {number[]} fields  version, epoch, epoch before, and the first bytes of root, link, policy and signature @returns {Uint8Array} */
+function entryWith([version, epoch, before, root, link, policy, signature]) {
+  const entry = new Uint8Array(209);
+  [entry[0], entry[17], entry[49], entry[113], entry[145]] = [version, root, link, policy, signature];
+  new DataView(entry.buffer).setBigUint64(1, BigInt(epoch));
+  new DataView(entry.buffer).setBigUint64(9, BigInt(before));
+  return entry;
+}
+
+const library = { convicts: (/** @type {Uint8Array} */ a, /** @type {Uint8Array} */ b) => ({ status: kindOf(a, b) ? 0 : 50, kind: kindOf(a, b) }) };
+let seed = 30;
+const below = (/** @type {number} */ most) => (seed = (seed * 1103515245 + 12345) % 2 ** 31) % most;
+let [wrong, convicted] = [0, 0];
+for (let turn = 0; turn < 3000; turn++) {
+  const entries = Array.from({ length: 1 + below(6) }, () => {
+    const before = below(6);
+    return entryWith([below(20) ? 1 : 3, before + (below(12) ? 1 + below(3) : 0), before, below(2), below(15) ? 0 : 7, below(15) ? 0 : 1, below(3)]);
+  });
+  const signed = new SignedEntries(/** @type {any} */ (library));
+  entries.forEach((it) => signed.add(toHex(it), it));
+  const found = [...signed.evidence()].find((it) => it !== null);
+  const isThere = entries.some((a) => entries.some((b) => kindOf(a, b)));
+  if (Boolean(found) !== isThere || (found && kindOf(found.a.entry, found.b.entry) !== found.kind)) wrong++;
+  if (found) convicted++;
+}
+same("evidence is found exactly if it is there", wrong, 0);
+same("there is evidence in some sets, and none in others", convicted > 300 && convicted < 2700, true);
+const two = [{ before: 2n, epoch: 3n, entry: Uint8Array.of(1) }, { before: 2n, epoch: 4n, entry: Uint8Array.of(2) }];
+same("evidence of two epochs", evidenceWords({ kind: 1, a: two[0], b: two[1] }), "the entries of epochs 3 and 4 both cover epoch 3, and their contents differ");
+same("evidence of one entry", evidenceWords({ kind: 3, a: two[0], b: two[0] }), "no chain has the entry of epoch 3");
+same("the digits of both entries", evidenceDigits({ kind: 1, a: two[0], b: two[1] }), "01\n02");
 
 console.log(`${passed} passed, ${failed} failed`);
 process.exit(failed ? 1 : 0);

@@ -113,6 +113,15 @@ export class Coniks {
     return status;
   }
 
+  /** Whether two entries are evidence, and of which kind. @param {Uint8Array} a @param {Uint8Array} b @returns {{status: number, kind: number}} */
+  convicts(a, b) {
+    this.desk.clear();
+    const out = this.desk.put(new Uint8Array(4));
+    const [one, other] = [this.desk.put(a), this.desk.put(b)];
+    const status = this.calls.coniks_convicts(one, BigInt(a.length), other, BigInt(b.length), out);
+    return { status, kind: new DataView(this.desk.take(out, 4).buffer).getUint32(0, true) };
+  }
+
   /** The link of an entry of 209 bytes, in hexadecimal digits; the empty text of any other bytes. @param {Uint8Array} entry @returns {string} */
   link(entry) {
     this.desk.clear();

@@ -5,6 +5,8 @@ import { Coniks } from "./coniks.js";
 const ABSENT = 1;
 const BODY_BYTES = 145;
 const STATE_BYTES = 80;
+const NO_EVIDENCE = 50;
+const KINDS = new Map([[1, "overlap"], [2, "other policy"], [3, "malformed"]]);
 const SEEN = new Map([[0, "same"], [1, "absent"], [9, "changed"]]);
 
 /** Why a proof or an entry isn't accepted: `status` is its number in coniks.h, `message` its text. */
@@ -118,6 +120,13 @@ class Library {
     const out = desk.put(new Uint8Array(32));
     this.accepted(calls.coniks_link(desk.put(bytes(entry, "the entry")), BigInt(entry.length), out));
     return desk.take(out, 32);
+  }
+
+  convicts(a, b) {
+    const { status, kind } = this.calls.convicts(bytes(a, "an entry"), bytes(b, "an entry"));
+    if (status === NO_EVIDENCE) return null;
+    this.accepted(status);
+    return KINDS.get(kind);
   }
 
   body(entry) {

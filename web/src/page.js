@@ -3,6 +3,7 @@
 import { fromHex } from "./bytes.js";
 import { Coniks } from "./coniks.js";
 import { element, pathOf } from "./draw.js";
+import { evidenceDigits, evidenceWords } from "./evidence.js";
 import { LONGEST, linesOf } from "./lines.js";
 import { Reading, isOtherEpoch } from "./reading.js";
 import { NOT_VERIFIED, ProviderKey } from "./signatures.js";
@@ -326,6 +327,22 @@ async function countRows(reading, mine) {
   return counts;
 }
 
+/** Shows evidence that the provider equivocated, if its signed entries have some. @param {Reading} reading @param {number} mine */
+async function showEvidence(reading, mine) {
+  const pause = new Pause();
+  for (const found of reading.signed.evidence()) {
+    if (found !== null) {
+      part("shows").textContent = evidenceWords(found);
+      part("both").textContent = evidenceDigits(found);
+      part("evidence").hidden = false;
+      return;
+    }
+    if (!pause.isDue()) continue;
+    await pause.take();
+    if (mine !== turn) return;
+  }
+}
+
 /** Reads what is given, and shows it. */
 async function readAll() {
   const mine = ++turn;
@@ -334,11 +351,13 @@ async function readAll() {
   tellKey("key", wrong.key);
   tellKey("provided", wrong.provided);
   const reading = new Reading(coniks, key, provider);
-  for (const id of ["more", "watch", "reading"]) part(id).hidden = true;
+  for (const id of ["more", "watch", "reading", "evidence"]) part(id).hidden = true;
   part("results").replaceChildren();
   if (await readLines(reading, mine)) return;
   const counts = await countRows(reading, mine);
   if (counts === null) return;
+  await showEvidence(reading, mine);
+  if (mine !== turn) return;
   await showRows(reading, counts, mine);
   if (mine !== turn) return;
   showWatched(reading);

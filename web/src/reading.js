@@ -2,6 +2,7 @@
 
 import { toHex } from "./bytes.js";
 import { Coniks } from "./coniks.js";
+import { SignedEntries } from "./evidence.js";
 import { entryOf, lookupIn, lookupOf, nameBytes, numberOf, objectOf, proofBytes } from "./lines.js";
 import { Seal, indexOf } from "./seal.js";
 import { FAULTS } from "./words.js";
@@ -53,6 +54,7 @@ export class Reading {
     this.key = key;
     /** Null if no signature is verified. @type {import("./signatures.js").Verifier | null} */
     this.verifier = key === null ? provider : new Seal(key);
+    this.signed = new SignedEntries(coniks);
     this.state = coniks.begin();
     /** The state before each accepted entry, by its link. @type {Map<string, Before>} */
     this.before = new Map();
@@ -83,6 +85,8 @@ export class Reading {
 
   /** @param {string} line @param {Record<string, any>} object @param {Signed | null} signed @returns {Row} */
   rowOf(line, object, signed) {
+    // Whoever can verify an entry of the demonstration can make one, so it is no evidence.
+    if (this.key === null && signed?.isGood) this.signed.add(signed.link, signed.entry);
     if ("proof" in object) return this.checked(line, object, signed);
     if (object.ok === "lookup" || "index" in object) return { what: "unproved", name: textOf(object.name), said: numberOf(line, "epoch") };
     if ("entry" in object) return signed === null ? PLAIN.broken : this.audited(line, signed);
