@@ -52,6 +52,9 @@ class Held:
         assert self.monitor
         return self.monitor.step(data(entry), verdict == "1", data(proof)).name.lower()
 
+    def convicts(self, a: str, b: str) -> str:
+        return str(int(coniks.convicts(data(a), data(b)) or 0))
+
     def link(self, entry: str) -> str:
         return coniks.link(data(entry)).hex()
 

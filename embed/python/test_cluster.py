@@ -31,10 +31,12 @@ def try_all(tally: Tally, program: str, faults: int = 9) -> None:
     import cluster_mistakes
     import logs
     import replicas
+    import row_guards
     import runs
     import stand_ins
 
     logs.try_logs(tally.tell, program)
+    row_guards.try_guards(tally.tell)
     replicas.try_replicas(tally.tell, program)
     cluster_mistakes.try_mistakes(tally.tell, program)
     runs.try_faults(tally, program, faults)

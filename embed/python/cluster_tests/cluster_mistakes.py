@@ -15,9 +15,21 @@ from typing import Any, Callable, Union
 
 from database import Database, soon
 from mistakes import other_index
-from stand_ins import POLICY, Salted, Signer, Tell, index, opened, shown
+from stand_ins import POLICY, Salted, Signer, Tell, guarded, index, opened, shown
+from coniks import Head
 from coniks.postgres import PostgresLog
-from coniks.provider import Change, LogFailed, LogForked, LogRefused, Lookup, NoDirectory, OtherIndex, Overtaken, Provider
+from coniks.provider import (
+    Change,
+    LogBehind,
+    LogFailed,
+    LogForked,
+    LogRefused,
+    Lookup,
+    NoDirectory,
+    OtherIndex,
+    Overtaken,
+    Provider,
+)
 from coniks.provider import ProviderError, Register, ReplayDiffers, RestartNeeded, UnknownEpoch, entries
 from coniks.replica import Replica
 
@@ -137,6 +149,8 @@ def try_restored(it: Cluster) -> None:
     it.refuses("an old dump: restart again", LogForked, it.own.restart)
     it.refuses("an old dump: the replica's restart", LogForked, it.replica.restart)
     it.tell("an old dump: the chain is still there", len(it.own.chain()) == len(it.replica.chain()) == 3)
+    ends = [seen.entries for seen in (it.own.evidence(), it.replica.evidence()) if seen]
+    it.tell("an old dump: no two entries are evidence", ends == [None, None])
     it.goes_on("an old dump")
     # A second signer, which keeps no record, signs for a directory that goes on from the dump.
     forger = Signer(it.enter_context(tempfile.TemporaryDirectory()), it.signer.keys)
@@ -150,11 +164,39 @@ def try_restored(it: Cluster) -> None:
         seen, chain = directory.evidence(), directory.chain()
         it.tell(f"a fork: {what} has both chains", seen and (seen.known, seen.found) == (chain, forged))
         it.tell(f"a fork: {what} has both bodies", seen and seen.bodies == (chain[1][:145], forged[1][:145]))
+        it.tell(f"a fork: {what} has both entries", seen and seen.entries == (chain[1], forged[1]))
     it.goes_on("a fork")
     it.tell("a fork: a name is never shown as absent", shown(it.replica.lookup("carol")) == shown(it.own.lookup("carol")) == b"3")
     it.replica.discard_evidence(it.replica.latest().link)
     it.replica.restart()
     it.tell("a fork that is taken after all", it.replica.chain() == forged and it.replica.evidence() is None)
+
+
+def try_guarded(it: Cluster) -> None:
+    """An old dump under a guard: no process that starts or takes over goes on from it."""
+    guard = guarded(it.signer, known=it.own.chain()[-1])
+    it.own = it.writer(it.log(), sign=guard)
+    made = it.own.commit(3, [Register("carol", b"3")])
+    it.tell("an old dump and a guard: the replica follows", soon(lambda: it.replica.latest().epoch == 3))
+    it.look()
+    it.execute("CREATE TABLE {table}_later AS SELECT * FROM {table} WHERE position > 4", "DELETE FROM {table} WHERE position > 4")
+    it.refuses("an old dump and a guard: a start", LogBehind, lambda: it.writer(it.log(), sign=guard))
+    it.refuses("an old dump and a guard: restart", LogBehind, it.own.restart)
+    behind, head = it.follower(), Head(3, made.link)
+    it.refuses("an old dump and a guard: promotion", LogBehind, lambda: behind.promote(guard))
+    it.refuses("an old dump and a head: promotion", LogBehind, lambda: behind.promote(it.signer, head=head))
+    it.refuses("an old dump and a head: follow", LogBehind, lambda: behind.follow(head=head))
+    it.refuses("an old dump and a head: a new replica", LogBehind, lambda: it.follower(head=head))
+    it.tell("an old dump and a guard: the replica goes on", behind.lookup("bob").epoch == 2 and behind.lag().error is None)
+    it.goes_on("an old dump and a guard")
+    it.execute("INSERT INTO {table} SELECT * FROM {table}_later")
+    it.tell("the whole log and a guard: the replica follows", soon(lambda: behind.latest().epoch == 3))
+    behind.follow(head=head)
+    new = it.enter_context(behind.promote(guard, verify=it.signer.verify, head=head))
+    it.tell("the whole log and a guard: promotion", new.commit(4, []).epoch == 4 and guard.signed() == new.chain()[-1])
+    it.own.restart()
+    it.replica.restart()
+    it.goes_on("the whole log and a guard")
 
 
 def try_swapped(it: Cluster) -> None:
@@ -286,7 +328,7 @@ def try_absent(it: Cluster) -> None:
 
 
 MISTAKES: list[Callable[[Cluster], None]] = [
-    try_dropped, try_places, try_restored, try_swapped, try_rights, try_keys, try_promotions, try_absent,
+    try_dropped, try_places, try_restored, try_guarded, try_swapped, try_rights, try_keys, try_promotions, try_absent,
 ]  # fmt: skip
 
 

@@ -8,13 +8,14 @@ import signal
 import tempfile
 import time
 from collections import Counter
-from concurrent.futures import ThreadPoolExecutor
+from concurrent.futures import ThreadPoolExecutor, wait
 from contextlib import ExitStack, suppress
 from functools import partial
 from pathlib import Path
 from types import FrameType
 from typing import Any, Iterator, Optional
 
+from coniks.guard import Guard
 from coniks.postgres import PostgresLog
 from coniks.provider import (
     Change,
@@ -29,11 +30,12 @@ from coniks.provider import (
     NameUnknown,
     Operation,
 )
-from coniks.provider import Overtaken, ProgramFailed, ProviderError, Register, RestartNeeded, entries
+from coniks.provider import Overtaken, ProgramFailed, ProviderError, Register, RestartNeeded, SignerFailed, entries
 from database import Database, soon
 from kills import children_of, kill
 from node import SPAWN, Node
-from stand_ins import HAS_NACL, HERE, Ed25519, Salted, Scheme, Signer, audited, has_library, lines, opened, shown, small_disk
+from stand_ins import HAS_NACL, HERE, Ed25519, Salted, Scheme, Signer, audited, guarded, has_library, lines, opened, shown
+from stand_ins import small_disk
 from tally import Tally
 
 FAULTS = ["kill writer", "pause writer", "kill database", "cut connections", "start writers", "fill disk"]
@@ -61,8 +63,20 @@ def interrupt(_: int, frame: Optional[FrameType]) -> None:
         raise Interrupted("a signal handler raised")
 
 
-# What a fault excuses. A commit that was interrupted goes on, so the next one may come too late.
-EXCUSED = (LogFailed, RestartNeeded, ProgramFailed, NameUnknown, Interrupted, Closed, EpochSpent, EpochNotLater)
+# What a fault excuses. A commit that was interrupted goes on, so the next one may come too late. One that another member overtook
+# may ask for a body that the guard refuses.
+EXCUSED = (LogFailed, RestartNeeded, ProgramFailed, NameUnknown, Interrupted, Closed, EpochSpent, EpochNotLater, SignerFailed)
+
+
+class Keys:
+    """What a service has beside its provider. All members sign through one guard's record."""
+
+    def __init__(self, signer: Signer) -> None:
+        self.policy, self.nonce, self.index, self.verify = signer.policy, signer.nonce, signer.index, signer.verify
+        self._signer = signer
+
+    def signer(self) -> Guard:
+        return guarded(self._signer)
 
 
 class Trapped(PostgresLog):
@@ -91,7 +105,7 @@ class Member(Node):
     def __init__(self, cluster: Cluster, is_writer: bool) -> None:
         self.told, self.trap = cluster.told, SPAWN.RawArray("l", 2)
         log = partial(Trapped, cluster.database.conninfo, self.trap, cluster.chance.choice([0.3, 20]))
-        super().__init__(log, cluster.program, cluster.signer, is_writer)
+        super().__init__(log, cluster.program, Keys(cluster.signer), is_writer)
         cluster.callback(self.kill)
 
     def tried(self, call: str, *arguments: Any) -> Any:
@@ -106,7 +120,7 @@ class Member(Node):
                 if isinstance(error, Closed):
                     # The promotion was interrupted: repeated, it returns the provider.
                     self.call("lead")
-                elif isinstance(error, EpochSpent):
+                elif isinstance(error, (EpochSpent, SignerFailed)) and self.is_writer:
                     # So was a commit, which left its update pending.
                     self.call("retry")
                 elif isinstance(error, (LogFailed, RestartNeeded)) and not isinstance(error, (Overtaken, LogRefused)):
@@ -198,7 +212,10 @@ class Cluster(ExitStack):
         """Sends a signal to a provider. Then another member leads."""
         struck = self.chance.choice([it for it in self.members if it.is_writer] or self.members)
         struck.signal(number, self.chance.randrange(5))
-        self.chance.choice([it for it in self.members if it is not struck]).surely("lead")
+        other = self.chance.choice([it for it in self.members if it is not struck])
+        self._works.append(self._pool.submit(other.surely, "lead"))
+        # A process that is stopped may have the lock of the guard's record. The other one leads once it goes on.
+        wait(self._works[-1:], 5)
         return struck
 
     def kill_writer(self) -> None:
@@ -261,6 +278,7 @@ class Cluster(ExitStack):
         soon(lambda: len({it.surely("latest") for it in self.members}) == 1)
         with PostgresLog(self.database.conninfo) as log:
             chain, logged = list(entries(log)), b"\n".join(log.read(0))
+        record = guarded(self.signer)
         recent = {(it.name, epoch.epoch): it.key for epoch, made in self.acknowledged[-10:] for it in made}
         asked = [*recent, *self.chance.sample(sorted(self.shown), min(len(self.shown), 30))]
         answers = [[it.surely("chain"), it.surely("latest"), *(it.surely("lookup", *of) for of in asked)] for it in self.members]
@@ -272,6 +290,7 @@ class Cluster(ExitStack):
         yield "one body for each epoch", self.signer.is_asked_once()
         yield "a body is signed once it is logged", all(it.encode() in logged for it in lines(self.signer.file))
         yield "the chain is audited", audited(chain, self.signer.keys, has_library())
+        yield "the guard's record is the log's", [record.signed(), record.asked()] == [chain[-1], None]
         yield "all members answer the same", answers[1:] == answers[:-1] and answers[0][0] == chain
         yield "one member commits", [it.is_writer for it in self.members].count(True) == 1
         yield "no other error was told", not self.wrong

@@ -1,4 +1,5 @@
-"""The client's side of a CONIKS key directory: a checker of proofs, an auditor of a chain, a monitor of one name.
+"""The client's side of a CONIKS key directory: a checker of proofs, an auditor of a chain, a monitor of one name, and what
+convicts a provider that equivocated.
 
 It calls libconiks.so by ctypes and decides nothing itself: the proved library decides what is accepted. The library is the
 file that the variable CONIKS_LIBRARY names, else that of this package, of embed/out in the checkout, or of the system, in this
@@ -7,13 +8,14 @@ order.
     key = coniks.check(entry.nonce, entry.root, index, "alice", proof)     # bytes, or None if the name is bound to none
     auditor = coniks.Auditor()
     auditor.feed(entry_bytes, signature_is_good=True)                      # raises coniks.Refused, and is unchanged then
+    coniks.convicts(entry_bytes, other_bytes)                              # an `EvidenceKind`, or None for no evidence
 
 Nonces, roots, indices, links and digests are 32 bytes, entries 209. A name is text or bytes, a proof its bytes (see
 `proof_bytes`). Wrong types raise TypeError, wrong sizes and numbers that don't fit ValueError, and what the library refuses
 `Refused`. Auditors and monitors can be copied and pickled, and so can `Refused`; a copy goes on by itself.
 
-The library is loaded at the first call, which raises ImportError if there is none. The module `coniks.provider` runs a
-directory and does not need the library.
+The library is loaded at the first call, which raises ImportError if there is none. `Policy` and the modules
+`coniks.provider`, which runs a directory, and `coniks.guard`, which signs for it, do not need the library.
 """
 
 from __future__ import annotations
@@ -28,19 +30,24 @@ from dataclasses import dataclass
 from pathlib import Path
 from typing import Any, Mapping, Optional, Union
 
+from .policy import Policy
+
 __version__ = "1.0.0"
 __all__ = [
     "BODY_LENGTH",
     "ENTRY_LENGTH",
     "Auditor",
     "Body",
+    "EvidenceKind",
     "Head",
     "Monitor",
     "Name",
+    "Policy",
     "Refused",
     "Seen",
     "Status",
     "check",
+    "convicts",
     "library_version",
     "link",
     "proof_bytes",
@@ -51,6 +58,8 @@ Name = Union[str, bytes]
 
 BODY_LENGTH = 145
 ENTRY_LENGTH = 209
+
+_NO_EVIDENCE = 50
 
 
 class Status(enum.IntEnum):
@@ -82,6 +91,15 @@ class Status(enum.IntEnum):
     SIGNATURE = 40
     ENTRY_LENGTH = 48
     NO_ENTRY = 49
+
+
+class EvidenceKind(enum.IntEnum):
+    """Why two entries, signed with one key, are evidence that its owner equivocated, by the numbers of coniks.h. Bodies overlap
+    if they differ and their intervals (previous epoch, epoch] do."""
+
+    OVERLAP = 1
+    OTHER_POLICY = 2
+    MALFORMED = 3
 
 
 class Seen(enum.Enum):
@@ -159,6 +177,7 @@ _exports: list[tuple[str, Any, list[Any]]] = [
     ("coniks_entry_body", ctypes.c_uint32, [*_run, ctypes.POINTER(_Body)]),
     ("coniks_body_bytes", None, [ctypes.POINTER(_Body), ctypes.POINTER(_Bytes145)]),
     ("coniks_link", ctypes.c_uint32, [*_run, _32]),
+    ("coniks_convicts", ctypes.c_uint32, [*_run, *_run, ctypes.POINTER(ctypes.c_uint32)]),
     ("coniks_text", ctypes.c_size_t, [ctypes.c_uint32, ctypes.c_char_p, ctypes.c_size_t]),
     ("coniks_version", ctypes.c_uint32, []),
 ]
@@ -366,6 +385,18 @@ def link(entry: bytes) -> bytes:
     if status:
         raise Refused(status)
     return bytes(out.bytes)
+
+
+def convicts(a: bytes, b: bytes) -> Optional[EvidenceKind]:
+    """Returns why two entries are evidence that the owner of a signing key equivocated, or None if they are none. Verify both
+    signatures with that key first. Raises `Refused` for another length."""
+    a, b, kind = _bytes(a, "an entry"), _bytes(b, "an entry"), ctypes.c_uint32()
+    status = _library.coniks_convicts(a, len(a), b, len(b), ctypes.byref(kind))
+    if status == _NO_EVIDENCE:
+        return None
+    if status:
+        raise Refused(status)
+    return EvidenceKind(kind.value)
 
 
 def _member(members: Any, name: str, kind: type) -> Any:

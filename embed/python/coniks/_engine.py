@@ -23,6 +23,8 @@ from .log import Log
 
 _GET_PIPE_SIZE = 1032  # fcntl.F_GETPIPE_SZ, from Python 3.10 on
 _LINK = b"\x53"  # what the preimage of a link begins with
+# In a log of this format a `prepare` line that follows another one without `install` abandons that update by name.
+_FORMAT = 2
 
 
 class Child:
@@ -180,13 +182,26 @@ class Setting:
 
 
 class Update(NamedTuple):
-    """A pending update with its line, as the log has it: how many names it registers, how many nodes it adds, and its operations."""
+    """A pending update with its line, as the log has it: how many names it registers, how many nodes it adds, and its operations
+    if it was replayed."""
 
     pending: Pending
     line: bytes
     names: int
     nodes: int
     operations: Sequence[Any] = ()
+
+    def is_of(self, line: bytes) -> bool:
+        """Whether a line without `body` and `abandons` asks for this update."""
+        return self.line.startswith(with_member(line, "body", self.pending.body)[:-1])
+
+
+class Record(NamedTuple):
+    """What a signer's record has: the entry of the last body that it signed, and a body that it was asked for and whose signature
+    it hasn't given."""
+
+    signed: Optional[bytes] = None
+    asked: Optional[bytes] = None
 
 
 class Engine:
@@ -205,6 +220,8 @@ class Engine:
         # The bodies of logged updates that others replaced, and a sample of the logged operations.
         self.replaced: list[bytes] = []
         self._sample = Sample()
+        # Whether the log says of each update that is replaced that it was abandoned. Logs of the first format don't.
+        self._is_strict = False
         self.child = Child(setting.words, setting.timeout)
 
     def ask(self, line: bytes) -> Mapping[str, Any]:
@@ -223,6 +240,7 @@ class Engine:
             "cmd": "open",
             "nonce": (self._setting.nonce or secrets.token_bytes(32)).hex(),
             "policy": self._setting.policy.hex(),
+            "log": _FORMAT,
         }
         if self._setting.vrf_public_key is not None:
             members["vrf"] = sha256(self._setting.vrf_public_key).hexdigest()
@@ -244,6 +262,7 @@ class Engine:
         """Replays the next line of the log, and compares the answer: of `prepare` the body, and of `install` the link."""
         what = f"line {self.position} of the log"
         said = members_of(line, LogFailed, what)
+        self._check_abandons(said, what)
         try:
             told = self.ask(line)
         except Fault as fault:
@@ -267,7 +286,20 @@ class Engine:
             raise LogFailed(f"{what} is none of a provider: give the path of a log")
         self.position += 1
 
+    def _check_abandons(self, said: Mapping[str, Any], what: str) -> None:
+        """Checks that a `prepare` line abandons the pending update, and no other one, before the child replaces it."""
+        if not self._is_strict or said.get("cmd") != "prepare":
+            return
+        pending = self.update.pending.body.hex() if self.update else None
+        if said.get("abandons") != pending:
+            wrong = "replaces a pending update that it doesn't abandon" if pending else "abandons an update that isn't pending"
+            raise LogFailed(f"{what} {wrong}: look what wrote it, and restore the log without it")
+
     def _compare_opening(self, said: Mapping[str, Any]) -> None:
+        version = said.get("log")
+        if version is not None and (type(version) is not int or version != _FORMAT):
+            raise LogFailed("the log has a format that this version doesn't read: use the version that wrote it, or a later one")
+        self._is_strict = version is not None
         key = self._setting.vrf_public_key
         digest = None if key is None or "vrf" not in said else sha256(key).digest()
         for what, member, given in [
@@ -293,10 +325,14 @@ class Engine:
         self.update = update
 
     def prepare(self, epoch: int, line: bytes, names: int) -> Update:
-        """Has the child prepare an update, which isn't in the log yet."""
+        """Has the child prepare an update, which isn't in the log yet. Its line abandons the pending one, if there is one: the
+        caller knows that the signer has abandoned that."""
         told = self.ask(line)
         pending = self._pending(epoch, told)
-        return Update(pending, with_member(line, "body", pending.body), names, number(told, "nodes"))
+        whole = with_member(line, "body", pending.body)
+        if self.update:
+            whole = with_member(whole, "abandons", self.update.pending.body)
+        return Update(pending, whole, names, number(told, "nodes"))
 
     def log_prepared(self, update: Update) -> None:
         """Appends the line of a prepared update, which is pending then. If the log refuses the line, what was pending before is
@@ -380,24 +416,88 @@ class Engine:
             raise LogBehind(
                 f"the log ends at epoch {self.latest.epoch}, before the head of epoch {head.epoch}: restore its last lines"
             )
-        entry = next((it for it in reversed(self.chain) if int.from_bytes(it[1:9], "big") == head.epoch), b"")
-        if sha256(_LINK + entry).digest() != head.link:
+        if sha256(_LINK + self._entry_at(head.epoch)).digest() != head.link:
             raise LogForked(f"the log has another entry of epoch {head.epoch} than the head: look which log is the right one")
+
+    def _entry_at(self, epoch: int) -> bytes:
+        """The entry of an epoch, no byte if there is none."""
+        return next((it for it in reversed(self.chain) if epoch_of(it) == epoch), b"")
+
+    def check_record(self, record: Record) -> None:
+        """Raises `LogBehind` or `LogForked` if the log lacks what a signer's record has. A log that has more is no error: the
+        record was read first."""
+        pending = self.update.pending.body if self.update else b""
+        signed, asked = record
+        if signed and signed != self._entry_at(epoch_of(signed)) and signed[:BODY_LENGTH] != pending:
+            raise self._not_recorded(signed)
+        if asked and asked not in (*self.replaced, pending, self._entry_at(epoch_of(asked))[:BODY_LENGTH]):
+            raise LogBehind(
+                f"the signer was asked for a body of epoch {epoch_of(asked)} that the log lacks: restore its last lines, "
+                "or abandon that body by the signer's guard if they are lost"
+            )
+
+    def _not_recorded(self, signed: bytes) -> LogForked:
+        """The error of a log that lacks an entry which was signed, with the log's entry that overlaps it."""
+        epoch, latest = epoch_of(signed), self.latest.epoch
+        if epoch > latest:
+            error: LogForked = LogBehind(
+                f"the log ends at epoch {latest}, and the signer has signed epoch {epoch}: restore its last lines"
+            )
+        else:
+            error = LogForked(
+                f"the signer has signed another entry of epoch {epoch} than the log has: "
+                "look whether log and signer are this directory's, and which of them is the right one"
+            )
+        other = next((it for it in self.chain if is_overlap(signed, it)), None)
+        error.entries = (signed, other) if other else None
+        return error
 
     def check_indices(self, index: Index, with_pending: bool) -> None:
         """Compares the indices of some logged operations with those of a function. Raises `OtherIndex`."""
-        pending = self.update.operations if self.update and with_pending else ()
-        _compare_indices(index, [*self._sample.all(), *map(place_of, [*pending[:1], *pending[-1:]])])
+        _compare_indices(index, [*self._sample.all(), *(self._pending_places() if with_pending else [])], _OF_LOG)
 
     def check_last_index(self, index: Index) -> None:
         """The same for the last operation alone."""
-        _compare_indices(index, self._sample.last())
+        _compare_indices(index, self._sample.last(), _OF_LOG)
+
+    def check_pending_indices(self, index: Index) -> None:
+        """The same for a pending update alone that was replayed."""
+        _compare_indices(index, self._pending_places(), _OF_UPDATE)
+
+    def _pending_places(self) -> list[Place]:
+        """Names and indices of the first and the last operation of a pending update that was replayed."""
+        operations = self.update.operations if self.update else ()
+        return [*map(place_of, [*operations[:1], *operations[-1:]])]
 
 
-def _compare_indices(index: Index, places: Sequence[Place]) -> None:
+_OF_LOG = (
+    "the key of the VRF or its code isn't that of this log. Start with the right one, "
+    "or pass check_indices=False if the log itself has wrong indices"
+)
+_OF_UPDATE = (
+    "the key of the VRF or its code isn't that of the pending update. Start with the right one, or give the update up by abandon()"
+)
+
+
+def _compare_indices(index: Index, places: Sequence[Place], advice: str) -> None:
     for name, place in places:
         if place.lower() != index(name).hex():
-            raise OtherIndex(
-                advice="the key of the VRF or its code isn't that of this log. Start with the right one, "
-                "or pass check_indices=False if the log itself has wrong indices"
-            )
+            raise OtherIndex(advice=advice)
+
+
+def epoch_of(body: bytes) -> int:
+    """The epoch of a body or an entry."""
+    return int.from_bytes(body[1:9], "big")
+
+
+def is_overlap(one: bytes, other: bytes) -> bool:
+    """Whether two entries have different bodies, each of which covers an epoch number that the other covers: from its epoch down
+    to above the epoch before."""
+    before = (int.from_bytes(it[9:17], "big") for it in (one, other))
+    return one[:BODY_LENGTH] != other[:BODY_LENGTH] and max(before) < min(epoch_of(one), epoch_of(other))
+
+
+def two_bodies(known: Sequence[bytes], found: Sequence[bytes]) -> Optional[tuple[bytes, bytes]]:
+    """The first entries with different bodies in one place of two chains, None if one of the chains just ends. All before have
+    equal bodies, so these two follow one epoch, and overlap."""
+    return next((it for it in zip(known, found) if it[0][:BODY_LENGTH] != it[1][:BODY_LENGTH]), None)

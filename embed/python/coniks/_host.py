@@ -11,7 +11,7 @@ from queue import Empty, SimpleQueue
 from typing import Any, Iterable, Iterator, Optional, Sequence
 
 from . import BODY_LENGTH
-from ._engine import Engine, Setting
+from ._engine import Engine, Record, Setting, two_bodies
 from ._lines import entries_of
 from ._threads import Worker
 from .faults import Closed, LogForked, NoDirectory, ProgramFailed, ProviderError
@@ -28,13 +28,20 @@ _FORKED = (
 
 @dataclass(frozen=True)
 class Evidence:
-    """A log that isn't the one that this process has seen: the entries of both, 209 bytes each. `bodies` are those after the
-    last entry that both have: what this process has seen there, and what the log has. Either is None if there is none."""
+    """A log that isn't the one that this process has seen, or that lacks what the signer's record has: the entries of both, 209
+    bytes each. `bodies` are those after the last entry that both have: what this process has seen there, and what the log has.
+    Either is None if there is none.
+
+    `entries` are the first entries with different bodies in one place of both chains, or the last entry that the signer has signed
+    and the log's entry that overlaps it. It is None if one of both just ends. If both signatures are valid, anyone who has the
+    public key can verify that one signing key signed two chains.
+    """
 
     error: ProviderError
     known: Sequence[bytes]
     found: Sequence[bytes]
     bodies: tuple[Optional[bytes], Optional[bytes]]
+    entries: Optional[tuple[bytes, bytes]] = None
 
 
 class Host:
@@ -204,8 +211,21 @@ class Host:
                 return chain[both][:BODY_LENGTH]
             return engine.update.pending.body if engine and engine.update else None
 
-        self.evidence = Evidence(error, known, found, (after(known, self.known), after(found, new)))
+        pair = two_bodies(known, found)
+        if isinstance(error, LogForked):
+            error.entries = pair = error.entries or pair
+        self.evidence = Evidence(error, known, found, (after(known, self.known), after(found, new)), pair)
         return error
+
+    def check_record(self, engine: Engine, record: Record) -> None:
+        """Compares an engine's log with a signer's record. If they differ, raises `LogBehind` or `LogForked`, and keeps the
+        evidence unless this is the first start."""
+        try:
+            engine.check_record(record)
+        except LogForked as error:
+            if self.engine:
+                self.forked(error, engine)
+            raise
 
     def _entries(self) -> list[bytes]:
         """The log's entries, as far as they can be read."""
@@ -227,7 +247,7 @@ class Host:
         """Forgets how often the child ended."""
         self._starts.clear()
 
-    def abandon(self) -> None:
+    def drop(self) -> None:
         """Ends the thread and the child without waiting for either."""
         self.is_closed = True
         self._thread.stop()

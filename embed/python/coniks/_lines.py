@@ -54,7 +54,7 @@ class Epoch:
 
 @dataclass(frozen=True)
 class Pending:
-    """An update that isn't installed, and whose body the signer was or will be asked to sign."""
+    """An update that isn't installed. The signer was or will be asked to sign its body, or has abandoned it."""
 
     epoch: int
     root: bytes

@@ -29,7 +29,6 @@ _LOOK_SECONDS = 0.1
 _REACH_SECONDS = 5
 # How many sessions a pool keeps.
 _KEPT = 4
-_CLOSED = "the log is closed: open it again"
 
 # How those errors of libpq begin that show no option but host, port, user and database: of libpq 14 and later, and of older ones.
 _HARMLESS = ("connection to server", "could not translate host name", "could not connect to server", "FATAL")
@@ -39,7 +38,7 @@ LOCKED = "55P03"
 _ADVICE = {
     "25006": "connect to the primary, as a role whose default_transaction_read_only is off",
     "3F000": "create that schema",
-    "42501": "grant this role SELECT and INSERT on the table, and USAGE on its schema",
+    "42501": "grant this role SELECT and INSERT on the table, UPDATE too if a guard uses it, and USAGE on its schema",
     "42P01": "restore the table, or make a directory with PostgresLog.create",
     "53": "give the server more of it, then call again",
     LOCKED: "end the session that has the lock, which pg_locks shows, then call again",
@@ -80,9 +79,13 @@ def _told(error: psycopg.Error, is_begun: bool, is_idle: bool) -> tuple[str, str
 
 
 class _Life:
-    """Whether a pool is closed. Its sessions share it."""
+    """What has a pool, and whether that is closed. The pool's sessions share it."""
 
-    is_closed = False
+    def __init__(self, owner: str):
+        self.owner, self.is_closed = owner, False
+
+    def over(self) -> LogFailed:
+        return LogFailed(f"{self.owner} is closed: open it again")
 
 
 def _ready(socket: int, wants: Wait, until: float, life: _Life) -> Optional[Ready]:
@@ -96,7 +99,7 @@ def _ready(socket: int, wants: Wait, until: float, life: _Life) -> Optional[Read
             return Ready.RW if is_readable and is_writable else Ready.R if is_readable else Ready.W
         if left <= 0:
             return None
-    raise LogFailed(_CLOSED)
+    raise life.over()
 
 
 def _kept(steps: Generator[Wanted, Ready, Answer], kept: list[Answer]) -> Generator[Wanted, Ready, None]:
@@ -187,20 +190,28 @@ class Pool:
     """Sessions that are in no call. A call takes one out, and puts it back only after success; else it is closed. There is no lock
     that an exception of a signal handler could leave held.
 
-    `check` is called with a new session. Sessions of a pool that listens get notifications while they are in no call.
+    `check` is called with a new session. Sessions of a pool that listens get notifications while they are in no call. `owner` is
+    what has the pool, as errors name it.
     """
 
-    def __init__(self, conninfo: str, name: str, check: Callable[[Session], object], is_listening: bool = False):
+    def __init__(
+        self,
+        conninfo: str,
+        name: str,
+        check: Callable[[Session], object],
+        is_listening: bool = False,
+        owner: str = "the log",
+    ):
         self._hosts, self._reach, self.place = _hosts(conninfo, name)
-        self._check, self._is_listening, self._owner, self._life = check, is_listening, os.getpid(), _Life()
+        self._check, self._is_listening, self._owner, self._life = check, is_listening, os.getpid(), _Life(owner)
         self._sessions: list[Session] = []
 
     def run(self, until: float, call: Callable[..., Answer], *arguments: Any) -> Answer:
         """Returns what a call returns in a session. Raises `Failure` after an error of psycopg."""
         if os.getpid() != self._owner:
-            raise LogFailed("the log was opened by the process that this one was forked from: open it in this one")
+            raise LogFailed(f"{self._life.owner} was opened by the process that this one was forked from: open it in this one")
         if self._life.is_closed:
-            raise LogFailed(_CLOSED)
+            raise self._life.over()
         session, is_begun = self._taken(until), False
         told: Optional[tuple[str, str, bool, bool]] = None
         try:

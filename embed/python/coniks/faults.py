@@ -13,6 +13,7 @@ __all__ = [
     "Command",
     "DirectoryExists",
     "EpochNotLater",
+    "EpochNotNow",
     "EpochSpent",
     "EpochTooFar",
     "Fault",
@@ -160,8 +161,23 @@ class EpochSpent(ProviderError):
         return type(self), (self.epoch, self.asked)
 
 
+class EpochNotNow(ProviderError):
+    """The epoch number isn't the one that the policy's clock has, `now`. Clients compute it too, so an epoch under another one is
+    late or early to all of them."""
+
+    def __init__(self, epoch: int, now: int):
+        self.epoch, self.now = epoch, now
+        super().__init__(
+            f"epoch {epoch} isn't {now}, which the policy's clock has: take epoch_now(), or pass force=True if it is meant"
+        )
+
+    def __reduce__(self) -> tuple[type[EpochNotNow], tuple[int, int]]:
+        return type(self), (self.epoch, self.now)
+
+
 class EpochTooFar(ProviderError):
-    """The epoch number is more than 2^32 above the latest. Numbers only increase, so a mistyped one would end the directory."""
+    """The epoch number is more than 2^32 above the latest, or above that of the pending update. Numbers only increase, so a
+    mistyped one would end the directory."""
 
     def __init__(self, epoch: int, latest: int):
         self.epoch, self.latest = epoch, latest
@@ -176,7 +192,8 @@ class NotText(ProviderError, ValueError):
 
 
 class SignerFailed(ProviderError):
-    """The signer raised an exception, which is the cause, or returned no valid signature. The update stays pending."""
+    """The signer raised an exception, which is the cause, or returned no valid signature. The update stays pending. Or the
+    signer's record can't be read, and nothing is changed."""
 
 
 class ProgramFailed(ProviderError):
@@ -205,12 +222,15 @@ class Overtaken(LogFailed):
 
 
 class LogForked(ProviderError):
-    """The log lacks lines that this process has seen in it, or has others in their place. `evidence` of the directory returns
-    what it has seen and what the log has."""
+    """The log lacks lines that this process has seen in it, or has others in their place, or lacks what the signer's record has.
+    `evidence` of the directory returns what it has seen and what the log has. `entries` are two entries of 209 bytes, one of them
+    the log's, with different bodies in one place of the chain; None if no two such are known."""
+
+    entries: Optional[tuple[bytes, bytes]] = None
 
 
 class LogBehind(LogForked):
-    """The log ends before the head that a start is to find in it."""
+    """The log ends before the head that it is to have, or before what the signer's record has."""
 
 
 class ReplayDiffers(ProviderError):

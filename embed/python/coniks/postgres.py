@@ -1,6 +1,7 @@
-"""A log in PostgreSQL, which the providers and replicas of several machines share. It needs psycopg 3.1.
+"""A log in PostgreSQL, which the providers and replicas of several machines share, and a guard. They need psycopg 3.1.
 
     log = PostgresLog("host=/run/postgresql dbname=keys")
+    guard = PostgresGuard("host=/run/postgresql dbname=guards", "keys.example.com", sign)
 
 Each line is a row of one table, whose primary key is the position. So PostgreSQL decides which of two writers gets a position.
 An append returns once its row is committed, and PostgreSQL must keep what it committed: a session is refused if its settings or
@@ -9,7 +10,6 @@ the table let rows be lost. docs/CLUSTER.md has what else a service needs.
 
 from __future__ import annotations
 
-import re
 import secrets
 import time
 from contextlib import suppress
@@ -18,59 +18,25 @@ from typing import Any, Callable, Iterator, Optional, TypeVar
 import psycopg
 from psycopg.errors import DuplicateObject, DuplicateTable, UndefinedTable, UniqueViolation
 
+from ._postgres_guard import PostgresGuard
 from ._session import LOCKED, Failure, Pool, Session, reason
+from ._tables import BAD_NAME, CANCELLED, COLUMNS, IS_UNSAFE, Wrong, first_wrong, is_name, queries, refuse, state, unfit
 from .faults import DirectoryExists, LogFailed, LogRefused, NoDirectory, Overtaken
 from .log import Closing
 
-__all__ = ["PostgresLog"]
+__all__ = ["PostgresGuard", "PostgresLog"]
 
 Answer = TypeVar("Answer")
 _Self = TypeVar("_Self", bound="PostgresLog")
 
-# What makes a session or the table unfit, and what to do about it. `c` is the table's row of pg_class, if there is a table.
-_UNSAFE = [
-    ("current_setting('fsync') <> 'on'", "fsync is off, so a crash loses what was committed: set it to on and reload"),
-    ("current_setting('full_page_writes') <> 'on'", "full_page_writes is off, so a crash can tear rows: set it to on and reload"),
+_UNFIT = unfit(
+    {"position": "bigint", "line": "bytea", "token": "bytea"},
     (
-        "current_setting('synchronous_commit') = 'off'",
-        "synchronous_commit is off, so a crash loses what was committed: ALTER ROLE {role} SET synchronous_commit = on",
-    ),
-    (
-        "current_setting('synchronous_commit') = 'local' AND current_setting('synchronous_standby_names') <> ''",
-        "synchronous_commit is local, so a synchronous standby can lack lines: ALTER ROLE {role} SET synchronous_commit = on",
-    ),
-]
-_COLUMNS = "FROM pg_attribute WHERE attrelid = c.oid AND attnum > 0 AND NOT attisdropped"
-_UNFIT = [
-    ("pg_is_in_recovery()", "the server is a standby: connect to the primary, as target_session_attrs=read-write does"),
-    *_UNSAFE,
-    (
-        "c.relkind <> 'r' OR EXISTS (SELECT FROM pg_inherits WHERE inhparent = c.oid)",
-        "it is no ordinary table, or others inherit from it: name another one",
-    ),
-    ("c.relpersistence <> 'p'", "it is unlogged or temporary, so a crash empties it: ALTER TABLE {table} SET LOGGED"),
-    (
-        f"c.oid IS NOT NULL AND NOT EXISTS (SELECT {_COLUMNS} AND attname = 'token')",
+        f"c.oid IS NOT NULL AND NOT EXISTS (SELECT {COLUMNS} AND attname = 'token')",
         "it lacks the column token, as tables of an older layout do: ALTER TABLE {table} ADD token bytea NOT NULL DEFAULT ''",
     ),
-    (
-        f"""(SELECT string_agg(concat_ws(' ', attname, format_type(atttypid, atttypmod), attnotnull), ', ' ORDER BY attname)
-            {_COLUMNS}) <> 'line bytea t, position bigint t, token bytea t'""",
-        "its columns must be position bigint, line bytea and token bytea, each NOT NULL: name another table",
-    ),
-    (
-        f"""c.oid IS NOT NULL AND NOT EXISTS (SELECT FROM pg_index WHERE indrelid = c.oid AND indisprimary AND indisvalid
-            AND indimmediate AND indnatts = 1 AND indkey[0] = (SELECT attnum {_COLUMNS} AND attname = 'position'))""",
-        "its primary key must be (position), valid and not deferrable: ALTER TABLE {table} ADD PRIMARY KEY (position)",
-    ),
-    ("c.relrowsecurity", "it has row-level security, which hides rows: ALTER TABLE {table} DISABLE ROW LEVEL SECURITY"),
-    ("EXISTS (SELECT FROM pg_rewrite WHERE ev_class = c.oid)", "it has rules, which can drop rows: DROP RULE .. ON {table}"),
-    (
-        "EXISTS (SELECT FROM pg_trigger WHERE tgrelid = c.oid AND NOT tgisinternal)",
-        "it has triggers, which can change rows: DROP TRIGGER .. ON {table}",
-    ),
-]
-_UNWRITABLE = [
+)
+_UNWRITABLE: list[Wrong] = [
     (
         "current_setting('transaction_read_only') = 'on'",
         "transactions are read only: ALTER ROLE {role} SET default_transaction_read_only = off",
@@ -81,27 +47,14 @@ _UNWRITABLE = [
         "it is missing, and the role can't create it: GRANT CREATE ON SCHEMA {schema} TO {role}",
     ),
     (
-        f"""EXISTS (SELECT {_COLUMNS} AND NOT (has_column_privilege(c.oid, attnum, 'SELECT')
+        f"""EXISTS (SELECT {COLUMNS} AND NOT (has_column_privilege(c.oid, attnum, 'SELECT')
             AND has_column_privilege(c.oid, attnum, 'INSERT')))""",
         "the role can't append to it: GRANT SELECT, INSERT ON {table} TO {role}",
     ),
 ]
-
-
-def _found(wrong: list[tuple[str, str]]) -> str:
-    """Returns the part of a query that finds the first condition that is true, and the names in the texts."""
-    cases = " ".join(f"WHEN {it} THEN {number}" for number, (it, _) in enumerate(wrong))
-    return f"SELECT CASE {cases} END, quote_ident(current_user), {{schema}}"
-
-
-_FROM = " FROM (VALUES (1)) AS one LEFT JOIN pg_class AS c ON c.oid = to_regclass({name})"
 _SQL = {
-    # An append isn't cancelled: only a wait for a lock ends. The server warns if a commit's wait for a standby was cancelled.
-    "state": f"""{_found(_UNFIT)}, set_config('lock_timeout', '{{lock}}', false), (SELECT count(set_config(name, '0', false))
-        FROM pg_settings WHERE name IN ('statement_timeout', 'transaction_timeout', 'idle_session_timeout')),
-        set_config('client_min_messages', 'warning', false), set_config('default_transaction_isolation', 'read committed', false)
-        {_FROM}""",
-    "rights": _found(_UNWRITABLE) + _FROM,
+    "state": state(_UNFIT),
+    "rights": first_wrong(_UNWRITABLE),
     "create": """CREATE TABLE IF NOT EXISTS {table}
         (position bigint PRIMARY KEY CHECK (position >= 0), line bytea NOT NULL, token bytea NOT NULL)""",
     # Without the row before, none is inserted: positions have no gap, and no line follows one that this process hasn't seen.
@@ -109,7 +62,7 @@ _SQL = {
         SELECT %(position)s::bigint, %(line)b::bytea, %(token)b::bytea
         WHERE (%(position)s::bigint = 0 OR EXISTS (SELECT FROM {{table}}
             WHERE position = %(position)s::bigint - 1 AND token = coalesce(%(before)b::bytea, token)))
-        AND NOT ({' OR '.join(it for it, _ in _UNSAFE)}) RETURNING pg_notify({{name}}, position::text)""",
+        AND NOT ({IS_UNSAFE}) RETURNING pg_notify({{name}}, position::text)""",
     "is_mine": "SELECT token = %(token)b::bytea FROM {table} WHERE position = %(position)s::bigint",
     # At most 4 MiB, or one row.
     "read": """SELECT position, line, token FROM (SELECT *, sum(octet_length(line)) OVER (ORDER BY position) AS size
@@ -121,7 +74,6 @@ _SQL = {
     # waited to commit it was cut, or PostgreSQL was restarted.
     "replicated": "SELECT pg_logical_emit_message(true, {name}, '')",
 }
-_CANCELLED = "the wait of a commit for a synchronous standby was cancelled: let nothing cancel it"
 
 
 class PostgresLog(Closing):
@@ -138,25 +90,12 @@ class PostgresLog(Closing):
     def __init__(self, conninfo: str, table: str = "coniks_log", *, patience: float = 10):
         if not patience > 0:
             raise ValueError("the patience must be a number of seconds above 0")
-        if len(table) > 63 or not re.fullmatch(r"[a-z_][a-z0-9_]*(\.[a-z_][a-z0-9_]*)?", table):
-            raise LogFailed(
-                "a table is named `name` or `schema.name`, by at most 63 of the characters a to z, 0 to 9 and _: choose such a name"
-            )
+        if not is_name(table):
+            raise LogFailed(BAD_NAME)
         self.is_new, self._table, self._patience = False, table, patience
         # The position and the token of the last row that was read or appended.
         self._seen = (-1, b"")
-        first, *second = table.split(".")
-        schema = f"'{first}'" if second else "quote_ident(current_schema())"
-        names = {
-            "table": ".".join(f'"{it}"' for it in [first, *second]),
-            "name": f"'{table}'",
-            "channel": f'"{table}"',
-            "schema": f"coalesce({schema}, 'public')",
-            "namespace": f"to_regnamespace({schema})::oid",
-            # A wait for a lock ends before the call does. So the call learns that nothing is stored.
-            "lock": max(1, int(min(patience * 500, 2**31 - 1))),
-        }
-        self._sql = {it: text.format(**names).encode() for it, text in _SQL.items()}
+        self._sql = queries(_SQL, table, patience)
         self._pool = Pool(conninfo, table, self._check)
         # A replica waits in a session of its own, which listens.
         self._listening = Pool(conninfo, table, self._check, is_listening=True)
@@ -205,10 +144,8 @@ class PostgresLog(Closing):
         kind = refused if failure.is_certain and not failure.is_lost else LogFailed
         raise kind(f"{self} can't be {done}: {failure}")
 
-    def _check(self, session: Session, query: str = "state", wrong: list[tuple[str, str]] = _UNFIT) -> None:
-        [(found, role, schema, *_)] = self._rows(session, query)
-        if found is not None:
-            raise Failure(wrong[found][1].format(table=self._table, role=role, schema=schema))
+    def _check(self, session: Session, query: str = "state", wrong: list[Wrong] = _UNFIT) -> None:
+        refuse(self._rows(session, query), wrong, self._table)
 
     def check_writable(self) -> None:
         """Raises `LogRefused` if an append could not succeed: if the role lacks a right, at a standby, or if transactions are read
@@ -300,7 +237,7 @@ class PostgresLog(Closing):
             raise Failure("it has no line before that: read it again")
         if session.warned:
             # As after a lost connection: the next try finds its row, and waits for the standby.
-            raise psycopg.OperationalError(_CANCELLED)
+            raise psycopg.OperationalError(CANCELLED)
 
     def _replicate(self, session: Session) -> None:
         """Waits until a synchronous standby has all rows seen before. A wait that is cancelled in the server, which then warns, is
@@ -311,7 +248,7 @@ class PostgresLog(Closing):
             if not session.warned:
                 return
             if time.monotonic() >= session.until:
-                raise psycopg.OperationalError(_CANCELLED)
+                raise psycopg.OperationalError(CANCELLED)
 
     def read(self, position: int) -> Iterator[bytes]:
         """Returns the lines from a position on. Raises `NoDirectory` if there is no table, and `LogFailed` if a line is missing

@@ -1,7 +1,7 @@
 """Runs a CONIKS key directory: the program `provider` as a child process, with your own indices and signatures.
 
     with FileLog("names.log") as log, Provider("provider", index, sign, log, policy=policy) as provider:
-        epoch = provider.commit(provider.latest().epoch + 1, [Register("alice", b"key")])
+        epoch = provider.commit(provider.epoch_now(), [Register("alice", b"key")])
         found = provider.lookup("alice")
 
 A directory is made once, on purpose: by `create=True`, or over `FileLog.create("names.log")`. A log that is missing or empty
@@ -9,23 +9,30 @@ raises `NoDirectory` otherwise.
 
 `index(name)` returns the 32 bytes at which a name is stored, as the output of a verifiable random function (VRF). It returns
 the same bytes for a name each time. `sign(body)` returns the signature, 64 bytes, of the 145 bytes of a signed tree root
-(STR). `sign` must not call `commit`, `retry`, `restart` or `close`. Both are also called in a thread of the provider's own.
+(STR). `sign` must not call `commit`, `retry`, `abandon`, `restart` or `close`. Both are also called in a thread of the
+provider's own. `coniks.guard.Guard` is a `sign` that keeps a record. From it a provider takes three more calls, if they are
+there: `signed()` and `asked()` return the last entry that was signed, and the body that was asked for and isn't signed, or None;
+`abandon(body)` refuses a body for ever.
 
 The directory is in the child's memory, and the log is its store. Each accepted line is appended to the log, and a new child
 replays it. So the log is a script: `provider < names.log` prints the same answers. `prepare` lines have the member `body`
-beside those of docs/FORMATS.md, `install` lines the member `link`, and the `open` line may have `vrf`, the SHA-256 of the
-VRF's public key. The program ignores these; a replay is compared with them.
+beside those of docs/FORMATS.md, and `abandons`, the body of the update that they replace; `install` lines have the member
+`link`. The `open` line has `log`, the format, 2, and may have `vrf`, the SHA-256 of the VRF's public key. The program ignores
+these; a replay is compared with them. A log without `log` goes on as it is: in it a `prepare` line may replace an update without
+`abandons`.
 
 What holds, if the log keeps each line whose `append` returned:
 
 - An epoch that `commit` returned is in the directory after each restart, with the same entry.
-- The signer is asked for one body per epoch number. It can be asked for that body again.
+- The signer is asked for the bodies of one chain: for another body after an entry only once it has abandoned the body before. It
+  can be asked for a body again.
 - No lookup shows an entry before the log has it.
 - A call that is interrupted only stops waiting. What it began goes on in a thread that no signal interrupts.
 
 An update is pending from the `prepare` line in the log to the `install` line. A provider that starts signs and installs the
-pending update first. If the signer fails, the update stays pending: `retry`, or `commit` of the same operations, asks for
-the same body again, and `commit` under a later epoch number replaces the update. All calls can be used from several threads.
+pending update first. If the signer fails, the update stays pending: `retry`, or `commit` of the same operations, asks for the
+same body again, and so does `commit` under a later epoch number before its own update. Only `abandon` gives an update up: then
+`commit` under a later number replaces it. All calls can be used from several threads.
 
 With `coniks.postgres.PostgresLog` several machines share a log, and a `coniks.replica.Replica` follows it.
 
@@ -37,46 +44,30 @@ the latest epoch that the log is known to have. A child that ends is started aga
 
 from __future__ import annotations
 
-import os
 import time
-import weakref
 from typing import Callable, Iterable, Iterator, Optional, Sequence, TypeVar, Union
 
-from . import Head, _number, faults
-from ._engine import Engine, Setting
+from . import ENTRY_LENGTH, BODY_LENGTH, Head, faults
+from ._directory import Directory, check_writable, clock_of, digest_of
+from ._engine import Engine, Record, Setting
 from ._host import Evidence, Host
-from ._lines import (
-    SIGNATURE_LENGTH,
-    Change,
-    Epoch,
-    Index,
-    Latest,
-    Lookup,
-    Operation,
-    Pending,
-    Register,
-    command,
-    entries_of,
-    grouped,
-    lookup_line,
-    lookup_of,
-    prepare_line,
-    sized,
-    text,
-    with_member,
-)
-from ._threads import Worker
+from ._lines import SIGNATURE_LENGTH, Change, Epoch, Index, Latest, Lookup, Operation, Pending, Register, command, entries_of
+from ._lines import prepare_line, sized
 from .faults import *
-from .log import Closing, FileLog, Log, Path, SharedLog
+from .guard import BodyAbandoned, BodyRefused, BodySigned
+from .log import FileLog, Log, Path, SharedLog
+from .policy import Policy
 
 __all__ = [
     "Change",
+    "Directory",
     "Epoch",
     "Evidence",
     "Latest",
     "Lookup",
     "Operation",
     "Pending",
+    "Policy",
     "Provider",
     "Register",
     "entries",
@@ -92,203 +83,26 @@ Result = TypeVar("Result")
 _FAR = 1 << 32
 
 
-def abandoned(work: Worker, host: Host) -> None:
-    """Ends what a directory had that nobody closed."""
-    work.stop()
-    host.abandon()
-
-
-class Directory(Closing):
-    """What `Provider` and `coniks.replica.Replica` share: a child that answers lookups, and a thread that changes the
-    directory."""
-
-    def __init__(self, host: Host, index: Index, log: Log, check_indices: bool):
-        self._host, self._index, self._log, self._is_checking = host, index, log, check_indices
-        # A closed directory begins no other call. What is under way then ends before the directory is over, or fails.
-        self._is_closed = self._is_over = False
-        self._work, self._owner = Worker(), os.getpid()
-        # Why the directory can't be changed before a restart. `_is_logging` is set while a line is appended.
-        self._broken: Optional[Exception] = None
-        self._is_logging = False
-        # A directory that nobody closes ends with its last reference.
-        self._unused = weakref.finalize(self, abandoned, self._work, host)
-        self._unused.atexit = False
-
-    def _check_open(self) -> None:
-        if self._is_closed:
-            raise Closed("the directory is closed: open it again")
-        if os.getpid() != self._owner:
-            raise Closed("the directory belongs to the process that this one was forked from: open it in one process alone")
-
-    def _check(self) -> None:
-        """Checks that lookups can go on: not if the VRF turned out to be another one."""
-        self._check_open()
-        if isinstance(self._broken, OtherIndex):
-            raise self._needed() from self._broken
-
-    def _needed(self) -> RestartNeeded:
-        return RestartNeeded(f"restart() is needed: {self._broken}")
-
-    def _change(self, work: Callable[[], Result]) -> Result:
-        """Makes a call in the thread that changes the directory, one after another."""
-        self._check_open()
-        self._check_thread()
-
-        def begun() -> Result:
-            self._check_open()
-            return work()
-
-        return self._work.call(begun)
-
-    def _check_thread(self) -> None:
-        if self._work.is_this_thread():
-            raise ProviderError("the signer called the provider that waits for it: call it after commit returned")
-
-    def _begin(self, start: Callable[[], Engine], with_pending: bool, prepare: Callable[[Engine], object]) -> None:
-        """Replays the log in another child, which gets the place of this one if it shows the same directory. Until then this one
-        answers lookups."""
-        with self._host.changing:
-            try:
-                engine = start()
-                try:
-                    if self._is_checking:
-                        engine.check_indices(self._index_of, with_pending)
-                    prepare(engine)
-                except BaseException:
-                    engine.child.stop(0)
-                    raise
-                self._host.exchange(engine)
-            except (LogForked, NoDirectory, OtherIndex) as error:
-                self._broken = error
-                raise
-            except ReplayDiffers as error:
-                self._broken = self._host.forked(error) if self._host.engine else error
-                raise
-            self._broken = None
-
-    def _restarted(self) -> Engine:
-        self._host.begin_anew()
-        return self._host.started()
-
-    def _ready(self) -> Engine:
-        """The engine, if no restart is needed."""
-        if self._broken:
-            raise self._needed() from self._broken
-        return self._host.known
-
-    def lookup(self, name: str, epoch: Optional[int] = None) -> Lookup:
-        """A name's proof at an epoch, the latest if none is given."""
-        self._check()
-        at = self._at(epoch)
-        [answers] = self._host.serve([[lookup_line(name, self._index_of(name), at)]])
-        found = self._told(answers[0])
-        if isinstance(found, Fault):
-            raise found
-        return found
-
-    def lookups(self, names: Iterable[str], epoch: Optional[int] = None) -> list[Union[Lookup, ProviderError]]:
-        """The proofs of many names at one epoch, in their order: more lookups a second than by `lookup`. In the place of a name
-        that is refused is its error: a `Fault`, or `NotText`."""
-        self._check()
-        at, found = self._at(epoch), list[Union[Lookup, ProviderError]]()
-        refused: dict[int, ProviderError] = {}
-
-        def lines() -> Iterator[bytes]:
-            for number, name in enumerate(names):
-                try:
-                    yield lookup_line(name, self._index_of(name), at)
-                except NotText as error:
-                    refused[number] = error
-
-        for answers in self._host.serve(grouped(lines(), self._host.group_size)):
-            found += map(self._told, answers)
-        for number in sorted(refused):
-            found.insert(number, refused[number])
-        return found
-
-    def _told(self, line: bytes) -> Union[Lookup, Fault]:
-        try:
-            return lookup_of(line)
-        except Fault as fault:
-            return fault
-        except ProgramFailed:
-            self._host.distrust()
-            raise
-
-    def _at(self, epoch: Optional[int]) -> int:
-        """An epoch, the latest if none is given. The child may have one more, which the log has not."""
-        latest = self._host.known.latest.epoch
-        if epoch is not None and _number(epoch, 64, "the epoch") > latest:
-            raise UnknownEpoch()
-        return latest if epoch is None else epoch
-
-    def _index_of(self, name: str) -> bytes:
-        return sized(self._index(text(name)), 32, "an index")
-
-    def latest(self) -> Latest:
-        """The latest epoch, and how large the directory is."""
-        self._check_open()
-        return self._host.known.size
-
-    def chain(self, first: int = 0) -> list[bytes]:
-        """The entries of the epochs in their order, 209 bytes each, from number `first` on, counted from 0: what an auditor takes."""
-        self._check_open()
-        return self._host.known.chain[first:]
-
-    def evidence(self) -> Optional[Evidence]:
-        """What this process has seen and what the log had, after `LogForked` or `ReplayDiffers`, until `discard_evidence`; None if no
-        log was another one."""
-        return self._host.evidence
-
-    def discard_evidence(self, link: bytes) -> None:
-        """Drops the evidence. If the log still lacks what this process has seen, the next `restart` takes it as it is. `link` is
-        that of the latest epoch, so that no script does it for another directory. Keep the evidence first: clients may have seen
-        it too."""
-        is_forked = isinstance(self._broken, (LogForked, ReplayDiffers))
-        self._change(lambda: self._host.forget(sized(link, 32, "a link"), is_forked))
-
-    @property
-    def pid(self) -> Optional[int]:
-        """The child's process number."""
-        return self._host.engine.child.pid if self._host.engine else None
-
-    def close(self, seconds: float = 5) -> None:
-        """Ends the child. Waits for a change that is under way, at most some seconds, and for an append in any case. What the
-        signer returns later is not installed, and a start asks for the same body again. The log stays open, since the caller
-        opened it."""
-        self._check_thread()
-        self._is_closed = True
-        if os.getpid() != self._owner:
-            return
-        self._unused.detach()
-        self._work.stop()
-        until = time.monotonic() + seconds
-        while not self._work.join(0.02) and time.monotonic() < until:
-            pass
-        self._is_over = True
-        while self._is_logging and not self._work.join(0.02):
-            pass
-        self._host.close()
-
-
 class Provider(Directory):
     """A directory that the program `provider` keeps, with its log.
 
     `program` is the program's path, or its path and first arguments. `log` isn't closed by the provider. `create` makes a
-    directory: the log must have no line. `policy` is the digest in each entry, 32 bytes, and `nonce` that of the first epoch: 32
-    random bytes if it is None. `vrf_public_key` is the public key of the VRF, whose SHA-256 the log keeps. These are in the log
-    from the first start on; later starts raise `LogFailed` if one is given that isn't the log's.
+    directory: the log must have no line. `policy` is the digest in each entry, 32 bytes, or the `Policy` whose digest it is, and
+    `nonce` that of the first epoch: 32 random bytes if it is None. `vrf_public_key` is the public key of the VRF, whose SHA-256
+    the log keeps. These are in the log from the first start on; later starts raise `LogFailed` if one is given that isn't the log's.
 
     `verify(body, signature)` returns whether a signature is valid, and is called before one is installed: the program verifies
     none. `workers` and `depth` are the program's options. `timeout` is how many seconds the program may take for one answer;
     without it there is no limit.
 
     `head` is one that an auditor, a client or a replica saw. A log that ends before it raises `LogBehind`, one with another entry
-    `LogForked`: pass it after a log was restored.
+    `LogForked`: pass it after a log was restored. A log that lacks what the signer's record has raises the same errors, whose
+    `entries` are two entries that overlap, if there are two. A record that can't be read raises `SignerFailed`.
 
     Starting replays the log, and asks for the indices of the first, the last and 64 random operations again: another one raises
     `OtherIndex`, unless `check_indices` is False. Then the pending update is signed and installed, if there is one. If the
-    signer fails, `SignerFailed` is raised. With `sign_pending=False` that update stays pending.
+    signer fails, `SignerFailed` is raised. With `sign_pending=False` that update stays pending, and so does one that the signer
+    has abandoned.
     """
 
     def __init__(
@@ -298,7 +112,7 @@ class Provider(Directory):
         sign: Sign,
         log: Log,
         *,
-        policy: bytes,
+        policy: Union[bytes, Policy],
         nonce: Optional[bytes] = None,
         vrf_public_key: Optional[bytes] = None,
         verify: Optional[Verify] = None,
@@ -311,11 +125,11 @@ class Provider(Directory):
         sign_pending: bool = True,
     ):
         first = None if nonce is None else sized(nonce, 32, "the nonce")
-        words, policy = command(program, workers, depth), sized(policy, 32, "the policy")
-        super().__init__(Host(Setting(words, timeout, log, policy, first, vrf_public_key)), index, log, check_indices)
-        self._sign, self._verify = sign, verify
+        setting = Setting(command(program, workers, depth), timeout, log, digest_of(policy), first, vrf_public_key)
+        super().__init__(Host(setting), index, log, check_indices, clock_of(policy))
+        self._set_signer(sign, verify)
         try:
-            self._change(lambda: self._start(sign_pending, lambda: self._first(create, head)))
+            self._change(lambda: self._start(lambda: self._first(create), sign_pending, head))
         except BaseException:
             self.close(0)
             raise
@@ -324,9 +138,14 @@ class Provider(Directory):
     def _over(cls, directory: Directory, sign: Sign, verify: Optional[Verify]) -> Provider:
         """A provider that goes on with the child of another directory."""
         provider = cls.__new__(cls)
-        Directory.__init__(provider, directory._host, directory._index, directory._log, directory._is_checking)
-        provider._sign, provider._verify = sign, verify
+        Directory.__init__(provider, directory._host, directory._index, directory._log, directory._is_checking, directory._clock)
+        provider._set_signer(sign, verify)
         return provider
+
+    def _set_signer(self, sign: Sign, verify: Optional[Verify]) -> None:
+        self._sign, self._verify = sign, verify
+        # A body that the signer has abandoned, and will not sign.
+        self._abandoned: Optional[bytes] = None
 
     # What a crash, an exception or a failed append leaves behind, after each step of a commit:
     #
@@ -336,18 +155,32 @@ class Provider(Directory):
     #   4. the child accepts `install`       As after 2. No lookup has shown the entry: each names an epoch that is in the log.
     #   5. the log appends it                A start finds the epoch installed, with this signature.
     #
+    # If an update is pending that other operations made, a commit first makes its steps 3 to 5, or ends as before them. If that
+    # update is given up, the steps before 1 are:
+    #
+    #   a. the signer abandons the body      The log still has the update pending. A start asks for its body, and the signer says
+    #                                        that it is abandoned: the update stays pending, and only `commit` replaces it.
+    #   2. the log appends `prepare`         The line says what it abandons. A start finds the other update pending.
+    #
     # The log drops a line that a crash has cut. A line whose append failed may be in the log or not: both are rows of this list.
     # So after such an error nothing is added before a restart (`_broken`), and lookups go on. If the log refused the line, it is
-    # not in the log: after 1 the child takes back what was pending before, and after 4 the same line is appended again before
-    # anything else.
+    # not in the log: after 1 the child takes back what was pending before, which is still abandoned if it was (`_abandoned` has
+    # its body), and after 4 the same line is appended again before anything else.
     #
     # All steps are made by one thread, which no signal interrupts. `changing` is held from 1 to 2 and from 4 to 5, so that a child
-    # which ends is started again only when the engine says what the log has.
+    # which ends is started again only when the engine says what the log has. Another child may have replayed what another
+    # provider appended: so between the last look at the pending update and 1 it is looked at again.
     #
-    # The epoch numbers of `prepare` lines only rise. The child refuses those up to the latest installed one, and `_prepare`
-    # those up to the pending one. So the log has one `prepare` line for a number, and the signer is asked for one body.
+    # The epoch numbers of `prepare` lines only rise. The child refuses those up to the latest installed one, and `_check_number`
+    # those up to the pending one. So the log has one `prepare` line for a number. Between two `install` lines it has one, or each
+    # but the last is abandoned. The signer is asked for a body only after the log has it. So of the bodies that follow an entry
+    # the signer signs at most one, and what it signs is one chain.
+    #
+    # The signer's record is read before the log. So a log that lacks what the record has lost it, or is another one. A guard that
+    # refuses a body may have signed the next one, for another provider. Then the log has more lines than this process has seen,
+    # and the error is `Overtaken`, as that of an append.
 
-    def _start(self, sign_pending: bool, start: Callable[[], Engine]) -> None:
+    def _start(self, start: Callable[[], Engine], sign_pending: bool, head: Optional[Head]) -> None:
         """Replays the log in another child, which is then asked, and signs and installs the pending update."""
 
         def open_if_new(engine: Engine) -> None:
@@ -355,30 +188,49 @@ class Provider(Directory):
             if engine.position == 0:
                 self._logged(engine.open)
 
-        self._begin(start, sign_pending, open_if_new)
+        record = recorded(self._sign)
+        self._begin(start, sign_pending, head, record, open_if_new)
         if self.pending and sign_pending:
-            self._settle()
+            self._settle_unless_abandoned()
 
-    def _first(self, create: bool, head: Optional[Head]) -> Engine:
+    def _first(self, create: bool) -> Engine:
         """The engine of the first start, which alone may make a directory."""
         engine = self._host.started(create or getattr(self._log, "is_new", False))
-        try:
-            if create and engine.position:
-                raise DirectoryExists(f"there is a directory in {self._log}: start without create, or choose another log")
-            if head:
-                engine.check_head(head)
-        except BaseException:
+        if create and engine.position:
             engine.child.stop(0)
-            raise
+            raise DirectoryExists(f"there is a directory in {self._log}: start without create, or choose another log")
         return engine
 
-    def commit(self, epoch: int, operations: Iterable[Operation], nonce: Optional[bytes] = None, *, far: bool = False) -> Epoch:
+    def epoch_now(self) -> int:
+        """The epoch number that the policy's clock has. Raises `ProviderError` if the policy has no clock, and before its start."""
+        if self._clock is None:
+            raise ProviderError("the policy has no clock: pass a Policy with epoch_start and epoch_period")
+        try:
+            return self._clock.epoch_at(time.time())
+        except ValueError as error:
+            raise ProviderError(f"the policy's clock has no epoch at this time: {error}. Look at the machine's clock") from error
+
+    def commit(
+        self,
+        epoch: int,
+        operations: Iterable[Operation],
+        nonce: Optional[bytes] = None,
+        *,
+        far: bool = False,
+        force: bool = False,
+    ) -> Epoch:
         """Binds names to keys in a new epoch, and returns it once the log has its entry. A `nonce` rehashes the whole tree.
 
-        Raises a `Fault` if the program refuses the batch, and then nothing is changed. Raises `SignerFailed` if the signer
+        Raises a `Fault` if the program refuses the batch, and then nothing is changed by it. Raises `SignerFailed` if the signer
         fails: the update stays pending, and `commit` with the same arguments, or `retry`, asks for the same body again.
-        Operations have a random opening: pass the same objects. Raises `EpochSpent` for other operations under the epoch of
-        the pending update or an earlier one, and `EpochTooFar` for a number more than 2^32 above the latest, unless `far`.
+        Operations have a random opening: pass the same objects.
+
+        With other operations under a later epoch, the pending update is signed and installed first, unless it is abandoned. If
+        that raises, these operations were not seen.
+
+        Before that are raised: `EpochSpent` for other operations under the epoch of the pending update or an earlier one;
+        `EpochNotNow` if the policy has a clock and it has another number, unless `force`; `EpochTooFar` for a number more than
+        2^32 above the latest, unless `far`.
 
         After `ProgramFailed`, or `LogFailed` and then `restart`, the batch is installed if `latest().epoch` is its epoch, and
         pending if `pending` is its update. After `LogRefused` it is neither, or still pending.
@@ -387,38 +239,61 @@ class Provider(Directory):
         listed = list(operations)
         line = prepare_line(epoch, listed, nonce, self._index_of)
         names = sum(isinstance(it, Register) for it in listed)
-        return self._change(lambda: self._commit(epoch, line, names, far))
+        return self._change(lambda: self._commit(epoch, line, names, far, force))
 
-    def _commit(self, epoch: int, line: bytes, names: int, far: bool) -> Epoch:
+    def _commit(self, epoch: int, line: bytes, names: int, far: bool, force: bool) -> Epoch:
         """Makes the update of a line the pending one, in the child and in the log, and has it signed and installed."""
         engine = self._ready()
-        pending = engine.update
-        if pending and with_member(line, "body", pending.pending.body) == pending.line:
-            return self._settle()
-        if pending and epoch <= pending.pending.epoch:
-            raise EpochSpent(epoch, pending.pending.epoch)
-        if epoch > engine.latest.epoch + _FAR and not far:
-            raise EpochTooFar(epoch, engine.latest.epoch)
-        if engine.unlogged:
-            self._settle()
+        if engine.update and engine.update.is_of(line):
+            return self._settle(engine.update.pending.body)
+        self._check_number(epoch, engine, far, force)
+        if engine.update:
+            self._settle_unless_abandoned()
         with self._host.changing:
             engine = self._host.sound()
+            if engine.update and not (self._is_abandoned(engine) and engine.update.pending.epoch < epoch):
+                raise ProgramFailed("the program was started again meanwhile, and another update is pending: commit again")
             update = engine.prepare(epoch, line, names)
             self._logged(lambda: engine.log_prepared(update))
-        return self._settle()
+        return self._settle(update.pending.body)
 
-    def _settle(self) -> Epoch:
-        """Has the pending update signed, and installs it."""
+    def _check_number(self, epoch: int, engine: Engine, far: bool, force: bool) -> None:
+        latest = engine.update.pending.epoch if engine.update else engine.latest.epoch
+        if engine.update and epoch <= latest:
+            raise EpochSpent(epoch, latest)
+        if self._clock and not force and epoch != (now := self.epoch_now()):
+            raise EpochNotNow(epoch, now)
+        if epoch > latest + _FAR and not far:
+            raise EpochTooFar(epoch, latest)
+
+    def _is_abandoned(self, engine: Engine) -> bool:
+        """Whether an update is pending that the signer has abandoned."""
+        return engine.update is not None and engine.update.pending.body == self._abandoned
+
+    def _settle_unless_abandoned(self) -> None:
+        """Has the pending update signed, and installs it, unless the signer has abandoned it."""
+        if self._is_abandoned(self._ready()):
+            return
+        try:
+            self._settle()
+        except SignerFailed:
+            if not self._is_abandoned(self._host.known):
+                raise
+
+    def _settle(self, body: Optional[bytes] = None) -> Epoch:
+        """Has the pending update signed, and installs it. If a body is given, the update is the one of this body."""
         engine = self._ready()
-        if engine.update is None:
+        if engine.update is None and body is None:
             raise NotPrepared()
+        if engine.update is None or body not in (None, engine.update.pending.body):
+            raise ProgramFailed(_STARTED_AGAIN)
         body = engine.update.pending.body
         signature = b"" if engine.unlogged else self._signature(body)
         with self._host.changing:
             engine = self._host.sound()
             if not engine.unlogged:
                 if not engine.update or engine.update.pending.body != body or not signature:
-                    raise ProgramFailed("the program was started again meanwhile, and the update is pending: retry")
+                    raise ProgramFailed(_STARTED_AGAIN)
                 engine.install(signature)
             return self._logged(engine.log_installed)
 
@@ -437,39 +312,110 @@ class Provider(Directory):
             self._is_logging = False
 
     def _signature(self, body: bytes) -> bytes:
+        if body == self._abandoned:
+            raise SignerFailed(_ABANDONED) from BodyAbandoned("the body was abandoned")
+        if self._is_checking:
+            self._host.known.check_pending_indices(self._index_of)
         try:
             signature = sized(self._sign(body), SIGNATURE_LENGTH, "a signature")
             is_valid = self._verify is None or self._verify(body, signature)
+        except BodyAbandoned as error:
+            self._abandoned = body
+            self._check_not_overtaken(error)
+            raise SignerFailed(_ABANDONED) from error
         except Exception as error:
-            raise SignerFailed(f"the signer failed: {error}. The update is pending: retry") from error
+            self._check_not_overtaken(error)
+            raise SignerFailed(
+                f"the signer failed: {error}. The update is pending: retry, or give it up by abandon() if the signer's guard refuses it"
+            ) from error
         if is_valid is not True:
-            raise SignerFailed("the signer returned a signature that isn't valid: look at its key. The update is pending")
+            raise SignerFailed("the signer returned a signature that isn't valid: look at its key. The update is pending: retry")
         return signature
 
+    def _check_not_overtaken(self, refusal: Exception) -> None:
+        """Raises `Overtaken` if a guard refuses a body, and another provider has gone on in the log, which both share."""
+        wait, position = getattr(self._log, "wait", None), self._host.known.position
+        if wait is None or not isinstance(refusal, (BodyRefused, BodySigned)):
+            return
+        try:
+            count = wait(position, 0)
+        except Exception:
+            # The refusal is what is known.
+            return
+        if count > position:
+            self._broken = Overtaken(
+                f"another provider has appended to {self._log}, and gone on: close this one, or open a replica"
+            )
+            raise self._broken from refusal
+
     def retry(self) -> Epoch:
-        """Has the pending update signed, and installs it. Raises `NotPrepared` if there is none."""
+        """Has the pending update signed, and installs it. Raises `NotPrepared` if there is none, and `SignerFailed` if it is
+        abandoned."""
         return self._change(self._settle)
+
+    def abandon(self) -> None:
+        """Gives up the pending update: the signer abandons its body, and refuses it for ever. Then `commit` under a later epoch
+        replaces the update. Until then it is pending, and no lookup shows it.
+
+        Raises `NotPrepared` if there is none, `ProviderError` if the signer can't abandon, and `SignerFailed` if the signer has
+        signed the body, or fails. A call that was interrupted can be repeated.
+        """
+        self._change(self._abandon)
+
+    def _abandon(self) -> None:
+        engine = self._ready()
+        if engine.update is None:
+            raise NotPrepared()
+        body = engine.update.pending.body
+        abandon = getattr(self._sign, "abandon", None)
+        if abandon is None:
+            raise ProviderError("the signer can't abandon a body: sign through coniks.guard.Guard")
+        try:
+            if engine.unlogged:
+                raise BodySigned("its body is signed")
+            abandon(body)
+        except BodySigned as error:
+            self._check_not_overtaken(error)
+            raise SignerFailed(f"the update can't be given up: {error}. It is pending: retry") from error
+        except Exception as error:
+            raise SignerFailed(f"the signer failed to abandon the body: {error}. Call abandon() again") from error
+        self._abandoned = body
 
     @property
     def pending(self) -> Optional[Pending]:
-        """The update that isn't installed, because the signer failed; None if there is none."""
+        """The update that isn't installed, because the signer failed or has abandoned it; None if there is none."""
         engine = self._host.engine
         return engine.update.pending if engine and engine.update else None
 
-    def restart(self, sign_pending: bool = True) -> None:
+    def restart(self, sign_pending: bool = True, *, head: Optional[Head] = None) -> None:
         """Starts another child, replays the log into it, and ends this one, which answers lookups until then. Signs and installs
         the pending update, as a start does. If `SignerFailed` is raised, the directory is usable and the update pending.
 
-        Raises `LogForked` if the log lacks what this process has seen in it: then lookups go on as before, `evidence` has both,
-        and nothing can be added until the log is whole again, or `discard_evidence` was called.
+        Raises `LogForked` if the log lacks what this process has seen in it, the head, or what the signer's record has. Then
+        lookups go on as before, `evidence` has both, and nothing can be added until the log is whole again. After
+        `discard_evidence` the next restart takes a log that lacks what this process has seen.
         """
-        self._change(lambda: self._start(sign_pending, self._restarted))
+        self._change(lambda: self._start(self._restarted, sign_pending, head))
 
 
-def check_writable(log: Log) -> None:
-    """Raises `LogFailed` if an append could not succeed, as far as the log tells."""
-    if hasattr(log, "check_writable"):
-        log.check_writable()
+_ABANDONED = "the signer has abandoned the body of the pending update, and won't sign it: commit under a later epoch"
+_STARTED_AGAIN = (
+    "the program was started again meanwhile: the update is installed if its epoch is the latest one, and pending if pending has it"
+)
+
+
+def recorded(sign: Sign) -> Record:
+    """What a signer's record has, nothing if the signer has no record."""
+    if not hasattr(sign, "signed"):
+        return Record()
+    try:
+        signed, asked = sign.signed(), sign.asked() if hasattr(sign, "asked") else None
+        return Record(
+            None if signed is None else sized(signed, ENTRY_LENGTH, "the signed entry"),
+            None if asked is None else sized(asked, BODY_LENGTH, "the body that was asked for"),
+        )
+    except Exception as error:
+        raise SignerFailed(f"the signer's record can't be read: {error}. Repair it, and try again") from error
 
 
 def entries(log: Log) -> Iterator[bytes]:

@@ -15,12 +15,15 @@ import time
 from dataclasses import dataclass
 from typing import Optional, Sequence, Union
 
+from . import Head
+from ._directory import Directory, check_writable, clock_of, digest_of
 from ._engine import Setting
 from ._host import Host
-from ._lines import Index, command, sized
+from ._lines import Index, command
 from .faults import LogForked, OtherIndex, ReplayDiffers, SignerFailed
 from .log import Path, SharedLog
-from .provider import Directory, Provider, Sign, Verify, check_writable
+from .policy import Policy
+from .provider import Provider, Sign, Verify, recorded
 
 __all__ = ["Lag", "Replica"]
 
@@ -40,7 +43,8 @@ class Replica(Directory):
 
     The arguments are those of `Provider` without the signer. If the child's answer isn't the logged one, or the log lost lines,
     the replica stays at the epoch that it has: lookups go on, `lag().error` is the cause, `evidence` has both chains, and
-    `follow` and `promote` raise `RestartNeeded` until `restart` returns. If the log can't be read, it follows again later.
+    `follow` and `promote` raise `RestartNeeded` until `restart` returns. If the log can't be read, or has a line that no provider
+    writes, the replica follows again once it can.
     """
 
     def __init__(
@@ -49,33 +53,34 @@ class Replica(Directory):
         program: Union[Path, Sequence[str]],
         index: Index,
         *,
-        policy: bytes,
+        policy: Union[bytes, Policy],
         vrf_public_key: Optional[bytes] = None,
         workers: Optional[int] = None,
         depth: Optional[int] = None,
         timeout: Optional[float] = None,
+        head: Optional[Head] = None,
         check_indices: bool = True,
     ):
-        words, policy = command(program, workers, depth), sized(policy, 32, "the policy")
-        super().__init__(Host(Setting(words, timeout, log, policy, None, vrf_public_key)), index, log, check_indices)
+        setting = Setting(command(program, workers, depth), timeout, log, digest_of(policy), None, vrf_public_key)
+        super().__init__(Host(setting), index, log, check_indices, clock_of(policy))
         self._shared, self._lines, self._since = log, 0, time.monotonic()
         self._error: Optional[Exception] = None
         self._promoted: Optional[Provider] = None
         try:
-            self.restart()
+            self.restart(head=head)
         except BaseException:
             self.close(0)
             raise
         threading.Thread(target=self._run, daemon=True).start()
 
-    def restart(self) -> None:
+    def restart(self, *, head: Optional[Head] = None) -> None:
         """Starts another child, replays the log into it, and ends this one, which answers lookups until then. Raises `LogForked`
-        if the log lacks what this replica has seen in it."""
-        self._change(self._restart)
+        if the log lacks what this replica has seen in it, or the head."""
+        self._change(lambda: self._restart(head))
 
-    def _restart(self) -> None:
+    def _restart(self, head: Optional[Head]) -> None:
         start = time.monotonic()
-        self._begin(self._restarted, False, lambda engine: None)
+        self._begin(self._restarted, False, head)
         self._since, self._error = start, None
 
     def _run(self) -> None:
@@ -99,11 +104,12 @@ class Replica(Directory):
             lost = f"the log has {self._lines} lines, of which {position} were replayed: it lost some. Restore it, then restart"
             self._broken = self._host.forked(LogForked(lost))
 
-    def follow(self) -> None:
-        """Replays the lines that the log has now. A replica does it by itself, soon after they were appended."""
-        self._change(self._follow)
+    def follow(self, *, head: Optional[Head] = None) -> None:
+        """Replays the lines that the log has now. A replica does it by itself, soon after they were appended. Raises `LogForked`
+        if the log lacks the head, and then the replica goes on."""
+        self._change(lambda: self._follow(head))
 
-    def _follow(self) -> None:
+    def _follow(self, head: Optional[Head]) -> None:
         start, engine = time.monotonic(), self._ready()
         size = engine.size
         try:
@@ -122,35 +128,43 @@ class Replica(Directory):
             self._broken = self._host.forked(error)
             raise
         self._since = start
+        if head:
+            engine.check_head(head)
 
     def lag(self) -> Lag:
         """How far the replica is behind."""
         lines = max(0, self._lines - self._host.known.position)
         return Lag(lines, time.monotonic() - self._since, self._broken or self._error)
 
-    def promote(self, sign: Sign, *, verify: Optional[Verify] = None, sign_pending: bool = True) -> Provider:
+    def promote(
+        self, sign: Sign, *, verify: Optional[Verify] = None, sign_pending: bool = True, head: Optional[Head] = None
+    ) -> Provider:
         """Makes a provider of the replica, which is closed. It replays only what the replica hasn't, asks for some indices again,
         then signs and installs the pending update if there is one; lookups go on meanwhile.
 
-        Raises `SignerFailed`, or `LogFailed` if the log can't be read or written, and then the replica goes on. After another
-        error, as `Overtaken`, it goes on after `restart`. A call that was interrupted can be repeated.
+        Raises `SignerFailed`, or `LogFailed` if the log can't be read or written, and then the replica goes on. So it does after
+        `LogForked` or `LogBehind`: the log lacks the head, or what the signer's record has, of which `evidence` then has both.
+        After another error, as `Overtaken`, it goes on after `restart`. A call that was interrupted can be repeated.
         """
         if self._promoted is None:
-            self._change(lambda: self._promote(sign, verify, sign_pending))
+            self._change(lambda: self._promote(sign, verify, sign_pending, head))
         self._work.stop()
         assert self._promoted
         return self._promoted
 
-    def _promote(self, sign: Sign, verify: Optional[Verify], sign_pending: bool) -> None:
+    def _promote(self, sign: Sign, verify: Optional[Verify], sign_pending: bool, head: Optional[Head]) -> None:
         check_writable(self._log)
-        self._follow()
+        # Before the log, as at a start.
+        record = recorded(sign)
+        self._follow(head)
         engine = self._host.known
+        self._host.check_record(engine, record)
         if self._is_checking:
             engine.check_indices(self._index_of, sign_pending)
         provider = Provider._over(self, sign, verify)
         try:
             if engine.update and sign_pending:
-                provider._settle()
+                provider._settle_unless_abandoned()
         except BaseException as error:
             # It must not end the child that the replica goes on with.
             provider._unused.detach()

@@ -14,14 +14,15 @@ import sys
 import tempfile
 import threading
 import time
+from contextlib import suppress
 from functools import partial
 from pathlib import Path
 from types import FrameType
 from typing import Any, Callable, Optional
 from unittest import mock
 
-from stand_ins import HERE, Salted, Signer, Tell, opened
-from coniks.provider import FileLog, LogFailed, Overtaken, Register, entries
+from stand_ins import HERE, Salted, Signer, Tell, guarded, opened
+from coniks.provider import FileLog, LogFailed, Overtaken, Register, SignerFailed, entries
 
 PACKAGE = str(HERE.parent / "coniks") + os.sep
 # A call that takes longer doesn't end.
@@ -88,12 +89,19 @@ class Stage:
     def __init__(self, room: str, program: str) -> None:
         self.path, self.program, self.signer = Path(room) / "log", program, Signer(room, Salted())
         self.log = FileLog(self.path)
-        self.own = opened(program, self.log, self.signer, create=True)
+        self.own = opened(program, self.log, self.signer, guarded(self.signer), create=True)
         self.epoch, self.there = 0, list[bytes]()
 
     def commit(self) -> None:
         self.epoch += 1
         self.there.append(self.own.commit(self.epoch, [Register(f"user-{self.epoch}", b"key")]).entry)
+
+    def leave(self) -> None:
+        """Leaves an update pending, since the signer fails."""
+        self.epoch += 1
+        self.signer.fails = 1
+        with suppress(SignerFailed):
+            self.own.commit(self.epoch, [Register(f"given-up-{self.epoch}", b"key")])
 
     def goes_on(self) -> bool:
         """Whether the next calls end, and show what was acknowledged."""
@@ -105,7 +113,7 @@ class Stage:
     def is_whole(self) -> bool:
         """Whether a start from the file has what was acknowledged, and one body was signed for each epoch."""
         self.close()
-        with FileLog(self.path) as self.log, opened(self.program, self.log, self.signer) as self.own:
+        with FileLog(self.path) as self.log, opened(self.program, self.log, self.signer, guarded(self.signer)) as self.own:
             return {*self.there} <= {*self.own.chain()} == {*entries(self.log)} and self.signer.is_asked_once()
 
     def close(self) -> None:
@@ -143,6 +151,8 @@ CALLS: dict[str, Callable[[Stage], object]] = {
     "lookup": lambda stage: stage.own.lookup("user-1"),
     "lookups": lambda stage: stage.own.lookups(["user-1", "no"]),
     "restart": lambda stage: stage.own.restart(),
+    # The update is left by another thread, which isn't interrupted.
+    "abandon": lambda stage: ends(stage.leave) and stage.own.abandon(),  # type: ignore[func-returns-value]
     "latest and chain": lambda stage: (stage.own.latest(), stage.own.chain()),
 }
 

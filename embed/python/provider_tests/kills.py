@@ -16,11 +16,14 @@ import sys
 import tempfile
 import threading
 import time
+from itertools import combinations
 from pathlib import Path
 from typing import Callable, Sequence
 
-from stand_ins import HAS_NACL, HERE, Ed25519, Salted, Scheme, Signer, Tell, append, audited, has_library, is_new, lines, opened
-from stand_ins import shown
+from honest import is_evidence
+from stand_ins import HAS_NACL, HERE, Ed25519, Salted, Scheme, Signer, Tell, append, audited, guarded, has_library, is_new, lines
+from stand_ins import opened, shown
+from coniks.guard import BodyAbandoned
 from coniks.provider import Change, Epoch, Fault, FileLog, Lookup, Operation, ProgramFailed, Provider, Register, SignerFailed
 from coniks.provider import entries
 
@@ -38,15 +41,23 @@ def some_batch(chance: random.Random, provider: Provider) -> list[Operation]:
 
 
 def commit(chance: random.Random, provider: Provider, epoch: int, operations: Sequence[Operation]) -> Epoch:
-    """Commits: after the signer fails again with the same operations, or by `retry`, or under a later epoch."""
+    """Commits: after the signer fails again with the same operations, or by `retry`, or the update is given up, or another
+    one follows it under a later epoch."""
+    made = {epoch: operations}
     while True:
         try:
-            return provider.commit(epoch, operations)
+            return provider.commit(epoch, made[epoch])
         except SignerFailed:
-            turn = chance.randrange(3)
+            assert provider.pending
+            turn, pending = chance.randrange(4), provider.pending.epoch
             if turn == 0:
                 epoch += chance.randrange(1, 4)
+                made[epoch] = []
             elif turn == 1:
+                provider.abandon()
+                epoch += chance.randrange(1, 4)
+                made[epoch] = made[pending]
+            elif turn == 2:
                 try:
                     return provider.retry()
                 except SignerFailed:
@@ -81,7 +92,7 @@ def drive(folder: str, program: str, kind: str, seed: int) -> None:
         while True:
             try:
                 # A process that was killed may have made the directory or not.
-                provider = opened(program, log, signer, create=is_new(log))
+                provider = opened(program, log, signer, guarded(signer), create=is_new(log))
                 break
             except (SignerFailed, ProgramFailed):
                 pass
@@ -90,7 +101,9 @@ def drive(folder: str, program: str, kind: str, seed: int) -> None:
         while True:
             try:
                 made = some_batch(chance, provider)
-                epoch = commit(chance, provider, provider.latest().epoch + chance.randrange(1, 3), made)
+                # An update that was given up has spent its number.
+                spent = max(provider.latest().epoch, provider.pending.epoch if provider.pending else 0)
+                epoch = commit(chance, provider, spent + chance.randrange(1, 3), made)
                 keys = {it.name: base64.b64encode(it.key).decode() for it in made}
                 append(room / "acknowledged", json.dumps([epoch.epoch, epoch.entry.hex(), keys]))
             except ProgramFailed:
@@ -98,7 +111,7 @@ def drive(folder: str, program: str, kind: str, seed: int) -> None:
 
 
 def go_on(chance: random.Random, provider: Provider) -> None:
-    """Goes on after the child ended: by `restart`, or by asking for the pending update alone."""
+    """Goes on after the child ended: by `restart`, or by asking for the pending update alone. One that was given up stays."""
     while True:
         try:
             if chance.randrange(2):
@@ -106,8 +119,11 @@ def go_on(chance: random.Random, provider: Provider) -> None:
             if provider.pending:
                 provider.retry()
             return
-        except (ProgramFailed, SignerFailed):
+        except ProgramFailed:
             pass
+        except SignerFailed as error:
+            if isinstance(error.__cause__, BodyAbandoned):
+                return
 
 
 def children_of(process: int) -> list[int]:
@@ -127,7 +143,8 @@ def kill(process: int) -> None:
 def check(tell: Tell, what: str, room: Path, program: str, kind: str, library: bool) -> tuple[int, int]:
     """Starts once more, and compares the directory with the lists."""
     signer = Signer(room, KINDS[kind]())
-    with FileLog(room / "log") as log, opened(program, log, signer, create=is_new(log)) as provider:
+    guard = guarded(signer)
+    with FileLog(room / "log") as log, opened(program, log, signer, guard, create=is_new(log)) as provider:
         by_epoch = {int.from_bytes(it[1:9], "big"): it for it in entries(log)}
         acknowledged = [json.loads(it) for it in lines(room / "acknowledged")]
         tell(
@@ -144,13 +161,27 @@ def check(tell: Tell, what: str, room: Path, program: str, kind: str, library: b
             all(it in by_epoch.values() for it in map(bytes.fromhex, lines(room / "shown"))),
         )
         tell(f"{what}: one body for each epoch", signer.is_asked_once(), signer.asked())
+        given_up = {bytes.fromhex(json.loads(it).get("abandons", "")) for it in log.read(0)}
+        signed = {it for bodies in signer.asked().values() for it in bodies} - given_up
+        tell(f"{what}: no two bodies are evidence", not any(is_evidence(*it) for it in combinations(signed, 2)))
+        last = provider.chain()[-1] if provider.chain() else None
+        tell(f"{what}: the record ends as the log", (guard.signed(), guard.asked()) == (last, None))
         tell(f"{what}: the chain is audited", audited(entries(log), signer.keys, library))
         latest = provider.latest()
         tell(
             f"{what}: nothing is pending, and the latest is the log's",
-            provider.pending is None and latest.epoch == max(by_epoch, default=0),
+            latest.epoch == max(by_epoch, default=0) and (not provider.pending or is_abandoned(provider)),
         )
     return len(acknowledged), len(lines(room / "shown"))
+
+
+def is_abandoned(provider: Provider) -> bool:
+    """Whether the guard refuses the pending update, since the process was killed after it had abandoned it."""
+    try:
+        provider.retry()
+        return False
+    except SignerFailed as error:
+        return isinstance(error.__cause__, BodyAbandoned)
 
 
 def one_kill(chance: random.Random, room: Path, program: str, kind: str) -> tuple[str, bool]:

@@ -21,7 +21,7 @@ from pathlib import Path
 from typing import Any, Callable, Optional
 from unittest import mock
 
-from stand_ins import POLICY, Salted, Signer, Tell, index, lines, opened, shown, small_disk
+from stand_ins import POLICY, Salted, Signer, Tell, guarded, index, lines, opened, shown, small_disk
 import coniks
 from coniks import provider
 from coniks.provider import Change, DirectoryExists, EpochNotLater, EpochSpent, EpochTooFar, FileLog, LogBehind, LogFailed
@@ -67,7 +67,7 @@ class Service:
         with ExitStack() as failing:
             failing.callback(file.close)
             settings: dict[str, Any] = {"index": index, "policy": POLICY, "verify": self.signer.verify, **more}
-            own = Provider(self.program, settings.pop("index"), self.signer, file, **settings)
+            own = Provider(self.program, settings.pop("index"), settings.pop("sign", self.signer), file, **settings)
             failing.pop_all()
         return self._rooms.enter_context(own)
 
@@ -279,6 +279,8 @@ def try_backups(it: Service) -> None:
             None if len(found) < 3 else found[0][:145],
         )
         it.tell(f"{what}: the evidence has the bodies", seen and seen.bodies == bodies)
+        pair = (it.own.chain()[0], found[0]) if data == foreign else None
+        it.tell(f"{what}: the evidence has two entries of one place", seen and seen.entries == pair)
         it.tell(f"{what}: evidence is discarded by name alone", refuses_link(it.own))
     it.own.discard_evidence(head.link)
     it.own.restart()
@@ -354,11 +356,16 @@ def try_keys(it: Service) -> None:
     it.own = it.opened(index=other_index, check_indices=False)
     it.signer.fails = 1
     it.refuses("an update under another key", SignerFailed, lambda: it.own.commit(4, [Register("frank", b"key")]))
+    last, asked = it.own.chain()[-1], len(asked_of(it))
     it.stop()
     it.refuses("a pending update under another key", OtherIndex, it.opened)
-    it.own = it.opened(sign_pending=False)
+    it.own = it.opened(sign_pending=False, sign=guarded(it.signer, known=last))
+    it.refuses("a pending update under another key: retry", OtherIndex, it.own.retry)
+    it.refuses("a pending update under another key: a later one", OtherIndex, lambda: it.commit(5, Register("frank", b"key")))
+    it.tell("a pending update under another key: nothing is signed", len(asked_of(it)) == asked and it.own.pending)
+    it.own.abandon()
     it.commit(5, Register("frank", b"key"))
-    it.tell("the update is replaced", it.own.lookup("frank").epoch == 5)
+    it.tell("the update is replaced", it.own.lookup("frank").epoch == 5 and it.own.latest().names == 3)
     it.is_one_chain("other keys")
     keyed = it.room / "keyed"
     it.stop(it.opened(FileLog.create(keyed), vrf_public_key=b"key 1"))
@@ -511,13 +518,15 @@ def try_services(it: Service) -> None:
     it.goes_on("two providers over one open log")
     it.own.restart()
     it.tell("the slower one restarts", it.own.lookup("carol").entry == made.entry)
-    # Another service replaces an update that this one left pending.
+    # Another service installs an update that this one left pending, and goes on.
     it.signer.fails = 1
     it.refuses("an update that stays pending", SignerFailed, lambda: it.own.commit(4, [Register("dora", b"4")]))
     second.restart(sign_pending=False)
-    second.commit(5, [Register("dora", b"5")])
+    second.commit(5, [Change("dora", b"5")])
+    it.refuses("an update that another service installed", Overtaken, lambda: it.own.commit(6, []))
     it.own.restart()
-    it.tell("an update that another service replaced", shown(it.own.lookup("dora")) == b"5" and it.own.evidence() is None)
+    both = [shown(it.own.lookup("dora", epoch)) for epoch in (4, 5)]
+    it.tell("an update that another service installed: restart", both == [b"4", b"5"] and it.own.evidence() is None)
     is_committing, may_go = threading.Event(), threading.Event()
     it.signer.before = partial(signals, is_committing, may_go)
     thread = threading.Thread(target=lambda: it.own.commit(6, []))
@@ -569,7 +578,7 @@ def try_edits(it: Service) -> None:
     deep = b'{"cmd":"open","deep":' + b"[" * 100_000 + b"]" * 100_000 + b"}\n"
     edits: list[tuple[str, type[ProviderError], list[bytes]]] = [
         ("an edited key", ReplayDiffers, [lines[0], lines[1].replace(b'"key":"MQ=="', b'"key":"Mg=="', 1), *lines[2:]]),
-        ("a line less", ReplayDiffers, [*lines[:2], *lines[3:]]),
+        ("a line less", LogFailed, [*lines[:2], *lines[3:]]),
         ("lines in another order", ReplayDiffers, [lines[0], lines[3], lines[4], lines[1], lines[2]]),
         ("two logs in one", ReplayDiffers, lines + lines),
         ("a line twice", ReplayDiffers, [*lines[:3], lines[2], *lines[3:]]),

@@ -24,6 +24,7 @@ import chain
 import coniks
 from bytelists import link
 from coniks import provider
+from coniks.guard import BodyRefused, Guard
 from members import Fault as SecondFault
 from proofs import Proof, judge
 
@@ -156,8 +157,23 @@ class Signer:
         return all(len(it) == 1 for it in self.asked().values())
 
 
-def opened(program: str, log: provider.Log, signer: Signer, **more: Any) -> provider.Provider:
-    return provider.Provider(program, index, signer, log, policy=POLICY, verify=signer.verify, **more)
+def guarded(signer: Signer, name: str = "guard", **more: Any) -> Guard:
+    """A guard over a signer, whose record is beside the list of bodies. The directory is a new one until a body is signed, unless
+    its latest entry is known."""
+    path = signer.file.with_name(name)
+    settings: dict[str, Any] = {"verify": signer.verify, **more}
+    try:
+        return Guard(path, signer, new_directory="known" not in more, **settings)
+    except BodyRefused:
+        return Guard(path, signer, **settings)
+
+
+def opened(
+    program: str, log: provider.Log, signer: Signer, sign: Optional[Callable[[bytes], bytes]] = None, **more: Any
+) -> provider.Provider:
+    """A provider that signs by a signer, or through a guard over it."""
+    settings: dict[str, Any] = {"policy": POLICY, "verify": signer.verify, **more}
+    return provider.Provider(program, index, sign or signer, log, **settings)
 
 
 def is_new(log: provider.Log) -> bool:

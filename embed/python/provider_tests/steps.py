@@ -28,7 +28,7 @@ class Stop(BaseException):
 class HookedLog:
     """A log over another one that calls a function before and after an append."""
 
-    def __init__(self, log: FileLog) -> None:
+    def __init__(self, log: Any) -> None:
         self.log = log
         self.before: Callable[[bytes], object] = lambda line: None
         self.after: Callable[[bytes], object] = lambda line: None
@@ -39,7 +39,8 @@ class HookedLog:
         self.after(line)
 
     def read(self, position: int) -> Iterator[bytes]:
-        return self.log.read(position)
+        lines: Iterator[bytes] = self.log.read(position)
+        return lines
 
     def check_writable(self) -> None:
         self.log.check_writable()

@@ -364,7 +364,7 @@ def is_looked_up(own: Provider, name: str) -> bool:
 
 
 def try_signer(tell: Tell, program: str) -> None:
-    """A signer that fails: its epoch's number is used for no other body."""
+    """A signer that fails: no other body follows the entry before."""
     with Room(program) as it:
         own, mine = it.provider, [Register("alice", b"key")]
         failures: dict[str, Callable[[], None]] = {
@@ -397,8 +397,9 @@ def try_signer(tell: Tell, program: str) -> None:
         raises(
             tell, "the same operations under a number before", provider.EpochSpent, lambda: own.commit(2, mine), epoch=2, asked=3
         )
-        raises(tell, "a refused batch under a later number", provider.NameUnknown, lambda: own.commit(4, [Change("bob", b"k")]))
-        tell("a refused batch: the update is still pending", own.pending and own.pending.epoch == 3)
+        it.signer.fails = 1
+        raises(tell, "a later number while the signer fails", provider.SignerFailed, lambda: own.commit(4, [Change("alice", b"4")]))
+        tell("a later number while the signer fails: the update is pending", own.pending and own.pending.epoch == 3)
         it.signer.fails = 1
         raises(tell, "a retry that fails", provider.SignerFailed, own.retry)
         tell("the same operations", own.commit(3, mine).epoch == 3 and own.pending is None)
@@ -410,14 +411,14 @@ def try_signer(tell: Tell, program: str) -> None:
         raises(
             tell, "the third fails", provider.SignerFailed, lambda: own.commit(6, [Change("alice", b"6"), Register("six", b"6")])
         )
-        it.signer.fails = 1
-        raises(tell, "a later epoch fails too", provider.SignerFailed, lambda: own.commit(8, [Change("alice", b"8")]))
-        raises(tell, "the number before", provider.EpochSpent, lambda: own.commit(7, [Change("alice", b"7")]), epoch=7, asked=8)
+        raises(tell, "the number before", provider.EpochSpent, lambda: own.commit(5, [Change("alice", b"7")]), epoch=5, asked=6)
+        raises(tell, "a refused batch under a later number", provider.NameUnknown, lambda: own.commit(7, [Change("bob", b"k")]))
+        tell("a refused batch: the update before is installed", own.pending is None and own.latest().epoch == 6)
         tell(
             "a later epoch",
             own.commit(9, [Change("alice", b"9")]).epoch == 9
             and shown(own.lookup("alice")) == b"9"
-            and shown(own.lookup("six")) is None,
+            and shown(own.lookup("six")) == b"6",
         )
         # And after a restart.
         it.signer.fails = 1
@@ -440,10 +441,11 @@ def try_signer(tell: Tell, program: str) -> None:
         )
         own.restart()
         tell("a restart that signs", own.pending is None and own.latest().epoch == 10 and shown(own.lookup("alice")) == b"10")
-        tell("one body for each epoch", it.signer.is_asked_once() and set(it.signer.asked()) == {3, 5, 6, 8, 9, 10})
-        tell("the chain is audited", audited(entries(it.log), it.signer.keys, False) and len(list(entries(it.log))) == 4)
-    for error in (provider.EpochSpent(3, 5),):
-        tell("EpochSpent, pickled", str(pickle.loads(pickle.dumps(error))) == str(error))
+        tell("one body for each epoch", it.signer.is_asked_once() and set(it.signer.asked()) == {3, 5, 6, 9, 10})
+        tell("the chain is audited", audited(entries(it.log), it.signer.keys, False) and len(list(entries(it.log))) == 5)
+    for error in (provider.EpochSpent(3, 5), provider.EpochTooFar(3, 5), provider.EpochNotNow(3, 5)):
+        copied = pickle.loads(pickle.dumps(error))
+        tell(f"{type(error).__name__}, pickled", (str(copied), vars(copied)) == (str(error), vars(error)))
 
 
 def try_logs(tell: Tell, program: str) -> None:

@@ -1,0 +1,225 @@
+"""What `coniks.provider.Provider` and `coniks.replica.Replica` share."""
+
+from __future__ import annotations
+
+import os
+import time
+import weakref
+from typing import Callable, Iterable, Iterator, Optional, TypeVar, Union
+
+from . import Head, _number
+from ._engine import Engine, Record
+from ._host import Evidence, Host
+from ._lines import Index, Latest, Lookup, grouped, lookup_line, lookup_of, sized, text
+from ._threads import Worker
+from .faults import Closed, Fault, LogForked, NoDirectory, NotText, OtherIndex, ProgramFailed, ProviderError, ReplayDiffers
+from .faults import RestartNeeded, UnknownEpoch
+from .log import Closing, Log
+from .policy import Policy
+
+Result = TypeVar("Result")
+
+
+def drop(work: Worker, host: Host) -> None:
+    """Ends what a directory had that nobody closed."""
+    work.stop()
+    host.drop()
+
+
+class Directory(Closing):
+    """What `Provider` and `coniks.replica.Replica` share: a child that answers lookups, and a thread that changes the
+    directory."""
+
+    def __init__(self, host: Host, index: Index, log: Log, check_indices: bool, clock: Optional[Policy]):
+        self._host, self._index, self._log, self._is_checking, self._clock = host, index, log, check_indices, clock
+        # A closed directory begins no other call. What is under way then ends before the directory is over, or fails.
+        self._is_closed = self._is_over = False
+        self._work, self._owner = Worker(), os.getpid()
+        # Why the directory can't be changed before a restart. `_is_logging` is set while a line is appended.
+        self._broken: Optional[Exception] = None
+        self._is_logging = False
+        # A directory that nobody closes ends with its last reference.
+        self._unused = weakref.finalize(self, drop, self._work, host)
+        self._unused.atexit = False
+
+    def _check_open(self) -> None:
+        if self._is_closed:
+            raise Closed("the directory is closed: open it again")
+        if os.getpid() != self._owner:
+            raise Closed("the directory belongs to the process that this one was forked from: open it in one process alone")
+
+    def _check(self) -> None:
+        """Checks that lookups can go on: not if the VRF turned out to be another one."""
+        self._check_open()
+        if isinstance(self._broken, OtherIndex):
+            raise self._needed() from self._broken
+
+    def _needed(self) -> RestartNeeded:
+        return RestartNeeded(f"restart() is needed: {self._broken}")
+
+    def _change(self, work: Callable[[], Result]) -> Result:
+        """Makes a call in the thread that changes the directory, one after another."""
+        self._check_open()
+        self._check_thread()
+
+        def begun() -> Result:
+            self._check_open()
+            return work()
+
+        return self._work.call(begun)
+
+    def _check_thread(self) -> None:
+        if self._work.is_this_thread():
+            raise ProviderError("the signer called the provider that waits for it: call it after commit returned")
+
+    def _begin(
+        self,
+        start: Callable[[], Engine],
+        with_pending: bool,
+        head: Optional[Head] = None,
+        record: Record = Record(),
+        prepare: Callable[[Engine], object] = lambda engine: None,
+    ) -> None:
+        """Replays the log in another child, which gets the place of this one if it shows the same directory, with this head and
+        this record of the signer. Until then this one answers lookups."""
+        with self._host.changing:
+            try:
+                engine = start()
+                try:
+                    if head:
+                        engine.check_head(head)
+                    self._host.check_record(engine, record)
+                    if self._is_checking:
+                        engine.check_indices(self._index_of, with_pending)
+                    prepare(engine)
+                except BaseException:
+                    engine.child.stop(0)
+                    raise
+                self._host.exchange(engine)
+            except (LogForked, NoDirectory, OtherIndex) as error:
+                self._broken = error
+                raise
+            except ReplayDiffers as error:
+                self._broken = self._host.forked(error) if self._host.engine else error
+                raise
+            self._broken = None
+
+    def _restarted(self) -> Engine:
+        self._host.begin_anew()
+        return self._host.started()
+
+    def _ready(self) -> Engine:
+        """The engine, if no restart is needed."""
+        if self._broken:
+            raise self._needed() from self._broken
+        return self._host.known
+
+    def lookup(self, name: str, epoch: Optional[int] = None) -> Lookup:
+        """A name's proof at an epoch, the latest if none is given."""
+        self._check()
+        at = self._at(epoch)
+        [answers] = self._host.serve([[lookup_line(name, self._index_of(name), at)]])
+        found = self._told(answers[0])
+        if isinstance(found, Fault):
+            raise found
+        return found
+
+    def lookups(self, names: Iterable[str], epoch: Optional[int] = None) -> list[Union[Lookup, ProviderError]]:
+        """The proofs of many names at one epoch, in their order: more lookups a second than by `lookup`. In the place of a name
+        that is refused is its error: a `Fault`, or `NotText`."""
+        self._check()
+        at, found = self._at(epoch), list[Union[Lookup, ProviderError]]()
+        refused: dict[int, ProviderError] = {}
+
+        def lines() -> Iterator[bytes]:
+            for number, name in enumerate(names):
+                try:
+                    yield lookup_line(name, self._index_of(name), at)
+                except NotText as error:
+                    refused[number] = error
+
+        for answers in self._host.serve(grouped(lines(), self._host.group_size)):
+            found += map(self._told, answers)
+        for number in sorted(refused):
+            found.insert(number, refused[number])
+        return found
+
+    def _told(self, line: bytes) -> Union[Lookup, Fault]:
+        try:
+            return lookup_of(line)
+        except Fault as fault:
+            return fault
+        except ProgramFailed:
+            self._host.distrust()
+            raise
+
+    def _at(self, epoch: Optional[int]) -> int:
+        """An epoch, the latest if none is given. The child may have one more, which the log has not."""
+        latest = self._host.known.latest.epoch
+        if epoch is not None and _number(epoch, 64, "the epoch") > latest:
+            raise UnknownEpoch()
+        return latest if epoch is None else epoch
+
+    def _index_of(self, name: str) -> bytes:
+        return sized(self._index(text(name)), 32, "an index")
+
+    def latest(self) -> Latest:
+        """The latest epoch, and how large the directory is."""
+        self._check_open()
+        return self._host.known.size
+
+    def chain(self, first: int = 0) -> list[bytes]:
+        """The entries of the epochs in their order, 209 bytes each, from number `first` on, counted from 0: what an auditor takes."""
+        self._check_open()
+        return self._host.known.chain[first:]
+
+    def evidence(self) -> Optional[Evidence]:
+        """What this process has seen and what the log had, after `LogForked` or `ReplayDiffers`, until `discard_evidence`; None if no
+        log was another one. A log that lacks a head is no evidence, since a head has no entry."""
+        return self._host.evidence
+
+    def discard_evidence(self, link: bytes) -> None:
+        """Drops the evidence. If the log still lacks what this process has seen, the next `restart` takes it as it is. `link` is
+        that of the latest epoch, so that no script does it for another directory. Keep the evidence first: clients may have seen
+        it too."""
+        is_forked = isinstance(self._broken, (LogForked, ReplayDiffers))
+        self._change(lambda: self._host.forget(sized(link, 32, "a link"), is_forked))
+
+    @property
+    def pid(self) -> Optional[int]:
+        """The child's process number."""
+        return self._host.engine.child.pid if self._host.engine else None
+
+    def close(self, seconds: float = 5) -> None:
+        """Ends the child. Waits for a change that is under way, at most some seconds, and for an append in any case. What the
+        signer returns later is not installed, and a start asks for the same body again. The log stays open, since the caller
+        opened it."""
+        self._check_thread()
+        self._is_closed = True
+        if os.getpid() != self._owner:
+            return
+        self._unused.detach()
+        self._work.stop()
+        until = time.monotonic() + seconds
+        while not self._work.join(0.02) and time.monotonic() < until:
+            pass
+        self._is_over = True
+        while self._is_logging and not self._work.join(0.02):
+            pass
+        self._host.close()
+
+
+def check_writable(log: Log) -> None:
+    """Raises `LogFailed` if an append could not succeed, as far as the log tells."""
+    if hasattr(log, "check_writable"):
+        log.check_writable()
+
+
+def digest_of(policy: Union[bytes, Policy]) -> bytes:
+    """The policy digest of each entry."""
+    return policy.digest if isinstance(policy, Policy) else sized(policy, 32, "the policy")
+
+
+def clock_of(policy: Union[bytes, Policy]) -> Optional[Policy]:
+    """The policy if it has a clock."""
+    return policy if isinstance(policy, Policy) and policy.epoch_period is not None else None
