@@ -248,8 +248,13 @@ func (it *room) changeAtRandom(ctx context.Context) (made Epoch, isEnded bool) {
 		err = it.provider.Restart(ctx)
 	case 1, 2, 3:
 		made, err = it.provider.Retry(ctx)
+	case 4, 5:
+		err = it.provider.Abandon(ctx)
 	default:
-		epoch := it.provider.Latest().Epoch + 1 + uint64(rand.Intn(3))
+		epoch := it.next() + uint64(rand.Intn(3))
+		if rand.Intn(4) == 0 {
+			epoch = it.provider.Latest().Epoch + 1
+		}
 		made, err = it.provider.Commit(ctx, epoch, []Operation{Change("alice", []byte{byte(epoch)})}, nil)
 	}
 	if ctx.Err() != nil && errors.Is(err, ctx.Err()) {
@@ -261,9 +266,18 @@ func (it *room) changeAtRandom(ctx context.Context) (made Epoch, isEnded bool) {
 	return made, false
 }
 
-// Contexts that end at random moments, in 200 rounds of all calls: nothing that was returned is lost, and nothing is left halfway.
+// next is the first epoch number that isn't spent.
+func (it *room) next() uint64 {
+	if pending := it.provider.Pending(); pending != nil {
+		return pending.Epoch + 1
+	}
+	return it.provider.Latest().Epoch + 1
+}
+
+// Contexts that end at random moments, in 200 rounds of all calls: nothing that was returned is lost, and nothing is left
+// halfway.
 func TestContextsEndAtRandom(t *testing.T) {
-	it := newDirectory(t)
+	it := newGuarded(t)
 	it.commit(1, Register("alice", []byte("key")))
 	start := time.Now()
 	for epoch := uint64(2); epoch < 10; epoch++ {
@@ -292,10 +306,10 @@ func TestContextsEndAtRandom(t *testing.T) {
 	cancel()
 	group.Wait()
 	it.failing(0)
-	if _, err := it.provider.Retry(background); err != nil {
+	if _, err := it.provider.Retry(background); !errors.Is(err, ErrBodyAbandoned) && err != nil {
 		it.wants(err, NotPrepared)
 	}
-	it.commit(it.provider.Latest().Epoch + 1)
+	it.commit(it.next())
 	epochs := it.hasAll(returned)
 	if ended < 5 || len(epochs) < 12 {
 		t.Error("idle:", ended, len(epochs))

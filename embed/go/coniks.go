@@ -215,6 +215,31 @@ func Link(entry []byte) (link [32]byte, err error) {
 	return link, err
 }
 
+// EvidenceKind is why two entries, signed with one key, are evidence that its owner equivocated.
+type EvidenceKind uint32
+
+const (
+	// NoEvidence means that the entries are no evidence.
+	NoEvidence EvidenceKind = 0
+	// Overlap means that the bodies differ, and that their intervals (previous epoch, epoch] overlap.
+	Overlap EvidenceKind = C.CONIKS_OVERLAP
+	// OtherPolicy means that the policy digests differ.
+	OtherPolicy EvidenceKind = C.CONIKS_OTHER_POLICY
+	// Malformed means that one of the entries is in no chain.
+	Malformed EvidenceKind = C.CONIKS_MALFORMED
+)
+
+// Convicts returns why two entries are evidence that the owner of a signing key equivocated. Verify both signatures with that key
+// first. The error is ErrEntryLength.
+func Convicts(a, b []byte) (EvidenceKind, error) {
+	var kind C.uint32_t
+	status := C.coniks_convicts(start(a), size(a), start(b), size(b), &kind)
+	if status == C.CONIKS_NO_EVIDENCE {
+		return NoEvidence, nil
+	}
+	return EvidenceKind(kind), refused(status)
+}
+
 // Body is an entry without its signature.
 type Body struct {
 	Version       uint8

@@ -18,11 +18,18 @@ const (
 
 const checkReplay = "check that log and program are this directory's"
 
-// update is a pending update, with its line as the log has it and, after a replay, its operations.
+// update is a pending update, with its line as the log has it and, if it was replayed and its indices weren't compared, its
+// operations.
 type update struct {
 	pending    Pending
 	line       []byte
 	operations []indexed
+}
+
+// isOf reports whether a line without body and abandons asks for this update.
+func (it *update) isOf(line []byte) bool {
+	whole := with(line, "body", it.pending.Body)
+	return bytes.HasPrefix(it.line, whole[:len(whole)-1])
 }
 
 // unlogged is an epoch that the child has installed and the log refused, with its line.
@@ -49,6 +56,7 @@ type engine struct {
 	child    *child
 	position int    // how many lines the log has
 	opening  []byte // the log's first line
+	isStrict bool   // the log says of each update that is replaced that it was abandoned
 	unlogged *unlogged
 	replaced [][]byte // the bodies of logged updates that others replaced
 	sample   sample
@@ -177,7 +185,7 @@ func (it *engine) take(said *logged, told []byte) error {
 	}
 	switch said.command {
 	case "open":
-		it.opening, err = said.line, it.compareOpening(said)
+		it.opening, it.isStrict, err = said.line, said.format != nil, it.compareOpening(said)
 	case "prepare":
 		err = it.takePrepare(said, answer)
 	case "install":
@@ -188,6 +196,10 @@ func (it *engine) take(said *logged, told []byte) error {
 }
 
 func (it *engine) compareOpening(said *logged) error {
+	if said.format != nil && *said.format != logFormat {
+		return failed(ErrLogFailed, "the log has format %d, which this version doesn't read: use the version that wrote it, or a later "+
+			"one", *said.format)
+	}
 	what := ""
 	switch key := sha256.Sum256(it.settings.VRFPublicKey); {
 	case !bytes.Equal(said.policy, it.settings.Policy[:]):
@@ -203,6 +215,9 @@ func (it *engine) compareOpening(said *logged) error {
 }
 
 func (it *engine) takePrepare(said *logged, answer *answer) error {
+	if err := it.checkAbandons(said); err != nil {
+		return err
+	}
 	if !bytes.Equal(answer.Body, said.body) {
 		return failed(ErrReplayDiffers, "line %d of the log has another body: %s", it.position, checkReplay)
 	}
@@ -215,6 +230,23 @@ func (it *engine) takePrepare(said *logged, answer *answer) error {
 	}
 	it.setUpdate(&update{pending, said.line, operationsOf(said)})
 	return nil
+}
+
+// checkAbandons checks that a line abandons the pending update, and no other one, unless the log is of the first format.
+func (it *engine) checkAbandons(said *logged) error {
+	before := it.seen.update
+	wrong := ""
+	switch {
+	case !it.isStrict:
+	case before == nil && said.abandons != nil:
+		wrong = "abandons an update that isn't pending"
+	case before != nil && !bytes.Equal(said.abandons, before.pending.Body):
+		wrong = "replaces a pending update that it doesn't abandon"
+	}
+	if wrong == "" {
+		return nil
+	}
+	return failed(ErrLogFailed, "line %d of the log %s: find out what wrote it, and restore the log without it", it.position, wrong)
 }
 
 func (it *engine) takeInstall(said *logged, answer *answer) error {
@@ -304,7 +336,8 @@ func (it *engine) open(ctx context.Context) error {
 	return err
 }
 
-// prepare has the child prepare an update, which the log doesn't have yet. The *Fault of a refused line changes nothing.
+// prepare has the child prepare an update, which the log doesn't have yet. Its line abandons the pending one, if there is one:
+// the caller knows that the signer has. The *Fault of a refused line changes nothing.
 func (it *engine) prepare(ctx context.Context, epoch uint64, line []byte) (*update, error) {
 	told, err := it.child.ask(ctx, line, "prepare")
 	if err != nil {
@@ -314,7 +347,11 @@ func (it *engine) prepare(ctx context.Context, epoch uint64, line []byte) (*upda
 	if err != nil {
 		return nil, err
 	}
-	return &update{pending: pending, line: with(line, "body", pending.Body)}, nil
+	whole := with(line, "body", pending.Body)
+	if before := it.seen.update; before != nil {
+		whole = with(whole, "abandons", before.pending.Body)
+	}
+	return &update{pending: pending, line: whole}, nil
 }
 
 // withdraw makes the log's update pending in the child again, after the log has refused another one.
@@ -389,18 +426,7 @@ func (it *engine) follows(other *engine) bool {
 	if theirs.update == nil {
 		return true
 	}
-	body := theirs.update.pending.Body
-	for _, entry := range mine.chain[len(theirs.chain):] {
-		if bytes.Equal(entry[:bodyLength], body) {
-			return true
-		}
-	}
-	for _, replaced := range it.replaced {
-		if bytes.Equal(replaced, body) {
-			return true
-		}
-	}
-	return mine.update != nil && bytes.Equal(mine.update.pending.Body, body)
+	return it.hasBody(theirs.update.pending.Body)
 }
 
 // checkHead returns an error if the log hasn't the entry of a head.
@@ -416,18 +442,119 @@ func (it *engine) checkHead(head Head) error {
 	return failed(ErrLogForked, "the log has another entry of epoch %d than the head: check which log is the right one", head.Epoch)
 }
 
+// checkRecord returns an error if the log lacks what a signer's record has. A log that has more is no error: the record was
+// read first.
+func (it *engine) checkRecord(record record) error {
+	if signed := record.signed; signed != nil && !it.hasEntry(signed) && !it.hasPending(signed[:bodyLength]) {
+		return it.lacks(signed)
+	}
+	if asked := record.asked; asked != nil && !it.hasBody(asked) {
+		return failed(ErrLogBehind, "the signer was asked for a body of epoch %d that the log lacks: restore its last lines, or "+
+			"abandon that body by Guard.Abandon if they are lost", epochOf(asked))
+	}
+	return nil
+}
+
+func (it *engine) hasEntry(entry []byte) bool {
+	for _, mine := range it.seen.chain {
+		if bytes.Equal(mine, entry) {
+			return true
+		}
+	}
+	return false
+}
+
+func (it *engine) hasPending(body []byte) bool {
+	return it.seen.update != nil && bytes.Equal(it.seen.update.pending.Body, body)
+}
+
+// hasBody reports whether a body is that of an entry, of the pending update, or of one that another replaced.
+func (it *engine) hasBody(body []byte) bool {
+	for _, replaced := range it.replaced {
+		if bytes.Equal(replaced, body) {
+			return true
+		}
+	}
+	for _, entry := range it.seen.chain {
+		if bytes.Equal(entry[:bodyLength], body) {
+			return true
+		}
+	}
+	return it.hasPending(body)
+}
+
+// lacks returns the error of a log that lacks an entry which was signed. It has the log's entry that overlaps it, if there is
+// one.
+func (it *engine) lacks(signed []byte) error {
+	kind, epoch, latest := ErrLogForked, epochOf(signed), it.seen.latest.Epoch
+	cause := fmt.Errorf("the signer has signed another entry of epoch %d than the log has: check whether log and signer are this "+
+		"directory's, and which of them is the right one", epoch)
+	if epoch > latest {
+		kind = ErrLogBehind
+		cause = fmt.Errorf("the log ends at epoch %d, and the signer has signed epoch %d: restore its last lines", latest, epoch)
+	}
+	for _, entry := range it.seen.chain {
+		if overlap(signed, entry) {
+			return &ProviderError{Kind: kind, Cause: cause, Entries: copies([][]byte{signed, entry})}
+		}
+	}
+	return &ProviderError{Kind: kind, Cause: cause}
+}
+
+// overlap reports whether two entries have different bodies, each of which covers an epoch number that the other covers: from
+// its epoch down to above the epoch before.
+func overlap(one, other []byte) bool {
+	before, epoch := previousOf(one), epochOf(one)
+	if it := previousOf(other); it > before {
+		before = it
+	}
+	if it := epochOf(other); it < epoch {
+		epoch = it
+	}
+	return !bytes.Equal(one[:bodyLength], other[:bodyLength]) && before < epoch
+}
+
+// twoBodies returns the first entries with different bodies in one place of two chains, nil if one of the chains just ends. All
+// before have equal bodies, so these two follow one epoch, and overlap.
+func twoBodies(known, found [][]byte) [][]byte {
+	for at := 0; at < len(known) && at < len(found); at++ {
+		if !bytes.Equal(known[at][:bodyLength], found[at][:bodyLength]) {
+			return copies([][]byte{known[at], found[at]})
+		}
+	}
+	return nil
+}
+
 // checkIndices compares the indices of some logged operations with those of the settings.
 func (it *engine) checkIndices(ctx context.Context, withPending bool) error {
 	if pending := it.seen.update; pending != nil && withPending {
 		it.sample.add(pending.operations)
 	}
-	return it.sample.check(ctx, it.settings.index)
+	return it.sample.check(ctx, it.settings.index, adviceOnLog)
 }
 
-// forgetOperations drops what only a start needs.
-func (it *engine) forgetOperations() {
+const (
+	adviceOnLog = "the key of the VRF or its code isn't that of this log, so start with the right one, or set SkipIndexCheck if " +
+		"the log itself has wrong indices"
+	adviceOnUpdate = "the key of the VRF or its code isn't that of the pending update, so start with the right one, or give the " +
+		"update up by Abandon"
+)
+
+// checkPending compares the indices of a pending update that was replayed, and whose indices weren't compared by a start.
+func (it *engine) checkPending(ctx context.Context) error {
+	update := it.view().update
+	if update == nil || update.operations == nil {
+		return nil
+	}
+	var sample sample
+	sample.add(update.operations)
+	return sample.check(ctx, it.settings.index, adviceOnUpdate)
+}
+
+// forgetOperations drops what only a start needs. The operations of a pending update that weren't checked are kept.
+func (it *engine) forgetOperations(isChecked bool) {
 	it.sample = sample{}
-	if it.seen.update != nil {
+	if isChecked && it.seen.update != nil {
 		it.seen.update.operations = nil
 	}
 }

@@ -5,8 +5,8 @@ import (
 	"fmt"
 )
 
-// The errors of a provider and of its log, which errors.Is compares. An error that the program prints is a *Fault. Those from
-// ErrLogRefused to ErrOvertaken are also ErrLogFailed. No text of an error has bytes of a line, which may be keys.
+// The errors of a provider, of its log and of a guard, which errors.Is compares. An error that the program prints is a *Fault.
+// Those from ErrLogRefused to ErrOvertaken are also ErrLogFailed. No text of an error has bytes of a line, which may be keys.
 var (
 	// ErrProgramFailed: the program ended, took longer than Timeout, or printed what docs/FORMATS.md doesn't define. It is
 	// started again and replays the log by itself.
@@ -22,17 +22,33 @@ var (
 	ErrDirectoryExists error = logKind("the log has a directory already")
 	// ErrOvertaken: the log has a line at this position already, which another provider appended.
 	ErrOvertaken error = logKind("the log has a line at this position already")
-	// ErrLogForked: the log lacks lines that this process has seen in it, or has others in their place. Provider.Evidence
-	// returns what it has seen and what the log has.
+	// ErrLogForked: the log lacks lines that this process has seen in it, or has others in their place, or lacks what the signer's
+	// record has. Provider.Evidence returns what it has seen and what the log has.
 	ErrLogForked = errors.New("the log lacks what this process has seen in it, or has something else in its place")
-	// ErrLogBehind: the log ends before the head that a start is to find in it. It is also ErrLogForked.
-	ErrLogBehind error = behind("the log ends before the head that it is to have")
+	// ErrLogBehind: the log ends before the head, or before what the signer's record has, which a start is to find in it. It is
+	// also ErrLogForked.
+	ErrLogBehind error = behind("the log ends before what it is to have")
 	// ErrReplayDiffers: the program answers a line of the log otherwise than it did when the line was appended.
 	ErrReplayDiffers = errors.New("the program answers a line of the log otherwise than when it was appended")
-	// ErrSignerFailed: Sign returned an error, which is the cause, or no valid signature. The update stays pending.
+	// ErrSignerFailed: Sign returned an error, which is the cause, or no valid signature; or the signer failed to abandon a body.
+	// The update stays pending.
 	ErrSignerFailed = errors.New("the signer failed, and the update stays pending")
+	// ErrBodyRefused: the key must not sign a body, or a record must not be opened so. The text says why.
+	ErrBodyRefused = errors.New("the key must not sign this body")
+	// ErrBodyAbandoned: the body was abandoned, so no signature of it is returned. It is also ErrBodyRefused.
+	ErrBodyAbandoned error = abandonedKind("the body was abandoned")
+	// ErrBodySigned: the body can't be abandoned, since it is signed or may be.
+	ErrBodySigned = errors.New("the body is signed, or may be")
+	// ErrRecordFailed: the record of a guard or of another signer could not be read or written, or the file is none. If it was
+	// written, the change may be stored.
+	ErrRecordFailed = errors.New("the record could not be read or written, or is none")
 	// ErrEpochSpent: the signer was asked for another body under this epoch number or a later one.
 	ErrEpochSpent = errors.New("the signer was asked with other operations for this epoch number or a later one")
+	// ErrEpochNotNow: the epoch number isn't the one that the policy's clock has. Clients compute it too, so they would refuse the
+	// epoch as late or early.
+	ErrEpochNotNow = errors.New("the epoch number isn't the one of the policy's clock")
+	// ErrNoClock: the policy has no clock, so number the epochs yourself.
+	ErrNoClock = errors.New("the policy has no clock: number the epochs yourself")
 	// ErrEpochTooFar: the epoch number is more than 2^32 above the latest. Numbers only increase, so a mistyped one would end
 	// the directory.
 	ErrEpochTooFar = errors.New("the epoch number is more than 2^32 above the latest one")
@@ -57,9 +73,19 @@ type behind string
 func (it behind) Error() string        { return string(it) }
 func (it behind) Is(target error) bool { return target == ErrLogForked }
 
+// abandonedKind is an error that is also ErrBodyRefused.
+type abandonedKind string
+
+func (it abandonedKind) Error() string        { return string(it) }
+func (it abandonedKind) Is(target error) bool { return target == ErrBodyRefused }
+
 // ProviderError is an error of this package. Kind is one of the variables Err..., and Cause says what happened and what to do
-// next.
-type ProviderError struct{ Kind, Cause error }
+// next. Entries, if Kind is ErrLogForked or ErrLogBehind, are two entries of 209 bytes, the second one the log's, with
+// different bodies in one place of the chain; nil if no two such are known.
+type ProviderError struct {
+	Kind, Cause error
+	Entries     [][]byte
+}
 
 func (it *ProviderError) Error() string { return it.Cause.Error() }
 
@@ -68,7 +94,7 @@ func (it *ProviderError) Is(target error) bool { return errors.Is(it.Kind, targe
 func (it *ProviderError) Unwrap() error        { return it.Cause }
 
 func failed(kind error, format string, arguments ...any) error {
-	return &ProviderError{kind, fmt.Errorf(format, arguments...)}
+	return &ProviderError{Kind: kind, Cause: fmt.Errorf(format, arguments...)}
 }
 
 // FaultName is a name of docs/FORMATS.md: errors.Is(err, NameTaken) reports whether an error is this fault.
@@ -117,9 +143,9 @@ var faultTexts = map[FaultName]string{
 	UnknownEpoch:  "there is no such epoch",
 }
 
-// Fault is the error of a line that the program refuses. Nothing is changed. Position is that of the operation at fault, counted
-// from 0, Latest the latest epoch, Member the line's member that is missing or wrong; each is nil or empty for other faults.
-// Advice is what to do next, if that is more than to fix the request.
+// Fault is the error of a line that the program refuses. Nothing is changed. Position is that of the operation at fault,
+// counted from 0, Latest the latest epoch, Member the line's member that is missing or wrong; each is nil or empty for other
+// faults. Advice is what to do next, if that is more than to fix the request.
 type Fault struct {
 	Name     FaultName
 	Position *int

@@ -4,8 +4,12 @@ import (
 	"context"
 	"crypto/ed25519"
 	"crypto/sha256"
+	"errors"
 	"fmt"
 	"log"
+	"os"
+	"path/filepath"
+	"time"
 
 	"example.org/coniks"
 )
@@ -25,17 +29,26 @@ func ExampleStartProvider() {
 	good(err)
 	sign := func(body []byte) ([]byte, error) { return ed25519.Sign(private, body), nil }
 	verify := func(body, signature []byte) bool { return ed25519.Verify(public, body, signature) }
-	policy, ctx, key := sha256.Sum256(public), context.Background(), []byte("key of alice")
+	// Clients and auditors get this text. Set VRFKey too.
+	policy := coniks.Policy{
+		Origin: "keys.example.com/directory", SigningKey: *(*[32]byte)(public), EpochStart: 1767225600, EpochPeriod: 3600,
+	}
+	ctx, key := context.Background(), []byte("key of alice")
 
-	file, err := coniks.CreateFileLog("names.log") // from the second start on: coniks.OpenFileLog
+	// Once the first epoch is committed: coniks.OpenFileLog, and coniks.GuardSettings{Verify: verify}.
+	file, err := coniks.CreateFileLog("names.log")
 	good(err)
 	defer file.Close()
+	guard, err := coniks.OpenGuard("names.guard", sign, coniks.GuardSettings{NewDirectory: true, Verify: verify})
+	good(err)
 	directory, err := coniks.StartProvider(ctx, coniks.Settings{
-		Program: []string{"./provider"}, Index: index, Sign: sign, Verify: verify, Log: file, Policy: policy,
+		Program: []string{"./provider"}, Index: index, Signer: guard, Verify: verify, Log: file, Document: &policy,
 	})
 	good(err)
 	defer directory.Close()
-	_, err = directory.Commit(ctx, directory.Latest().Epoch+1, []coniks.Operation{coniks.Register("alice", key)}, nil)
+	epoch, err := directory.EpochNow()
+	good(err)
+	_, err = directory.Commit(ctx, epoch, []coniks.Operation{coniks.Register("alice", key)}, nil)
 	good(err)
 	found, err := directory.Lookup(ctx, "alice", 0)
 	good(err)
@@ -43,6 +56,47 @@ func ExampleStartProvider() {
 	good(err)
 
 	fmt.Println(len(found.Entry), len(proof))
+}
+
+// A guard signs one first body of a directory, and no second one.
+func ExampleOpenGuard() {
+	folder, err := os.MkdirTemp("", "")
+	good(err)
+	defer os.RemoveAll(folder)
+	sign := func(body []byte) ([]byte, error) { return make([]byte, 64), nil } // in place of this use the key
+	guard, err := coniks.OpenGuard(filepath.Join(folder, "names.guard"), sign, coniks.GuardSettings{NewDirectory: true})
+	good(err)
+	first, second := make([]byte, 145), make([]byte, 145)
+	first[0], first[8] = 1, 1   // version 1, epoch 1, after none
+	second[0], second[8] = 1, 2 // version 1, epoch 2, also after none
+	_, err = guard.Sign(first)
+	fmt.Println(err)
+	_, err = guard.Sign(second)
+	fmt.Println(errors.Is(err, coniks.ErrBodyRefused))
+	// Output:
+	// <nil>
+	// true
+}
+
+// A policy is a document. Its digest is in each body.
+func ExamplePolicy() {
+	policy := coniks.Policy{Origin: "keys.example.com/directory", EpochStart: 1767225600, EpochPeriod: 3600}
+	text, err := policy.MarshalText()
+	good(err)
+	epoch, err := policy.EpochAt(time.Date(2026, 1, 2, 0, 30, 0, 0, time.UTC))
+	good(err)
+	fmt.Printf("%sepoch %d\n", text, epoch)
+	// Output:
+	// policy coniks-1
+	// origin keys.example.com/directory
+	// signature Ed25519
+	// signing-key 0000000000000000000000000000000000000000000000000000000000000000
+	// vrf none
+	// epoch-start 1767225600
+	// epoch-period 3600
+	// evidence one-chain
+	// proofs-kept forever
+	// epoch 25
 }
 
 // A path that has no log makes no directory.

@@ -17,13 +17,18 @@ const (
 // pauses are how long a start waits after 0, 1, 2, 3, and 4 or more failed ones.
 var pauses = []time.Duration{0, 100 * time.Millisecond, time.Second, 5 * time.Second, 10 * time.Second}
 
-// Evidence is what a restart found in a log that lacks what this process has seen in it, or has something else in its place.
-// Known and Found are the entries of both, 209 bytes each. KnownBody and FoundBody are the bodies after the last entry that both
-// have: what this process has seen there, and what the log has. Either is nil if there is none.
+// Evidence is what a restart found in a log that lacks what this process has seen in it or what the signer's record has, or has
+// something else in its place. Known and Found are the entries of both, 209 bytes each. KnownBody and FoundBody are the bodies
+// after the last entry that both have: what this process has seen there, and what the log has. Either is nil if there is none.
+//
+// Entries are the first entries with different bodies in one place of both chains, or the last entry that the signer has signed
+// and the log's entry that overlaps it. It is nil if one of both just ends. If both signatures are valid, anyone who has the
+// public key can verify that one signing key signed two chains.
 type Evidence struct {
 	Err                  error // ErrLogForked or ErrReplayDiffers
 	Known, Found         [][]byte
 	KnownBody, FoundBody []byte
+	Entries              [][]byte
 }
 
 // host keeps an engine, whose child answers lookups, and starts another one if the child ends.
@@ -246,22 +251,23 @@ func (it *host) exchange(engine *engine, more func()) error {
 	return nil
 }
 
-// plan is what a start does: whether it may make a directory, or must, whether it will sign the pending update, and which head
-// the log must have.
-type plan struct {
-	mayCreate, mustBeNew, signPending bool
-	head                              *Head
-}
+// plan is what a start does: whether it may make a directory, or must, and whether it will sign the pending update.
+type plan struct{ mayCreate, mustBeNew, signPending bool }
 
-// renew replays the log in another child, which gets the place of this one if its log has all that this one has seen. Until then
-// this one answers lookups.
+// renew replays the log in another child, which gets the place of this one if its log has all that this one has seen. Until
+// then this one answers lookups.
 func (it *host) renew(plan plan) error {
+	// What the record has was in the log before, so the log is read after it.
+	record, err := it.recorded()
+	if err != nil {
+		return err
+	}
 	it.steps.Lock()
 	defer it.steps.Unlock()
 	it.set(func() { it.starts = nil })
 	engine, err := it.build(plan.mayCreate, plan.mustBeNew)
 	if err == nil {
-		if err = it.prove(engine, plan); err != nil {
+		if err = it.prove(engine, record, plan.signPending); err != nil {
 			it.discard(engine)
 		}
 	}
@@ -272,12 +278,45 @@ func (it *host) renew(plan plan) error {
 	return it.exchange(engine, func() { it.broken, it.isForgetful = nil, false })
 }
 
-// prove does what a start does before its engine is used: it compares head, chain and indices, and makes the directory.
-func (it *host) prove(engine *engine, plan plan) error {
-	if plan.head != nil {
-		if err := engine.checkHead(*plan.head); err != nil {
+// recorded returns what the signer's record has, nothing if the signer has none.
+func (it *host) recorded() (found record, err error) {
+	signer := it.settings.Signer
+	if signer == nil {
+		return found, nil
+	}
+	err = guarded(func() (err error) {
+		if found.signed, err = signer.Signed(); err == nil {
+			found.asked, err = signer.Asked()
+		}
+		return err
+	})
+	if len(found.signed) == 0 {
+		found.signed = nil
+	}
+	if len(found.asked) == 0 {
+		found.asked = nil
+	}
+	if err == nil && !found.hasLengths() {
+		err = errors.New("an entry has 209 bytes, and a body 145")
+	}
+	if err != nil {
+		return record{}, failed(ErrRecordFailed, "the signer's record can't be read, repair it and try again: %w", err)
+	}
+	return found, nil
+}
+
+// prove does what a start does before its engine is used: it compares head, record, chain and indices, and makes the directory.
+func (it *host) prove(engine *engine, record record, signPending bool) error {
+	if it.settings.Head != nil {
+		if err := engine.checkHead(*it.settings.Head); err != nil {
 			return err
 		}
+	}
+	if err := engine.checkRecord(record); err != nil {
+		if it.current() != nil {
+			it.keepEvidence(err, engine)
+		}
+		return err
 	}
 	it.mutex.Lock()
 	isForgetful := it.isForgetful
@@ -288,7 +327,7 @@ func (it *host) prove(engine *engine, plan plan) error {
 		}
 	}
 	if !it.settings.SkipIndexCheck {
-		if err := engine.checkIndices(it.life, plan.signPending); err != nil {
+		if err := engine.checkIndices(it.life, signPending); err != nil {
 			return err
 		}
 	}
@@ -297,7 +336,7 @@ func (it *host) prove(engine *engine, plan plan) error {
 			return logError(err, "the log can't be written, repair it and start again")
 		}
 	}
-	engine.forgetOperations()
+	engine.forgetOperations(signPending)
 	if engine.position > 0 {
 		return nil
 	}
@@ -345,7 +384,14 @@ func (it *host) keepEvidence(err error, engine *engine) {
 	for both < len(known.chain) && both < len(found.chain) && bytes.Equal(known.chain[both], found.chain[both]) {
 		both++
 	}
-	evidence := &Evidence{err, copies(known.chain), copies(found.chain), known.bodyAt(both), found.bodyAt(both)}
+	evidence := &Evidence{err, copies(known.chain), copies(found.chain), known.bodyAt(both), found.bodyAt(both),
+		twoBodies(known.chain, found.chain)}
+	if forked := (*ProviderError)(nil); errors.Is(err, ErrLogForked) && errors.As(err, &forked) {
+		if forked.Entries == nil {
+			forked.Entries = evidence.Entries
+		}
+		evidence.Entries = forked.Entries
+	}
 	it.set(func() { it.evidence = evidence })
 }
 
@@ -421,8 +467,8 @@ func (it *host) pause(engine *engine, failures int, last error) bool {
 	}
 }
 
-// revive starts another child in the place of one that ended. It signs nothing, and nothing that needed a restart before goes on
-// without one. It returns nil if no other try makes sense: another child runs, or the log is known to be another one.
+// revive starts another child in the place of one that ended. It signs nothing, and nothing that needed a restart before goes
+// on without one. It returns nil if no other try makes sense: another child runs, or the log is known to be another one.
 func (it *host) revive(engine *engine) error {
 	it.steps.Lock()
 	defer it.steps.Unlock()
@@ -446,7 +492,7 @@ func (it *host) revive(engine *engine) error {
 		}
 	}
 	if err == nil {
-		another.forgetOperations()
+		another.forgetOperations(false)
 		return it.exchange(another, func() {})
 	}
 	it.note(err)

@@ -2,10 +2,10 @@ package coniks
 
 import (
 	"bufio"
-	"bytes"
 	"context"
 	"crypto/ed25519"
 	"encoding/hex"
+	"errors"
 	"fmt"
 	"math/rand"
 	"os"
@@ -15,35 +15,68 @@ import (
 	"time"
 )
 
-// committer commits epochs over a log until it is killed. It lists each body that the signer is asked for in a file, and prints
-// each entry that Commit returned.
+// committer commits epochs over a log until it is killed, with a guard and a signer that fails now and then. It lists the entry
+// of each signature that the provider got in a file, and prints each entry that Commit returned.
 func committer(path, list string, program []string) int {
+	rand.Seed(time.Now().UnixNano())
 	key := ed25519.NewKeyFromSeed(make([]byte, 32))
 	log, err := OpenFileLog(path)
 	if err != nil {
 		return failure(err)
 	}
-	asked, err := os.OpenFile(list, os.O_WRONLY|os.O_CREATE|os.O_APPEND, 0o600)
+	given, err := os.OpenFile(list, os.O_WRONLY|os.O_CREATE|os.O_APPEND, 0o600)
 	if err != nil {
 		return failure(err)
 	}
-	sign := func(body []byte) ([]byte, error) {
-		// A write of a process that is killed may end with a page, and no page ends within these 512 bytes.
-		fmt.Fprintf(asked, "%-511x\n", body)
-		return ed25519.Sign(key, body), nil
-	}
-	provider, err := StartProvider(background, Settings{Program: program, Index: indexOf, Sign: sign, Log: log, Policy: [32]byte{7}})
-	if err != nil {
-		return failure(err)
-	}
-	for {
-		epoch := provider.Latest().Epoch + 1
-		made, err := provider.Commit(background, epoch, []Operation{Register(fmt.Sprintf("user-%d", epoch), make([]byte, 2000))}, nil)
-		if err != nil {
-			return failure(err)
+	guard, err := OpenGuard(path+"-record", func(body []byte) ([]byte, error) {
+		if rand.Intn(4) == 0 {
+			return nil, errors.New("told to fail")
 		}
+		return ed25519.Sign(key, body), nil
+	}, GuardSettings{})
+	if err != nil {
+		return failure(err)
+	}
+	verify := func(body, signature []byte) bool {
+		// A write of a process that is killed may end with a page, and no page ends within these 512 bytes.
+		fmt.Fprintf(given, "%-511x\n", append(append([]byte(nil), body...), signature...))
+		return ed25519.Verify(key.Public().(ed25519.PublicKey), body, signature)
+	}
+	settings := Settings{Program: program, Index: indexOf, Signer: guard, Verify: verify, Log: log, Policy: [32]byte{7}}
+	provider, err := StartProvider(background, settings)
+	until := time.Now().Add(patience)
+	for ; errors.Is(err, ErrSignerFailed) && time.Now().Before(until); provider, err = StartProvider(background, settings) {
+	}
+	for err == nil && time.Now().Before(until) {
+		err = commitTurn(provider)
+	}
+	return failure(err)
+}
+
+// commitTurn commits an epoch. An update whose signer fails is asked for again, or given up.
+func commitTurn(provider *Provider) error {
+	epoch := provider.Latest().Epoch + 1
+	if pending := provider.Pending(); pending != nil {
+		epoch = pending.Epoch + 1
+	}
+	made, err := provider.Commit(background, epoch, []Operation{Register(fmt.Sprintf("user-%d", epoch), make([]byte, 2000))}, nil)
+	if errors.Is(err, ErrSignerFailed) {
+		switch rand.Intn(3) {
+		case 0:
+			made, err = provider.Retry(background)
+		case 1:
+			err = provider.Abandon(background)
+		default:
+			return nil
+		}
+	}
+	if err == nil && made.Epoch > 0 {
 		fmt.Printf("%x\n", made.Entry)
 	}
+	if errors.Is(err, ErrSignerFailed) {
+		return nil
+	}
+	return err
 }
 
 func failure(err error) int {
@@ -73,29 +106,35 @@ func (it *room) commitAndKill(list string, returned map[uint64][]byte) {
 	process.Wait()
 }
 
-// A process that is killed at random moments loses no epoch that it returned, and asks for one body per epoch number.
+// A process that is killed at random moments loses no epoch that it returned, and the signatures that it got form one chain.
 func TestKills(t *testing.T) {
-	it := newDirectory(t)
+	it := newGuarded(t)
+	it.commit(1)
 	it.close()
-	list, returned := it.path+"-asked", map[uint64][]byte{}
+	list, returned := it.path+"-given", map[uint64][]byte{}
 	for range [10]int{} {
-		it.commitAndKill(list, returned)
+		before := len(returned)
+		if it.commitAndKill(list, returned); len(returned) == before {
+			t.Fatal("a process has returned no epoch")
+		}
 	}
 	it.reopen()
 	epochs := it.hasAll(returned)
-	if len(returned) < 10 {
-		t.Error(len(returned))
+	if len(returned) < 10 || !strings.Contains(it.text(), `"abandons"`) {
+		t.Error("idle:", len(returned))
 	}
 	text, err := os.ReadFile(list)
 	it.good(err)
 	for _, line := range strings.Fields(string(text)) {
-		body, _ := hex.DecodeString(line)
-		it.asked[string(body)]++
+		it.given[string(decoded(t, line))] = true
 	}
-	for body := range it.asked {
-		epoch := number([]byte(body))
-		if epoch == 0 || epoch > uint64(len(epochs)) || !bytes.HasPrefix(it.provider.Chain(int(epoch - 1))[0], []byte(body)) {
-			t.Error("a body was signed that isn't installed")
+	chain := map[string]bool{}
+	for _, entry := range it.provider.Chain(0) {
+		chain[string(entry)] = true
+	}
+	for entry := range it.given {
+		if !chain[entry] {
+			t.Errorf("epoch %d was signed, and isn't installed", number([]byte(entry)))
 		}
 	}
 	it.check(epochs...)

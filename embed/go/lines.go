@@ -48,7 +48,7 @@ type Epoch struct {
 	Entry      []byte
 }
 
-// Pending is an update that isn't installed, and whose body the signer was or will be asked to sign.
+// Pending is an update that isn't installed. The signer was or will be asked to sign its body, or has abandoned it.
 type Pending struct {
 	Epoch uint64
 	Root  [32]byte
@@ -103,7 +103,8 @@ type answer struct {
 	line                                  []byte
 }
 
-// answerOf reads what the program printed for a command. The error of a refused line is a *Fault, and any other ErrProgramFailed.
+// answerOf reads what the program printed for a command. The error of a refused line is a *Fault, and any other
+// ErrProgramFailed.
 func answerOf(line []byte, command string) (*answer, error) {
 	it := &answer{line: line}
 	err := json.Unmarshal(line, it)
@@ -127,13 +128,18 @@ func adviceOn(fault FaultName) string {
 	return ""
 }
 
+// logFormat is the format of new logs: a `prepare` line that follows another one without `install` has the member abandons, the
+// body of the update that it replaces. Logs of the first format have no number, and don't say that.
+const logFormat = 2
+
 // logged is a line of a log, read by the exact names of its members.
 type logged struct {
-	line                                      []byte
-	command                                   string
-	epoch                                     uint64
-	nonce, policy, vrf, body, link, signature digits
-	operations                                json.RawMessage
+	line                                                []byte
+	command                                             string
+	epoch                                               uint64
+	format                                              *uint64 // nil in a log of the first format
+	nonce, policy, vrf, body, abandons, link, signature digits
+	operations                                          json.RawMessage
 }
 
 // loggedOf reads a line of a log. What names it in the error.
@@ -145,7 +151,7 @@ func loggedOf(line []byte, what string) (*logged, error) {
 	it := &logged{line: line, operations: members["ops"]}
 	for name, value := range map[string]any{
 		"cmd": &it.command, "epoch": &it.epoch, "nonce": &it.nonce, "policy": &it.policy, "vrf": &it.vrf,
-		"body": &it.body, "link": &it.link, "signature": &it.signature,
+		"log": &it.format, "body": &it.body, "abandons": &it.abandons, "link": &it.link, "signature": &it.signature,
 	} {
 		if text, is := members[name]; is && json.Unmarshal(text, value) != nil {
 			return nil, failed(ErrLogFailed, "the member %s of %s is wrong: check that it is the log of a provider", name, what)
@@ -178,9 +184,10 @@ func Entries(log Log, each func(entry []byte) error) error {
 	})
 }
 
-// openLine is the line that makes a directory. The program ignores vrf, the digest of the VRF's public key.
+// openLine is the line that makes a directory. The program ignores the log's format, and vrf, the digest of the VRF's public
+// key.
 func openLine(nonce, policy [32]byte, vrf []byte) []byte {
-	line := fmt.Sprintf(`{"cmd":"open","nonce":"%x","policy":"%x"`, nonce, policy)
+	line := fmt.Sprintf(`{"cmd":"open","nonce":"%x","policy":"%x","log":%d`, nonce, policy, logFormat)
 	if vrf != nil {
 		line += fmt.Sprintf(`,"vrf":"%x"`, vrf)
 	}

@@ -75,7 +75,7 @@ const logHead = `{"cmd":"open"`
 const lockTime = time.Second
 
 // errMade is ErrDirectoryExists and ErrOvertaken.
-var errMade error = &ProviderError{ErrDirectoryExists, ErrOvertaken}
+var errMade error = &ProviderError{Kind: ErrDirectoryExists, Cause: ErrOvertaken}
 
 // OpenFileLog opens the file, and drops a cut last line. A missing file is not made. It returns ErrLogFailed if another process
 // has the file open, and for a file that doesn't begin as a log, which is left as it is.

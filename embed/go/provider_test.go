@@ -107,7 +107,7 @@ func TestErrorsOfTheFunctionsOfTheSettings(t *testing.T) {
 	it.provider.settings.Verify = func(body, signature []byte) bool { return false }
 	_, err = it.provider.Retry(background)
 	it.wants(err, ErrSignerFailed)
-	it.provider.settings.Verify = it.verify
+	it.provider.settings.Verify = it.accept
 	it.provider.settings.Sign = func(body []byte) ([]byte, error) { return body[:63], nil }
 	_, err = it.provider.Retry(background)
 	it.wants(err, ErrSignerFailed)
@@ -146,7 +146,7 @@ func TestSignerFails(t *testing.T) {
 	it.wants(err, ErrSignerFailed)
 	it.failing(1)
 	it.wants(it.provider.Restart(background), ErrSignerFailed)
-	it.shows("alice", Epoch{Epoch: 4, Entry: it.provider.Chain(1)[0]})
+	it.shows("alice", Epoch{Epoch: 4, Entry: it.provider.Chain(2)[0]})
 	it.close()
 	it.failing(1)
 	log, err := OpenFileLog(it.path)
@@ -161,7 +161,7 @@ func TestSignerFails(t *testing.T) {
 	}
 	it.settings.LeavePending = false
 	it.reopen()
-	it.check(2, 4, 5)
+	it.check(2, 3, 4, 5)
 }
 
 func TestLastEpochNumbers(t *testing.T) {

@@ -4,6 +4,7 @@ import (
 	"bytes"
 	"context"
 	"errors"
+	"fmt"
 	"os"
 	"path/filepath"
 	"strings"
@@ -70,6 +71,9 @@ func TestLogThatLostLines(t *testing.T) {
 		if !bytes.Equal(evidence.KnownBody, known) || (evidence.FoundBody != nil) != isPending || isPending && !bytes.Equal(evidence.FoundBody, known) {
 			t.Error(lost, evidence)
 		}
+		if evidence.Entries != nil {
+			t.Error("two entries of one chain are evidence")
+		}
 	}
 	it.rewrite("")
 	it.wants(it.provider.Restart(background), ErrNoDirectory)
@@ -112,6 +116,10 @@ func TestLogOfAnotherProvider(t *testing.T) {
 		bytes.Equal(evidence.FoundBody, evidence.KnownBody) || number(evidence.FoundBody) != number(evidence.KnownBody) {
 		t.Error(evidence)
 	}
+	it.convicts("another provider's", evidence.Err, evidence.Known[1], theirs[0].Entry)
+	if fmt.Sprint(evidence.Entries) != fmt.Sprint(evidence.Err.(*ProviderError).Entries) {
+		t.Error(evidence.Entries)
+	}
 	// It is taken once that is asked for, under the link of this directory's latest epoch.
 	if it.provider.DiscardEvidence(theirs[4].Link) == nil {
 		t.Error("another link")
@@ -146,7 +154,8 @@ func TestLogWithAnotherPendingUpdate(t *testing.T) {
 	other.commit(4, Register("carol", []byte("key")))
 	it.rewrite(other.text())
 	evidence := it.isForked(latest)
-	if len(evidence.Found) != 4 || !bytes.Equal(evidence.KnownBody, it.provider.Pending().Body) || number(evidence.FoundBody) != 4 {
+	if len(evidence.Found) != 4 || !bytes.Equal(evidence.KnownBody, it.provider.Pending().Body) || number(evidence.FoundBody) != 4 ||
+		evidence.Entries != nil {
 		t.Error(evidence)
 	}
 	// One that was replaced by a later line, or is installed, is in the log.
@@ -156,6 +165,7 @@ func TestLogWithAnotherPendingUpdate(t *testing.T) {
 		other.settings.LeavePending = epoch == 5
 		other.reopen()
 		if epoch == 5 {
+			other.giveUpUnasked()
 			other.commit(epoch)
 		}
 		it.rewrite(other.text())

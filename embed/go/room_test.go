@@ -13,6 +13,7 @@ import (
 	"os"
 	"os/exec"
 	"path/filepath"
+	"strconv"
 	"strings"
 	"sync"
 	"syscall"
@@ -28,8 +29,15 @@ const patience = time.Minute
 
 var background = context.Background()
 
-// TestMain runs the stand-in for the program, or the committer, if the test's own program is started as that.
+// TestMain runs the stand-in for the program, the committer or a guardian, if the test's own program is started as that.
 func TestMain(m *testing.M) {
+	if len(os.Args) == 3 && os.Args[1] == "guardian" {
+		os.Exit(guardian(os.Args[2]))
+	}
+	if len(os.Args) == 5 && os.Args[1] == "killed-guardian" {
+		at, _ := strconv.Atoi(os.Args[3])
+		os.Exit(killedGuardian(os.Args[2], at, os.Args[4] == "true"))
+	}
 	if len(os.Args) > 3 && os.Args[1] == "stand-in" {
 		os.Exit(standIn(os.Args[2], os.Args[3:]))
 	}
@@ -89,8 +97,11 @@ type room struct {
 	key      ed25519.PrivateKey
 
 	mutex sync.Mutex
-	asked map[string]int // how often each body was asked for
+	asked map[string]int  // how often each body was asked for
+	made  map[string]bool // the entries of the signatures that were made
+	given map[string]bool // the entries of those that the provider got
 	fails int
+	lost  int    // how many signatures are made, and then lost
 	hold  func() // is called by the signer
 }
 
@@ -157,9 +168,31 @@ func program(t *testing.T) []string {
 // newRoom is a room whose directory isn't started.
 func newRoom(t *testing.T) *room {
 	it := &room{t: t, key: ed25519.NewKeyFromSeed(make([]byte, 32)), asked: map[string]int{}}
+	it.made, it.given = map[string]bool{}, map[string]bool{}
 	it.path, it.told = filepath.Join(t.TempDir(), "log"), filepath.Join(t.TempDir(), "told")
-	it.settings = Settings{Program: program(t), Index: indexOf, Sign: it.sign, Verify: it.verify, Policy: [32]byte{7}}
+	it.settings = Settings{Program: program(t), Index: indexOf, Sign: it.sign, Verify: it.accept, Policy: [32]byte{7}}
 	t.Cleanup(it.close)
+	return it
+}
+
+// withGuard has the directory signed by a guard over a record beside the log.
+func (it *room) withGuard() *Guard {
+	it.t.Helper()
+	_, err := os.Stat(it.path + "-record")
+	guard, err := OpenGuard(it.path+"-record", it.sign, GuardSettings{NewDirectory: err != nil})
+	it.good(err)
+	it.settings.Sign, it.settings.Signer = nil, guard
+	return guard
+}
+
+// newGuarded is a room with a new directory that a guard signs.
+func newGuarded(t *testing.T) *room {
+	it := newRoom(t)
+	log, err := CreateFileLog(it.path)
+	it.good(err)
+	it.over(log)
+	it.withGuard()
+	it.start()
 	return it
 }
 
@@ -186,10 +219,13 @@ func (it *room) start() {
 	it.provider = provider
 }
 
-// reopen starts from the file alone.
+// reopen starts from the file alone, and the record of the guard if there is one.
 func (it *room) reopen() {
 	it.t.Helper()
 	it.close()
+	if it.settings.Signer != nil {
+		it.withGuard()
+	}
 	log, err := OpenFileLog(it.path)
 	it.good(err)
 	it.over(log)
@@ -232,12 +268,22 @@ func (it *room) verify(body, signature []byte) bool {
 	return ed25519.Verify(it.key.Public().(ed25519.PublicKey), body, signature)
 }
 
+// accept is verify for a signature that the provider got.
+func (it *room) accept(body, signature []byte) bool {
+	it.mutex.Lock()
+	defer it.mutex.Unlock()
+	it.given[string(body)+string(signature)] = true
+	return it.verify(body, signature)
+}
+
 func (it *room) sign(body []byte) ([]byte, error) {
 	it.mutex.Lock()
 	it.asked[string(body)]++
-	fails, hold := it.fails > 0, it.hold
+	fails, lost, hold := it.fails > 0, it.lost > 0, it.hold
 	if fails {
 		it.fails--
+	} else if lost {
+		it.lost--
 	}
 	it.mutex.Unlock()
 	if hold != nil {
@@ -246,7 +292,14 @@ func (it *room) sign(body []byte) ([]byte, error) {
 	if fails {
 		return nil, errors.New("told to fail")
 	}
-	return ed25519.Sign(it.key, body), nil
+	signature := ed25519.Sign(it.key, body)
+	it.mutex.Lock()
+	defer it.mutex.Unlock()
+	it.made[string(body)+string(signature)] = true
+	if lost {
+		return nil, errors.New("told to lose it")
+	}
+	return signature, nil
 }
 
 // failing has the signer fail so many times, and holding has it call a function.
@@ -278,8 +331,8 @@ func (it *room) shows(name string, wanted Epoch) {
 	}
 }
 
-// check compares the epochs of the log and of the provider with those wanted, follows the chain, and counts the bodies of each
-// epoch.
+// check compares the epochs of the log and of the provider with those wanted, follows the chain, counts the bodies of each
+// epoch, and checks that the signatures that the provider got form one chain.
 func (it *room) check(wanted ...uint64) {
 	it.t.Helper()
 	var epochs []uint64
@@ -314,6 +367,7 @@ func (it *room) checkBodies() {
 		}
 		bodies[body[1:9]] = true
 	}
+	isOneChain(it.t, it.given)
 }
 
 // number is that of an entry's epoch.

@@ -45,7 +45,7 @@ func (it *sample) add(operations []indexed) {
 }
 
 // check asks for the indices of the operations again, each name once. Another index than the logged one is OtherIndex.
-func (it *sample) check(ctx context.Context, index func(name string) ([32]byte, error)) error {
+func (it *sample) check(ctx context.Context, index func(name string) ([32]byte, error), advice string) error {
 	asked := map[string]bool{}
 	operations := it.kept
 	if it.first != nil {
@@ -64,8 +64,7 @@ func (it *sample) check(ctx context.Context, index func(name string) ([32]byte, 
 			return fmt.Errorf("the index of a registered name can't be computed, check the VRF: %w", err)
 		}
 		if string(found[:]) != string(operation.Index) {
-			return &Fault{Name: OtherIndex, Advice: "the key of the VRF or its code isn't that of this log, so start with the right " +
-				"one, or set SkipIndexCheck if the log itself has wrong indices"}
+			return &Fault{Name: OtherIndex, Advice: advice}
 		}
 	}
 	return nil

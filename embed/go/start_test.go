@@ -76,7 +76,7 @@ func TestCreate(t *testing.T) {
 	}
 	// A new log makes a directory without Create, but only once.
 	it.settings.Create = false
-	it.asked = map[string]int{}
+	it.asked, it.given = map[string]int{}, map[string]bool{}
 	another := filepath.Join(t.TempDir(), "log")
 	log, err := CreateFileLog(another)
 	it.good(err)
@@ -346,7 +346,7 @@ func TestSample(t *testing.T) {
 			}
 			asked[name] = true
 			return indexOf(name)
-		})
+		}, "advice")
 		if err != nil || !asked["0"] || !asked["999"] || len(asked) < 64 || len(asked) > 66 {
 			t.Fatal(err, len(asked))
 		}
@@ -366,7 +366,7 @@ func TestSample(t *testing.T) {
 	end()
 	all := sample{}
 	all.add([]indexed{{"alice", nil}})
-	if err := all.check(ended, indexOf); !errors.Is(err, context.Canceled) {
+	if err := all.check(ended, indexOf, "advice"); !errors.Is(err, context.Canceled) {
 		t.Error(err)
 	}
 }

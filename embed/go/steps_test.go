@@ -93,7 +93,11 @@ func TestLogRefusesPrepare(t *testing.T) {
 	}
 }
 
-// If an earlier update is pending, it is pending again, in the child too.
+// giveUpUnasked has the pending update given up as by a signer that would sign it all the same, so that a test can install it
+// later.
+func (it *room) giveUpUnasked() { it.provider.abandoned = it.provider.Pending().Body }
+
+// If an earlier update is pending that was given up, it is pending again, in the child too.
 func TestLogRefusesPrepareAfterAnother(t *testing.T) {
 	it := newDirectory(t)
 	it.commit(1)
@@ -103,6 +107,7 @@ func TestLogRefusesPrepareAfterAnother(t *testing.T) {
 	it.wants(err, ErrSignerFailed)
 	before := it.provider.Pending()
 	pid := it.provider.Pid()
+	it.giveUpUnasked()
 	it.log.hook(at("prepare", refuses), nothing)
 	_, err = it.provider.Commit(background, 3, []Operation{Register("bob", []byte("key"))}, nil)
 	it.wants(err, ErrLogRefused)
@@ -110,6 +115,7 @@ func TestLogRefusesPrepareAfterAnother(t *testing.T) {
 		t.Error(pending)
 	}
 	it.log.unhook()
+	it.provider.abandoned = nil
 	made, err := it.provider.Retry(background)
 	it.good(err)
 	it.shows("alice", made)
@@ -143,6 +149,7 @@ func TestLogRefusesPrepareAndTheChildDiffers(t *testing.T) {
 	_, err = it.provider.Commit(background, 1, []Operation{Register("alice", []byte("key"))}, nil)
 	it.wants(err, ErrSignerFailed)
 	pid := it.provider.Pid()
+	it.giveUpUnasked()
 	it.log.hook(at("prepare", refuses), nothing)
 	body := strings.Repeat("0", 290)
 	it.tell(`alice print {"body":"` + body + `","epoch":1,"nodes":1,"ok":"prepare","root":"` + body[:64] + `"}`)
@@ -150,6 +157,7 @@ func TestLogRefusesPrepareAndTheChildDiffers(t *testing.T) {
 	it.wants(err, ErrLogRefused)
 	it.log.unhook()
 	it.awaitChild(pid)
+	it.provider.abandoned = nil
 	_, err = it.provider.Retry(background)
 	it.good(err)
 	it.check(1)
@@ -377,8 +385,8 @@ func TestAnswersThatDontFollow(t *testing.T) {
 
 func copied(bytes []byte) []byte { return append([]byte(nil), bytes...) }
 
-// While the signer is asked, another provider replaces the update, and this one's child is started again: the signature isn't used
-// for another body.
+// While the signer is asked, another provider replaces the update, as only one without a guard can, and this one's child is
+// started again: the signature isn't used for another body.
 func TestUpdateThatIsReplacedWhileTheSignerIsAsked(t *testing.T) {
 	it := newDirectory(t)
 	it.commit(1, Register("alice", []byte("key")))
@@ -392,6 +400,7 @@ func TestUpdateThatIsReplacedWhileTheSignerIsAsked(t *testing.T) {
 			return
 		}
 		defer other.Close()
+		other.abandoned = other.Pending().Body
 		_, err = other.Commit(background, 3, nil, nil)
 		it.wants(err, ErrSignerFailed)
 		it.awaitChild(it.kill())
@@ -403,11 +412,40 @@ func TestUpdateThatIsReplacedWhileTheSignerIsAsked(t *testing.T) {
 		t.Error(pending)
 	}
 	pid := it.provider.Pid()
+	it.given = map[string]bool{}
 	_, err = it.provider.Retry(background)
 	it.good(err)
 	if it.provider.Pid() != pid {
 		t.Error("the child was started again")
 	}
+	it.check(1, 3)
+}
+
+// After a commit has settled the pending update, another child may have replayed another provider's: nothing replaces it.
+func TestUpdateOfAnotherProviderIsNotReplaced(t *testing.T) {
+	it := newDirectory(t)
+	it.commit(1)
+	it.failing(1)
+	_, err := it.provider.Commit(background, 2, nil, nil)
+	it.wants(err, ErrSignerFailed)
+	text, line := it.text(), prepareLine(3, nil, nil, nil)
+	_, err = it.provider.prepare(background, 3, line)
+	it.wants(err, ErrProgramFailed)
+	it.giveUpUnasked()
+	_, err = it.provider.prepare(background, 2, prepareLine(2, nil, nil, nil))
+	it.wants(err, ErrProgramFailed)
+	if it.text() != text || it.provider.Pending().Epoch != 2 {
+		t.Error("a pending update was replaced")
+	}
+	body, err := it.provider.prepare(background, 3, line)
+	it.good(err)
+	// The commit that has prepared this update doesn't take another one for it.
+	_, err = it.provider.settle(it.provider.Chain(0)[0][:bodyLength])
+	it.wants(err, ErrProgramFailed)
+	_, err = it.provider.settle(body)
+	it.good(err)
+	_, err = it.provider.settle(body)
+	it.wants(err, ErrProgramFailed)
 	it.check(1, 3)
 }
 

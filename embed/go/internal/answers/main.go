@@ -80,6 +80,9 @@ func answer(word string, words []string) string {
 		monitor.Auditor = coniks.Resume(monitor.Auditor.State())
 		seen, err := monitor.Step(bytes(words[0]), words[1] == "1", bytes(words[2]))
 		return said(err, seen.String())
+	case "convicts":
+		kind, err := coniks.Convicts(bytes(words[0]), bytes(words[1]))
+		return said(err, fmt.Sprint(uint32(kind)))
 	case "link":
 		link, err := coniks.Link(bytes(words[0]))
 		return said(err, fmt.Sprintf("%x", link))

@@ -1,0 +1,339 @@
+package coniks
+
+import (
+	"bytes"
+	"encoding/hex"
+	"encoding/json"
+	"errors"
+	"fmt"
+	"math"
+	"math/rand"
+	"os"
+	"os/exec"
+	"strings"
+	"testing"
+	"time"
+)
+
+// examplePolicy is that of testdata/policy.txt, the example of docs/FORMATS.md. Its keys are the first two of RFC 8032, section
+// 7.1.
+func examplePolicy() Policy {
+	it := Policy{Origin: "keys.example.com/directory", VRFKey: new([32]byte), EpochStart: 1767225600, EpochPeriod: 3600}
+	hex.Decode(it.SigningKey[:], []byte(rfcKey))
+	hex.Decode(it.VRFKey[:], []byte("3d4017c3e843895a92b70aa74d1b7ebc9c982ccf2ec4968cc0cd55f12af4660c"))
+	return it
+}
+
+// shortPolicy has none of what may be left out, and proofs that aren't kept.
+func shortPolicy() Policy {
+	it := examplePolicy()
+	it.Origin, it.VRFKey, it.EpochStart, it.EpochPeriod, it.ProofsKept = "a", nil, 0, 0, new(uint64)
+	return it
+}
+
+// The digests are those of sha256sum.
+func TestExampleOfAPolicy(t *testing.T) {
+	text, err := os.ReadFile("testdata/policy.txt")
+	if err != nil {
+		t.Fatal(err)
+	}
+	isInFormats(t, string(text))
+	long := examplePolicy()
+	if made, err := long.MarshalText(); err != nil || !bytes.Equal(made, text) {
+		t.Error(string(made), err)
+	}
+	if read, err := ReadPolicy(text); err != nil || fmt.Sprint(*read.VRFKey) != fmt.Sprint(*long.VRFKey) || read.Origin != long.Origin ||
+		read.SigningKey != long.SigningKey || read.EpochStart != 1767225600 || read.EpochPeriod != 3600 || read.ProofsKept != nil {
+		t.Error(read, err)
+	}
+	for wanted, policy := range map[string]Policy{
+		"9b7c1ee453e0628965915c3a88e82924b3e90fe53ba30531b2b3ff12be6f7fef": long,
+		"750a5c93e739bbbbca1b58231a6dda0d53237f9f3be255c5445ede20799199ee": shortPolicy(),
+	} {
+		if digest, err := policy.Digest(); err != nil || fmt.Sprintf("%x", digest) != wanted {
+			t.Errorf("%x %v", digest, err)
+		}
+	}
+	// A policy is a text in JSON.
+	var read Policy
+	quoted, err := json.Marshal(long)
+	if err == nil {
+		err = json.Unmarshal(quoted, &read)
+	}
+	if digest, _ := read.Digest(); err != nil || fmt.Sprintf("%x", digest[:2]) != "9b7c" {
+		t.Error(err)
+	}
+}
+
+// The text that is read is the text that is made, and any other text is refused.
+func TestTextsThatAreNoPolicies(t *testing.T) {
+	long, short := texts(t)
+	for number, edit := range []struct{ text, old, with string }{
+		{long, "policy coniks-1", "policy coniks-2"}, {long, "policy coniks-1\n", ""}, {long, "\n", "\r\n"}, {long, "vrf ", "vrf  "},
+		{long, "origin keys.example.com/directory", "origin "}, {long, "keys.example", "keys example"}, {long, "keys.", "k\x7fys."},
+		{long, "keys.", "k\x00ys."}, {long, "keys.", "k\xffys."}, {long, "keys.", "ké."}, {long, "signature Ed25519\n", ""},
+		{long, "Ed25519", "ed25519"}, {long, "d75a", "D75a"}, {long, "signing-key d7", "signing-key "}, {long, "signing-key ", "signing-key 00"},
+		{long, "vrf-key 3d", "vrf-key "}, {long, "vrf ECVRF-EDWARDS25519-SHA512-TAI", "vrf none"}, {long, "SHA512-TAI", "SHA512-ELL2"},
+		{long, "vrf-key", "vrf-Key"}, {long, "epoch-start 1767225600\n", ""}, {long, "epoch-period 3600\n", ""}, {long, "3600", "0"},
+		{long, "3600", "03600"}, {long, "3600", "+3600"}, {long, "3600", "3600.0"}, {long, "3600", "18446744073709551616"}, {long, "3600", ""},
+		{long, "1767225600", "01767225600"}, {long, "1767225600", "-1"}, {long, "1767225600", "00"}, {long, "evidence one-chain\n", ""},
+		{long, "one-chain", "one-number"}, {long, "forever", "Forever"}, {long, "forever", ""}, {long, "proofs-kept forever\n", ""},
+		{long, "forever\n", "forever"}, {long, "forever\n", "forever\n\n"}, {long, "forever\n", "forever\nmore\n"}, {long, "forever\n", "forever \n"},
+		{long, "forever", "18446744073709551616"}, {short, "vrf none\n", ""}, {short, "vrf none\n", "vrf none\nvrf-key " + strings.Repeat("00", 32) + "\n"},
+		{short, "proofs-kept 0", "proofs-kept 00"}, {short, "origin a\n", "origin a\norigin a\n"}, {short, "policy", " policy"},
+		{short, "policy", "\ufeffpolicy"}, {short, "origin a", "origin " + strings.Repeat("a", 256)},
+	} {
+		if wrong := strings.Replace(edit.text, edit.old, edit.with, 1); wrong == edit.text {
+			t.Error("no edit:", number)
+		} else if _, err := ReadPolicy([]byte(wrong)); err == nil {
+			t.Error(wrong)
+		}
+	}
+	chance := rand.New(rand.NewSource(1))
+	for turn := 0; turn < 20000; turn++ {
+		text := []byte([]string{long, short}[turn%2])
+		for range [3]int{} {
+			at := chance.Intn(len(text))
+			if chance.Intn(3) > 0 {
+				text[at] = "0123456789 \n.abf\xff-"[chance.Intn(18)]
+			} else {
+				text = append(append(append([]byte(nil), text[:at]...), text[at]), text[at:]...)
+			}
+		}
+		if read, err := ReadPolicy(text); err != nil {
+			continue
+		} else if made, err := read.MarshalText(); err != nil || !bytes.Equal(made, text) {
+			t.Errorf("%q is read as %q: %v", text, made, err)
+		}
+	}
+}
+
+func texts(t *testing.T) (long, short string) {
+	first, err := examplePolicy().MarshalText()
+	second, another := shortPolicy().MarshalText()
+	if err != nil || another != nil {
+		t.Fatal(err, another)
+	}
+	return string(first), string(second)
+}
+
+func TestLimitsOfAPolicy(t *testing.T) {
+	largest := uint64(math.MaxUint64)
+	it := examplePolicy()
+	it.Origin, it.EpochStart, it.EpochPeriod, it.ProofsKept = strings.Repeat("~", 255), largest, largest, &largest
+	text, err := it.MarshalText()
+	if err != nil || strings.Count(string(text), "18446744073709551615") != 3 {
+		t.Error(string(text), err)
+	}
+	if read, err := ReadPolicy(text); err != nil || read.EpochStart != largest || read.EpochPeriod != largest || *read.ProofsKept != largest {
+		t.Error(read, err)
+	}
+	it.EpochStart = 0
+	if text, err := it.MarshalText(); err != nil || !strings.Contains(string(text), "epoch-start 0\n") {
+		t.Error(string(text), err)
+	}
+	for _, wrong := range []Policy{{}, {Origin: strings.Repeat("a", 256)}, {Origin: "a b"}, {Origin: "é"}, {Origin: "a\n"}, {Origin: "a", EpochStart: 1}} {
+		if text, err := wrong.MarshalText(); err == nil {
+			t.Error(string(text))
+		}
+		if _, err := wrong.Digest(); err == nil {
+			t.Error(wrong)
+		}
+	}
+	// After an error the policy is as it was.
+	before := it
+	if it.UnmarshalText([]byte("policy")) == nil || fmt.Sprint(it) != fmt.Sprint(before) {
+		t.Error(it)
+	}
+}
+
+func TestEpochAt(t *testing.T) {
+	it := examplePolicy()
+	start := time.Unix(1767225600, 0)
+	for after, wanted := range map[time.Duration]uint64{
+		0: 1, 1: 1, time.Hour - 1: 1, time.Hour: 2, 2*time.Hour - 1: 2, 24 * time.Hour: 25, 100 * 365 * 24 * time.Hour: 876001,
+	} {
+		for _, zone := range []*time.Location{time.UTC, time.FixedZone("east", 5*3600+1800)} {
+			if epoch, err := it.EpochAt(start.Add(after).In(zone)); err != nil || epoch != wanted {
+				t.Error(after, epoch, err)
+			}
+		}
+	}
+	for _, early := range []time.Time{start.Add(-1), time.Unix(0, 0), time.Unix(-1, 0), {}} {
+		if epoch, err := it.EpochAt(early); err == nil || errors.Is(err, ErrNoClock) || epoch != 0 {
+			t.Error(epoch, err)
+		}
+	}
+	if _, err := shortPolicy().EpochAt(start); !errors.Is(err, ErrNoClock) {
+		t.Error(err)
+	}
+	it.EpochStart, it.EpochPeriod = 0, 1
+	if epoch, err := it.EpochAt(time.Unix(math.MaxInt64, 0)); err != nil || epoch != 1<<63 {
+		t.Error(epoch, err)
+	}
+	it.EpochStart = math.MaxUint64
+	if _, err := it.EpochAt(time.Unix(math.MaxInt64, 0)); err == nil {
+		t.Error("a time before a late start")
+	}
+}
+
+// Python makes the same document, and the same epoch of a time.
+func TestPoliciesOfPython(t *testing.T) {
+	needsPython(t)
+	long, short := texts(t)
+	for _, text := range []string{long, short} {
+		policy, err := ReadPolicy([]byte(text))
+		if err != nil {
+			t.Fatal(err)
+		}
+		digest, _ := policy.Digest()
+		wanted := fmt.Sprintf("%x", digest)
+		if policy.EpochPeriod > 0 {
+			epoch, _ := policy.EpochAt(time.Unix(1800000000, 500))
+			wanted += fmt.Sprint(" ", epoch)
+		}
+		said, err := exec.Command("python3", "-c", `
+import sys
+sys.dont_write_bytecode = True
+sys.path.insert(0, "../python")
+from coniks.policy import Policy
+policy = Policy.read(sys.argv[1].encode())
+print(policy.digest.hex(), policy.epoch_at(1800000000.5) if policy.epoch_period else "")
+`, text).CombinedOutput()
+		if err != nil || strings.TrimSpace(string(said)) != wanted {
+			t.Error(string(said), err, "not", wanted)
+		}
+	}
+}
+
+// clocked is a new directory whose policy has a clock that a test sets: it is in an epoch since its first second.
+func clocked(t *testing.T) (it *room, set func(epoch uint64)) {
+	it = newRoom(t)
+	policy := examplePolicy()
+	it.settings.Policy, it.settings.Document, it.settings.Create = [32]byte{}, &policy, true
+	log, err := OpenFileLog(it.path)
+	it.good(err)
+	it.over(log)
+	it.withGuard()
+	it.start()
+	it.settings.Create = false
+	set = func(epoch uint64) {
+		now := time.Unix(int64(policy.EpochStart+(epoch-1)*policy.EpochPeriod), 0)
+		it.provider.now = func() time.Time { return now }
+	}
+	return it, set
+}
+
+// With a clock, a commit is under the number of the clock alone, unless it is forced. What was committed before isn't refused.
+func TestClockOfAPolicy(t *testing.T) {
+	it, set := clocked(t)
+	if set(5); it.provider.settings.Policy[0] != 0x9b {
+		t.Error(it.provider.settings.Policy)
+	}
+	if now, err := it.provider.EpochNow(); now != 5 || err != nil {
+		t.Error(now, err)
+	}
+	for _, epoch := range []uint64{0, 1, 4, 6, 1 << 40} {
+		_, err := it.provider.Commit(background, epoch, nil, nil)
+		it.wants(err, ErrEpochNotNow)
+		_, err = it.provider.CommitFar(background, epoch, nil, nil)
+		it.wants(err, ErrEpochNotNow)
+		if !strings.Contains(err.Error(), "isn't 5") {
+			t.Error(err)
+		}
+	}
+	made := it.commit(5, Register("alice", []byte("key")))
+	if made.Entry[113] != 0x9b {
+		t.Error(made)
+	}
+	it.failing(1)
+	set(6)
+	mine := []Operation{Register("bob", []byte("key"))}
+	_, err := it.provider.Commit(background, 6, mine, nil)
+	it.wants(err, ErrSignerFailed)
+	// Numbers are checked in this order, and before the pending update is settled.
+	set(8)
+	_, err = it.provider.Commit(background, 6, nil, nil)
+	it.wants(err, ErrEpochSpent)
+	_, err = it.provider.CommitWith(background, 6, nil, CommitOptions{Force: true, Far: true})
+	it.wants(err, ErrEpochSpent)
+	_, err = it.provider.Commit(background, 1<<33, nil, nil)
+	it.wants(err, ErrEpochNotNow)
+	_, err = it.provider.CommitWith(background, 1<<33, nil, CommitOptions{Force: true})
+	it.wants(err, ErrEpochTooFar)
+	if pending := it.provider.Pending(); pending == nil || pending.Epoch != 6 {
+		t.Error(pending)
+	}
+	it.commit(6, mine...)
+	it.failing(1)
+	_, err = it.provider.Commit(background, 8, nil, nil)
+	it.wants(err, ErrSignerFailed)
+	set(9)
+	_, err = it.provider.Retry(background)
+	it.good(err)
+	it.failing(1)
+	_, err = it.provider.Commit(background, 9, nil, nil)
+	it.wants(err, ErrSignerFailed)
+	set(11)
+	it.commit(11)
+	_, err = it.provider.CommitWith(background, 12, nil, CommitOptions{Force: true, Nonce: &[32]byte{9}})
+	it.good(err)
+	_, err = it.provider.CommitWith(background, 1<<33, nil, CommitOptions{Force: true, Far: true})
+	it.good(err)
+	it.check(5, 6, 8, 9, 11, 12, 1<<33)
+	if entry := it.provider.Chain(5)[0]; entry[0] != 2 || entry[81] != 9 {
+		t.Error(entry)
+	}
+}
+
+// Before epoch 1 a commit needs Force, and a directory without a clock has no number of its own.
+func TestClockBeforeEpoch1(t *testing.T) {
+	it, _ := clocked(t)
+	it.provider.now = func() time.Time { return time.Unix(1, 0) }
+	if _, err := it.provider.EpochNow(); err == nil || errors.Is(err, ErrNoClock) {
+		t.Error(err)
+	}
+	if _, err := it.provider.Commit(background, 1, nil, nil); err == nil || !strings.Contains(err.Error(), "1767225600") {
+		t.Error(err)
+	}
+	_, err := it.provider.CommitWith(background, 1, nil, CommitOptions{Force: true})
+	it.good(err)
+	// A start takes the digest of the document, or the same digest.
+	digest := it.provider.settings.Policy
+	it.settings.Policy = digest
+	it.reopen()
+	it.close()
+	it.settings.Policy[31]++
+	if _, err := it.startOver(it.path); err == nil || !strings.Contains(err.Error(), "Document") {
+		t.Error(err)
+	}
+	wrong := examplePolicy()
+	wrong.Origin = ""
+	it.settings.Policy, it.settings.Document = digest, &wrong
+	if _, err := it.startOver(it.path); err == nil || !strings.Contains(err.Error(), "origin") {
+		t.Error(err)
+	}
+	wrong.Origin = "another.example.com"
+	it.settings.Policy = [32]byte{}
+	_, err = it.startOver(it.path)
+	it.wants(err, ErrLogFailed)
+	it.settings.Policy, it.settings.Document = digest, nil
+	it.reopen()
+	_, err = it.provider.EpochNow()
+	it.wants(err, ErrNoClock)
+	it.commit(3)
+	it.check(1, 3)
+	// A document without a clock refuses no number.
+	plain := newRoom(t)
+	short := shortPolicy()
+	plain.settings.Policy, plain.settings.Document, plain.settings.Create = [32]byte{}, &short, true
+	log, err := OpenFileLog(plain.path)
+	it.good(err)
+	plain.over(log)
+	plain.start()
+	short.EpochPeriod = 1
+	_, err = plain.provider.EpochNow()
+	it.wants(err, ErrNoClock)
+	plain.commit(7)
+	plain.check(7)
+}
