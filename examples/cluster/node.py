@@ -16,7 +16,8 @@ MakeLog = Callable[[], PostgresLog]
 
 
 class Node:
-    """The side that calls the process, from several threads. `keys` has `policy`, `nonce`, `index`, `sign` and `verify`."""
+    """The side that calls the process, from several threads. `keys` has `policy`, `nonce`, `index`, `verify`, and `signer()`, which
+    opens what signs in the process that it is called in."""
 
     def __init__(self, make_log: MakeLog, program: str, keys: Any, is_writer: bool = False, replica: type[Replica] = Replica):
         self.pipe, other = SPAWN.Pipe()
@@ -48,12 +49,13 @@ def serve(pipe: Any, make_log: MakeLog, program: str, keys: Any, is_writer: bool
             (call, *arguments), answer = pipe.recv(), None
             try:
                 if not opened and is_writer:
-                    opened = Provider(program, keys.index, keys.sign, log, policy=keys.policy, nonce=keys.nonce, verify=keys.verify)
+                    settings = {"policy": keys.policy, "nonce": keys.nonce, "verify": keys.verify}
+                    opened = Provider(program, keys.index, keys.signer(), log, **settings)
                 opened = opened or replica(log, program, keys.index, policy=keys.policy)
                 if call != "lead":
                     answer = getattr(opened, call)(*arguments)
                 elif isinstance(opened, Replica):
-                    opened, is_writer = opened.promote(keys.sign, verify=keys.verify), True
+                    opened, is_writer = opened.promote(keys.signer(), verify=keys.verify), True
             except ProviderError as error:
                 answer = error
                 if isinstance(error, Overtaken):

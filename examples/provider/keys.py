@@ -1,8 +1,7 @@
-"""The public keys of a provider, and what is verified with them."""
+"""The public keys of a provider, its policy, and what is verified with them."""
 
 from __future__ import annotations
 
-import hashlib
 from dataclasses import dataclass
 
 import coniks
@@ -15,19 +14,19 @@ from nacl.signing import VerifyKey
 class PublicKeys:
     """The key that verifies signatures (Ed25519), and the key of the VRF. Clients and auditors have both from the start.
 
-    The policy digest in each entry is the SHA-256 of these keys. So each signature also covers the key of the VRF.
+    The policy digest in each entry is the SHA-256 of the policy document. So each signature also covers the key of the VRF.
     """
 
     signing: bytes
     vrf: bytes
 
     @property
-    def policy(self) -> bytes:
-        return hashlib.sha256(b"Ed25519, ECVRF-EDWARDS25519-SHA512-TAI" + self.signing + self.vrf).digest()
+    def policy(self) -> coniks.Policy:
+        return coniks.Policy("keys.example.com", self.signing, self.vrf)
 
     def is_signed(self, entry: bytes) -> bool:
         """Whether the signature of an entry is valid and its policy is that of these keys."""
-        return is_signed(self.signing, entry) and coniks.Body.of_entry(entry).policy == self.policy
+        return is_signed(self.signing, entry) and coniks.Body.of_entry(entry).policy == self.policy.digest
 
     def index(self, name: str, proof: bytes) -> bytes:
         """The index of a name. Raises `ecvrf.InvalidProof` if the proof is not one of this name."""

@@ -8,6 +8,7 @@ from pathlib import Path
 from typing import Any, Iterable
 
 import ecvrf
+from coniks.guard import Guard
 from coniks.provider import Epoch, FileLog, Latest, Operation, Provider
 from keys import PublicKeys, is_signed
 from nacl.signing import SigningKey
@@ -43,16 +44,17 @@ class Secrets:
         return is_signed(self.keys.signing, body + signature)
 
 
-class KeyServer(Secrets):
-    """Registers names and looks them up. The log is its store: a provider that starts goes on where the log ends. A directory is
-    made only if `create` is true."""
+class KeyServer:
+    """Registers names and looks them up. The log is its store: a provider that starts goes on where the log ends. A guard with a
+    record of its own lets the signing key sign one chain. A directory is made only if `create` is true."""
 
-    def __init__(self, program: Path, log: Path, signing: bytes, vrf: bytes, nonce: bytes, create: bool = False):
-        super().__init__(signing, vrf)
+    def __init__(self, program: Path, log: Path, record: Path, secrets: Secrets, nonce: bytes, create: bool = False):
+        self._secrets = secrets
+        guard = Guard(record, secrets.sign, new_directory=create, verify=secrets.verify)
         with ExitStack() as opened:
             file = opened.enter_context(FileLog.create(log) if create else FileLog(log))
-            keys: dict[str, Any] = {"policy": self.policy, "nonce": nonce, "vrf_public_key": self.keys.vrf}
-            provider = Provider(program, self.index, self.sign, file, verify=self.verify, **keys)
+            keys: dict[str, Any] = {"policy": secrets.policy, "nonce": nonce, "vrf_public_key": secrets.keys.vrf}
+            provider = Provider(program, secrets.index, guard, file, verify=secrets.verify, **keys)
             self._directory = opened.enter_context(provider)
             self._opened = opened.pop_all()
 
@@ -60,7 +62,10 @@ class KeyServer(Secrets):
         return self._directory.commit(epoch, operations)
 
     def look_up(self, name: str, epoch: int) -> Answer:
-        return Answer(self._directory.lookup(name, epoch).line, self.proof(name))
+        return Answer(self._directory.lookup(name, epoch).line, self._secrets.proof(name))
+
+    def chain(self) -> list[bytes]:
+        return self._directory.chain()
 
     def latest(self) -> Latest:
         return self._directory.latest()

@@ -20,7 +20,7 @@ import coniks
 import ecvrf
 from auditor import audit
 from client import OtherEpoch, Watch, look_up
-from equivocation import convicts, first_difference
+from equivocation import Evidence, convicts, find_evidence
 from keys import PublicKeys, is_signed
 from nacl import bindings as sodium
 from nacl.signing import SigningKey
@@ -125,17 +125,30 @@ def try_auditor(count: Count) -> None:
         count.tell(f"auditor, {what}: {found}", found == wanted)
 
 
+def with_number(body: bytes, place: int, number: int) -> bytes:
+    """The body with another epoch, at place 1, or another epoch before, at place 9."""
+    return body[:place] + number.to_bytes(8, "big") + body[place + 8 :]
+
+
 def try_evidence(count: Count) -> None:
     body, third = ENTRIES[2][:145], ENTRIES[2]
-    other = signed(flipped(body, 20))
-    count.tell("two bodies of one epoch", convicts(KEYS.signing, third, other) and convicts(KEYS.signing, other, third))
+    other, later = signed(flipped(body, 20)), with_number(with_number(body, 1, 9), 9, 8)
     again = signed_again(body)
     count.tell("one body has two signatures", again != third and is_signed(KEYS.signing, again))
+    for what, another, kind in [
+        ("two bodies of one epoch", other, coniks.EvidenceKind.OVERLAP),
+        ("two epochs after one entry", signed(with_number(body, 1, 4)), coniks.EvidenceKind.OVERLAP),
+        ("an epoch after two entries", signed(with_number(body, 9, 1)), coniks.EvidenceKind.OVERLAP),
+        ("another policy at a later epoch", signed(flipped(later, 120)), coniks.EvidenceKind.OTHER_POLICY),
+        ("another version at a later epoch", signed(b"\7" + later[1:]), coniks.EvidenceKind.MALFORMED),
+    ]:
+        found = convicts(KEYS.signing, third, another), convicts(KEYS.signing, another, third)
+        count.tell(f"evidence: {what}", found == (kind, kind))
     for what, one, another in [
         ("one entry twice", third, third),
         ("two signatures of one body", third, again),
         ("two epochs", ENTRIES[1], third),
-        ("two epochs after one entry", third, signed(body[:8] + b"\4" + body[9:])),
+        ("a later epoch with another link", third, signed(flipped(later, 60))),
         ("another signer", third, signed(flipped(body, 20), VRF)),
         ("a changed signature of one body", third, flipped(third, 150)),
         ("a changed body", third, flipped(third, 20)),
@@ -144,16 +157,20 @@ def try_evidence(count: Count) -> None:
     ]:
         count.tell(f"no evidence: {what}", not convicts(KEYS.signing, one, another) and not convicts(KEYS.signing, another, one))
     count.tell("no evidence under another key", not convicts(KEYS.vrf, third, other))
-    links = {1: b"a", 2: b"b", 4: b"c"}
-    compared: list[tuple[dict[int, bytes], object]] = [
-        ({}, None),
-        (links, None),
-        ({1: b"a", 3: b"x"}, None),
-        ({1: b"a", 2: b"x", 4: b"x"}, 2),
+    try_chains(count, [*ENTRIES[:2], signed(with_number(ENTRIES[2][:145], 1, 4))])
+
+
+def try_chains(count: Count, forked: list[bytes]) -> None:
+    """Chains that part after the second entry, without an epoch in common after it."""
+    compared: list[tuple[str, list[bytes], object]] = [
+        ("that part", forked, Evidence(ENTRIES[2], forked[2], coniks.EvidenceKind.OVERLAP)),
+        ("of which one begins the other", forked[:2], None),
+        ("that are one", ENTRIES, None),
+        ("of which one is empty", [], None),
+        ("with two signatures of a body", [*ENTRIES[:2], signed_again(ENTRIES[2][:145])], None),
     ]
-    count.tell("the first difference", first_difference({8: b"a", 1: b"a"}, {8: b"b", 1: b"b"}) == 1)
-    for theirs, wanted in compared:
-        count.tell(f"links {theirs}", first_difference(links, theirs) == wanted)
+    for what, theirs, wanted in compared:
+        count.tell(f"chains {what}", find_evidence(KEYS.signing, ENTRIES, theirs) == wanted)
 
 
 def main() -> int:
