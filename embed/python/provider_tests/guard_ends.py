@@ -285,17 +285,21 @@ def restless(chance: random.Random) -> Callable[[], None]:
     return before
 
 
-def try_threads(tell: Tell, seconds: float = 2) -> None:
-    """Six threads over one record, of which three share a guard."""
+def try_threads(tell: Tell, seconds: float = 2, patience: float = 60) -> None:
+    """Six threads over one record, of which three share a guard. On a busy machine they go on until some entries are given."""
     with tempfile.TemporaryDirectory() as folder:
-        room, until, broken = Path(folder), time.monotonic() + seconds, list[str]()
+        room, begun, broken = Path(folder), time.monotonic(), list[str]()
         bench = Bench(folder, 1)
         bench.signer.before = restless(random.Random(1))
+
+        def is_over() -> bool:
+            took = time.monotonic() - begun
+            return took > patience or (took > seconds and len({*lines(room / "given")}) > 5)
 
         def asks(number: int) -> None:
             asker = Asker(room, bench.guard if number % 2 else bench.open(), random.Random(number))
             try:
-                while time.monotonic() < until:
+                while not is_over():
                     asker.step()
             except Exception as error:
                 broken.append(repr(error))
