@@ -1,17 +1,18 @@
 #!/usr/bin/env python3
 """Checks, audits and watches what `keydir run` printed, by the library for C.
 
-    keydir run < script.jsonl | watch.py [--expect KEY] NAME
+    keydir run < script.jsonl | watch.py [--key HEX64] [--expect KEY] NAME
 
 Each lookup is checked, each batch's entry is audited, and the lookups of NAME are shown to a monitor that expects the key
-(base64), or none. It takes each signature as valid: `keydir` has only its demonstration's seal. Verify a provider's signatures
-with the library of its signature scheme.
+(base64), or none. `keydir` has only its demonstration's seal, under a key that is 32 zero bytes by default: anyone who can verify
+it can forge it. For a provider take `coniks.client`, which verifies signatures and indices.
 """
 
 from __future__ import annotations
 
 import argparse
 import base64
+import hashlib
 import json
 import sys
 from typing import Any, Callable, Optional, TypeVar, Union
@@ -30,14 +31,20 @@ def answer(call: Callable[..., Answer], *arguments: Any) -> Union[Answer, str]:
         return f"refused: {fault}"
 
 
+def is_sealed(key: bytes, entry: bytes) -> bool:
+    """Whether an entry has the demonstration's seal of its body, under a key."""
+    body, seal = entry[: coniks.BODY_LENGTH], entry[coniks.BODY_LENGTH :]
+    return seal == b"".join(hashlib.sha256(tag + key + body).digest() for tag in (b"\x41", b"\x42"))
+
+
 def shown(key: Union[bytes, str, None]) -> str:
     """A key, or that there is none."""
     return base64.b64encode(key).decode() if isinstance(key, bytes) else key or "absent"
 
 
-def audit(auditor: coniks.Auditor, said: dict[str, Any]) -> None:
+def audit(auditor: coniks.Auditor, seal_key: bytes, said: dict[str, Any]) -> None:
     entry = bytes.fromhex(said["entry"])
-    print(f"epoch {coniks.Body.of_entry(entry).epoch}: {answer(auditor.feed, entry, True) or 'follows'}")
+    print(f"epoch {coniks.Body.of_entry(entry).epoch}: {answer(auditor.feed, entry, is_sealed(seal_key, entry)) or 'follows'}")
     if coniks.link(entry) != bytes.fromhex(said["link"]):
         sys.exit("the line has another link")
 
@@ -48,14 +55,16 @@ def look(said: dict[str, Any]) -> None:
     print(f"epoch {said['epoch']}, {said['name']}: {shown(key)}")
 
 
-def watch(monitor: coniks.Monitor, said: dict[str, Any]) -> None:
-    seen = answer(monitor.step, bytes.fromhex(said["entry"]), True, coniks.proof_bytes(said["proof"]))
+def watch(monitor: coniks.Monitor, seal_key: bytes, said: dict[str, Any]) -> None:
+    entry = bytes.fromhex(said["entry"])
+    seen = answer(monitor.step, entry, is_sealed(seal_key, entry), coniks.proof_bytes(said["proof"]))
     print(f"epoch {said['epoch']}, watched: {seen.name.lower() if isinstance(seen, coniks.Seen) else seen}")
 
 
 def main() -> None:
     parser = argparse.ArgumentParser(description=(__doc__ or "").splitlines()[0])
     parser.add_argument("name")
+    parser.add_argument("--key", type=bytes.fromhex, default=bytes(32))
     parser.add_argument("--expect", type=lambda it: base64.b64decode(it, validate=True))
     words = parser.parse_args()
     auditor = coniks.Auditor()
@@ -63,13 +72,13 @@ def main() -> None:
     for line in sys.stdin:
         said = json.loads(line)
         if said.get("ok") == "batch":
-            audit(auditor, said)
+            audit(auditor, words.key, said)
         elif said.get("ok") == "lookup":
             look(said)
             if said["name"] == words.name:
                 monitor = monitor or coniks.Monitor(words.name, bytes.fromhex(said["index"]), words.expect)
-                watch(monitor, said)
-    print("no signature was judged", file=sys.stderr)
+                watch(monitor, words.key, said)
+    print("the seals are a demonstration's, which anyone can forge", file=sys.stderr)
 
 
 main()

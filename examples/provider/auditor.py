@@ -5,14 +5,16 @@ from __future__ import annotations
 from typing import Iterable
 
 import coniks
+from coniks.client import Client
 from keys import PublicKeys
 
 
 def audit(keys: PublicKeys, entries: Iterable[bytes]) -> list[coniks.Head]:
-    """The epoch and link of each entry. Raises `coniks.Refused` at the first entry that does not follow or is not signed."""
-    auditor, heads = coniks.Auditor(), []
+    """The epoch and link of each entry. Raises `coniks.client.Refusal` at the first entry that does not follow or is not signed."""
+    client, heads = Client(keys.signing, keys.vrf, keys.policy), []
     for entry in entries:
-        auditor.feed(entry, keys.is_signed(entry))
-        assert auditor.head
-        heads.append(auditor.head)
+        client.feed([entry])
+        head = client.head()
+        assert head
+        heads.append(head)
     return heads

@@ -2,43 +2,25 @@
 
 from __future__ import annotations
 
-import json
-from typing import Optional
+from typing import Optional, Sequence
 
-import coniks
+from coniks.client import Client, Watched
 from keys import PublicKeys
-from provider import Answer
 
 
-class OtherEpoch(Exception):
-    """The reply is for another epoch than the one asked for."""
+def opened(keys: PublicKeys, catch_up: bytes) -> Client:
+    """A client of a provider that has the entries of a catch-up. Raises `coniks.client.Refusal`, as each call of a client does."""
+    client = Client(keys.signing, keys.vrf, keys.policy)
+    client.feed(catch_up)
+    return client
 
 
-def look_up(keys: PublicKeys, name: str, epoch: int, answer: Answer) -> Optional[bytes]:
-    """The key of a name at an epoch, None if the name is not registered.
-
-    Raises `ecvrf.InvalidProof` if the index is not the name's, and `coniks.Refused` if the signature or the path is not valid.
-    """
-    said = json.loads(answer.line)
-    entry = bytes.fromhex(said["entry"])
-    if not keys.is_signed(entry):
-        raise coniks.Refused(coniks.Status.SIGNATURE)
-    body = coniks.Body.of_entry(entry)
-    if body.epoch != epoch:
-        raise OtherEpoch
-    index = keys.index(name, answer.proof)
-    return coniks.check(body.nonce, body.root, index, name, coniks.proof_bytes(said["proof"]))
+def look_up(client: Client, name: str, epoch: int, reply: bytes) -> Optional[bytes]:
+    """The key of a name at an epoch, None if the name is not registered."""
+    return client.lookup(name, reply, epoch).key
 
 
-class Watch:
-    """Watches the client's own name, epoch by epoch: each entry must follow the one before and show the client's key."""
-
-    def __init__(self, keys: PublicKeys, name: str, key: bytes, proof: bytes):
-        self._keys = keys
-        self._monitor = coniks.Monitor(name, keys.index(name, proof), key)
-
-    def step(self, answer: Answer) -> coniks.Seen:
-        """Whether the next epoch shows the client's key, another one or none. Raises `coniks.Refused`."""
-        said = json.loads(answer.line)
-        entry = bytes.fromhex(said["entry"])
-        return self._monitor.step(entry, self._keys.is_signed(entry), coniks.proof_bytes(said["proof"]))
+def watch(client: Client, name: str, key: bytes, replies: Sequence[tuple[int, bytes]]) -> list[Optional[Watched]]:
+    """What each epoch shows the owner of a name, who expects a key from epoch 1 on."""
+    client.watch(name, key, since=1)
+    return [client.lookup(name, reply, epoch).seen for epoch, reply in replies]

@@ -1,11 +1,10 @@
-"""The public keys of a provider, its policy, and what is verified with them."""
+"""The public keys of a provider and its policy, and whether an entry is signed with such a key."""
 
 from __future__ import annotations
 
 from dataclasses import dataclass
 
 import coniks
-import ecvrf
 from nacl.exceptions import BadSignatureError
 from nacl.signing import VerifyKey
 
@@ -23,14 +22,6 @@ class PublicKeys:
     @property
     def policy(self) -> coniks.Policy:
         return coniks.Policy("keys.example.com", self.signing, self.vrf)
-
-    def is_signed(self, entry: bytes) -> bool:
-        """Whether the signature of an entry is valid and its policy is that of these keys."""
-        return is_signed(self.signing, entry) and coniks.Body.of_entry(entry).policy == self.policy.digest
-
-    def index(self, name: str, proof: bytes) -> bytes:
-        """The index of a name. Raises `ecvrf.InvalidProof` if the proof is not one of this name."""
-        return ecvrf.verify(self.vrf, name.encode(), proof)[:32]
 
 
 def is_signed(signing: bytes, entry: bytes) -> bool:

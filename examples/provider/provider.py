@@ -3,7 +3,6 @@
 from __future__ import annotations
 
 from contextlib import ExitStack
-from dataclasses import dataclass
 from pathlib import Path
 from typing import Any, Iterable
 
@@ -12,14 +11,6 @@ from coniks.guard import Guard
 from coniks.provider import Epoch, FileLog, Latest, Operation, Provider
 from keys import PublicKeys, is_signed
 from nacl.signing import SigningKey
-
-
-@dataclass(frozen=True)
-class Answer:
-    """What a client gets for a name: the line that the program printed, and the proof that the index in it is the name's."""
-
-    line: bytes
-    proof: bytes
 
 
 class Secrets:
@@ -61,8 +52,17 @@ class KeyServer:
     def commit(self, epoch: int, operations: Iterable[Operation]) -> Epoch:
         return self._directory.commit(epoch, operations)
 
-    def look_up(self, name: str, epoch: int) -> Answer:
-        return Answer(self._directory.lookup(name, epoch).line, self._secrets.proof(name))
+    def reply(self, name: str, epoch: int) -> bytes:
+        """What a client gets for a name: the entry, the proof of the name's index, and the proof of its path."""
+        return self._directory.reply(name, self._secrets.proof(name), epoch)
+
+    def line(self, name: str, epoch: int) -> str:
+        """The line that the program prints for a name."""
+        return self._directory.lookup(name, epoch).line.decode()
+
+    def catch_up(self, epoch: int) -> bytes:
+        """The entries after an epoch."""
+        return self._directory.catch_up(epoch)
 
     def chain(self) -> list[bytes]:
         return self._directory.chain()

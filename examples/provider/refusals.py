@@ -10,7 +10,7 @@ import hashlib
 import json
 import sys
 from pathlib import Path
-from typing import Any, Callable
+from typing import Any, Callable, Optional, Sequence
 
 HERE = Path(__file__).resolve().parent
 sys.dont_write_bytecode = True
@@ -19,12 +19,12 @@ sys.path.append(str(HERE.parent.parent / "embed/python"))
 import coniks
 import ecvrf
 from auditor import audit
-from client import OtherEpoch, Watch, look_up
+from client import look_up, opened, watch
+from coniks.client import Cause, Refusal, Watched
 from equivocation import Evidence, convicts, find_evidence
 from keys import PublicKeys, is_signed
 from nacl import bindings as sodium
 from nacl.signing import SigningKey
-from provider import Answer
 from vectors import Count, flipped
 
 SIGNER, VRF = (hashlib.sha256(it).digest() for it in (b"signing key", b"key of the VRF"))
@@ -35,8 +35,10 @@ LOOKUP = next(it for it in LINES if it["ok"] == "lookup" and it["name"] == "alic
 ABSENT = next(it for it in LINES if it["ok"] == "lookup" and it["name"] == "dave")
 
 
-def answer(name: str = "alice", line: dict[str, Any] = LOOKUP, **changed: Any) -> Answer:
-    return Answer(json.dumps(line | changed).encode(), ecvrf.prove(VRF, name.encode()))
+def reply(name: str = "alice", line: dict[str, Any] = LOOKUP, **changed: Any) -> bytes:
+    """The reply of a provider whose program printed this line, or one with other members."""
+    said, proof = line | changed, ecvrf.prove(VRF, name.encode())
+    return b"\1" + bytes.fromhex(said["entry"]) + len(proof).to_bytes(2, "big") + proof + coniks.proof_bytes(said["proof"])
 
 
 def signed(body: bytes, key: bytes = SIGNER) -> bytes:
@@ -53,59 +55,60 @@ def signed_again(body: bytes) -> bytes:
 
 
 def raised(call: Callable[..., object], *arguments: object) -> object:
-    """The exception of a call, for `coniks.Refused` its status; None if there is none."""
+    """The cause of a refusal, None if there is none."""
     try:
         call(*arguments)
-    except coniks.Refused as error:
-        return error.status
-    except Exception as error:
-        return type(error)
+    except Refusal as error:
+        return error.cause
     return None
 
 
 def try_client(count: Count) -> None:
-    entry = bytes.fromhex(LOOKUP["entry"])
-    other_keys = PublicKeys(KEYS.signing, ecvrf.public_key(SIGNER))
-    count.tell("alice has a key", look_up(KEYS, "alice", 1, answer()) == b"key of alice")
-    count.tell("dave has none", look_up(KEYS, "dave", 2, answer("dave", ABSENT)) is None)
-    for member in ["root", "nonce", "index", "name", "epoch"]:
-        it = answer(line=LOOKUP | {member: 7 if member == "epoch" else "00" * 32})
-        count.tell(f"the line's {member} is not used", look_up(KEYS, "alice", 1, it) == b"key of alice")
+    entry, bob = bytes.fromhex(LOOKUP["entry"]), opened(KEYS, b"".join(ENTRIES))
+    count.tell("alice has a key", look_up(bob, "alice", 1, reply()) == b"key of alice")
+    count.tell("dave has none", look_up(bob, "dave", 2, reply("dave", ABSENT)) is None)
     proof = {"end": {"kind": "empty"}, "siblings": LOOKUP["proof"]["siblings"]}
-    refused: list[tuple[str, object, PublicKeys, str, int, Answer]] = [
-        ("another epoch", OtherEpoch, KEYS, "alice", 2, answer()),
-        ("the proof of another name", ecvrf.InvalidProof, KEYS, "alice", 1, answer("bob")),
-        ("another name", coniks.Status.WRONG_NAME, KEYS, "dave", 1, answer("dave")),
-        ("an absence", coniks.Status.ROOT_MISMATCH, KEYS, "alice", 1, answer(proof=proof)),
-        ("another signing key", coniks.Status.SIGNATURE, PublicKeys(KEYS.vrf, KEYS.vrf), "alice", 1, answer()),
-        ("another VRF key, so another policy", coniks.Status.SIGNATURE, other_keys, "alice", 1, answer()),
-        ("no entry", coniks.Status.SIGNATURE, KEYS, "alice", 1, answer(entry="")),
+    refused: list[tuple[str, Cause, str, int, bytes]] = [
+        ("another epoch", Cause.OTHER_EPOCH, "alice", 2, reply()),
+        ("an epoch that is not there", Cause.UNKNOWN_EPOCH, "alice", 4, reply()),
+        ("the proof of another name", Cause.VRF_PROOF, "alice", 1, reply("bob")),
+        ("another name", Cause.WRONG_NAME, "dave", 1, reply("dave")),
+        ("an absence", Cause.ROOT_MISMATCH, "alice", 1, reply(proof=proof)),
+        ("no entry", Cause.CUT_IN_ENTRY, "alice", 1, reply(entry="")[:200]),
+        ("another directory's entry", Cause.EQUIVOCATION, "alice", 1, reply(entry=signed(flipped(entry[:145], 20)).hex())),
     ]
     for place in range(len(entry)):
-        changed = answer(entry=flipped(entry, place).hex())
-        refused.append((f"byte {place} of the entry changed", coniks.Status.SIGNATURE, KEYS, "alice", 1, changed))
+        refused.append((f"byte {place} changed", Cause.SIGNATURE, "alice", 1, reply(entry=flipped(entry, place).hex())))
     for what, wanted, *arguments in refused:
-        found = raised(look_up, *arguments)
-        count.tell(f"client, {what}: {found}", found == wanted)
+        found = raised(look_up, bob, *arguments)
+        count.tell(f"client, {what}: {found}", found is wanted)
+    for what, wanted, keys in [
+        ("another signing key", Cause.SIGNATURE, PublicKeys(KEYS.vrf, KEYS.vrf)),
+        ("another VRF key, so another policy", Cause.OTHER_POLICY, PublicKeys(KEYS.signing, ecvrf.public_key(SIGNER))),
+    ]:
+        found = raised(opened, keys, b"".join(ENTRIES))
+        count.tell(f"client, {what}: {found}", found is wanted)
+
+
+def watched(key: bytes, epochs: Sequence[int], **changed: Any) -> list[Optional[Watched]]:
+    """What the owner of alice's name sees who expects a key."""
+    lines = {it["epoch"]: it for it in LINES if it["ok"] == "lookup" and it["name"] == "alice"}
+    alice = opened(KEYS, b"".join(ENTRIES))
+    return watch(alice, "alice", key, [(it, reply(line=lines[it], **changed)) for it in epochs])
 
 
 def try_watch(count: Count) -> None:
-    lines = {it["epoch"]: it for it in LINES if it["ok"] == "lookup" and it["name"] == "alice"}
-    first = answer()
-    for key, seen in [(b"key of alice", ["SAME", "SAME", "CHANGED"]), (b"key of mallory", ["CHANGED", "CHANGED", "SAME"])]:
-        watch = Watch(KEYS, "alice", key, first.proof)
-        count.tell(f"watch, {key.decode()}", [watch.step(answer(line=lines[it])).name for it in (1, 2, 3)] == seen)
-    entry = lines[1]["entry"]
-    for what, wanted, line in [
-        ("a changed signature", coniks.Status.SIGNATURE, lines[1] | {"entry": flipped(bytes.fromhex(entry), 160).hex()}),
-        ("an entry left out", coniks.Status.PREVIOUS_EPOCH, lines[2]),
-        ("the proof of another epoch", coniks.Status.ROOT_MISMATCH, lines[3] | {"entry": entry}),
-        ("the proof of another name", coniks.Status.WRONG_NAME, lines[1] | {"proof": named(lines[1]["proof"], "bob")}),
-    ]:
-        found = raised(Watch(KEYS, "alice", b"key of alice", first.proof).step, answer(line=line))
-        count.tell(f"watch, {what}: {found}", found == wanted)
-    found = raised(Watch, KEYS, "alice", b"key of alice", answer("bob").proof)
-    count.tell(f"watch, the VRF proof of another name: {found}", found is ecvrf.InvalidProof)
+    same, changed = Watched.SAME, Watched.CHANGED
+    count.tell("watch, the first key", watched(b"key of alice", (1, 2, 3)) == [same, same, changed])
+    count.tell("watch, the second key", watched(b"key of mallory", (1, 2, 3)) == [changed, changed, same])
+    refused: list[tuple[str, Cause, int, dict[str, Any]]] = [
+        ("a changed signature", Cause.SIGNATURE, 1, {"entry": flipped(ENTRIES[0], 160).hex()}),
+        ("the entry of another epoch", Cause.OTHER_EPOCH, 3, {"entry": ENTRIES[0].hex()}),
+        ("the proof of another name", Cause.WRONG_NAME, 1, {"proof": named(LOOKUP["proof"], "bob")}),
+    ]
+    for what, wanted, epoch, other in refused:
+        found = raised(lambda: watched(b"key of alice", [epoch], **other))
+        count.tell(f"watch, {what}: {found}", found is wanted)
 
 
 def named(proof: dict[str, Any], name: str) -> dict[str, Any]:
@@ -116,13 +119,14 @@ def try_auditor(count: Count) -> None:
     count.tell("the chain is accepted", [it.epoch for it in audit(KEYS, ENTRIES)] == [1, 2, 3])
     forged = signed(ENTRIES[1][:145], VRF)
     for what, wanted, entries in [
-        ("a signature under another key", coniks.Status.SIGNATURE, [ENTRIES[0], forged]),
-        ("an entry twice", coniks.Status.NOT_LATER, [ENTRIES[0], ENTRIES[0]]),
-        ("an entry left out", coniks.Status.PREVIOUS_EPOCH, [ENTRIES[0], ENTRIES[2]]),
-        ("an entry that is not the first", coniks.Status.PREVIOUS_EPOCH, [ENTRIES[1]]),
+        ("a signature under another key", Cause.SIGNATURE, [ENTRIES[0], forged]),
+        ("an entry twice", Cause.NOT_LATER, [ENTRIES[0], ENTRIES[0]]),
+        ("an entry left out", Cause.PREVIOUS_EPOCH, [ENTRIES[0], ENTRIES[2]]),
+        ("an entry that is not the first", Cause.PREVIOUS_EPOCH, [ENTRIES[1]]),
+        ("two first entries", Cause.EQUIVOCATION, [ENTRIES[0], signed(flipped(ENTRIES[0][:145], 20))]),
     ]:
         found = raised(audit, KEYS, entries)
-        count.tell(f"auditor, {what}: {found}", found == wanted)
+        count.tell(f"auditor, {what}: {found}", found is wanted)
 
 
 def with_number(body: bytes, place: int, number: int) -> bytes:

@@ -1,13 +1,15 @@
 """The client's side of a CONIKS key directory: a checker of proofs, an auditor of a chain, a monitor of one name, and what
 convicts a provider that equivocated.
 
-It calls libconiks.so by ctypes and decides nothing itself: the proved library decides what is accepted. The library is the
+These are the parts, for those who verify signatures and indices themselves. `coniks.client` has a client that does all steps.
+
+The package calls libconiks.so by ctypes and decides nothing itself: the proved library decides what is accepted. The library is the
 file that the variable CONIKS_LIBRARY names, else that of this package, of embed/out in the checkout, or of the system, in this
 order.
 
     key = coniks.check(entry.nonce, entry.root, index, "alice", proof)     # bytes, or None if the name is bound to none
     auditor = coniks.Auditor()
-    auditor.feed(entry_bytes, signature_is_good=True)                      # raises coniks.Refused, and is unchanged then
+    auditor.feed(entry_bytes, is_signed(entry_bytes))                      # raises coniks.Refused, and is unchanged then
     coniks.convicts(entry_bytes, other_bytes)                              # an `EvidenceKind`, or None for no evidence
 
 Nonces, roots, indices, links and digests are 32 bytes, entries 209. A name is text or bytes, a proof its bytes (see

@@ -7,7 +7,7 @@ import time
 import weakref
 from typing import Callable, Iterable, Iterator, Optional, TypeVar, Union
 
-from . import Head, _number
+from . import Head, _number, _replies
 from ._engine import Engine, Record
 from ._host import Evidence, Host
 from ._lines import Index, Latest, Lookup, grouped, lookup_line, lookup_of, sized, text
@@ -143,6 +143,20 @@ class Directory(Closing):
         for number in sorted(refused):
             found.insert(number, refused[number])
         return found
+
+    def reply(self, name: str, vrf_proof: bytes, epoch: Optional[int] = None) -> bytes:
+        """The reply for a client that looks a name up: entry, VRF proof and proof. Without a VRF its proof has no byte."""
+        return _replies.reply(self.lookup(name, epoch), vrf_proof)
+
+    def catch_up(self, epoch: int) -> bytes:
+        """The entries after an epoch, for a client or an auditor that has those up to it. After 0 it is the whole chain."""
+        return _replies.catch_up(self.chain(), epoch)
+
+    def history(self, name: str, vrf_proof: bytes, first: int, last: int) -> bytes:
+        """The proofs of a name at each epoch from number `first` to `last`, for the client that watches it. What two proofs in a row
+        have in common is sent once."""
+        self._check()
+        return _replies.history(self, name, vrf_proof, first, last)
 
     def _told(self, line: bytes) -> Union[Lookup, Fault]:
         try:

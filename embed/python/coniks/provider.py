@@ -34,6 +34,8 @@ pending update first. If the signer fails, the update stays pending: `retry`, or
 same body again, and so does `commit` under a later epoch number before its own update. Only `abandon` gives an update up: then
 `commit` under a later number replaces it. All calls can be used from several threads.
 
+`reply`, `catch_up` and `history` return what a service sends to a `coniks.client.Client`, in the bytes of docs/FORMATS.md.
+
 With `coniks.postgres.PostgresLog` several machines share a log, and a `coniks.replica.Replica` follows it.
 
 Each error is a `ProviderError`. A `Fault` is the program's, one class for each of docs/FORMATS.md, and changes nothing. After

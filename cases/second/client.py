@@ -1,0 +1,467 @@
+"""A client of a directory, from docs/FORMATS.md: what it is fed, what it looks up, what it sees of its own name, and its state."""
+
+from __future__ import annotations
+
+from dataclasses import dataclass, replace
+from typing import Any, Callable, Optional, Sequence
+
+import curve
+from bytelists import LONGEST_NAME, ZEROS, number, sha256
+from chain import Entry, audit
+from evidence import covered, is_malformed, kind
+from members import Fault
+from proofs import judge
+from replies import ENTRY, History, ProofOfBytes, Reader, Reply, entries_of
+
+# The numbers of the errors that have one in C, then those of the client alone.
+NUMBERS = {
+    "TooDeep": 2, "NameLength": 3, "KeyLength": 4, "WrongName": 5, "OtherIsSame": 6, "OtherOffPath": 7, "RootMismatch": 8,
+    "NoBytes": 17, "UnknownKind": 18, "CutInCount": 19, "CutInSiblings": 20, "CutInOther": 21, "CutInOpening": 22, "CutInName": 23,
+    "CutInKey": 24, "BytesFollow": 25, "Version": 33, "VersionBack": 34, "FirstEpoch": 35, "NotLater": 36, "PreviousEpoch": 37,
+    "PreviousLink": 38, "NonceChanged": 39, "Signature": 40, "EntryLength": 48,
+    "NoReply": 64, "ReplyVersion": 65, "CutInEntry": 66, "CutInVrf": 67, "CatchUpLength": 68, "NoHistory": 69, "HistoryVersion": 70,
+    "CutInStep": 71, "EpochOrder": 72, "UnknownEnd": 73, "SiblingMap": 74, "SiblingRepeated": 75, "EndRepeated": 76,
+    "OtherPolicy": 80, "Malformed": 81, "Equivocation": 82, "UnknownEpoch": 83, "OtherEpoch": 84, "Stale": 85, "Future": 86,
+    "VrfProof": 87, "StateLength": 96, "StateVersion": 97, "StateDamaged": 98, "StatePolicy": 99, "StateForm": 100,
+    "StateChain": 101, "NotVouched": 104, "AuditorsDiffer": 105, "SigningKey": 112, "VrfKey": 113, "PolicyKeys": 114,
+}  # fmt: skip
+
+# What is seen of the watched name, by its number in a state; the key and the new key are both the expected one.
+# A key that was expected before the latest change is the key too.
+UNWATCHED, OLD, NEW, CHANGED, ABSENT, MISSING = range(6)
+SEEN = [None, "same", "same", "changed", "absent", "missing"]
+
+Answer = dict[str, Any]
+
+
+class Misuse(Exception):
+    """A call that the caller must not make, whatever the directory sent."""
+
+
+def refused(name: str, status: Optional[int] = None, evidence: Optional[list[Any]] = None) -> Fault:
+    """An error with C's status where there is one, and the evidence: its kind, and the number of the client's entry."""
+    own = NUMBERS[name] if NUMBERS[name] < 64 else status
+    return Fault(name, status=own, evidence=evidence)
+
+
+@dataclass(frozen=True)
+class Policy:
+    """What a client takes from a policy document."""
+
+    digest: bytes
+    keys: tuple[bytes, Optional[bytes]]
+    start: Optional[int] = None
+    period: int = 0
+
+    @classmethod
+    def read(cls, text: bytes) -> Policy:
+        lines = dict(it.split(" ") for it in text.decode().splitlines())
+        vrf = lines.get("vrf-key")
+        keys = bytes.fromhex(lines["signing-key"]), None if vrf is None else bytes.fromhex(vrf)
+        start = lines.get("epoch-start")
+        clock = (None, 0) if start is None else (int(start), int(lines["epoch-period"]))
+        return cls(sha256(text), keys, *clock)
+
+
+@dataclass
+class Kept:
+    """An entry that was accepted, when that was, and what was seen of the watched name."""
+
+    entry: Entry
+    time: int
+    seen: int = UNWATCHED
+
+
+@dataclass(frozen=True)
+class Watch:
+    """The watched name: its key from an epoch on, and the change that is expected. A key of no byte is none."""
+
+    name: bytes
+    since: int
+    key: bytes
+    after: int = 0
+    by: Optional[int] = None
+    new: bytes = b""
+
+
+class Client:
+    def __init__(
+        self, signing_key: bytes, vrf_key: Optional[bytes], policy: bytes, *, max_age: Optional[int] = None, skew: int = 300
+    ) -> None:
+        self.policy = Policy.read(policy)
+        self.signing, self.vrf = signing_key, vrf_key
+        self.max_age, self.skew = 2 * self.policy.period if max_age is None else max_age, skew
+        self.kept: list[Kept] = []
+        self.watched: Optional[Watch] = None
+        if not curve.is_key(signing_key):
+            raise refused("SigningKey")
+        if vrf_key is not None and not curve.is_key(vrf_key):
+            raise refused("VrfKey")
+        if self.policy.keys != (signing_key, vrf_key):
+            raise refused("PolicyKeys")
+
+    # The chain.
+
+    @property
+    def latest(self) -> Optional[Kept]:
+        return self.kept[-1] if self.kept else None
+
+    def at(self, epoch: int) -> Optional[Kept]:
+        return next((it for it in self.kept if it.entry.epoch == epoch), None)
+
+    def signed(self, whole: bytes) -> Entry:
+        """An entry that is the signer's, and one of this directory that some chain can have."""
+        if len(whole) != ENTRY:
+            raise refused("EntryLength")
+        entry = Entry(whole)
+        if not curve.is_signed(self.signing, entry.body, entry.signature):
+            raise refused("Signature")
+        if entry.body[113:] != self.policy.digest:
+            raise refused("OtherPolicy", None, self.convict(entry))
+        if is_malformed(entry):
+            raise refused("Malformed", None, self.convict(entry))
+        return entry
+
+    def convict(self, entry: Entry) -> Optional[list[Any]]:
+        """The kind of the evidence with the first entry that convicts with this one, and its epoch; None for itself."""
+        for it in self.kept:
+            found = kind(it.entry.whole, entry.whole)
+            if found:
+                return [found, it.entry.epoch]
+        alone = kind(entry.whole, entry.whole)
+        return [alone, None] if alone else None
+
+    def feed(self, entries: Sequence[bytes], now: int) -> Answer:
+        fed = []
+        for whole in entries:
+            entry = self.signed(whole)
+            fault = fault_of(entry, self.latest.entry if self.latest else None)
+            if fault:
+                evidence = self.convict(entry)
+                raise refused("Equivocation", NUMBERS[fault], evidence) if evidence else refused(fault)
+            is_watched = self.watched is not None and entry.epoch >= self.watched.since
+            self.kept.append(Kept(entry, now, MISSING if is_watched else UNWATCHED))
+            fed.append([entry.epoch, SEEN[self.kept[-1].seen]])
+        return {"fed": fed}
+
+    def begin_with(self, whole: bytes, heads: Sequence[tuple[int, bytes]], least: int, now: int) -> None:
+        """Begins with an entry for which at least so many of the heads vouch."""
+        entry = self.signed(whole)
+        there = [link for epoch, link in heads if epoch == entry.epoch]
+        if any(it != entry.link for it in there):
+            raise refused("AuditorsDiffer")
+        if len(there) < least:
+            raise refused("NotVouched")
+        self.kept = [Kept(entry, now)]
+
+    def head(self) -> Answer:
+        last = self.latest
+        return {"head": [last.entry.epoch, last.entry.link.hex()] if last else None}
+
+    def compare(self, epoch: int, link: bytes) -> Answer:
+        if len(link) != len(ZEROS):
+            raise Misuse
+        there = self.at(epoch)
+        if there:
+            return {"compare": "equal" if there.entry.link == link else "differs"}
+        is_covered = any(epoch in covered(it.entry) for it in self.kept)
+        return {"compare": "differs" if is_covered else "unknown"}
+
+    def cover(self, epoch: int, link: bytes) -> Answer:
+        """Drops the entries before one that an auditor has too, but none that the watched name still needs."""
+        found = self.compare(epoch, link)
+        if found["compare"] == "equal":
+            is_open = self.watched is not None and self.latest is not None and (self.watched.by or 0) > self.latest.entry.epoch
+            needed = [it.entry.epoch for it in self.kept if it.seen == MISSING or (is_open and it.seen == NEW)]
+            self.kept = [it for it in self.kept if it.entry.epoch >= min([epoch, *needed])]
+        return found
+
+    def evidence(self, whole: bytes) -> Answer:
+        if len(whole) != ENTRY:
+            raise refused("EntryLength")
+        entry = Entry(whole)
+        if not curve.is_signed(self.signing, entry.body, entry.signature):
+            raise refused("Signature")
+        return {"evidence": self.convict(entry)}
+
+    # Lookups.
+
+    def lookup(self, name: bytes, whole: bytes, epoch: Optional[int], now: int) -> Answer:
+        reply = Reply(whole)
+        kept = self.entry_of(reply.entry, epoch)
+        if epoch is None:
+            self.check_age(kept, now)
+        index = self.index(name, reply.vrf)
+        return self.found(name, kept, self.key(name, kept, index, reply.proof), now)
+
+    def entry_of(self, whole: bytes, epoch: Optional[int]) -> Kept:
+        """The client's entry at the asked epoch, if the reply has it too, with whatever signature."""
+        if all(it.entry.whole != whole for it in self.kept):
+            entry = self.signed(whole)
+            evidence = self.convict(entry)
+            if evidence:
+                raise refused("Equivocation", None, evidence)
+        kept = self.latest if epoch is None else self.at(epoch)
+        if kept is None:
+            raise refused("UnknownEpoch")
+        if kept.entry.body != whole[:145]:
+            raise refused("OtherEpoch")
+        return kept
+
+    def age(self, kept: Kept, now: int) -> Optional[int]:
+        if self.policy.start is None:
+            return None
+        return now - (self.policy.start + (kept.entry.epoch - 1) * self.policy.period)
+
+    def check_age(self, kept: Kept, now: int) -> None:
+        age = self.age(kept, now)
+        if age is not None and age > self.max_age:
+            raise refused("Stale")
+        if age is not None and -age > self.skew:
+            raise refused("Future")
+
+    def index(self, name: bytes, proof: bytes) -> bytes:
+        output = curve.vrf_output(self.vrf, name, proof) if self.vrf is not None else None
+        if output is None:
+            raise refused("VrfProof")
+        return output[:32]
+
+    def key(self, name: bytes, kept: Kept, index: bytes, proof: bytes) -> Optional[bytes]:
+        try:
+            return judge(ProofOfBytes(proof), index, name, kept.entry.nonce, kept.entry.root)
+        except Fault as fault:
+            raise refused(str(fault.answer["fault"]))
+
+    def found(self, name: bytes, kept: Kept, key: Optional[bytes], now: int) -> Answer:
+        if self.watched and name == self.watched.name and kept.entry.epoch >= self.watched.since:
+            kept.seen = self.seen(self.watched, kept.entry.epoch, key or b"")
+            seen = SEEN[kept.seen]
+        else:
+            seen = None
+        shown = None if key is None else key.hex()
+        return {"epoch": kept.entry.epoch, "key": shown, "seen": seen, "age": self.age(kept, now), "first_seen": kept.time}
+
+    def history(self, name: bytes, whole: bytes, now: int) -> Answer:
+        history = History(whole)
+        index = self.index(name, history.vrf)
+        keys = []
+        for epoch, proof in history.steps:
+            kept = self.at(epoch)
+            if kept is None:
+                raise refused("UnknownEpoch")
+            keys.append((kept, self.key(name, kept, index, proof)))
+        return {"found": [self.found(name, kept, key, now) for kept, key in keys]}
+
+    # The watched name.
+
+    def watch(self, name: bytes, key: Optional[bytes], since: Optional[int]) -> Answer:
+        if not 1 <= len(name) <= LONGEST_NAME or key == b"":
+            raise Misuse
+        if self.watched:
+            return self.watch_again(self.watched, name, key or b"", since)
+        first = since if since is not None else self.latest.entry.epoch if self.latest else 1
+        self.watched = Watch(name, first, key or b"")
+        for it in self.kept:
+            it.seen = MISSING if it.entry.epoch >= first else UNWATCHED
+        return {"watch": first}
+
+    def watch_again(self, watch: Watch, name: bytes, key: bytes, since: Optional[int]) -> Answer:
+        """The same watch once more, which changes nothing."""
+        is_expected = key == watch.key or (watch.by is not None and key == watch.new)
+        if name != watch.name or not is_expected or since not in (None, watch.since):
+            raise Misuse
+        return {"watch": watch.since}
+
+    def expect(self, new: Optional[bytes], by: int) -> Answer:
+        latest = self.latest.entry.epoch if self.latest else 0
+        if not self.watched or new == b"" or by <= latest:
+            raise Misuse
+        watch, key = self.watched, new or b""
+        if watch.by is not None and latest < watch.by:
+            raise Misuse
+        watch = watch if watch.by is None else replace(watch, key=watch.new)
+        if key == watch.key:
+            raise Misuse
+        for it in self.kept:
+            it.seen = OLD if it.seen == NEW else it.seen
+        self.watched = replace(watch, after=latest, by=by, new=key)
+        return {"expect": by}
+
+    def seen(self, watch: Watch, epoch: int, key: bytes) -> int:
+        """What a key, none as no byte, is at an epoch."""
+        old = [it.entry.epoch for it in self.kept if it.seen == OLD]
+        new = [it.entry.epoch for it in self.kept if it.seen == NEW]
+        if key == watch.key and (watch.by is None or (epoch < watch.by and all(it >= epoch for it in new))):
+            return OLD
+        if watch.by is not None and key == watch.new and epoch > watch.after and all(it <= epoch for it in old):
+            return NEW
+        return CHANGED if key else ABSENT
+
+    def missing(self) -> Answer:
+        return {"missing": [it.entry.epoch for it in self.kept if it.seen == MISSING]}
+
+    # The state.
+
+    @property
+    def state(self) -> bytes:
+        kept = [it.entry.whole + number(it.time, 8) + number(it.seen, 1) for it in self.kept]
+        body = b"\1" + self.policy.digest + number(len(kept), 4) + b"".join(kept) + watch_bytes(self.watched)
+        return body + sha256(body)
+
+    def resume(self, state: bytes) -> None:
+        if len(state) < 70:
+            raise refused("StateLength")
+        if state[0] != 1:
+            raise refused("StateVersion")
+        if sha256(state[:-32]) != state[-32:]:
+            raise refused("StateDamaged")
+        if state[1:33] != self.policy.digest:
+            raise refused("StatePolicy")
+        it = Reader(state[33:-32])
+        count = it.number(4, "StateForm")
+        kept = [
+            Kept(Entry(it.take(ENTRY, "StateForm")), it.number(8, "StateForm"), it.number(1, "StateForm")) for _ in range(count)
+        ]
+        watched = watch_of(it)
+        if not it.is_over() or not all(fits(at, watched) for at in kept):
+            raise refused("StateForm")
+        self.check_chain([at.entry for at in kept])
+        self.kept, self.watched = kept, watched
+
+    def check_chain(self, entries: Sequence[Entry]) -> None:
+        befores = [None, *entries]
+        for before, entry in zip(befores, entries):
+            is_valid = curve.is_signed(self.signing, entry.body, entry.signature)
+            if not is_valid or entry.body[113:] != self.policy.digest or is_malformed(entry):
+                raise refused("StateChain")
+            if before and fault_of(entry, before):
+                raise refused("StateChain")
+
+
+def fault_of(entry: Entry, before: Optional[Entry]) -> Optional[str]:
+    """Why an entry doesn't follow another one, None if it does. The demonstration's seal, which comes last, is not looked at."""
+    try:
+        audit(entry, before, ZEROS)
+    except Fault as fault:
+        return None if fault.answer["fault"] == "Verdict" else str(fault.answer["fault"])
+    return None
+
+
+def fits(kept: Kept, watched: Optional[Watch]) -> bool:
+    """Whether what was seen at an epoch can be."""
+    if watched is None or kept.entry.epoch < watched.since:
+        return kept.seen == UNWATCHED
+    return OLD <= kept.seen <= MISSING and (kept.seen != NEW or watched.by is not None)
+
+
+def sized(text: bytes, length: int) -> bytes:
+    return number(len(text), length) + text
+
+
+def watch_bytes(watch: Optional[Watch]) -> bytes:
+    if watch is None:
+        return b"\0"
+    first = sized(watch.name, 1) + number(watch.since, 8) + sized(watch.key, 4)
+    if watch.by is None:
+        return b"\1" + first
+    return b"\2" + first + number(watch.after, 8) + number(watch.by, 8) + sized(watch.new, 4)
+
+
+def watch_of(it: Reader) -> Optional[Watch]:
+    kind = it.number(1, "StateForm")
+    if kind == 0:
+        return None
+    name, since, key = it.sized(1, "StateForm"), it.number(8, "StateForm"), it.sized(4, "StateForm")
+    if kind > 2 or not name:
+        raise refused("StateForm")
+    if kind == 1:
+        return Watch(name, since, key)
+    after, by, new = it.number(8, "StateForm"), it.number(8, "StateForm"), it.sized(4, "StateForm")
+    if by <= after or key == new:
+        raise refused("StateForm")
+    return Watch(name, since, key, after, by, new)
+
+
+# Cases: how a client is made, and its steps, as members of a line of cases/client.
+
+
+def data(members: Answer, name: str) -> Optional[bytes]:
+    value = members.get(name)
+    return None if value is None else bytes.fromhex(value)
+
+
+def begun(case: Answer) -> Client:
+    """The client of a case."""
+    keys = bytes.fromhex(case["signing_key"]), data(case, "vrf_key")
+    client = Client(*keys, case["policy"].encode(), max_age=case.get("max_age"), skew=case.get("skew", 300))
+    state, vouched = data(case, "state"), case.get("vouched")
+    if state is not None:
+        client.resume(state)
+    if vouched is not None:
+        heads = [(epoch, bytes.fromhex(link)) for epoch, link in vouched["heads"]]
+        client.begin_with(bytes.fromhex(vouched["entry"]), heads, vouched["least"], case["now"])
+    return client
+
+
+def stepped(client: Client, step: Answer, now: int) -> Answer:
+    """What a client returns for a step."""
+    do = step["do"]
+    if do == "feed":
+        return client.feed([bytes.fromhex(it) for it in step["entries"]], now)
+    if do == "catch up":
+        return client.feed(entries_of(bytes.fromhex(step["bytes"])), now)
+    if do == "lookup":
+        return client.lookup(bytes.fromhex(step["name"]), bytes.fromhex(step["reply"]), step.get("epoch"), now)
+    if do == "history":
+        return client.history(bytes.fromhex(step["name"]), bytes.fromhex(step["history"]), now)
+    if do == "watch":
+        return client.watch(bytes.fromhex(step["name"]), data(step, "key"), step.get("since"))
+    if do == "expect":
+        return client.expect(data(step, "key"), step["by"])
+    if do in ("compare", "cover"):
+        call = client.compare if do == "compare" else client.cover
+        return call(step["epoch"], bytes.fromhex(step["link"]))
+    if do == "evidence":
+        return client.evidence(bytes.fromhex(step["entry"]))
+    return client.head() if do == "head" else client.missing()
+
+
+def told(call: Callable[[], Answer]) -> Answer:
+    """What a call returns, or its error as members."""
+    try:
+        return call()
+    except Fault as fault:
+        it = fault.answer
+        name = str(it["fault"])
+        number = NUMBERS[name] if NUMBERS[name] < 64 else it.get("status")
+        return {"refused": name, "status": number, "evidence": it.get("evidence")}
+    except Misuse:
+        return {"misuse": True}
+
+
+def plain(value: Any) -> Any:
+    """A verdict as a case has it: numbers that a double can't hold are texts of decimal digits."""
+    if isinstance(value, dict):
+        return {name: plain(it) for name, it in value.items()}
+    if isinstance(value, list):
+        return [plain(it) for it in value]
+    return str(value) if isinstance(value, int) and abs(value) >= 1 << 53 else value
+
+
+def verdicts(case: Answer) -> Answer:
+    """All that the client of a case returns: when it is made, for each step, and its state at the end."""
+    made: list[Client] = []
+
+    def begin() -> Answer:
+        made.append(begun(case))
+        return {"begun": True}
+
+    answer = told(begin)
+    if not made:
+        return {"begin": answer, "steps": [], "state": None}
+    client, now = made[0], case["now"]
+    answers = []
+    for step in case["steps"]:
+        now = step.get("now", now)
+        answers.append(told(lambda: stepped(client, step, now)))
+    return {"begin": answer, "steps": answers, "state": sha256(client.state).hex()}
