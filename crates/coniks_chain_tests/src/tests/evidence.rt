@@ -1,22 +1,20 @@
 //! Two entries of one key as evidence, and chains that part.
 
 use crate::tests::flat_entry;
-use coniks_chain::{Entry, Evidence, EvidenceKind, Signature, convicts, find_evidence};
-
-/// Returns an entry with one field of its body changed.
-fn changed(mut entry: Entry, change: impl FnOnce(&mut Entry)) -> Entry {
-    change(&mut entry);
-    entry
-}
+use coniks_chain::{Evidence, EvidenceKind, Signature, convicts, find_evidence};
 
 /// The kinds, worked out by hand from the intervals (epoch before, epoch].
 #[test]
 fn kinds_of_evidence(rt: HostRuntime) {
     let two = flat_entry(3, 2, 0);
-    let resigned = changed(two, |it| it.signature = Signature([7; 64]));
-    let other_policy = changed(flat_entry(9, 8, 0), |it| it.body.policy = [9; 32]);
-    let other_version = changed(two, |it| it.body.version = 3);
-    let linked_first = changed(flat_entry(1, 0, 0), |it| it.body.previous.0[31] = 1);
+    let mut resigned = two;
+    resigned.signature = Signature([7; 64]);
+    let mut other_policy = flat_entry(9, 8, 0);
+    other_policy.body.policy = [9; 32];
+    let mut other_version = two;
+    other_version.body.version = 3;
+    let mut linked_first = flat_entry(1, 0, 0);
+    linked_first.body.previous.0[31] = 1;
     let overlap = Some(EvidenceKind::Overlap);
     let malformed = Some(EvidenceKind::Malformed);
     for (other, kind) in [
