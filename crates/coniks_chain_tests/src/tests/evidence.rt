@@ -1,7 +1,14 @@
 //! Two entries of one key as evidence, and chains that part.
 
 use crate::tests::flat_entry;
-use coniks_chain::{Evidence, EvidenceKind, Signature, convicts, find_evidence};
+use coniks_chain::{Body, Entry, Evidence, EvidenceKind, Signature, convicts, find_evidence};
+use coniks_proof::Digest;
+
+/// Returns the entry of a body.
+fn signed(body: Body) -> Entry {
+    let signature = Signature([0; 64]);
+    Entry { body, signature }
+}
 
 /// The kinds, worked out by hand from the intervals (epoch before, epoch].
 #[test]
@@ -9,12 +16,17 @@ fn kinds_of_evidence(rt: HostRuntime) {
     let two = flat_entry(3, 2, 0);
     let mut resigned = two;
     resigned.signature = Signature([7; 64]);
-    let mut other_policy = flat_entry(9, 8, 0);
-    other_policy.body.policy = [9; 32];
-    let mut other_version = two;
-    other_version.body.version = 3;
-    let mut linked_first = flat_entry(1, 0, 0);
-    linked_first.body.previous.0[31] = 1;
+    let mut body = flat_entry(9, 8, 0).body;
+    body.policy = [9; 32];
+    let other_policy = signed(body);
+    let mut body = two.body;
+    body.version = 3;
+    let other_version = signed(body);
+    let mut link = [0; 32];
+    link[31] = 1;
+    let mut body = flat_entry(1, 0, 0).body;
+    body.previous = Digest(link);
+    let linked_first = signed(body);
     let overlap = Some(EvidenceKind::Overlap);
     let malformed = Some(EvidenceKind::Malformed);
     for (other, kind) in [
