@@ -121,6 +121,11 @@ def of_check(chance: random.Random, program: Path, lines: Sequence[proofs.Line])
         if said:
             wanted = {"0": f"key {said[2:]}", "1": "absent"}.get(said.split()[0], f"refused {said}")
             yield " ".join(["check", *(given[it].hex() for it in ("nonce", "root", "index")), word(name), word(proof)]), wanted
+    # More bytes than the memory with which the module for JavaScript begins.
+    line = lines[0]
+    given_words = [line[it] for it in ("nonce", "root", "index")] + [word(line["name"].encode())]
+    for size in (70_000, 300_000):
+        yield " ".join(["check", *given_words, word(proofs.bytes_of(line["proof"]) + bytes(size))]), "refused 25"
 
 
 def state_of(entry: Optional[bytes]) -> str:
@@ -558,7 +563,10 @@ def try_javascript(tell: Tell, skip: Skip, requests: Sequence[Request]) -> None:
         tell("the types of the module", ran.returncode == 0, ran.stdout.decode())
     else:
         skip("the types of the module", "tsc")
-    try_requests(tell, "JavaScript", ["node", "--experimental-wasm-memory64", TOP / "web/answers.mjs"], requests)
+    node = ["node", "--experimental-wasm-memory64"]
+    try_requests(tell, "JavaScript", [*node, TOP / "web/answers.mjs"], requests)
+    ran = run(*node, TOP / "web/arguments.mjs")
+    tell("the arguments of the module", ran.returncode == 0, (ran.stdout + ran.stderr).decode()[-2000:])
 
 
 def try_all(tell: Tell, skip: Skip, program: Path, coniks: ModuleType, lines: Sequence[proofs.Line]) -> None:

@@ -55,7 +55,7 @@ export interface Library {
   convicts(a: Uint8Array, b: Uint8Array): EvidenceKind | null;
   /** Reads the body of an entry and verifies nothing. Throws `Refused`. */
   body(entry: Uint8Array): Body;
-  /** Returns the bytes of a body that are signed. */
+  /** Returns the bytes of a body that are signed. Throws `TypeError` if a number is neither a bigint nor a safe integer. */
   bodyBytes(body: Body): Uint8Array;
   /** Returns the text of an error's status in coniks.h, "" for other numbers. */
   text(status: number): string;

@@ -6,6 +6,16 @@ import { toHex } from "./bytes.js";
 
 const GOOD = 0;
 
+/** Adds pages to a memory, by a bigint, or a number in Node 20. @param {any} memory @param {number} pages */
+function grow(memory, pages) {
+  try {
+    memory.grow(BigInt(pages));
+  } catch (error) {
+    if (!(error instanceof TypeError)) throw error;
+    memory.grow(pages);
+  }
+}
+
 /** A place in the module's memory for what one call takes. */
 class Desk {
   /** @param {WebAssembly.Memory} memory @param {bigint} base */
@@ -22,9 +32,9 @@ class Desk {
   /** @param {number} size @returns {number} the place of that many free bytes */
   room(size) {
     const here = this.at;
-    this.at += (size + 15) & ~15;
+    this.at += 16 * Math.ceil(size / 16);
     const missing = this.at + 16 - this.memory.buffer.byteLength;
-    if (missing > 0) /** @type {any} */ (this.memory).grow(BigInt(Math.ceil(missing / 65536)));
+    if (missing > 0) grow(this.memory, Math.ceil(missing / 65536));
     return here;
   }
 

@@ -32,6 +32,7 @@ function bool(value) {
 }
 
 function unsigned(value, bits, what) {
+  if (typeof value !== "bigint" && !Number.isSafeInteger(value)) throw new TypeError(`${what} is neither a bigint nor a safe integer`);
   const number = BigInt(value);
   if (BigInt.asUintN(bits, number) !== number) throw new RangeError(`${what} is from 0 to 2^${bits} - 1`);
   return number;
