@@ -33,6 +33,7 @@ TOP = HERE.parent
 OUT = HERE / "out"
 PROVIDER = TOP / "crates/provider/out/provider"
 EVIDENCE = TOP / "cases/evidence.jsonl"
+SIGNED, TRANSCRIPT = (TOP / "examples/provider" / it for it in ("lines.jsonl", "transcript.txt"))
 KEY = bytes(32)
 SEED = 20261126
 COUNT = 1000
@@ -341,19 +342,40 @@ def try_rust(tell: Tell, skip: Skip, here: Path, example: Example, requests: Seq
 
 
 def try_example(tell: Tell, side: str, program: Path, words: Sequence[str], wanted: Sequence[str]) -> None:
-    said = run(program, *words).stdout.decode().splitlines() if program.exists() else None
+    """The example accepts an entry under its key, and no entry under another one."""
+    if not program.exists():
+        return tell(f"the example in {side}", False, f"{program} is missing")
+    said = run(program, *words).stdout.decode().splitlines()
     tell(f"the example in {side}", said == wanted, said)
+    ran = run(program, "11" * 32, *words[1:])
+    is_refused = ran.returncode == 1 and not any(it.startswith("epoch ") for it in ran.stdout.decode().splitlines())
+    tell(f"the example in {side}, under another key", is_refused, ran.stdout.decode())
 
 
 def example_of(coniks: ModuleType, lines: Sequence[proofs.Line]) -> Example:
-    """The arguments of the examples in Go and Rust, over one lookup with its entry, and what they must print."""
+    """The arguments of the example in Rust, over one lookup with its entry and the seal's key, and what it must print."""
     line = next(
         it
         for it in lines
         if it["proof"]["end"]["kind"] == "here" and coniks.Body.of_entry(bytes.fromhex(it["entry"])).previous_epoch == 0
     )
-    words = [line[it] for it in ("nonce", "root", "index", "name")] + [proofs.bytes_of(line["proof"]).hex(), line["entry"]]
-    return words, [
+    return example_words(KEY, line), example_lines(line)
+
+
+def signed_example() -> Example:
+    """The arguments of the example in Go, over a provider's lookup and its Ed25519 key, and what it must print."""
+    key = TRANSCRIPT.read_text("utf-8").split("Ed25519")[1].split()[0]
+    line = next(it for it in map(json.loads, SIGNED.read_text("utf-8").splitlines()) if it["ok"] == "lookup")
+    return example_words(bytes.fromhex(key), line), example_lines(line)
+
+
+def example_words(key: bytes, line: proofs.Line) -> list[str]:
+    parts = [line[it] for it in ("nonce", "root", "index", "name")]
+    return [key.hex(), *parts, proofs.bytes_of(line["proof"]).hex(), line["entry"]]
+
+
+def example_lines(line: proofs.Line) -> list[str]:
+    return [
         base64.b64decode(line["proof"]["end"]["key"]).decode(),
         "the root computed from the proof isn't the expected root",
         "the signature isn't valid for this body",
@@ -579,7 +601,7 @@ def try_all(tell: Tell, skip: Skip, program: Path, coniks: ModuleType, lines: Se
     requests = requests_of(program, lines)
     with tempfile.TemporaryDirectory() as room:
         here = clone(Path(room))
-        try_go(tell, skip, here, example_of(coniks, lines), requests)
+        try_go(tell, skip, here, signed_example(), requests)
         try_rust(tell, skip, here, example_of(coniks, lines), requests)
         try_python(tell, skip, here, coniks, requests)
     try_javascript(tell, skip, requests)

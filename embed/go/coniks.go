@@ -167,17 +167,20 @@ func (it *Auditor) Head() (epoch uint64, link [32]byte, err error) {
 	return uint64(number), link, err
 }
 
-// Seen is what an accepted proof shows, compared with what the client expects.
+// Seen is what an accepted proof shows, compared with what the client expects. Its zero value is invalid: Step returns it with an
+// error.
 type Seen uint32
 
 const (
-	Same    Seen = C.CONIKS_GOOD    // what is expected
-	Absent  Seen = C.CONIKS_ABSENT  // no key, though one is expected
-	Changed Seen = C.CONIKS_CHANGED // another key than the expected one, or one though none is expected
+	Same    Seen = iota + 1 // what is expected
+	Absent                  // no key, though one is expected
+	Changed                 // another key than the expected one, or one though none is expected
 )
 
 func (it Seen) String() string {
 	switch it {
+	case 0:
+		return "invalid"
 	case Same:
 		return "same"
 	case Absent:
@@ -197,14 +200,19 @@ type Monitor struct {
 	Auditor  Auditor
 }
 
-// Step returns what the proof shows at the entry's epoch. After an error the monitor is unchanged.
+// Step returns what the proof shows at the entry's epoch. With an error it returns 0, which is invalid, and the monitor is
+// unchanged.
 func (it *Monitor) Step(entry []byte, signatureIsGood bool, proof []byte) (Seen, error) {
 	name := []byte(it.Name)
 	status := C.coniks_monitor_step(&it.Auditor.state, bytes32(&it.Index), start(name), size(name), start(it.Expected),
 		size(it.Expected), start(entry), size(entry), verdict(signatureIsGood), start(proof), size(proof))
-	switch Seen(status) {
-	case Same, Absent, Changed:
-		return Seen(status), nil
+	switch status {
+	case C.CONIKS_GOOD:
+		return Same, nil
+	case C.CONIKS_ABSENT:
+		return Absent, nil
+	case C.CONIKS_CHANGED:
+		return Changed, nil
 	}
 	return 0, Refused(status)
 }

@@ -3,6 +3,7 @@
 package coniks
 
 import (
+	"crypto/ed25519"
 	"encoding/hex"
 	"errors"
 	"testing"
@@ -59,6 +60,55 @@ func TestAuditorIsUnchangedAfterAnError(t *testing.T) {
 	}
 	if _, _, err := auditor.Head(); !errors.Is(err, ErrNoEntry) || auditor != Resume([StateBytes]byte{}) {
 		t.Fatal(err, auditor)
+	}
+}
+
+// The first entry of an empty tree, under a nonce of zeros, and the key with which it is signed.
+func signedEntry() ([]byte, ed25519.PublicKey) {
+	private := ed25519.NewKeyFromSeed(make([]byte, ed25519.SeedSize))
+	body := Body{Version: 1, Epoch: 1, Root: array32(emptyRoot)}.Bytes()
+	return append(body[:], ed25519.Sign(private, body[:])...), private.Public().(ed25519.PublicKey)
+}
+
+func TestStepReturnsNoResultWithAnError(t *testing.T) {
+	entry, key := signedEntry()
+	forged := append([]byte{}, entry...)
+	forged[EntryBytes-1] ^= 1
+	isSigned := func(entry []byte) bool { return ed25519.Verify(key, entry[:BodyBytes], entry[BodyBytes:]) }
+	absence := []byte{0, 0, 0}
+	var monitor Monitor
+	for _, it := range []struct {
+		entry, proof []byte
+		name         string
+		want         error
+	}{
+		{forged, absence, "alice", ErrSignature},
+		{entry, nil, "alice", ErrNoBytes},
+		{entry, absence, "", ErrNameLength},
+	} {
+		monitor = Monitor{Name: it.name, Index: [32]byte{7}}
+		seen, err := monitor.Step(it.entry, isSigned(it.entry), it.proof)
+		if seen != 0 || seen == Same || !errors.Is(err, it.want) || monitor.Auditor != (Auditor{}) {
+			t.Error(seen, err)
+		}
+	}
+	for _, it := range []struct {
+		expected []byte
+		want     Seen
+	}{{nil, Same}, {[]byte("key"), Absent}} {
+		monitor = Monitor{Name: "alice", Index: [32]byte{7}, Expected: it.expected}
+		if seen, err := monitor.Step(entry, isSigned(entry), absence); seen != it.want || err != nil {
+			t.Error(seen, err)
+		}
+	}
+}
+
+func TestTextsOfSeen(t *testing.T) {
+	var unset Seen
+	for seen, want := range map[Seen]string{unset: "invalid", Same: "same", Absent: "absent", Changed: "changed", 99: "Seen(99)"} {
+		if seen.String() != want {
+			t.Error(seen.String(), want)
+		}
 	}
 }
 

@@ -1,7 +1,8 @@
-// Checks a proof and audits an entry.
+// Checks a proof, and audits an entry whose Ed25519 signature it verifies.
 package main
 
 import (
+	"crypto/ed25519"
 	"encoding/hex"
 	"errors"
 	"fmt"
@@ -24,13 +25,19 @@ func bytes32(text string) (out [32]byte) {
 	return out
 }
 
+// isSigned reports whether an entry is its body and a signature of the body, under a directory's public key of 32 bytes.
+func isSigned(key ed25519.PublicKey, entry []byte) bool {
+	return len(entry) == coniks.EntryBytes && ed25519.Verify(key, entry[:coniks.BodyBytes], entry[coniks.BodyBytes:])
+}
+
 func main() {
-	if len(os.Args) != 7 {
-		fmt.Fprintln(os.Stderr, "example NONCE ROOT INDEX NAME PROOF ENTRY")
+	if len(os.Args) != 8 {
+		fmt.Fprintln(os.Stderr, "example KEY NONCE ROOT INDEX NAME PROOF ENTRY")
 		os.Exit(2)
 	}
-	nonce, root, index := bytes32(os.Args[1]), bytes32(os.Args[2]), bytes32(os.Args[3])
-	name, proof, entry := os.Args[4], bytes(os.Args[5]), bytes(os.Args[6])
+	signer := bytes32(os.Args[1])
+	nonce, root, index := bytes32(os.Args[2]), bytes32(os.Args[3]), bytes32(os.Args[4])
+	name, proof, entry := os.Args[5], bytes(os.Args[6]), bytes(os.Args[7])
 	key, err := coniks.Check(nonce, root, index, name, proof)
 	switch {
 	case err != nil:
@@ -44,11 +51,14 @@ func main() {
 	fmt.Println(err)
 	var auditor coniks.Auditor
 	before := auditor
-	fmt.Println(auditor.Feed(entry, false))
+	forged := append([]byte{}, entry...)
+	forged[len(forged)-1] ^= 1
+	fmt.Println(auditor.Feed(forged, isSigned(signer[:], forged)))
 	_, _, err = auditor.Head()
 	fmt.Println("as it was:", auditor == before && errors.Is(err, coniks.ErrNoEntry))
-	if err := auditor.Feed(entry, true); err != nil {
+	if err := auditor.Feed(entry, isSigned(signer[:], entry)); err != nil {
 		fmt.Println(err)
+		os.Exit(1)
 	}
 	epoch, _, _ := auditor.Head()
 	fmt.Println("epoch", epoch)

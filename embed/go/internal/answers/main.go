@@ -79,6 +79,9 @@ func answer(word string, words []string) string {
 	case "step":
 		monitor.Auditor = coniks.Resume(monitor.Auditor.State())
 		seen, err := monitor.Step(bytes(words[0]), words[1] == "1", bytes(words[2]))
+		if (err == nil) == (seen == 0) {
+			return "an error with a result, or neither"
+		}
 		return said(err, seen.String())
 	case "convicts":
 		kind, err := coniks.Convicts(bytes(words[0]), bytes(words[1]))
