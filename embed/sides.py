@@ -317,6 +317,37 @@ def try_go(tell: Tell, skip: Skip, here: Path, example: Example, requests: Seque
     try_example(tell, "Go", here / "go_example", *example)
 
 
+# Statements that drop what they return. The compiler warns of each.
+DROPPED = [
+    "coniks::version();",
+    "coniks::text(4, &mut [0; 128]);",
+    "coniks::check(&zeros, &zeros, &zeros, b\"\", b\"\");",
+    "coniks::convicts(b\"\", b\"\");",
+    "coniks::link(b\"\");",
+    "coniks::Auditor::new();",
+    "coniks::Auditor::resume([0; 80]);",
+    "auditor.clone();",
+    "auditor.state();",
+    "auditor.head();",
+    "auditor.feed(b\"\", false);",
+    "monitor.step(b\"\", false, b\"\")?;",
+    "body.bytes();",
+]
+
+
+def try_dropped(tell: Tell, here: Path) -> None:
+    """The compiler warns if a result is dropped that must be looked at."""
+    room = here / "rust/examples/dropped.rs"
+    given = "auditor: &mut coniks::Auditor, monitor: &mut coniks::Monitor, body: &coniks::Body"
+    lines = [f"fn f({given}) -> Result<(), coniks::Error> {{", "let zeros = [0; 32];", *DROPPED, "Ok(())", "}"]
+    room.write_text("\n".join([*lines, "fn main() { let _ = f; }", ""]), "utf-8")
+    ran = run("cargo", "check", "--offline", "--example", "dropped", "--message-format", "short", cwd=here / "rust")
+    said = [it for it in ran.stderr.decode().splitlines() if "dropped.rs:" in it and "unused" in it]
+    warned = [lines[int(it.split(":")[1]) - 1] for it in said]
+    tell("each dropped result is warned of", warned == DROPPED, (set(DROPPED) - set(warned), ran.stderr.decode()[-2000:]))
+    room.unlink()
+
+
 def try_rust(tell: Tell, skip: Skip, here: Path, example: Example, requests: Sequence[Request]) -> None:
     if not (tools.has("cargo") and tools.has("a C compiler")):
         return skip("the side in Rust", "cargo")
@@ -337,6 +368,7 @@ def try_rust(tell: Tell, skip: Skip, here: Path, example: Example, requests: Seq
         tell(f"cargo test, edition {edition}", ran.returncode == 0, ran.stderr.decode()[-2000:])
     ran = run("cargo", "build", "--offline", "--examples", cwd=here / "rust", env=os.environ | {"RUSTFLAGS": "-Dwarnings"})
     tell("cargo build", ran.returncode == 0, ran.stderr.decode()[-2000:])
+    try_dropped(tell, here)
     try_requests(tell, "Rust", [here / "rust/target/debug/examples/answers"], requests)
     try_example(tell, "Rust", here / "rust/target/debug/examples/example", *example)
 

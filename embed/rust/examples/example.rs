@@ -25,7 +25,7 @@ fn main() -> Result<(), Error> {
     }
     println!("{}", check(&root, &root, &index, name.as_bytes(), &proof).unwrap_err());
     let mut auditor = Auditor::new();
-    let before = auditor;
+    let before = auditor.clone();
     let mut forged = entry.clone();
     forged[ENTRY_BYTES - 1] ^= 1;
     println!("{}", auditor.feed(&forged, is_sealed(&key, &forged)).unwrap_err());

@@ -174,6 +174,7 @@ fn accepted(status: u32) -> Result<(), Error> {
 }
 
 /// Writes the text of an error's status in `coniks.h`, and returns it: the empty text for other numbers.
+#[must_use]
 pub fn text(status: u32, room: &mut [u8; 128]) -> &str {
     // SAFETY: the bytes are there, and nothing else reads them meanwhile.
     let size = unsafe { c::coniks_text(status, room.as_mut_ptr(), room.len()) };
@@ -181,6 +182,7 @@ pub fn text(status: u32, room: &mut [u8; 128]) -> &str {
 }
 
 /// Returns the version of the library: major, minor and patch.
+#[must_use]
 pub fn version() -> [u32; 3] {
     // SAFETY: the call takes nothing.
     let number = unsafe { c::coniks_version() };
@@ -221,8 +223,8 @@ pub struct Head {
     pub link: [u8; 32],
 }
 
-/// Follows a chain of entries. It can be copied and compared.
-#[derive(Clone, Copy, Debug, PartialEq, Eq)]
+/// Follows a chain of entries. It can be cloned and compared; a clone goes on by itself.
+#[derive(Clone, Debug, PartialEq, Eq)]
 pub struct Auditor(c::State);
 
 impl Default for Auditor {
@@ -233,6 +235,7 @@ impl Default for Auditor {
 
 impl Auditor {
     /// Returns an auditor that has seen no entry.
+    #[must_use]
     pub fn new() -> Self {
         let mut it = Self::resume([0; STATE_BYTES]);
         // SAFETY: the state is written by the call alone.
@@ -241,6 +244,7 @@ impl Auditor {
     }
 
     /// Returns an auditor that goes on from the state of another one.
+    #[must_use]
     pub fn resume(state: [u8; STATE_BYTES]) -> Self {
         // SAFETY: the sizes are equal, and any bytes are a state.
         let state = unsafe { core::mem::transmute::<[u8; STATE_BYTES], c::State>(state) };
@@ -248,6 +252,7 @@ impl Auditor {
     }
 
     /// Returns all that the auditor keeps, in this machine's byte order.
+    #[must_use]
     pub fn state(&self) -> [u8; STATE_BYTES] {
         // SAFETY: the sizes are equal, and a state has no padding.
         unsafe { core::mem::transmute::<c::State, [u8; STATE_BYTES]>(self.0) }
@@ -264,6 +269,7 @@ impl Auditor {
     }
 
     /// Returns the head of the last entry accepted, None before the first.
+    #[must_use]
     pub fn head(&self) -> Option<Head> {
         let mut head = Head { epoch: 0, link: [0; 32] };
         // SAFETY: the two places are written by the call alone.
@@ -274,6 +280,7 @@ impl Auditor {
 
 /// What an accepted proof shows, compared with what the client expects.
 #[derive(Clone, Copy, Debug, PartialEq, Eq)]
+#[must_use = "the key may be absent or changed"]
 pub enum Seen {
     /// What is expected.
     Same,
@@ -284,7 +291,7 @@ pub enum Seen {
 }
 
 /// Watches one name over a chain, for a client that expects a key of it, or none.
-#[derive(Clone, Copy, Debug, PartialEq, Eq)]
+#[derive(Clone, Debug, PartialEq, Eq)]
 pub struct Monitor<'a> {
     /// The client's name.
     pub name: &'a [u8],
@@ -419,6 +426,7 @@ impl Body {
     }
 
     /// Returns the bytes that are signed.
+    #[must_use]
     pub fn bytes(&self) -> [u8; BODY_BYTES] {
         let mut bytes = [0; BODY_BYTES];
         // SAFETY: the bytes are written by the call alone.

@@ -1,6 +1,6 @@
 //! Calls whose results follow from `docs/FORMATS.md` and another SHA-256.
 
-use coniks::{check, link, Auditor, Error, ENTRY_BYTES};
+use coniks::{check, link, Auditor, Body, Error, Monitor, ENTRY_BYTES};
 
 /// SHA-256 of the byte 45 and 66 zero bytes: the root of an empty tree under a nonce of zeros.
 const EMPTY_ROOT: &str = "55fd25353b36d9c01e73d41e753758330f06b9d6a0838d0c60cdeb295cc1c32a";
@@ -9,6 +9,14 @@ const ZEROS_LINK: &str = "ecc9742501e7f52de4a640c0a9b7d540219a5f764d229a40ee1dd1
 
 fn bytes32(text: &str) -> [u8; 32] {
     std::array::from_fn(|i| u8::from_str_radix(&text[2 * i..2 * i + 2], 16).expect("two digits"))
+}
+
+const NOTHING: Body =
+    Body { version: 0, epoch: 0, previous_epoch: 0, root: [0; 32], previous_link: [0; 32], nonce: [0; 32], policy: [0; 32] };
+
+/// An entry with a signature of zeros.
+fn entry(body: &Body) -> Vec<u8> {
+    [&body.bytes()[..], &[0; 64]].concat()
 }
 
 #[test]
@@ -36,6 +44,27 @@ fn an_auditor_is_unchanged_after_an_error() {
     let mut auditor = Auditor::new();
     assert_eq!(auditor.feed(&[0; ENTRY_BYTES], true), Err(Error::VersionUnknown));
     assert_eq!((auditor.head(), auditor), (None, Auditor::default()));
+}
+
+/// With `Copy` a type has both implementations, and the call in the test doesn't compile.
+trait NotCopy<Way> {
+    fn is_checked() {}
+}
+
+struct IfCopy;
+
+impl<T> NotCopy<()> for T {}
+impl<T: Copy> NotCopy<IfCopy> for T {}
+
+#[test]
+fn a_clone_is_another_auditor() {
+    <Auditor as NotCopy<_>>::is_checked();
+    <Monitor<'_> as NotCopy<_>>::is_checked();
+    let first = entry(&Body { version: 1, epoch: 1, root: [5; 32], ..NOTHING });
+    let auditor = Auditor::new();
+    let mut other = auditor.clone();
+    assert_eq!(other.feed(&first, true), Ok(()));
+    assert_eq!((auditor.head(), other.head().map(|it| it.epoch)), (None, Some(1)));
 }
 
 #[test]
