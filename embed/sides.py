@@ -321,16 +321,16 @@ def try_go(tell: Tell, skip: Skip, here: Path, example: Example, requests: Seque
 DROPPED = [
     "coniks::version();",
     "coniks::text(4, &mut [0; 128]);",
-    "coniks::check(&zeros, &zeros, &zeros, b\"\", b\"\");",
-    "coniks::convicts(b\"\", b\"\");",
-    "coniks::link(b\"\");",
+    'coniks::check(&zeros, &zeros, &zeros, b"", b"");',
+    'coniks::convicts(b"", b"");',
+    'coniks::link(b"");',
     "coniks::Auditor::new();",
     "coniks::Auditor::resume([0; 80]);",
     "auditor.clone();",
     "auditor.state();",
     "auditor.head();",
-    "auditor.feed(b\"\", false);",
-    "monitor.step(b\"\", false, b\"\")?;",
+    'auditor.feed(b"", false);',
+    'monitor.step(b"", false, b"")?;',
     "body.bytes();",
 ]
 
@@ -563,6 +563,71 @@ def try_python_copies(tell: Tell, coniks: ModuleType, lines: Sequence[proofs.Lin
         tell(f"{what} of a refusal", fault.status == 40 and str(fault) == coniks.text(40), fault)
 
 
+def try_python_equality(tell: Tell, coniks: ModuleType, lines: Sequence[proofs.Line]) -> None:
+    """Auditors are equal by state, and monitors by their arguments too. The unused bytes of a state count for nothing."""
+    line = next(it for it in lines if coniks.Body.of_entry(bytes.fromhex(it["entry"])).previous_epoch == 0)
+    entry, index = bytes.fromhex(line["entry"]), bytes.fromhex(line["index"])
+    fed = coniks.Auditor()
+    fed.feed(entry, True)
+    tell("auditors of one state are equal", fed == copy.copy(fed) and not fed != pickle.loads(pickle.dumps(fed)))
+    tell("auditors of other states are not", fed != coniks.Auditor() and coniks.Auditor() == coniks.Auditor())
+    first: tuple[Any, ...] = ("alice", index, b"key", fed.state)
+    others: list[tuple[Any, ...]] = [
+        ("bob", *first[1:]),
+        (first[0], bytes(32), *first[2:]),
+        (*first[:2], b"other", first[3]),
+        (*first[:2], None, first[3]),
+        (*first[:3], bytes(80)),
+    ]
+    tell("monitors of the same arguments are equal", coniks.Monitor(*first) == coniks.Monitor(b"alice", *first[1:]))
+    tell("monitors of others are not", not any(coniks.Monitor(*first) == coniks.Monitor(*it) for it in others))
+    tell(
+        "a monitor is no auditor, and an auditor no state",
+        coniks.Monitor(*first) != fed != coniks.Monitor(*first) and fed != fed.state,
+    )
+    tell("auditors and monitors have no hash", coniks.Auditor.__hash__ is None is coniks.Monitor.__hash__)
+    other = coniks.Auditor(fed.state[:73] + b"\xff" * 7)
+    tell("the unused bytes of a state are zero", other.state == fed.state and other == fed, other.state.hex())
+    monitor = coniks.Monitor(*first[:3], fed.state[:73] + b"\xff" * 7)
+    tell("the unused bytes of a monitor's state are zero", monitor.state == fed.state, monitor.state.hex())
+
+
+LOAD = """
+import coniks
+for call in (coniks.library_version, coniks.Auditor, lambda: coniks.text(4)):
+    try:
+        print(call())
+    except ImportError as error:
+        print(error)
+"""
+
+
+def try_python_library(tell: Tell, coniks: ModuleType) -> None:
+    """A file that is no library, one that is another library, and one of another version raise ImportError at each call."""
+    names = [it for it, _, _ in coniks._exports]
+    with tempfile.TemporaryDirectory() as name:
+        room = Path(name)
+        (room / "text").write_text("no library\n", "utf-8")
+        for file, calls in [("later", names), ("lacking", names[:3] + names[-1:]), ("another", ["other_version"])]:
+            number = 20304 if file == "later" else 10000
+            code = "".join(f"unsigned {it}(void) {{ return {number}; }}\n" for it in calls)
+            (room / f"{file}.c").write_text(code, "utf-8")
+            ran = run(tools.CC, "-shared", "-fPIC", "-o", room / file, room / f"{file}.c")
+            tell(f"{file}.c compiles", ran.returncode == 0, ran.stderr.decode())
+        for file, parts in [
+            ("missing", ["the library can't be loaded: ", "No such file"]),
+            ("text", ["the library can't be loaded: ", "text"]),
+            ("", ["the library can't be loaded: "]),
+            ("another", ["isn't the library of this package: ", "coniks_version"]),
+            ("lacking", ["isn't the library of this package: ", names[3]]),
+            ("later", ["has version 2.3.4, and this package has version " + coniks.__version__]),
+        ]:
+            ran = run(sys.executable, "-c", LOAD, env=os.environ | {"CONIKS_LIBRARY": str(room / file)}, cwd=HERE / "python")
+            said = ran.stdout.decode().splitlines()
+            is_well = len(said) == 3 and all(part in it and str(room / file) in it for it in said for part in parts)
+            tell(f"the library {file or 'that is a folder'}", is_well and ran.returncode == 0, (said, ran.stderr.decode()[-500:]))
+
+
 def answer_by_python(coniks: ModuleType, members: dict[str, Any]) -> dict[str, Any]:
     """What `keydir check` prints of a line, by the library in Python."""
     try:
@@ -628,6 +693,8 @@ def try_all(tell: Tell, skip: Skip, program: Path, coniks: ModuleType, lines: Se
     try_watch(tell, program)
     try_python_faults(tell, coniks, lines)
     try_python_copies(tell, coniks, lines)
+    try_python_equality(tell, coniks, lines)
+    try_python_library(tell, coniks)
     try_forks(tell, coniks)
     try_python_lines(tell, coniks)
     requests = requests_of(program, lines)

@@ -14,10 +14,12 @@ order.
 
 Nonces, roots, indices, links and digests are 32 bytes, entries 209. A name is text or bytes, a proof its bytes (see
 `proof_bytes`). Wrong types raise TypeError, wrong sizes and numbers that don't fit ValueError, and what the library refuses
-`Refused`. Auditors and monitors can be copied and pickled, and so can `Refused`; a copy goes on by itself.
+`Refused`. Auditors and monitors can be copied and pickled, and so can `Refused`; a copy goes on by itself. Two auditors are equal if
+their states are, and two monitors if their names, indices and expected keys are too. They have no hash.
 
-The library is loaded at the first call, which raises ImportError if there is none. `Policy` and the modules
-`coniks.provider`, which runs a directory, and `coniks.guard`, which signs for it, do not need the library.
+The library is loaded at the first call, which raises ImportError if there is none, if it can't be loaded, or if it has another
+version than this package. `Policy` and the modules `coniks.provider`, which runs a directory, and `coniks.guard`, which signs for
+it, do not need the library.
 """
 
 from __future__ import annotations
@@ -154,16 +156,17 @@ class _Body(ctypes.Structure):
     ]
 
 
-def _load() -> ctypes.CDLL:
+def _place() -> str:
+    """The file of the library, or its name in the system."""
     here, chosen = Path(__file__).resolve().parent, os.environ.get("CONIKS_LIBRARY")
     if chosen:
-        return ctypes.CDLL(chosen)
+        return chosen
     for place in [here / "libconiks.so", here.parent.parent / "out" / "libconiks.so"]:
         if place.exists():
-            return ctypes.CDLL(str(place))
+            return str(place)
     found = ctypes.util.find_library("coniks")
     if found:
-        return ctypes.CDLL(found)
+        return found
     raise ImportError("libconiks.so isn't there: run embed/build, or set CONIKS_LIBRARY")
 
 
@@ -185,18 +188,38 @@ _exports: list[tuple[str, Any, list[Any]]] = [
 ]
 
 
+def _load() -> dict[str, Any]:
+    """The exports of the library. Raises ImportError if it can't be loaded, or is of another version than this package."""
+    place, calls = _place(), {}
+    try:
+        library = ctypes.CDLL(place)
+    except OSError as error:
+        raise ImportError(f"the library can't be loaded: {error}: run embed/build, or set CONIKS_LIBRARY") from error
+    try:
+        version = _version_text(library.coniks_version())
+        if version != __version__:
+            raise ImportError(f"the library {place} has version {version}, and this package has version {__version__}")
+        for export, result, arguments in _exports:
+            calls[export] = getattr(library, export)
+            calls[export].restype, calls[export].argtypes = result, arguments
+    except AttributeError as error:
+        raise ImportError(f"{place} isn't the library of this package: {error}") from error
+    return calls
+
+
+def _version_text(number: int) -> str:
+    return f"{number // 10000}.{number // 100 % 100}.{number % 100}"
+
+
 class _Library:
     """The exports of the shared library, which is loaded when the first of them is taken."""
 
     def __getattr__(self, name: str) -> Any:
-        library = _load()
-        for export, result, arguments in _exports:
-            call = getattr(library, export)
-            call.restype, call.argtypes = result, arguments
-            vars(self)[export] = call
-        if name not in vars(self):
+        calls = _load()
+        vars(self).update(calls)
+        if name not in calls:
             raise AttributeError(name)
-        return vars(self)[name]
+        return calls[name]
 
 
 _library = _Library()
@@ -234,9 +257,8 @@ def _verdict(value: Any) -> bool:
 
 
 def library_version() -> str:
-    """The version of the library that is called, as `__version__` is that of this package."""
-    number = _library.coniks_version()
-    return f"{number // 10000}.{number // 100 % 100}.{number % 100}"
+    """Returns the version of the library that is called. It is `__version__`, since a library of another version isn't loaded."""
+    return _version_text(_library.coniks_version())
 
 
 def text(status: int) -> str:
@@ -278,16 +300,26 @@ class Auditor:
         self._state = _State()
         if state is None:
             _library.coniks_auditor_begin(ctypes.byref(self._state))
-        elif len(_bytes(state, "the state")) != ctypes.sizeof(_State):
+            return
+        state = _bytes(state, "the state")
+        if len(state) != ctypes.sizeof(_State):
             raise ValueError(f"a state has {ctypes.sizeof(_State)} bytes, not {len(state)}")
-        else:
-            self._state = _State.from_buffer_copy(state)
+        self._state = _State.from_buffer_copy(state)
+        self._state.unused = type(self._state.unused)()
 
     def _arguments(self) -> tuple[Any, ...]:
         return (self.state,)
 
     def __reduce__(self) -> tuple[type[Auditor], tuple[Any, ...]]:
         return type(self), self._arguments()
+
+    def __eq__(self, other: object) -> bool:
+        if not isinstance(other, Auditor) or type(other) is not type(self):
+            return NotImplemented
+        return self._arguments() == other._arguments()
+
+    # A change of the state would change it.
+    __hash__ = None  # type: ignore[assignment]
 
     @property
     def state(self) -> bytes:
