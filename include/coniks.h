@@ -56,11 +56,11 @@ extern "C" {
 /* A result that must be used: the status shows whether anything was written. */
 #if defined(__GNUC__)
 #define CONIKS_NODISCARD __attribute__((warn_unused_result))
-/* Pointers that must not be NULL. A pointer with a length may be NULL if that length is 0. */
-#define CONIKS_NONNULL(...) __attribute__((nonnull(__VA_ARGS__)))
+/* Pointers that must not be NULL, as a list in parentheses. A pointer with a length may be NULL if that length is 0. */
+#define CONIKS_NONNULL(arguments) __attribute__((nonnull arguments))
 #else
 #define CONIKS_NODISCARD
-#define CONIKS_NONNULL(...)
+#define CONIKS_NONNULL(arguments)
 #endif
 
 enum {
@@ -170,12 +170,12 @@ typedef struct coniks_body {
  * Take root and nonce from an audited entry. Compute the index from the name, with its VRF proof (CONIKS, section 3.4: a
  * verifiable unpredictable function): a proof for another index is a proof for another name.
  */
-CONIKS_NODISCARD CONIKS_NONNULL(1, 2, 3, 8, 9)
+CONIKS_NODISCARD CONIKS_NONNULL((1, 2, 3, 8, 9))
 uint32_t coniks_check(const coniks_bytes32 *nonce, const coniks_bytes32 *root, const coniks_bytes32 *index, const uint8_t *name,
                       size_t name_length, const uint8_t *proof, size_t proof_length, size_t *key_start, size_t *key_length);
 
 /* Writes the state of an auditor that has seen no entry: all bytes 0. */
-CONIKS_NONNULL(1)
+CONIKS_NONNULL((1))
 void coniks_auditor_begin(coniks_auditor *state);
 
 /*
@@ -188,14 +188,14 @@ void coniks_auditor_begin(coniks_auditor *state);
  * Returns CONIKS_GOOD if the entry follows the last accepted one; the state is then that of this entry. Else returns 48, or
  * the first of 33 to 40, and the state is unchanged.
  */
-CONIKS_NODISCARD CONIKS_NONNULL(1)
+CONIKS_NODISCARD CONIKS_NONNULL((1))
 uint32_t coniks_auditor_feed(coniks_auditor *state, const uint8_t *entry, size_t entry_length, uint32_t signature_verdict);
 
 /*
  * Writes the head: epoch and link of the last accepted entry. Two auditors with the same head have seen the same chain, or
  * two different byte strings of equal SHA-256. Returns CONIKS_E_NO_ENTRY if there was no entry.
  */
-CONIKS_NODISCARD CONIKS_NONNULL(1, 2, 3)
+CONIKS_NODISCARD CONIKS_NONNULL((1, 2, 3))
 uint32_t coniks_auditor_head(const coniks_auditor *state, uint64_t *epoch, coniks_bytes32 *link);
 
 /*
@@ -206,21 +206,21 @@ uint32_t coniks_auditor_head(const coniks_auditor *state, uint64_t *epoch, conik
  * is expected, and CONIKS_CHANGED if it shows another key, or a key though none is expected. Else returns the first of 48,
  * 17 to 25, 33 to 40 and 2 to 8, and the state is unchanged.
  */
-CONIKS_NODISCARD CONIKS_NONNULL(1, 2)
+CONIKS_NODISCARD CONIKS_NONNULL((1, 2))
 uint32_t coniks_monitor_step(coniks_auditor *state, const coniks_bytes32 *index, const uint8_t *name, size_t name_length,
                              const uint8_t *expected, size_t expected_length, const uint8_t *entry, size_t entry_length,
                              uint32_t signature_verdict, const uint8_t *proof, size_t proof_length);
 
 /* Reads the body of an entry, and verifies nothing. Returns CONIKS_GOOD or CONIKS_E_ENTRY_LENGTH. */
-CONIKS_NODISCARD CONIKS_NONNULL(3)
+CONIKS_NODISCARD CONIKS_NONNULL((3))
 uint32_t coniks_entry_body(const uint8_t *entry, size_t entry_length, coniks_body *body);
 
 /* Writes the bytes of a body, which are signed. An entry is these bytes and the 64 of the signature. */
-CONIKS_NONNULL(1, 2)
+CONIKS_NONNULL((1, 2))
 void coniks_body_bytes(const coniks_body *body, coniks_bytes145 *bytes);
 
 /* Writes the link of an entry, which the next entry contains. Returns CONIKS_GOOD or CONIKS_E_ENTRY_LENGTH. */
-CONIKS_NODISCARD CONIKS_NONNULL(3)
+CONIKS_NODISCARD CONIKS_NONNULL((3))
 uint32_t coniks_link(const uint8_t *entry, size_t entry_length, coniks_bytes32 *link);
 
 /*
@@ -231,7 +231,7 @@ uint32_t coniks_link(const uint8_t *entry, size_t entry_length, coniks_bytes32 *
  * Returns CONIKS_GOOD if they are, and writes the first kind of `enum coniks_evidence` that applies. Returns
  * CONIKS_NO_EVIDENCE if they are not, and CONIKS_E_ENTRY_LENGTH if one of them does not have 209 bytes.
  */
-CONIKS_NODISCARD CONIKS_NONNULL(5)
+CONIKS_NODISCARD CONIKS_NONNULL((5))
 uint32_t coniks_convicts(const uint8_t *a, size_t a_length, const uint8_t *b, size_t b_length, uint32_t *kind);
 
 /*
