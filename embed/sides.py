@@ -658,7 +658,23 @@ def try_python_lines(tell: Tell, coniks: ModuleType) -> None:
     tell("the cases of check, by Python", tried > 100 and not wrong, (tried, wrong[:3]))
 
 
+def try_build_without_rt(tell: Tell) -> None:
+    """Without `rt` the module isn't built, and the error says what is missing."""
+    with tempfile.TemporaryDirectory() as name:
+        room = Path(name)
+        shutil.copytree(TOP / "web", room / "web", ignore=shutil.ignore_patterns("out"))
+        (room / "scripts").mkdir()
+        shutil.copy(TOP / "scripts/built", room / "scripts")
+        kept = [it for it in os.environ["PATH"].split(os.pathsep) if not (Path(it) / "rt").exists()]
+        ran = run(sys.executable, room / "web/build", env=os.environ | {"PATH": os.pathsep.join(kept)})
+        said = ran.stderr.decode()
+        is_well = ran.returncode == 1 and said.startswith("build: rt isn't on the search path") and said.count("\n") == 1
+        tell("web/build without rt", is_well, (ran.returncode, said))
+        tell("web/build without rt makes nothing", not list((room / "web/out").iterdir()) and not (room / "out").exists())
+
+
 def try_javascript(tell: Tell, skip: Skip, requests: Sequence[Request]) -> None:
+    try_build_without_rt(tell)
     if not tools.has("node"):
         return skip("the module for web projects", "node")
     ran = run(TOP / "web/build")
