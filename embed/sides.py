@@ -14,6 +14,7 @@ import json
 import os
 import pickle
 import random
+import re
 import shutil
 import subprocess
 import sys
@@ -416,6 +417,31 @@ def example_lines(line: proofs.Line) -> list[str]:
     ]
 
 
+def try_metadata(tell: Tell, venv: Path) -> None:
+    """What is installed has the licence, and its long description has no link into the checkout."""
+    folders = list(venv.glob("lib/python*/site-packages/coniks-*.dist-info"))
+    licences = [it.read_bytes() for folder in folders for it in folder.rglob("LICENSE")]
+    tell("the licence of the package", licences == [(TOP / "LICENSE").read_bytes()], folders)
+    metadata = "".join((it / "METADATA").read_text("utf-8") for it in folders)
+    links = [it for it in re.findall(r"\]\(([^)]*)\)", metadata) if not it.startswith("https://")]
+    tell("the long description of the package", "# coniks for Python" in metadata and not links, links)
+
+
+def try_bare_environment(tell: Tell, here: Path) -> None:
+    """An environment without setuptools or wheel: an error that names the missing package, and no traceback."""
+    venv = here / "bare"
+    assert tools.PYTHON
+    ran = run(tools.PYTHON, "-m", "venv", venv)
+    tell("an environment without packages", ran.returncode == 0, ran.stderr.decode())
+    words: list[Union[str, Path]] = [venv / "bin/pip", "install", "--no-build-isolation", "--no-index", here / "python"]
+    for name in ["wheel", "setuptools"]:
+        run(venv / "bin/pip", "uninstall", "-y", name)
+        ran = run(*words)
+        said = (ran.stdout + ran.stderr).decode()
+        is_well = ran.returncode and re.search("the package (setuptools|wheel) is missing: install it", said)
+        tell(f"pip install without {name}", is_well and "Traceback" not in said, said[-2000:])
+
+
 def try_python(tell: Tell, skip: Skip, here: Path, coniks: ModuleType, requests: Sequence[Request]) -> None:
     """The package as pip installs it, with the environment's variables left out."""
     answers = here / "python/answers.py"
@@ -429,9 +455,13 @@ def try_python(tell: Tell, skip: Skip, here: Path, coniks: ModuleType, requests:
     before = sorted(here.glob("python/**/*"))
     assert tools.PYTHON
     ran = run(tools.PYTHON, "-m", "venv", "--system-site-packages", venv)
-    ran = ran if ran.returncode else run(venv / "bin/pip", "install", "--no-build-isolation", "--no-index", here / "python")
+    writing = {it: value for it, value in os.environ.items() if it != "PYTHONDONTWRITEBYTECODE"}
+    words: list[Union[str, Path]] = ["install", "--no-build-isolation", "--no-index", here / "python"]
+    ran = ran if ran.returncode else run(venv / "bin/pip", *words, env=writing)
     tell("pip install", ran.returncode == 0, (ran.stdout + ran.stderr).decode()[-2000:])
     tell("pip install leaves nothing in the checkout", sorted(here.glob("python/**/*")) == before)
+    try_metadata(tell, venv)
+    try_bare_environment(tell, here)
     shutil.copy(answers, room)
     shutil.rmtree(here / "out")
     kept = {it: value for it, value in os.environ.items() if it != "CONIKS_LIBRARY"}

@@ -14,7 +14,10 @@ from setuptools.command.build_py import build_py  # type: ignore[import]
 try:
     from setuptools.command.bdist_wheel import bdist_wheel  # type: ignore[import]
 except ImportError:
-    from wheel.bdist_wheel import bdist_wheel  # type: ignore[import]
+    try:
+        from wheel.bdist_wheel import bdist_wheel  # type: ignore[import]
+    except ImportError:
+        sys.exit("the package wheel is missing: install it (pip install wheel), or setuptools from version 70.1 on")
 
 LIBRARY = Path(__file__).resolve().parent.parent / "out" / "libconiks.so"
 # Keeps the checkout free of what a build leaves.
