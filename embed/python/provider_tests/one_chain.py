@@ -236,7 +236,7 @@ def try_late(tell: Tell, program: str) -> None:
         with staged(program) as stage:
             own, sign = stage.provider, stage.provider._sign
             if abandon:
-                # A signer that abandons whatever it is told to.
+                # A signer that abandons each body.
                 own._sign = mock.Mock(side_effect=sign, abandon=abandon)
             stage.log.before = of_kind(b"install", stopped(LogRefused("told to refuse: try again")))
             raises(tell, "late: an epoch that isn't logged", LogRefused, lambda: own.commit(2, []))
