@@ -1,0 +1,193 @@
+"""Tries the clients in Go, Rust, JavaScript and C: the cases of cases/client, and random alterations and walks beside the second
+implementation. Each language has a program that replies to requests, one on each line. Words are separated by one space.
+
+Bytes are hexadecimal digits, `.` for no byte. `-` stands for nothing: no key, no state, the default, the latest epoch.
+
+| Request | Reply |
+|---|---|
+| `begin NOW MAX_AGE SKEW SIGNING_KEY VRF_KEY POLICY STATE`, POLICY is the document | `begun` |
+| `vouched NOW MAX_AGE SKEW SIGNING_KEY VRF_KEY POLICY ENTRY LEAST EPOCH:LINK ..` | `begun` |
+| `now SECONDS` sets the clock | `set` |
+| `feed ENTRY ..`, `catchup BYTES` | `fed EPOCH:SEEN ..`, SEEN is `missing` or `-` |
+| `lookup NAME REPLY EPOCH` | `found EPOCH KEY SEEN AGE FIRST_SEEN` |
+| `history NAME HISTORY` | `found` and these five words for each step |
+| `watch NAME KEY SINCE` | `watching` |
+| `expect KEY BY` | `expected` |
+| `missing` | `missing EPOCH ..` |
+| `head` | `head EPOCH LINK`, or `head -` |
+| `compare EPOCH LINK`, `cover EPOCH LINK` | `equal`, `unknown` or `differs` |
+| `evidence ENTRY` | `evidence KIND MINE OTHER`, or `evidence -` |
+| `state` | `state BYTES` |
+
+KIND is `overlap`, `other-policy` or `malformed`. A refusal is `refused NAME STATUS KIND MINE OTHER`, NAME as in docs/FORMATS.md,
+with `-` for no status and for no evidence. A call that the caller must not make is `misuse`. A program that begins anew forgets the
+client that it had, also if it refuses to begin.
+"""
+
+from __future__ import annotations
+
+import hashlib
+import os
+import subprocess
+from pathlib import Path
+from typing import Any, Callable, Optional, Sequence, Union
+
+Answer = dict[str, Any]
+
+
+class Broken(Exception):
+    """A program ended, or its reply is none of the table."""
+
+
+class Side:
+    """The program of one language."""
+
+    def __init__(self, words: Sequence[Union[str, Path]], **more: Any) -> None:
+        self.process = subprocess.Popen(
+            [str(it) for it in words], stdin=subprocess.PIPE, stdout=subprocess.PIPE, text=True, encoding="ascii", **more
+        )
+
+    def ask(self, *words: str) -> list[str]:
+        """The words of the reply to a request."""
+        assert self.process.stdin and self.process.stdout
+        try:
+            self.process.stdin.write(" ".join(words) + "\n")
+            self.process.stdin.flush()
+        except BrokenPipeError:
+            raise Broken(f"the program ended before {words[0]}") from None
+        line = self.process.stdout.readline()
+        if not line.endswith("\n"):
+            raise Broken(f"the program ended at {words[0]}")
+        return line[:-1].split(" ")
+
+    def end(self) -> int:
+        """The status of the program, whose input ends."""
+        self.process.communicate()
+        return self.process.returncode
+
+
+def word(digits: Optional[str]) -> str:
+    """Bytes in a case as a word."""
+    return "-" if digits is None else digits or "."
+
+
+def number(value: object) -> str:
+    return "-" if value is None else str(value)
+
+
+def digits_of(given: str) -> Optional[str]:
+    """A word as bytes in a case."""
+    return None if given == "-" else given.replace(".", "")
+
+
+def number_of(given: str) -> Union[int, float, None]:
+    return None if given == "-" else float(given) if "." in given else int(given)
+
+
+def begin_words(case: Answer) -> list[str]:
+    """The request that makes the client of a case."""
+    clock = [number(case.get(it)) for it in ("now", "max_age", "skew")]
+    keys = [word(case["signing_key"]), word(case.get("vrf_key")), word(case["policy"].encode().hex())]
+    vouched = case.get("vouched")
+    if vouched is None:
+        return ["begin", *clock, *keys, word(case.get("state"))]
+    heads = [f"{epoch}:{link}" for epoch, link in vouched["heads"]]
+    return ["vouched", *clock, *keys, word(vouched["entry"]), number(vouched["least"]), *heads]
+
+
+# The request for a step, by what it does.
+REQUESTS: dict[str, Callable[[Answer], list[str]]] = {
+    "feed": lambda it: ["feed", *map(word, it["entries"])],
+    "catch up": lambda it: ["catchup", word(it["bytes"])],
+    "lookup": lambda it: ["lookup", word(it["name"]), word(it["reply"]), number(it.get("epoch"))],
+    "history": lambda it: ["history", word(it["name"]), word(it["history"])],
+    "watch": lambda it: ["watch", word(it["name"]), word(it["key"]), number(it.get("since"))],
+    "expect": lambda it: ["expect", word(it["key"]), number(it["by"])],
+    "compare": lambda it: ["compare", number(it["epoch"]), word(it["link"])],
+    "cover": lambda it: ["cover", number(it["epoch"]), word(it["link"])],
+    "evidence": lambda it: ["evidence", word(it["entry"])],
+    "head": lambda it: ["head"],
+    "missing": lambda it: ["missing"],
+}
+
+
+def evidence_of(words: Sequence[str]) -> Optional[list[Any]]:
+    """The kind of the evidence, and the epoch of the client's entry, None if it is the other one itself."""
+    if words[0] == "-":
+        return None
+    kind, mine, other = words
+    epoch = int.from_bytes(bytes.fromhex(mine)[1:9], "big")
+    return [kind.replace("-", " "), None if mine == other else epoch]
+
+
+def found(words: Sequence[str]) -> Answer:
+    epoch, key, seen, age, first_seen = words
+    seen_or_none = None if seen == "-" else seen
+    return {
+        "epoch": int(epoch),
+        "key": digits_of(key),
+        "seen": seen_or_none,
+        "age": number_of(age),
+        "first_seen": int(first_seen),
+    }
+
+
+def fed(words: Sequence[str]) -> list[list[Any]]:
+    pairs = [it.split(":") for it in words]
+    return [[int(epoch), None if seen == "-" else seen] for epoch, seen in pairs]
+
+
+def answer_of(side: Side, step: Answer, said: list[str]) -> Answer:
+    """A reply as the second implementation has it."""
+    first, rest, do = said[0], said[1:], step["do"]
+    if first == "refused":
+        name, status, *evidence = rest
+        return {"refused": name, "status": number_of(status), "evidence": evidence_of(evidence)}
+    if first == "misuse":
+        return {"misuse": True}
+    if do in ("feed", "catch up") and first == "fed":
+        return {"fed": fed(rest)}
+    if do == "lookup" and first == "found":
+        return found(rest)
+    if do == "history" and first == "found":
+        return {"found": [found(rest[at : at + 5]) for at in range(0, len(rest), 5)]}
+    if do == "watch" and first == "watching":
+        return {"watch": watched_from(state_of(side))}
+    if do == "expect" and first == "expected":
+        return {"expect": step["by"]}
+    if do == "missing" and first == "missing":
+        return {"missing": [int(it) for it in rest]}
+    if do == "head" and first == "head":
+        return {"head": None if rest[0] == "-" else [int(rest[0]), rest[1]]}
+    if do in ("compare", "cover") and first in ("equal", "unknown", "differs"):
+        return {"compare": first}
+    if do == "evidence" and first == "evidence":
+        return {"evidence": evidence_of(rest)}
+    raise Broken(f"{do}: {' '.join(said)[:200]}")
+
+
+def state_of(side: Side) -> bytes:
+    first, digits = side.ask("state")
+    if first != "state":
+        raise Broken(f"state: {first}")
+    return bytes.fromhex(digits)
+
+
+def watched_from(state: bytes) -> int:
+    """The first watched epoch in a state, which stands after the name."""
+    watch = 37 + 218 * int.from_bytes(state[33:37], "big")
+    start = watch + 2 + state[watch + 1]
+    return int.from_bytes(state[start : start + 8], "big")
+
+
+def verdicts(side: Side, case: Answer) -> Answer:
+    """All that the client of a case returns: when it is made, for each step, and its state at the end."""
+    said = side.ask(*begin_words(case))
+    if said != ["begun"]:
+        return {"begin": answer_of(side, {"do": "begin"}, said), "steps": [], "state": None}
+    answers = []
+    for step in case["steps"]:
+        if "now" in step:
+            side.ask("now", number(step["now"]))
+        answers.append(answer_of(side, step, side.ask(*REQUESTS[step["do"]](step))))
+    return {"begin": {"begun": True}, "steps": answers, "state": hashlib.sha256(state_of(side)).hexdigest()}
