@@ -43,7 +43,176 @@ export interface Monitor extends Auditor {
 /** Different bodies whose intervals (previous epoch, epoch] overlap; different policy digests; an entry that no chain contains. */
 export type EvidenceKind = "overlap" | "other policy" | "malformed";
 
+/** What is kept of an entry that convicts its signer: `mine` is one that the client kept, or `other` itself if no chain has it. */
+export interface Evidence {
+  readonly mine: Uint8Array;
+  readonly other: Uint8Array;
+  readonly kind: EvidenceKind;
+}
+
+/** Why a client refuses something, by the names of docs/FORMATS.md, "Replies to clients". */
+export type Cause =
+  | "TooDeep" | "NameLength" | "KeyLength" | "WrongName" | "OtherIsSame" | "OtherOffPath" | "RootMismatch"
+  | "NoBytes" | "UnknownKind" | "CutInCount" | "CutInSiblings" | "CutInOther" | "CutInOpening" | "CutInName" | "CutInKey" | "BytesFollow"
+  | "Version" | "VersionBack" | "FirstEpoch" | "NotLater" | "PreviousEpoch" | "PreviousLink" | "NonceChanged" | "Signature" | "EntryLength"
+  | "NoReply" | "ReplyVersion" | "CutInEntry" | "CutInVrf" | "CatchUpLength" | "NoHistory" | "HistoryVersion" | "CutInStep" | "EpochOrder"
+  | "UnknownEnd" | "SiblingMap" | "SiblingRepeated" | "EndRepeated" | "OtherPolicy" | "Malformed" | "Equivocation" | "UnknownEpoch"
+  | "OtherEpoch" | "Stale" | "Future" | "VrfProof" | "StateLength" | "StateVersion" | "StateDamaged" | "StatePolicy" | "StateForm"
+  | "StateChain" | "NotVouched" | "AuditorsDiffer" | "SigningKey" | "VrfKey" | "PolicyKeys";
+
+/** A client refuses what it was given, and keeps nothing of it. */
+export class Refusal extends Error {
+  /** The name of docs/FORMATS.md. (`cause` of an Error is another error.) */
+  readonly why: Cause;
+  /** The number of docs/FORMATS.md. */
+  readonly number: number;
+  /** The status of coniks.h, where there is one. */
+  readonly status: number | null;
+  /** What convicts the provider, if something does: publish it. */
+  readonly evidence: Evidence | null;
+}
+
+/** The platform lacks what a key needs. Pass an object in place of the key. */
+export class Unsupported extends Error {
+  readonly lacks: "WebCrypto" | "Ed25519";
+}
+
+/** What a directory promises for its life. Times are Unix seconds. Made by `readPolicy`. */
+export class Policy {
+  private constructor();
+  /** The name of the directory. */
+  readonly origin: string;
+  readonly signingKey: Uint8Array;
+  /** Null without a VRF. */
+  readonly vrfKey: Uint8Array | null;
+  /** When epoch 1 begins, null in a directory without a clock. */
+  readonly epochStart: bigint | null;
+  /** How many seconds an epoch lasts, null in a directory without a clock. */
+  readonly epochPeriod: bigint | null;
+  /** For how many seconds proofs are kept, null for ever. */
+  readonly proofsKept: bigint | null;
+  readonly document: Uint8Array;
+  /** The policy digest of each body, 32 bytes. */
+  readonly digest: Uint8Array;
+}
+
+/** Returns the policy of a document (docs/FORMATS.md, "The policy document"). Throws a RangeError for any other bytes. */
+export function readPolicy(document: Uint8Array): Policy;
+
+/** A signature scheme with its public key, in place of an Ed25519 key. */
+export interface SignatureScheme {
+  /** Whether 64 bytes are a valid signature of 145 bytes. The result, also of a promise, counts only if it is `true` itself. */
+  verify(body: Uint8Array, signature: Uint8Array): boolean | Promise<boolean>;
+}
+
+/** Where names are stored, in place of a VRF's key. */
+export interface IndexScheme {
+  /** Whether the proof is one of this name. A directory without a VRF has the proof of no byte. */
+  verify(name: Uint8Array, proof: Uint8Array): boolean | Promise<boolean>;
+  /** Returns the index of a name, 32 bytes, whose proof was verified. */
+  index(name: Uint8Array, proof: Uint8Array): Uint8Array | Promise<Uint8Array>;
+}
+
+/** A public key of 32 bytes for Ed25519 (RFC 8032), or an object for another scheme. */
+export type SigningKey = Uint8Array | SignatureScheme;
+
+/** A public key of 32 bytes for ECVRF-EDWARDS25519-SHA512-TAI (RFC 9381), or an object; null without a VRF: then nothing can be looked up. */
+export type VrfKey = Uint8Array | IndexScheme | null;
+
+export interface ClientOptions {
+  /** How many seconds ago the latest epoch may have begun, by default two periods. */
+  maxAge?: number | bigint;
+  /** In how many seconds the latest epoch may begin, by default 300. */
+  skew?: number | bigint;
+  /** Returns the Unix time in seconds, by default that of the platform. */
+  clock?: () => number | bigint;
+}
+
+/** What an epoch shows of the watched name: the expected key, or none if none is expected; another key; none though one is expected; no reply yet. */
+export type Watched = "same" | "changed" | "absent" | "missing";
+
+/** An entry that was accepted. */
+export interface Fed {
+  readonly epoch: bigint;
+  /** "missing" if the epoch must show the watched name, until a reply does; else null. */
+  readonly seen: Watched | null;
+}
+
+/** What an accepted reply shows. It is an object also if the name has no key: look at `key`. */
+export interface Found {
+  readonly epoch: bigint;
+  /** The key, null if the name is bound to none. */
+  readonly key: Uint8Array | null;
+  /** What that is for the watched name, null for other names and epochs. */
+  readonly seen: Watched | null;
+  /** How many seconds ago the epoch began by the policy's clock, null without a clock. */
+  readonly age: number | null;
+  /** The Unix time in seconds at which the client accepted the entry. */
+  readonly firstSeen: bigint;
+}
+
+/**
+ * A client of one directory, which can't forget a step: it verifies signatures, the chain, VRF proofs, paths and the asked epoch.
+ * Bytes are copied when a call begins, and what is returned is a copy or frozen. Calls may be under way at once: each checks and
+ * keeps in one step, after what it waits for, and sees what others kept until then. So await `feed` before a lookup that needs it.
+ * Wrong arguments are a TypeError or a RangeError. A client can't be copied: pass its state on.
+ */
+export interface Client {
+  /**
+   * Accepts entries that continue the chain: a catch-up's bytes, or entries. Throws `Refusal` at the first one that does not, and
+   * keeps those before it.
+   */
+  feed(entries: Uint8Array | Iterable<Uint8Array>): Promise<Fed[]>;
+  /** Returns what a reply shows of a name, at the asked epoch, or at the latest one. Only an asked epoch may be old. Throws `Refusal`. */
+  lookup(name: string | Uint8Array, reply: Uint8Array, epoch?: number | bigint | null): Promise<Found>;
+  /**
+   * Returns what a history shows of a name, one for each of its epochs. Throws `Refusal`, and then keeps nothing of it. Epochs in a
+   * row with equal keys have one array.
+   */
+  history(name: string | Uint8Array, history: Uint8Array): Promise<Found[]>;
+  /**
+   * Watches the client's own name: each epoch from `since` on, by default the latest, must show the key, or none for null. A client
+   * watches one name for its life. The same call once more changes nothing; another one throws a RangeError.
+   */
+  watch(name: string | Uint8Array, key: Uint8Array | null, since?: number | bigint | null): void;
+  /**
+   * Expects the owner's own change of the key: later epochs may show the old or the new key, and from epoch `by` on only the new one.
+   * Throws a RangeError if no name is watched, and while another change is open.
+   */
+  expect(key: Uint8Array | null, by: number | bigint): void;
+  /** The epochs that must show the watched name, and of which no reply was accepted. */
+  readonly missing: bigint[];
+  /** Returns the head of the latest entry, null before the first. */
+  head(): Head | null;
+  /** Returns whether a head is one of the chain, as far as its entries are kept. One that differs convicts nobody: fetch its entry. */
+  compare(head: Head): "equal" | "unknown" | "differs";
+  /**
+   * Compares an auditor's head, and drops the entries before it if it is equal: the auditor's chain has them. Epochs that are missing
+   * stay, with what follows them, and so do those of a change that is open.
+   */
+  cover(head: Head): "equal" | "unknown" | "differs";
+  /** Returns what convicts the provider together with another one's entry, or null. Throws `Refusal` if that isn't signed. */
+  evidence(entry: Uint8Array): Promise<Evidence | null>;
+  /** The entries that are kept, in the order of the chain. */
+  readonly entries: Uint8Array[];
+  /** All that the client keeps, to be stored, and given to another one: 70 bytes, 218 for each epoch, and the watched name. */
+  readonly state: Uint8Array;
+}
+
 export interface Library {
+  /**
+   * Returns a client with the keys and the policy that the directory publishes. A policy that is a digest of 32 bytes has no clock.
+   * `state` is what another client had as its `state`. Throws `Refusal` for wrong keys and states, and `Unsupported`.
+   */
+  client(signingKey: SigningKey, vrfKey: VrfKey, policy: Policy | Uint8Array, options?: ClientOptions & { state?: Uint8Array | null }): Promise<Client>;
+  /**
+   * Returns a client whose chain begins with an entry that at least so many auditors have. `heads` has the head of each auditor for
+   * that entry's epoch, by the auditor's name; get each from the auditor itself.
+   */
+  vouched(
+    signingKey: SigningKey, vrfKey: VrfKey, policy: Policy | Uint8Array,
+    entry: Uint8Array, heads: Map<string, Head>, least: number | bigint, options?: ClientOptions,
+  ): Promise<Client>;
   /** Returns the key that a proof shows, null if it shows that the name is bound to none. Throws `Refused`. */
   check(nonce: Uint8Array, root: Uint8Array, index: Uint8Array, name: string | Uint8Array, proof: Uint8Array): Uint8Array | null;
   /** Returns an auditor that has seen no entry, or one that goes on from a state. */

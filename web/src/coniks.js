@@ -6,15 +6,17 @@ import { toHex } from "./bytes.js";
 
 const GOOD = 0;
 
-/** Adds pages to a memory, by a bigint, or a number in Node 20. @param {any} memory @param {number} pages */
-function grow(memory, pages) {
-  try {
-    memory.grow(BigInt(pages));
-  } catch (error) {
-    if (!(error instanceof TypeError)) throw error;
-    memory.grow(pages);
-  }
-}
+/** Why two entries are evidence, by the numbers of coniks.h. */
+export const KINDS = new Map([[1, "overlap"], [2, "other policy"], [3, "malformed"]]);
+
+/**
+ * The parts of an entry's body.
+ * @typedef {{version: number, epoch: bigint, previousEpoch: bigint, root: Uint8Array, previousLink: Uint8Array, nonce: Uint8Array, policy: Uint8Array}} Fields
+ */
+
+/** Most bytes of the arguments of a call, together. The memory has at most 4 GiB. */
+const ROOM = 2 ** 32 - 2 ** 24;
+const PAGE = 65536;
 
 /** A place in the module's memory for what one call takes. */
 class Desk {
@@ -29,12 +31,13 @@ class Desk {
     this.at = this.base;
   }
 
-  /** @param {number} size @returns {number} the place of that many free bytes */
+  /** Throws a RangeError if the memory can't grow so far. @param {number} size @returns {number} the place of that many free bytes */
   room(size) {
-    const here = this.at;
-    this.at += 16 * Math.ceil(size / 16);
-    const missing = this.at + 16 - this.memory.buffer.byteLength;
-    if (missing > 0) grow(this.memory, Math.ceil(missing / 65536));
+    const [here, end] = [this.at, this.at + 16 * Math.ceil(size / 16)];
+    if (end > ROOM) throw new RangeError("the arguments of a call have less than 4 GiB together");
+    const missing = end + 16 - this.memory.buffer.byteLength;
+    if (missing > 0) this.memory.grow(Math.ceil(missing / PAGE));
+    this.at = end;
     return here;
   }
 
@@ -84,8 +87,7 @@ export class Coniks {
     const [start, length] = [desk.put(new Uint8Array(8)), desk.put(new Uint8Array(8))];
     const status = this.calls.coniks_check(a, b, c, d, BigInt(name.length), e, BigInt(proof.length), start, length);
     if (status !== GOOD) return { status, key: null };
-    const at = desk.number(start);
-    return { status, key: proof.slice(at, at + desk.number(length)) };
+    return { status, key: desk.take(e + BigInt(desk.number(start)), desk.number(length)) };
   }
 
   /** The state of an auditor that has seen no entry. @returns {Uint8Array} */
@@ -132,26 +134,39 @@ export class Coniks {
     return { status, kind: new DataView(this.desk.take(out, 4).buffer).getUint32(0, true) };
   }
 
-  /** The link of an entry of 209 bytes, in hexadecimal digits; the empty text of any other bytes. @param {Uint8Array} entry @returns {string} */
-  link(entry) {
+  /** The link of an entry, 32 bytes, or null if the bytes are no entry. @param {Uint8Array} entry @returns {Uint8Array | null} */
+  linkBytes(entry) {
     this.desk.clear();
     const out = this.desk.put(new Uint8Array(32));
     const status = this.calls.coniks_link(this.desk.put(entry), BigInt(entry.length), out);
-    return status === GOOD ? toHex(this.desk.take(out, 32)) : "";
+    return status === GOOD ? this.desk.take(out, 32) : null;
   }
 
-  /**
-   * Returns the body of an entry, or null if the bytes are no entry.
-   * @param {Uint8Array} entry
-   * @returns {{epoch: bigint, root: string, nonce: string, version: number} | null}
-   */
-  body(entry) {
+  /** The link of an entry of 209 bytes, in hexadecimal digits; the empty text of any other bytes. @param {Uint8Array} entry @returns {string} */
+  link(entry) {
+    return toHex(this.linkBytes(entry) ?? new Uint8Array(0));
+  }
+
+  /** Reads the body of an entry and verifies nothing. Returns null if the bytes are no entry. @param {Uint8Array} entry @returns {Fields | null} */
+  fields(entry) {
     this.desk.clear();
     const out = this.desk.put(new Uint8Array(152));
     if (this.calls.coniks_entry_body(this.desk.put(entry), BigInt(entry.length), out) !== GOOD) return null;
     const bytes = this.desk.take(out, 152);
-    const epoch = new DataView(bytes.buffer).getBigUint64(0, true);
-    return { epoch, root: toHex(bytes.slice(16, 48)), nonce: toHex(bytes.slice(80, 112)), version: bytes[144] };
+    const [root, previousLink, nonce, policy] = [16, 48, 80, 112].map((at) => bytes.slice(at, at + 32));
+    const numbers = new DataView(bytes.buffer);
+    const [epoch, previousEpoch] = [numbers.getBigUint64(0, true), numbers.getBigUint64(8, true)];
+    return { version: bytes[144], epoch, previousEpoch, root, previousLink, nonce, policy };
+  }
+
+  /**
+   * Returns the body of an entry with its digests as hexadecimal digits, or null if the bytes are no entry.
+   * @param {Uint8Array} entry
+   * @returns {{epoch: bigint, root: string, nonce: string, version: number} | null}
+   */
+  body(entry) {
+    const read = this.fields(entry);
+    return read && { epoch: read.epoch, root: toHex(read.root), nonce: toHex(read.nonce), version: read.version };
   }
 
   /** Returns the text of a status. @param {number} status @returns {string} */

@@ -1,12 +1,21 @@
-// The module for web projects: the calls of the library as functions that throw, and classes for an auditor and a monitor.
+// The module for web projects: the calls of the library as functions that throw, classes for an auditor and a monitor, and the client.
 
-import { Coniks } from "./coniks.js";
+import { Client } from "./client.js";
+import { Coniks, KINDS } from "./coniks.js";
+import { Refusal } from "./messages.js";
+import { Policy, readPolicy } from "./policy.js";
+import { Unsupported } from "./schemes.js";
+import { bytes, nameBytes, unsigned } from "./values.js";
+import { expectedKey } from "./watch.js";
+
+export { Policy, Refusal, Unsupported, readPolicy };
 
 const ABSENT = 1;
 const BODY_BYTES = 145;
 const STATE_BYTES = 80;
+const UNUSED = 7;
 const NO_EVIDENCE = 50;
-const KINDS = new Map([[1, "overlap"], [2, "other policy"], [3, "malformed"]]);
+const ENTRY_LENGTH = 48;
 const SEEN = new Map([[0, "same"], [1, "absent"], [9, "changed"]]);
 
 /** Why a proof or an entry isn't accepted: `status` is its number in coniks.h, `message` its text. */
@@ -18,31 +27,17 @@ export class Refused extends Error {
   }
 }
 
-const utf8 = (name) => (typeof name === "string" ? new TextEncoder().encode(name) : bytes(name, "the name"));
-
-function bytes(value, what, size = value?.length) {
-  if (!(value instanceof Uint8Array)) throw new TypeError(`${what} is no Uint8Array`);
-  if (value.length !== size) throw new RangeError(`${what} has ${size} bytes, not ${value.length}`);
-  return value;
-}
-
 function bool(value) {
   if (typeof value !== "boolean") throw new TypeError("whether the signature is good is true or false");
   return value;
-}
-
-function unsigned(value, bits, what) {
-  if (typeof value !== "bigint" && !Number.isSafeInteger(value)) throw new TypeError(`${what} is neither a bigint nor a safe integer`);
-  const number = BigInt(value);
-  if (BigInt.asUintN(bits, number) !== number) throw new RangeError(`${what} is from 0 to 2^${bits} - 1`);
-  return number;
 }
 
 /** Follows a chain of entries. Made by `Library.auditor`. */
 class Auditor {
   constructor(library, state = new Uint8Array(STATE_BYTES)) {
     this.library = library;
-    this.kept = bytes(state, "the state", STATE_BYTES).slice();
+    // The last bytes of a state are unused, and so are zeros.
+    this.kept = bytes(state, "the state", STATE_BYTES).fill(0, STATE_BYTES - UNUSED);
   }
 
   get state() {
@@ -62,7 +57,7 @@ class Auditor {
 class Monitor extends Auditor {
   constructor(library, name, index, expected, state) {
     super(library, state);
-    this.wanted = { index: bytes(index, "the index", 32).slice(), name: utf8(name), expected: new Uint8Array() };
+    this.wanted = { index: bytes(index, "the index", 32), name: nameBytes(name), expected: new Uint8Array() };
     this.expected = expected;
   }
 
@@ -71,8 +66,7 @@ class Monitor extends Auditor {
   }
 
   set expected(key) {
-    if (key !== null && bytes(key, "the expected key").length === 0) throw new RangeError("an expected key has at least one byte; null expects none");
-    this.wanted.expected = key === null ? new Uint8Array() : key.slice();
+    this.wanted.expected = expectedKey(key);
   }
 
   step(entry, signatureIsGood, proof) {
@@ -93,7 +87,7 @@ class Library {
 
   check(nonce, root, index, name, proof) {
     const [a, b, c] = [bytes(nonce, "the nonce", 32), bytes(root, "the root", 32), bytes(index, "the index", 32)];
-    const { status, key } = this.calls.check(a, b, c, utf8(name), bytes(proof, "the proof"));
+    const { status, key } = this.calls.check(a, b, c, nameBytes(name), bytes(proof, "the proof"));
     if (status === ABSENT) return null;
     this.accepted(status);
     return key;
@@ -116,11 +110,7 @@ class Library {
   }
 
   link(entry) {
-    const { desk, calls } = this.calls;
-    desk.clear();
-    const out = desk.put(new Uint8Array(32));
-    this.accepted(calls.coniks_link(desk.put(bytes(entry, "the entry")), BigInt(entry.length), out));
-    return desk.take(out, 32);
+    return this.calls.linkBytes(bytes(entry, "the entry")) ?? this.accepted(ENTRY_LENGTH);
   }
 
   convicts(a, b) {
@@ -131,14 +121,7 @@ class Library {
   }
 
   body(entry) {
-    const { desk, calls } = this.calls;
-    desk.clear();
-    const out = desk.put(new Uint8Array(152));
-    this.accepted(calls.coniks_entry_body(desk.put(bytes(entry, "the entry")), BigInt(entry.length), out));
-    const read = desk.take(out, 152);
-    const [root, previousLink, nonce, policy] = [16, 48, 80, 112].map((at) => read.slice(at, at + 32));
-    const numbers = new DataView(read.buffer);
-    return { version: read[144], epoch: numbers.getBigUint64(0, true), previousEpoch: numbers.getBigUint64(8, true), root, previousLink, nonce, policy };
+    return this.calls.fields(bytes(entry, "the entry")) ?? this.accepted(ENTRY_LENGTH);
   }
 
   bodyBytes(body) {
@@ -153,6 +136,14 @@ class Library {
     const out = desk.put(new Uint8Array(BODY_BYTES));
     calls.coniks_body_bytes(desk.put(written), out);
     return desk.take(out, BODY_BYTES);
+  }
+
+  client(signingKey, vrfKey, policy, options) {
+    return Client.of(this.calls, signingKey, vrfKey, policy, options);
+  }
+
+  vouched(signingKey, vrfKey, policy, entry, heads, least, options) {
+    return Client.vouched(this.calls, signingKey, vrfKey, policy, entry, heads, least, options);
   }
 
   text(status) {

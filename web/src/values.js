@@ -1,0 +1,39 @@
+// What callers pass: bytes, names and numbers, of the right type and size. All bytes are copied, since a caller may change them later.
+
+/** A copy of bytes. Node's Buffer is a Uint8Array whose slice is no copy. @param {any} value @param {string} what @param {number} size @returns {Uint8Array} */
+export function bytes(value, what, size = value?.length) {
+  if (!(value instanceof Uint8Array)) throw new TypeError(`${what} is no Uint8Array`);
+  if (value.length !== size) throw new RangeError(`${what} has ${size} bytes, not ${value.length}`);
+  return new Uint8Array(value);
+}
+
+/** The bytes of a name. @param {any} name @returns {Uint8Array} */
+export function nameBytes(name) {
+  return typeof name === "string" ? new TextEncoder().encode(name) : bytes(name, "the name");
+}
+
+/** A number of so many bits, from a bigint or a safe integer. @param {any} value @param {number} bits @param {string} what @returns {bigint} */
+export function unsigned(value, bits, what) {
+  if (typeof value !== "bigint" && !Number.isSafeInteger(value)) throw new TypeError(`${what} is neither a bigint nor a safe integer`);
+  const number = BigInt(value);
+  if (BigInt.asUintN(bits, number) !== number) throw new RangeError(`${what} is from 0 to 2^${bits} - 1`);
+  return number;
+}
+
+/** How often a second is counted: a number of seconds with a fraction is exact then. */
+export const TICKS = 2n ** 52n;
+
+/** A number of seconds as ticks. @param {any} value @param {string} what @returns {bigint} */
+export function ticks(value, what) {
+  if (typeof value !== "bigint" && typeof value !== "number") throw new TypeError(`${what} is no number of seconds`);
+  if (!(value >= 0 && value < 2 ** 64)) throw new RangeError(`${what} is at least 0 seconds and less than 2^64`);
+  const whole = BigInt(typeof value === "bigint" ? value : Math.floor(value));
+  return whole * TICKS + BigInt(Math.floor((Number(value) - Number(whole)) * Number(TICKS)));
+}
+
+/** A number of 64 bits in 8 bytes, big-endian. @param {bigint} number @returns {Uint8Array} */
+export function long(number) {
+  const made = new Uint8Array(8);
+  new DataView(made.buffer).setBigUint64(0, number);
+  return made;
+}
