@@ -385,7 +385,9 @@ export class Client {
     if (state[0] !== 1) throw new Refusal("StateVersion");
     if (!isSame(sha256(whole), state.subarray(-32))) throw new Refusal("StateDamaged");
     if (!isSame(state.subarray(1, 33), this.#digest)) throw new Refusal("StatePolicy");
-    const [it, kept] = [new Reader(whole, "StateForm", 33), []];
+    const it = new Reader(whole, "StateForm", 33);
+    /** @type {{entry: Uint8Array, time: bigint, seen: number}[]} */
+    const kept = [];
     for (let count = it.number(4); count > 0; count--) kept.push({ entry: it.take(ENTRY).slice(), time: it.long(), seen: it.number(1) });
     const watch = readWatch(it);
     const epochs = kept.map((it) => ({ ...it, epoch: new DataView(it.entry.buffer).getBigUint64(1) }));

@@ -72,7 +72,10 @@ function xOf(y) {
   return found === reduced(-u) ? reduced(x * ROOT_OF_MINUS_1) : null;
 }
 
-/** The point that 32 bytes encode, null if they encode none (section 5.1.3). @param {Uint8Array} bytes @returns {Point | null} */
+/**
+ * The point that 32 bytes encode, null if they encode none (section 5.1.3).
+ * @type {(bytes: Uint8Array) => Point | null}
+ */
 export function decoded(bytes) {
   const number = numberOf(bytes);
   const [sign, y] = [number >> 255n, number & LOW];
@@ -82,7 +85,10 @@ export function decoded(bytes) {
   return [signed, y, 1n, folded(signed * y)];
 }
 
-/** The encodings of points (section 5.1.2), 32 bytes each, with one inversion. @param {...Point} points @returns {Uint8Array[]} */
+/**
+ * The encodings of points (section 5.1.2), 32 bytes each, with one inversion.
+ * @type {(...points: Point[]) => Uint8Array[]}
+ */
 export function encoded(...points) {
   /** The products of the denominators before each point. @type {bigint[]} */
   const before = [];
@@ -102,7 +108,10 @@ export function encoded(...points) {
   return made;
 }
 
-/** The sum of two points (section 5.1.4). @param {Point} p @param {Point} q @returns {Point} */
+/**
+ * The sum of two points (section 5.1.4).
+ * @type {(p: Point, q: Point) => Point}
+ */
 function sum([x1, y1, z1, t1], [x2, y2, z2, t2]) {
   const [a, b] = [folded((y1 - x1) * (y2 - x2)), folded((y1 + x1) * (y2 + x2))];
   const [c, d] = [folded(folded(2n * D * t1) * t2), folded(2n * z1 * z2)];
@@ -110,7 +119,10 @@ function sum([x1, y1, z1, t1], [x2, y2, z2, t2]) {
   return [folded(e * f), folded(g * h), folded(f * g), folded(e * h)];
 }
 
-/** Twice a point. @param {Point} p @returns {Point} */
+/**
+ * Twice a point.
+ * @type {(p: Point) => Point}
+ */
 function twice([x, y, z]) {
   const [a, b, both] = [folded(x * x), folded(y * y), x + y];
   const [h, g] = [a + b, a - b];
@@ -118,22 +130,28 @@ function twice([x, y, z]) {
   return [folded(e * f), folded(g * h), folded(f * g), folded(e * h)];
 }
 
-/** Eight times a point, the cofactor. @param {Point} p @returns {Point} */
+/**
+ * The cofactor, 8, times a point.
+ * @type {(p: Point) => Point}
+ */
 export function timesCofactor(p) {
   return twice(twice(twice(p)));
 }
 
-/** @param {Point} p @returns {Point} */
+/** @type {(p: Point) => Point} */
 export function negated([x, y, z, t]) {
   return [-x, y, z, -t];
 }
 
-/** @param {Point} p @returns {boolean} */
+/** @type {(p: Point) => boolean} */
 export function isIdentity([x, y, z]) {
   return reduced(x) === 0n && reduced(y - z) === 0n;
 }
 
-/** The odd multiples of a point up to 15 times it. @param {Point} p @returns {Point[]} */
+/**
+ * The odd multiples of a point up to 15 times it.
+ * @type {(p: Point) => Point[]}
+ */
 function oddMultiples(p) {
   const [two, multiples] = [twice(p), [p]];
   for (let i = 1; i < 8; i++) multiples.push(sum(multiples[i - 1], two));
@@ -151,8 +169,12 @@ function digitsOf(number) {
   return digits;
 }
 
-/** a * p + b * q, for a and b from 0 on. @param {bigint} a @param {Point} p @param {bigint} b @param {Point} q @returns {Point} */
+/**
+ * a * p + b * q, for a and b from 0 on.
+ * @type {(a: bigint, p: Point, b: bigint, q: Point) => Point}
+ */
 export function combined(a, p, b, q) {
+  /** @type {[number[], Point[]][]} */
   const terms = [[digitsOf(a), oddMultiples(p)], [digitsOf(b), oddMultiples(q)]];
   let total = IDENTITY;
   for (let i = Math.max(...terms.map(([digits]) => digits.length)) - 1; i >= 0; i--) {
@@ -165,7 +187,10 @@ export function combined(a, p, b, q) {
   return total;
 }
 
-/** Whether a point has prime order. @param {Point} p @returns {boolean} */
+/**
+ * Whether a point has prime order.
+ * @type {(p: Point) => boolean}
+ */
 export function hasPrimeOrder(p) {
   return !isIdentity(p) && isIdentity(combined(ORDER, p, 0n, IDENTITY));
 }

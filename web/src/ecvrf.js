@@ -8,14 +8,21 @@ import { BASE, ORDER, combined, decoded, encoded, hasPrimeOrder, isIdentity, neg
 const SUITE = 3;
 const PROOF_BYTES = 80;
 
-/** The point of a public key, null if its bytes are not those of a point of prime order. @param {Uint8Array} bytes @returns {Point | null} */
+/**
+ * The point of a public key, null if its bytes are not those of a point of prime order.
+ * @type {(bytes: Uint8Array) => Point | null}
+ */
 export function keyPoint(bytes) {
   const point = bytes.length === 32 ? decoded(bytes) : null;
   return point !== null && hasPrimeOrder(point) ? point : null;
 }
 
 export class VrfKey {
-  /** @param {Uint8Array} bytes @param {Point} point @param {SubtleCrypto} subtle */
+  /**
+   * @param {Uint8Array} bytes
+   * @param {Point} point  of these bytes, which `keyPoint` returned
+   * @param {SubtleCrypto} subtle
+   */
   constructor(bytes, point, subtle) {
     this.bytes = bytes;
     this.minus = negated(point);

@@ -25,7 +25,10 @@ export class Policy {
     this.#document = document;
     this.#keys = { signing: signingKey, vrf: vrfKey };
     this.origin = origin;
-    [this.epochStart, this.epochPeriod, this.proofsKept] = numbers.map(numberIn);
+    const [epochStart, epochPeriod, proofsKept] = numbers.map(numberIn);
+    this.epochStart = epochStart;
+    this.epochPeriod = epochPeriod;
+    this.proofsKept = proofsKept;
     Object.freeze(this);
   }
 
