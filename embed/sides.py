@@ -705,8 +705,9 @@ def try_build_without_rt(tell: Tell) -> None:
 
 def try_javascript(tell: Tell, skip: Skip, requests: Sequence[Request]) -> None:
     try_build_without_rt(tell)
-    if not tools.has("node"):
-        return skip("the module for web projects", "node")
+    for tool in ["node", "wasm-opt"]:
+        if not tools.has(tool):
+            return skip("the module for web projects", tool)
     ran = run(TOP / "web/build")
     tell("web/build", ran.returncode == 0, ran.stderr.decode()[-2000:])
     named = json.loads((TOP / "web/out/package.json").read_text("utf-8"))
@@ -728,10 +729,12 @@ def try_javascript(tell: Tell, skip: Skip, requests: Sequence[Request]) -> None:
         tell("the types of the module", ran.returncode == 0, ran.stdout.decode())
     else:
         skip("the types of the module", "tsc")
-    node = ["node", "--experimental-wasm-memory64"]
-    try_requests(tell, "JavaScript", [*node, TOP / "web/answers.mjs"], requests)
-    ran = run(*node, TOP / "web/arguments.mjs")
+    try_requests(tell, "JavaScript", ["node", TOP / "web/answers.mjs"], requests)
+    ran = run("node", TOP / "web/arguments.mjs")
     tell("the arguments of the module", ran.returncode == 0, (ran.stdout + ran.stderr).decode()[-2000:])
+    ran = run("node", TOP / "web/client_units.mjs")
+    last = ran.stdout.decode().strip().splitlines()[-1:]
+    tell("the client's own tests", ran.returncode == 0 and last[0].endswith(" 0 failed"), (ran.stdout + ran.stderr).decode()[-2000:])
 
 
 def try_all(tell: Tell, skip: Skip, program: Path, coniks: ModuleType, lines: Sequence[proofs.Line]) -> None:

@@ -62,6 +62,7 @@ TOOLS: dict[str, tuple[Callable[[], bool], str, str]] = {
     "psycopg": (lambda: DATABASE_PYTHON is not None, "python3-psycopg", "coniks.postgres and examples/cluster"),
     "mypy": (lambda: has_program("mypy"), "mypy", "the types of the side in Python"),
     "node": (lambda: has_program("node"), "nodejs", "the page's own tests"),
+    "wasm-opt": (lambda: has_program("wasm-opt"), "binaryen", "the page and the module for web projects"),
     "tsc": (lambda: has_program("tsc"), "node-typescript", "the types of the module for web projects"),
     "chromium": (lambda: has_program(CHROMIUM), "chromium", "the page in a browser"),
     "shellcheck": (lambda: has_program("shellcheck"), "shellcheck", "shellcheck in scripts/lint"),

@@ -1,4 +1,4 @@
-// Tests which numbers the module for web projects takes: `node --experimental-wasm-memory64 web/arguments.mjs`.
+// Tests which numbers the module for web projects takes: `node web/arguments.mjs`.
 
 import assert from "node:assert/strict";
 import { readFileSync } from "node:fs";
