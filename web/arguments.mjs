@@ -22,3 +22,16 @@ for (const member of ["version", "epoch", "previousEpoch"]) {
 assert.throws(() => bytesWith({ version: 256 }), RangeError);
 for (const value of others) assert.throws(() => library.text(value), TypeError, `text ${String(value)}`);
 assert.equal(library.text(4n), library.text(4));
+
+// The last 7 bytes of a state are unused, and read as zeros.
+const used = Uint8Array.from({ length: 80 }, (_, i) => (i < 73 ? i : 0));
+const filled = Uint8Array.from(used).fill(255, 73);
+assert.deepEqual(library.auditor(filled).state, used);
+assert.deepEqual(library.monitor("alice", digest, null, filled).state, used);
+
+// What is given is copied, also a Buffer, whose slice is no copy.
+const [state, index, key] = [used, digest, Uint8Array.of(1)].map((it) => Buffer.from(it));
+const monitor = library.monitor("alice", index, key, state);
+for (const it of [state, index, key]) it.fill(9);
+assert.deepEqual(monitor.state, used);
+assert.deepEqual(monitor.expected, Uint8Array.of(1));

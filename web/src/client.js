@@ -59,7 +59,9 @@ function headsOf(heads) {
 
 /** @param {any} entries  a catch-up, or entries @returns {Uint8Array[]} */
 function entriesOf(entries) {
-  return entries instanceof Uint8Array ? catchUpEntries(bytes(entries, "a catch-up")) : Array.from(entries, (it) => bytes(it, "an entry"));
+  if (entries instanceof Uint8Array) return catchUpEntries(bytes(entries, "a catch-up"));
+  if (typeof entries?.[Symbol.iterator] !== "function" || typeof entries === "string") throw new TypeError("entries are a Uint8Array, or several ones");
+  return Array.from(entries, (it) => bytes(it, "an entry"));
 }
 
 export class Client {

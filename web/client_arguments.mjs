@@ -1,0 +1,257 @@
+// Tests of what callers, services and platforms can do wrong to the client: `node web/client_arguments.mjs`. The last line is
+// `N passed, M failed`. Policy, reply, history and state are the examples of docs/FORMATS.md.
+
+import { createHash } from "node:crypto";
+import { readFileSync } from "node:fs";
+
+import { Refusal, Unsupported, load, readPolicy } from "./out/coniks.js";
+import { Coniks } from "./src/coniks.js";
+import { Refusal as Refused } from "./src/messages.js";
+import { data, end, hex, read, same, textBytes, throwing, thrown } from "./telling.mjs";
+
+const module = readFileSync(new URL("./out/coniks.wasm", import.meta.url));
+const library = await load(module);
+const formats = read("docs/FORMATS.md");
+
+/** The lines of the example after a text. @param {string} after */
+function example(after) {
+  const lines = formats.slice(formats.indexOf(after)).split("\n");
+  const first = lines.findIndex((it) => it.startsWith("    "));
+  const length = lines.slice(first).findIndex((it) => !it.startsWith("    "));
+  return lines.slice(first, first + length).map((it) => it.trim());
+}
+
+const policy = readPolicy(textBytes(`${example("The keys of this example are").join("\n")}\n`));
+const reply = data(example("The reply for alice at epoch 2").join(""));
+const history = data(example("The history of alice at epochs 1 and 2").join(""));
+const state = data(example("The state of a client that watches alice").join(""));
+const entries = [state.slice(37, 246), state.slice(255, 464)];
+const start = Number(policy.epochStart);
+const clock = () => start + 3600 + 60;
+const begun = (more = {}) => library.client(policy.signingKey, policy.vrfKey, policy, { clock, ...more });
+const signing = { verify: () => true };
+const vrf = { verify: () => true, index: () => new Uint8Array(32) };
+const key = textBytes("k");
+
+/** A reply whose bytes were given away. */
+function detached() {
+  const given = reply.slice();
+  structuredClone(given.buffer, { transfer: [given.buffer] });
+  return given;
+}
+
+/** A state with other bytes, and the digest of them. @param {Uint8Array[]} parts */
+function renewed(...parts) {
+  const whole = Buffer.concat(parts);
+  return Buffer.concat([whole, createHash("sha256").update(whole).digest()]);
+}
+
+async function tryExamples() {
+  same("the digest of the policy", policy.digest, "9b7c1ee453e0628965915c3a88e82924b3e90fe53ba30531b2b3ff12be6f7fef");
+  const parts = { origin: policy.origin, start: policy.epochStart, period: policy.epochPeriod, kept: policy.proofsKept };
+  same("its parts", parts, { origin: "keys.example.com/directory", start: 1767225600, period: 3600, kept: null });
+  const client = await begun();
+  client.watch("alice", key, 1);
+  let now = start + 60;
+  const timed = await library.client(policy.signingKey, policy.vrfKey, policy, { clock: () => now });
+  timed.watch("alice", key, 1);
+  for (const entry of entries) {
+    same("an entry", await timed.feed([entry]), [{ epoch: now < start + 3600 ? 1 : 2, seen: "missing" }]);
+    now += 3600;
+  }
+  now = start + 3660;
+  same("the reply", await timed.lookup("alice", reply), { epoch: 2, key, seen: "same", age: 60, firstSeen: start + 3660 });
+  same("the state", timed.state, state);
+  same("the missing epochs", timed.missing, [1]);
+  const found = await timed.history("alice", history);
+  same("the history", found.map((it) => [it.epoch, it.seen, it.age]), [[1, "same", 3660], [2, "same", 60]]);
+  same("the state once more", (await begun({ state })).state, state);
+}
+
+async function tryNumbers() {
+  const listed = [...formats.slice(formats.indexOf("## Replies to clients")).matchAll(/^\| `(\w+)` \| (\d+) \|/gm)];
+  same("errors are listed", listed.length > 20, true);
+  for (const [, why, number] of listed) {
+    const refusal = new Refused(why);
+    same(`the number of ${why}`, [refusal.number, refusal.why], [Number(number), why]);
+    same(`the text of ${why}`, Number(number) < 64 || /^[a-z].{10}/.test(refusal.message), true);
+  }
+  const texts = JSON.parse(read("embed/texts.json"));
+  const client = await begun();
+  for (const [what, call, name, number] of [
+    ["an entry", () => client.feed([new Uint8Array(208)]), "ENTRY_LENGTH", 48],
+    ["a signature", () => client.feed([Uint8Array.from(entries[0], (it, i) => (i === 208 ? it ^ 1 : it))]), "SIGNATURE", 40],
+    ["a first entry", () => client.feed([entries[1]]), "PREVIOUS_EPOCH", 37],
+    ["a deep step", () => client.history("alice", Buffer.concat([history.subarray(0, 83), data("000000000000000100ffff")])), "TOO_DEEP", 2],
+  ]) {
+    const refusal = await call().catch((error) => error);
+    same(what, [refusal.message, refusal.number, refusal.status], [texts[name], number, number]);
+    same(`${what} is a refusal`, [refusal instanceof Refusal, refusal instanceof Error, refusal.name, refusal.cause], [true, true, "Refusal", undefined]);
+  }
+}
+
+async function tryWrongArguments() {
+  const [make, client] = [library.client.bind(library), await begun({ state })];
+  const keys = [policy.signingKey, policy.vrfKey, policy];
+  const link = new Uint8Array(32);
+  const heads = new Map([["a", { epoch: 1, link }]]);
+  const vouched = (...more) => library.vouched(...keys, ...more);
+  const calls = {
+    TypeError: [
+      () => make(undefined, ...keys.slice(1)), () => make("00".repeat(32), ...keys.slice(1)), () => make({}, ...keys.slice(1)), () => make({ verify: true }, ...keys.slice(1)),
+      () => make(keys[0], undefined, policy), () => make(keys[0], {}, policy), () => make(keys[0], { verify() {} }, policy), () => make(keys[0], { index() {} }, policy),
+      () => make(keys[0], keys[1], null), () => make(keys[0], keys[1], policy.document), () => make(keys[0], keys[1], { ...policy }), () => make(keys[0], keys[1], Array(32).fill(0)),
+      () => begun({ state: "state" }), () => begun({ state: [...state] }), () => begun({ max_age: 1 }), () => begun({ maxAge: "60" }), () => begun({ skew: null }), () => begun({ skew: true }), () => begun({ clock: 7 }), () => make(...keys, null),
+      () => client.feed(), () => client.feed(null), () => client.feed(7), () => client.feed("abc"), () => client.feed(""), () => client.feed({}), () => client.feed(entries.map(hex)), () => client.feed([null]), () => client.feed(entries[0].buffer),
+      () => client.lookup("alice"), () => client.lookup("alice", detached()), () => client.lookup("alice", hex(reply)), () => client.lookup(7, reply), () => client.lookup(null, reply), () => client.lookup("alice", reply, "2"), () => client.lookup("alice", reply, 1.5), () => client.lookup("alice", reply, true), () => client.lookup("alice", reply, NaN),
+      () => client.history("alice", [...history]), () => client.watch("alice", "k"), () => client.watch("alice", undefined), () => client.watch(undefined, key), () => client.watch("alice", key, "1"), () => client.expect(undefined, 9), () => client.expect(textBytes("l"), undefined), () => client.expect(textBytes("l"), 9.5),
+      () => client.compare(), () => client.compare(null), () => client.compare({}), () => client.compare({ epoch: 1 }), () => client.compare({ epoch: "1", link }), () => client.compare({ epoch: 1, link: hex(link) }), () => client.cover(undefined),
+      () => client.evidence(), () => client.evidence(hex(entries[0])), () => readPolicy(), () => readPolicy("policy coniks-1\n"),
+      () => vouched(entries[0], [{ epoch: 1, link }], 1), () => vouched(entries[0], { a: { epoch: 1, link } }, 1), () => vouched(entries[0], new Map([["a", null]]), 1), () => vouched(entries[0], heads, "1"), () => vouched(entries[0], heads, undefined), () => vouched(null, heads, 1), () => vouched(entries[0], heads, 1, { state }),
+    ],
+    RangeError: [
+      () => begun({ maxAge: -1 }), () => begun({ maxAge: NaN }), () => begun({ skew: Infinity }), () => begun({ skew: 2n ** 64n }), () => client.lookup("alice", reply, -1), () => client.lookup("alice", reply, 2n ** 64n),
+      () => client.compare({ epoch: 1, link: new Uint8Array(31) }), () => client.compare({ epoch: -1, link }), () => client.watch("alice", new Uint8Array(0)), () => client.watch("", key), () => client.watch("a".repeat(256), key), () => client.watch("bob", key), () => client.watch("alice", key, 2),
+      () => client.expect(textBytes("l"), 2), () => client.expect(key, 3), () => client.expect(new Uint8Array(0), 3), () => vouched(entries[0], heads, 0), () => vouched(entries[0], heads, 2 ** 32),
+      async () => (await make(...keys, { clock })).expect(key, 9),
+    ],
+    SigningKey: [() => make(new Uint8Array(32), ...keys.slice(1)), () => make(new Uint8Array(31), ...keys.slice(1)), () => make(new Uint8Array(0), ...keys.slice(1))],
+    VrfKey: [() => make(keys[0], new Uint8Array(32), policy), () => make(keys[0], new Uint8Array(33), policy)],
+    PolicyKeys: [() => make(keys[1], keys[1], policy), () => make(keys[0], keys[0], policy), () => make(keys[0], null, policy)],
+    NoReply: [() => client.lookup("alice", new Uint8Array(0))],
+    NotVouched: [() => vouched(entries[1], new Map(), 1)],
+    AuditorsDiffer: [() => vouched(entries[0], heads, 1)],
+  };
+  for (const [error, all] of Object.entries(calls)) for (const call of all) await throwing(String(call), call, error);
+  same("wrong calls change nothing", client.state, state);
+  for (const time of [NaN, -1, Infinity, 2 ** 64, "7", null, undefined, Promise.resolve(7), new Date()]) {
+    const wrong = await begun({ clock: () => time });
+    await throwing(`the time ${String(time)}`, () => wrong.feed(entries), typeof time === "number" ? "RangeError" : "TypeError");
+    same("nothing is fed then", wrong.head(), null);
+    const other = await begun({ state, clock: () => time });
+    await throwing(`a lookup at ${String(time)}`, () => other.lookup("alice", reply), typeof time === "number" ? "RangeError" : "TypeError");
+  }
+}
+
+/** Seconds with fractions, and bigints, are exact. */
+async function tryTimes() {
+  const at = async (now, more) => {
+    const client = await begun({ state, clock: () => now, ...more });
+    return (await thrown(() => client.lookup("alice", reply))) ?? (await client.lookup("alice", reply)).age;
+  };
+  const begins = start + 3600;
+  same("half a second after maxAge", await at(begins + 60.5, { maxAge: 60 }), "Stale");
+  same("at maxAge with a fraction", await at(begins + 60.5, { maxAge: 60.5 }), 60.5);
+  same("2^-20 seconds after it", await at(begins + 60.5 + 2 ** -20, { maxAge: 60.5 }), "Stale");
+  same("at skew with a fraction", await at(begins - 7.25, { skew: 7.25 }), -7.25);
+  same("2^-20 seconds before it", await at(begins - 7.25 - 2 ** -20, { skew: 7.25 }), "Future");
+  same("bigints", await at(BigInt(begins + 60), { maxAge: 60n, skew: 0n }), 60);
+  same("a greater bigint", await at(BigInt(begins + 61), { maxAge: 60n, skew: 0n }), "Stale");
+  same("two periods by default", [await at(begins + 7200, {}), await at(begins + 7201, {})], [7200, "Stale"]);
+  same("300 seconds by default", [await at(begins - 300, {}), await at(begins - 301, {})], [-300, "Future"]);
+  const plain = await library.client(policy.signingKey, policy.vrfKey, policy.digest, { clock, state });
+  same("no clock", (await plain.lookup("alice", reply)).age, null);
+  const floored = await begun({ clock: () => begins + 0.75 });
+  await floored.feed(entries);
+  same("the time of a feed in whole seconds", (await floored.lookup("alice", reply)).firstSeen, begins);
+}
+
+/** What claims to be long is refused at once, without room for it. */
+async function tryHostile() {
+  const client = await begun({ state });
+  const watch = 473;
+  const chain = state.subarray(0, watch);
+  const before = process.memoryUsage().arrayBuffers;
+  const header = [chain.subarray(0, 33), data("ffffffff"), chain.subarray(37)];
+  for (const [what, given] of [
+    ["2^32 - 1 epochs", renewed(...header, data("00"))],
+    ["a key of 2^32 - 1 bytes", renewed(chain, data("0105616c6963650000000000000001ffffffff"), key)],
+    ["a new key of 2^32 - 1 bytes", renewed(chain, data("0205616c6963650000000000000001000000016b00000000000000020000000000000003ffffffff"))],
+    ["an empty name", renewed(chain, data("0100000000000000000100000000"))],
+    ["bytes that follow", renewed(chain, data("0000"))],
+    ["no watch", renewed(chain)],
+  ]) await throwing(what, () => begun({ state: given }), "StateForm");
+  const long = (size, digits) => Buffer.concat([reply.subarray(0, 210), data(digits), Buffer.alloc(size)]);
+  await throwing("a VRF proof of 65,535 bytes that aren't there", () => client.lookup("alice", long(10, "ffff")), "CutInVrf");
+  await throwing("a VRF proof of 65,535 bytes", () => client.lookup("alice", long(65535, "ffff")), "VrfProof");
+  const [proof, cut] = [reply.subarray(292), reply.subarray(0, 292)];
+  await throwing("a key of 2^32 - 1 bytes in a proof", () => client.lookup("alice", Buffer.concat([cut, proof.subarray(0, proof.length - 5), data("ffffffff6b")])), "CutInKey");
+  await throwing("65,535 siblings", () => client.lookup("alice", Buffer.concat([cut, data("02ffff")])), "CutInSiblings");
+  const step = (digits) => Buffer.concat([history.subarray(0, 83), data(digits)]);
+  await throwing("65,535 siblings in a step", () => client.history("alice", step("000000000000000100ffff")), "TooDeep");
+  await throwing("a key of 2^32 - 1 bytes in a step", () => client.history("alice", step(`0000000000000001020000${"dd".repeat(32)}0005616c696365ffffffff`)), "CutInStep");
+  await throwing("a name of 70,000 bytes", () => client.lookup("a".repeat(70000), reply), "VrfProof");
+  same("little memory was taken", process.memoryUsage().arrayBuffers - before < 64e6, true);
+  const wide = renewed(state.subarray(0, 37), ...Array(2).fill(state.subarray(37, 255)), data("00"));
+  await throwing("an entry twice", () => begun({ state: wide }), "StateForm");
+}
+
+/** A platform without WebCrypto, or without Ed25519 in it. */
+async function tryPlatforms() {
+  const real = Object.getOwnPropertyDescriptor(globalThis, "crypto");
+  const others = { "no crypto": undefined, "plain http": {}, "no Ed25519": { subtle: { importKey: async () => { throw new DOMException("unknown", "NotSupportedError"); } } } };
+  for (const [what, value] of Object.entries(others)) {
+    Object.defineProperty(globalThis, "crypto", { value, configurable: true });
+    const error = await begun().catch((it) => it);
+    const lacks = what === "no Ed25519" ? "Ed25519" : "WebCrypto";
+    same(what, [error instanceof Unsupported, error.lacks, error.message.includes("an object with verify")], [true, lacks, true]);
+    const objects = await library.client(signing, vrf, policy, { clock });
+    same(`${what}, with objects`, (await objects.feed(entries)).length, 2);
+  }
+  Object.defineProperty(globalThis, "crypto", { value: {}, configurable: true });
+  const error = await library.client(signing, policy.vrfKey, policy).catch((it) => it);
+  same("a VRF's key alone", [error.lacks, error.message.includes("verify and index")], ["WebCrypto", true]);
+  await throwing("a wrong key comes first", () => library.client(new Uint8Array(32), null, policy), "SigningKey");
+  Object.defineProperty(globalThis, "crypto", real);
+  const none = await library.client(signing, null, policy.digest, { state: null });
+  await none.feed(entries);
+  await throwing("no VRF", () => none.lookup("alice", reply, 2), "VrfProof");
+}
+
+/** The module with a memory of at most so many pages. @param {number} pages */
+function limited(pages) {
+  const bytes = Uint8Array.from(module);
+  const number = (at) => {
+    let [value, size] = [0, 0];
+    do value |= (bytes[at + size] & 127) << (7 * size); while (bytes[at + size++] & 128);
+    return [value, size];
+  };
+  for (let at = 8; at < bytes.length; ) {
+    const [size, digits] = number(at + 1);
+    if (bytes[at] === 5) {
+      const most = Uint8Array.of((pages & 127) | 128, pages >> 7);
+      const least = bytes.subarray(at + 1 + digits + 2, at + 1 + digits + 2 + number(at + 1 + digits + 2)[1]);
+      const section = Uint8Array.of(5, 2 + least.length + most.length, 1, 1, ...least, ...most);
+      return Buffer.concat([bytes.subarray(0, at), section, bytes.subarray(at + 1 + digits + size)]);
+    }
+    at += 1 + digits + size;
+  }
+  throw new Error("the module has no memory");
+}
+
+/** A memory that can't grow, and arguments beyond 32 bits: the call throws, and the module goes on. */
+async function tryMemory() {
+  const small = await Coniks.of(limited(200));
+  const proof = reply.slice(292);
+  const check = (/** @type {Uint8Array} */ given) => small.check(new Uint8Array(32), new Uint8Array(32), new Uint8Array(32), textBytes("alice"), given).status;
+  same("a module whose memory is limited", check(proof), 8);
+  await throwing("a proof that has no room", () => check(new Uint8Array(20_000_000)), "RangeError");
+  same("the module goes on", check(proof), 8);
+  same("a proof that has room", check(new Uint8Array(5_000_000)), 25);
+  for (const size of [2 ** 32, 2 ** 40, 2 ** 53]) await throwing(`${size} bytes`, () => small.desk.room(size), "RangeError");
+  same("and goes on", check(proof), 8);
+  const bounded = await load(limited(200));
+  const client = await bounded.client(policy.signingKey, policy.vrfKey, policy, { clock, state });
+  await throwing("a reply that has no room", () => client.lookup("alice", Buffer.concat([reply, Buffer.alloc(20_000_000)])), "RangeError");
+  same("nothing is kept of it", client.state, state);
+  same("the client goes on", (await client.lookup("alice", reply)).key, key);
+}
+
+await tryExamples();
+await tryNumbers();
+await tryWrongArguments();
+await tryTimes();
+await tryHostile();
+await tryPlatforms();
+await tryMemory();
+end();
