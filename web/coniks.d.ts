@@ -231,5 +231,5 @@ export interface Library {
   version(): string;
 }
 
-/** Makes the library of the bytes of coniks.wasm. Rejects if WebAssembly has no 64-bit memory. */
+/** Makes the library of the bytes of coniks.wasm. The arguments of a call have less than 4 GiB together; a RangeError says that there is no room. */
 export function load(module: BufferSource): Promise<Library>;
