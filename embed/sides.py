@@ -730,11 +730,13 @@ def try_javascript(tell: Tell, skip: Skip, requests: Sequence[Request]) -> None:
     else:
         skip("the types of the module", "tsc")
     try_requests(tell, "JavaScript", ["node", TOP / "web/answers.mjs"], requests)
-    ran = run("node", TOP / "web/arguments.mjs")
-    tell("the arguments of the module", ran.returncode == 0, (ran.stdout + ran.stderr).decode()[-2000:])
-    ran = run("node", TOP / "web/client_units.mjs")
-    last = ran.stdout.decode().strip().splitlines()[-1:]
-    tell("the client's own tests", ran.returncode == 0 and last[0].endswith(" 0 failed"), (ran.stdout + ran.stderr).decode()[-2000:])
+    for name in ["arguments", "keys_units", "client_units", "client_arguments"]:
+        ran = run("node", TOP / f"web/{name}.mjs")
+        tell(f"web/{name}.mjs", ran.returncode == 0, (ran.stdout + ran.stderr).decode()[-2000:])
+    if not tools.SIGNING_PYTHON:
+        return skip("web/try-ecvrf", "PyNaCl")
+    ran = run(tools.SIGNING_PYTHON, TOP / "web/try-ecvrf", "300")
+    tell("web/try-ecvrf", ran.returncode == 0, (ran.stdout + ran.stderr).decode()[-2000:])
 
 
 def try_all(tell: Tell, skip: Skip, program: Path, coniks: ModuleType, lines: Sequence[proofs.Line]) -> None:
