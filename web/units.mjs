@@ -189,29 +189,31 @@ same("evidence of two epochs", evidenceWords({ kind: 1, a: two[0], b: two[1] }),
 same("evidence of one entry", evidenceWords({ kind: 3, a: two[0], b: two[0] }), "no chain has the entry of epoch 3");
 same("the digits of both entries", evidenceDigits({ kind: 1, a: two[0], b: two[1] }), "01\n02");
 
-// A 64-bit memory grows by a bigint, by the standard, or by a number, in engines of an earlier draft.
-for (const kind of ["bigint", "number"]) {
-  /** @param {bigint | number} pages */
-  const grow = (pages) => {
-    if (typeof pages !== kind) throw new TypeError(`a ${kind} is expected`);
-    if (Number(pages) > 9) throw new RangeError("no more pages");
-    memory.buffer = new ArrayBuffer(memory.buffer.byteLength + 65536 * Number(pages));
+{
+  // A memory of 32 bits grows by a number, and its pointers are bigints.
+  const grow = (/** @type {number} */ pages) => {
+    if (typeof pages !== "number") throw new TypeError("a number is expected");
+    if (pages > 9) throw new RangeError("no more pages");
+    memory.buffer = new ArrayBuffer(memory.buffer.byteLength + 65536 * pages);
   };
   const memory = { buffer: new ArrayBuffer(65536), grow };
   const taken = (/** @type {bigint[]} */ ...words) => Number(words[6]);
   const exports = { memory, __heap_base: { value: 1000n }, coniks_check: taken };
   const coniks = new Coniks(/** @type {any} */ ({ exports }));
   const checked = (/** @type {number} */ size) => coniks.check(index, index, index, index, new Uint8Array(size)).status;
-  same(`proofs that need more of a memory that grows by a ${kind}`, [10, 70_000, 300_000].map(checked), [10, 70_000, 300_000]);
-  same(`a memory of whole pages that grew by a ${kind}`, memory.buffer.byteLength, 5 * 65536);
-  let said = "";
-  try {
-    checked(10_000_000);
-  } catch (error) {
-    said = String(error);
-  }
-  same(`a memory that grows no more by a ${kind}`, said, "RangeError: no more pages");
-  same(`a proof after it, by a ${kind}`, checked(300_000), 300_000);
+  same("proofs that need more of a memory", [10, 70_000, 300_000].map(checked), [10, 70_000, 300_000]);
+  same("a memory of whole pages that grew", memory.buffer.byteLength, 5 * 65536);
+  const failing = (/** @type {() => unknown} */ call) => {
+    try {
+      return call();
+    } catch (error) {
+      return String(error);
+    }
+  };
+  same("a memory that grows no more", failing(() => checked(10_000_000)), "RangeError: no more pages");
+  same("a proof after it", checked(300_000), 300_000);
+  same("more than 4 GiB", failing(() => coniks.desk.room(2 ** 32)), "RangeError: the arguments of a call have less than 4 GiB together");
+  same("a proof after that", checked(10), 10);
 }
 
 console.log(`${passed} passed, ${failed} failed`);
