@@ -110,7 +110,7 @@ async function tryWrongArguments() {
       () => vouched(entries[0], [{ epoch: 1, link }], 1), () => vouched(entries[0], { a: { epoch: 1, link } }, 1), () => vouched(entries[0], new Map([["a", null]]), 1), () => vouched(entries[0], heads, "1"), () => vouched(entries[0], heads, undefined), () => vouched(null, heads, 1), () => vouched(entries[0], heads, 1, { state }),
     ],
     RangeError: [
-      () => begun({ maxAge: -1 }), () => begun({ maxAge: NaN }), () => begun({ skew: Infinity }), () => begun({ skew: 2n ** 64n }), () => client.lookup("alice", reply, -1), () => client.lookup("alice", reply, 2n ** 64n),
+      () => begun({ maxAge: -1 }), () => begun({ maxAge: NaN }), () => begun({ skew: Infinity }), () => begun({ skew: 2n ** 64n }), () => client.lookup("\ud800", reply), () => client.watch("a\udc00", key), () => client.lookup("alice", reply, -1), () => client.lookup("alice", reply, 2n ** 64n),
       () => client.compare({ epoch: 1, link: new Uint8Array(31) }), () => client.compare({ epoch: -1, link }), () => client.watch("alice", new Uint8Array(0)), () => client.watch("", key), () => client.watch("a".repeat(256), key), () => client.watch("bob", key), () => client.watch("alice", key, 2),
       () => client.expect(textBytes("l"), 2), () => client.expect(key, 3), () => client.expect(new Uint8Array(0), 3), () => vouched(entries[0], heads, 0), () => vouched(entries[0], heads, 2 ** 32),
       async () => (await make(...keys, { clock })).expect(key, 9),
@@ -180,6 +180,7 @@ async function tryHostile() {
   const step = (digits) => Buffer.concat([history.subarray(0, 83), data(digits)]);
   await throwing("65,535 siblings in a step", () => client.history("alice", step("000000000000000100ffff")), "TooDeep");
   await throwing("a key of 2^32 - 1 bytes in a step", () => client.history("alice", step(`0000000000000001020000${"dd".repeat(32)}0005616c696365ffffffff`)), "CutInStep");
+  await throwing("a pair of surrogates is a name", () => client.lookup("\ud83d\ude00", reply), "VrfProof");
   await throwing("a name of 70,000 bytes", () => client.lookup("a".repeat(70000), reply), "VrfProof");
   same("little memory was taken", process.memoryUsage().arrayBuffers - before < 64e6, true);
   const wide = renewed(state.subarray(0, 37), ...Array(2).fill(state.subarray(37, 255)), data("00"));

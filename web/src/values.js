@@ -1,15 +1,18 @@
 // What callers pass: bytes, names and numbers, of the right type and size. All bytes are copied, since a caller may change them later.
 
-/** A copy of bytes. Node's Buffer is a Uint8Array whose slice is no copy. @param {any} value @param {string} what @param {number} size @returns {Uint8Array} */
-export function bytes(value, what, size = value?.length) {
+/** A copy of bytes. Node's Buffer is a Uint8Array whose slice is no copy. @param {any} value @param {string} what @param {number | null} size @returns {Uint8Array} */
+export function bytes(value, what, size = null) {
   if (!(value instanceof Uint8Array)) throw new TypeError(`${what} is no Uint8Array`);
-  if (value.length !== size) throw new RangeError(`${what} has ${size} bytes, not ${value.length}`);
-  return new Uint8Array(value);
+  const copy = new Uint8Array(value);
+  if (size !== null && copy.length !== size) throw new RangeError(`${what} has ${size} bytes, not ${copy.length}`);
+  return copy;
 }
 
-/** The bytes of a name. @param {any} name @returns {Uint8Array} */
+/** The bytes of a name: those of a text in UTF-8, which has none for half of a surrogate pair. @param {any} name @returns {Uint8Array} */
 export function nameBytes(name) {
-  return typeof name === "string" ? new TextEncoder().encode(name) : bytes(name, "the name");
+  if (typeof name !== "string") return bytes(name, "the name");
+  if (/\p{Surrogate}/u.test(name)) throw new RangeError("the name has half of a surrogate pair");
+  return new TextEncoder().encode(name);
 }
 
 /** A number of so many bits, from a bigint or a safe integer. @param {any} value @param {number} bits @param {string} what @returns {bigint} */
