@@ -3,7 +3,7 @@
 // Calls may be under way at once. Each does what it waits for first, and then checks and keeps in one step without waiting. So it sees
 // what other calls have kept until then. All that is given is copied at once, and all that is returned is a copy or frozen.
 
-import { joined } from "./bytes.js";
+import { bigEndian, joined } from "./bytes.js";
 import { Coniks, KINDS } from "./coniks.js";
 import { Reader, Refusal, catchUpEntries, isSame, proofOf, readHistory, readReply } from "./messages.js";
 import { Policy } from "./policy.js";
@@ -17,8 +17,8 @@ import { TOLD, changed, countUpTo, expectedKey, firstSeen, fits, isMissing, need
  * @typedef {import("./coniks.js").Fields & {entry: Uint8Array, link: Uint8Array, time: bigint, seen: number}} Kept
  *
  * @typedef {{readonly epoch: bigint, readonly link: Uint8Array}} Head
- * @typedef {{readonly epoch: bigint, readonly key: Uint8Array | null, readonly seen: string | null, readonly age: number | null, readonly firstSeen: bigint}} Found
  * @typedef {{readonly epoch: bigint, readonly seen: string | null}} Fed
+ * @typedef {Fed & {readonly key: Uint8Array | null, readonly age: number | null, readonly firstSeen: bigint}} Found
  * @typedef {import("./messages.js").Evidence} Evidence
  */
 
@@ -31,14 +31,17 @@ function settingsOf(policy, { maxAge = null, skew = 300, clock = () => Date.now(
   if (unknown.length > 0) throw new TypeError(`a client has no option ${unknown[0]}`);
   if (typeof clock !== "function") throw new TypeError("the clock is no function");
   const isPolicy = policy instanceof Policy;
-  if (!isPolicy && policy?.length !== 32) throw new TypeError("a policy is a Policy, or its digest of 32 bytes: pass readPolicy(document) for a document");
+  if (!isPolicy && policy?.length !== 32) throw new TypeError("a policy is a Policy, or its digest of 32 bytes: readPolicy reads a document");
   const { epochStart: start, epochPeriod: period } = isPolicy ? policy : { epochStart: null, epochPeriod: null };
   const epochs = start === null || period === null ? null : { start, period };
   const digest = isPolicy ? policy.digest : bytes(policy, "the policy digest");
   return { digest, epochs, maxAge: ticks(maxAge ?? 2n * (period ?? 0n), "maxAge"), skew: ticks(skew, "skew"), clock };
 }
 
-/** Refuses keys that are not those of a policy document. An object in place of a key is its caller's choice. @param {any} policy @param {any[]} keys */
+/**
+ * Refuses keys that are not those of a policy document. An object in place of a key is its caller's choice.
+ * @param {any} policy @param {any[]} keys
+ */
 function checkKeys(policy, keys) {
   if (!(policy instanceof Policy)) return;
   const isOther = (/** @type {Uint8Array | null} */ wanted, /** @type {any} */ given) =>
@@ -60,7 +63,8 @@ function headsOf(heads) {
 /** @param {any} entries  a catch-up, or entries @returns {Uint8Array[]} */
 function entriesOf(entries) {
   if (entries instanceof Uint8Array) return catchUpEntries(bytes(entries, "a catch-up"));
-  if (typeof entries?.[Symbol.iterator] !== "function" || typeof entries === "string") throw new TypeError("entries are a Uint8Array, or several ones");
+  const isList = typeof entries === "object" && typeof entries?.[Symbol.iterator] === "function";
+  if (!isList) throw new TypeError("entries are the Uint8Array of a catch-up, or a list");
   return Array.from(entries, (it) => bytes(it, "an entry"));
 }
 
@@ -122,7 +126,11 @@ export class Client {
 
   // The chain.
 
-  /** Accepts entries that continue the chain, and keeps those before the first one that does not. @param {any} entries @returns {Promise<Fed[]>} */
+  /**
+   * Accepts entries that continue the chain, and keeps those before the first one that does not.
+   * @param {any} entries
+   * @returns {Promise<Fed[]>}
+   */
   async feed(entries) {
     const fed = [];
     for (const entry of entriesOf(entries)) fed.push(this.#fed(entry, await this.#isSigned(entry), this.#now() / TICKS));
@@ -147,7 +155,10 @@ export class Client {
     return new Refusal(status, { text: this.#coniks.text(status) });
   }
 
-  /** The status of an entry, which is verified, after the latest one, if there is one. @param {Kept | undefined} latest @param {Uint8Array} entry */
+  /**
+   * The status of an entry, which is verified, after the latest one, if there is one.
+   * @param {Kept | undefined} latest @param {Uint8Array} entry
+   */
   #follow(latest, entry) {
     const state = this.#coniks.begin();
     if (latest !== undefined) {
@@ -162,7 +173,11 @@ export class Client {
     return entry.length === ENTRY && (this.#has(entry) || this.#verify(entry.slice(0, BODY), entry.slice(BODY)));
   }
 
-  /** An entry that is signed, of this directory, and one that some chain has. @param {Uint8Array} entry @param {boolean} isSigned @param {bigint} time @returns {Kept} */
+  /**
+   * An entry that is signed, of this directory, and one that some chain has.
+   * @param {Uint8Array} entry @param {boolean} isSigned @param {bigint} time
+   * @returns {Kept}
+   */
   #accepted(entry, isSigned, time) {
     const kept = this.#signed(entry, isSigned, time);
     if (!isSame(kept.policy, this.#digest)) throw new Refusal("OtherPolicy", { evidence: this.#convicting(entry) });
@@ -184,7 +199,11 @@ export class Client {
     return status === GOOD ? /** @type {string} */ (KINDS.get(kind)) : null;
   }
 
-  /** The evidence of a signed entry and the first kept one that convicts with it, or of the signed entry alone. @param {Uint8Array} entry @returns {Evidence | null} */
+  /**
+   * The evidence of a signed entry and the first kept one that convicts with it, or of the signed entry alone.
+   * @param {Uint8Array} entry
+   * @returns {Evidence | null}
+   */
   #convicting(entry) {
     const { epoch, previousEpoch } = /** @type {import("./coniks.js").Fields} */ (this.#coniks.fields(entry));
     // Another policy and a wrong form convict with each entry, so with the first; bodies overlap with few.
@@ -229,7 +248,10 @@ export class Client {
     return next !== undefined && next.previousEpoch < epoch ? "differs" : "unknown";
   }
 
-  /** Drops the entries before that of an auditor's head, if it is one of this chain, but none that the watched name needs. @param {any} head */
+  /**
+   * Drops the entries before that of an auditor's head, if it is one of this chain, but none that the watched name needs.
+   * @param {any} head
+   */
   cover(head) {
     const given = headOf(head);
     const found = this.compare(given);
@@ -249,7 +271,11 @@ export class Client {
 
   // Lookups.
 
-  /** What a reply shows of a name, at the epoch that was asked for, or at the latest one. @param {any} name @param {any} reply @param {any} epoch @returns {Promise<Found>} */
+  /**
+   * What a reply shows of a name, at the epoch that was asked for, or at the latest one.
+   * @param {any} name @param {any} reply @param {any} epoch
+   * @returns {Promise<Found>}
+   */
   async lookup(name, reply, epoch = null) {
     const [asked, given] = [nameBytes(name), readReply(bytes(reply, "a reply"))];
     const at = epoch === null ? null : unsigned(epoch, 64, "the epoch");
@@ -262,7 +288,11 @@ export class Client {
     return this.#found(asked, kept, this.#key(asked, kept, index, given.proof), now);
   }
 
-  /** What a history shows of a name, one for each of its epochs, or nothing of it. @param {any} name @param {any} history @returns {Promise<Found[]>} */
+  /**
+   * What a history shows of a name, one for each of its epochs, or nothing of it.
+   * @param {any} name @param {any} history
+   * @returns {Promise<Found[]>}
+   */
   async history(name, history) {
     const [asked, { vrf, steps }] = [nameBytes(name), readHistory(bytes(history, "a history"), this.#coniks.text(2))];
     const index = await this.#index(asked, vrf);
@@ -279,7 +309,10 @@ export class Client {
     return shown.map(([kept, key]) => this.#found(asked, kept, key, now));
   }
 
-  /** The chain's entry at an epoch, if a reply has it too. Its signature may be another one of the same body. @param {Uint8Array} entry @param {boolean} isSigned @param {bigint | null} epoch @param {bigint} now */
+  /**
+   * The chain's entry at an epoch, if a reply has it too. Its signature may be another one of the same body.
+   * @param {Uint8Array} entry @param {boolean} isSigned @param {bigint | null} epoch @param {bigint} now
+   */
   #entryOf(entry, isSigned, epoch, now) {
     if (!this.#has(entry)) {
       this.#accepted(entry, isSigned, 0n);
@@ -323,7 +356,11 @@ export class Client {
     return ticks(this.#clock(), "the time of the clock");
   }
 
-  /** How long ago an epoch began by the policy's clock, null without one. @param {Kept} kept @param {bigint} now @returns {bigint | null} */
+  /**
+   * How long ago an epoch began by the policy's clock, null without one.
+   * @param {Kept} kept @param {bigint} now
+   * @returns {bigint | null}
+   */
   #age({ epoch }, now) {
     return this.#epochs === null ? null : now - (this.#epochs.start + (epoch - 1n) * this.#epochs.period) * TICKS;
   }
@@ -337,7 +374,10 @@ export class Client {
 
   // The watched name.
 
-  /** Watches the client's own name: each epoch from `since` on, by default the latest, must show the key, or none for null. @param {any} name @param {any} key @param {any} since */
+  /**
+   * Watches the client's own name: each epoch from `since` on, by default the latest, must show the key, or none for null.
+   * @param {any} name @param {any} key @param {any} since
+   */
   watch(name, key, since = null) {
     const first = since === null ? this.#kept.at(-1)?.epoch ?? 1n : unsigned(since, 64, "the first epoch");
     const made = { name: nameBytes(name), since: first, key: expectedKey(key), change: null };
@@ -354,7 +394,10 @@ export class Client {
     }
   }
 
-  /** Expects the owner's own change of the key: later epochs may show the new key, and from epoch `by` on they must. @param {any} key @param {any} by */
+  /**
+   * Expects the owner's own change of the key: later epochs may show the new key, and from epoch `by` on they must.
+   * @param {any} key @param {any} by
+   */
   expect(key, by) {
     if (this.#watch === null) throw new RangeError("no name is watched: call `watch` first");
     const watch = changed(this.#watch, expectedKey(key), this.#kept.at(-1)?.epoch ?? 0n, unsigned(by, 64, "the epoch"));
@@ -373,7 +416,7 @@ export class Client {
   get state() {
     const [watch, size] = [watchBytes(this.#watch), KEPT * this.#kept.length];
     const state = new Uint8Array(FIXED - 1 + size + watch.length);
-    state.set(joined(Uint8Array.of(1), this.#digest, long(BigInt(this.#kept.length)).subarray(4)));
+    state.set(joined(Uint8Array.of(1), this.#digest, bigEndian(this.#kept.length, 4)));
     this.#kept.forEach((it, i) => state.set(joined(it.entry, long(it.time), Uint8Array.of(it.seen)), 37 + KEPT * i));
     state.set(watch, 37 + size);
     state.set(sha256(state.subarray(0, -32)), state.length - 32);

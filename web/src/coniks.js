@@ -11,7 +11,8 @@ export const KINDS = new Map([[1, "overlap"], [2, "other policy"], [3, "malforme
 
 /**
  * The parts of an entry's body.
- * @typedef {{version: number, epoch: bigint, previousEpoch: bigint, root: Uint8Array, previousLink: Uint8Array, nonce: Uint8Array, policy: Uint8Array}} Fields
+ * @typedef {Record<"root" | "previousLink" | "nonce" | "policy", Uint8Array>} Digests
+ * @typedef {{version: number, epoch: bigint, previousEpoch: bigint} & Digests} Fields
  */
 
 /** Most bytes of the arguments of a call, together. The memory has at most 4 GiB. */
@@ -125,7 +126,11 @@ export class Coniks {
     return status;
   }
 
-  /** Whether two entries are evidence, and of which kind. @param {Uint8Array} a @param {Uint8Array} b @returns {{status: number, kind: number}} */
+  /**
+   * Whether two entries are evidence, and of which kind.
+   * @param {Uint8Array} a @param {Uint8Array} b
+   * @returns {{status: number, kind: number}}
+   */
   convicts(a, b) {
     this.desk.clear();
     const out = this.desk.put(new Uint8Array(4));
@@ -142,12 +147,20 @@ export class Coniks {
     return status === GOOD ? this.desk.take(out, 32) : null;
   }
 
-  /** The link of an entry of 209 bytes, in hexadecimal digits; the empty text of any other bytes. @param {Uint8Array} entry @returns {string} */
+  /**
+   * The link of an entry of 209 bytes, in hexadecimal digits; the empty text of any other bytes.
+   * @param {Uint8Array} entry
+   * @returns {string}
+   */
   link(entry) {
     return toHex(this.linkBytes(entry) ?? new Uint8Array(0));
   }
 
-  /** Reads the body of an entry and verifies nothing. Returns null if the bytes are no entry. @param {Uint8Array} entry @returns {Fields | null} */
+  /**
+   * Reads the body of an entry and verifies nothing. Returns null if the bytes are no entry.
+   * @param {Uint8Array} entry
+   * @returns {Fields | null}
+   */
   fields(entry) {
     this.desk.clear();
     const out = this.desk.put(new Uint8Array(152));

@@ -58,7 +58,11 @@ function bytesOf(number) {
   return Uint8Array.from({ length: 32 }, (_, i) => parseInt(digits.slice(62 - 2 * i, 64 - 2 * i), 16));
 }
 
-/** x of the point with a number as y, of either sign; null if there is none (section 5.1.3, steps 2 and 3). @param {bigint} y @returns {bigint | null} */
+/**
+ * x of the point with a number as y, of either sign; null if there is none (section 5.1.3, steps 2 and 3).
+ * @param {bigint} y
+ * @returns {bigint | null}
+ */
 function xOf(y) {
   const square = folded(y * y);
   const [u, v] = [reduced(square - 1n), folded(D * square + 1n)];

@@ -29,12 +29,19 @@ export class VrfKey {
     this.subtle = subtle;
   }
 
-  /** SHA-512 of the suite, a tag, some parts and a zero (sections 5.2, 5.4.1.1 and 5.4.3). @param {number} tag @param {...Uint8Array} parts */
+  /**
+   * SHA-512 of the suite, a tag, some parts and a zero (sections 5.2, 5.4.1.1 and 5.4.3).
+   * @param {number} tag @param {...Uint8Array} parts
+   */
   async hashed(tag, ...parts) {
     return new Uint8Array(await this.subtle.digest("SHA-512", joined(Uint8Array.of(SUITE, tag), ...parts, Uint8Array.of(0))));
   }
 
-  /** The point that an input is hashed to by try and increment (section 5.4.1.1). @param {Uint8Array} input @returns {Promise<Point | null>} */
+  /**
+   * The point that an input is hashed to by try and increment (section 5.4.1.1).
+   * @param {Uint8Array} input
+   * @returns {Promise<Point | null>}
+   */
   async pointOf(input) {
     for (let counter = 0; counter < 256; counter++) {
       const point = decoded((await this.hashed(1, this.bytes, input, Uint8Array.of(counter))).subarray(0, 32));

@@ -126,14 +126,21 @@ export function isSame(a, b) {
   return a.length === b.length && a.every((it, i) => it === b[i]);
 }
 
-/** The bytes after the version that a message begins with. @param {Uint8Array} whole @param {string} empty @param {string} other @param {string} cut */
+/**
+ * The bytes after the version that a message begins with.
+ * @param {Uint8Array} whole @param {string} empty @param {string} other @param {string} cut
+ */
 function begun(whole, empty, other, cut) {
   if (whole.length === 0) throw new Refusal(empty);
   if (whole[0] !== 1) throw new Refusal(other);
   return new Reader(whole, cut, 1);
 }
 
-/** The parts of a reply, of which nothing is verified. @param {Uint8Array} whole @returns {{entry: Uint8Array, vrf: Uint8Array, proof: Uint8Array}} */
+/**
+ * The parts of a reply, of which nothing is verified.
+ * @param {Uint8Array} whole
+ * @returns {{entry: Uint8Array, vrf: Uint8Array, proof: Uint8Array}}
+ */
 export function readReply(whole) {
   const it = begun(whole, "NoReply", "ReplyVersion", "CutInEntry");
   const entry = it.take(ENTRY);

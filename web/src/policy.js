@@ -49,7 +49,11 @@ export class Policy {
   }
 }
 
-/** The policy of a document. Throws a RangeError for any other bytes, so that a policy has one document. @param {any} document @returns {Policy} */
+/**
+ * The policy of a document. Throws a RangeError for any other bytes, so that a policy has one document.
+ * @param {any} document
+ * @returns {Policy}
+ */
 export function readPolicy(document) {
   const given = bytes(document, "the policy document");
   const parts = DOCUMENT.exec(Array.from(given.subarray(0, 2048), (it) => String.fromCharCode(it)).join(""));

@@ -15,7 +15,8 @@ import { bytes } from "./values.js";
 export class Unsupported extends Error {
   /** @param {string} lacks @param {string} calls @param {unknown} cause */
   constructor(lacks, calls, cause = undefined) {
-    super(`this platform has no ${lacks}${lacks === "WebCrypto" ? " here (a page needs https, localhost or a file)" : ""}: pass an object with ${calls} in place of the key`, { cause });
+    const where = lacks === "WebCrypto" ? " here (a page needs https, localhost or a file)" : "";
+    super(`this platform has no ${lacks}${where}: pass an object with ${calls} in place of the key`, { cause });
     this.name = "Unsupported";
     this.lacks = lacks;
   }
@@ -30,10 +31,15 @@ function subtleFor(calls) {
 
 /** @param {any} key @param {string[]} calls */
 function checkCalls(key, calls) {
-  if (calls.some((it) => typeof key?.[it] !== "function")) throw new TypeError(`a key is a Uint8Array, or an object with ${calls.join(" and ")}`);
+  const isThere = calls.every((it) => typeof key?.[it] === "function");
+  if (!isThere) throw new TypeError(`a key is a Uint8Array, or an object with ${calls.join(" and ")}`);
 }
 
-/** A signature whose R is not the identity, and whose S is reduced. Not each platform checks that. @param {Uint8Array} signature @returns {boolean} */
+/**
+ * A signature whose R is not the identity, and whose S is reduced. Not each platform checks that.
+ * @param {Uint8Array} signature
+ * @returns {boolean}
+ */
 function isStrict(signature) {
   const isIdentity = signature[0] === 1 && signature.subarray(1, 32).every((it) => it === 0);
   return !isIdentity && numberOf(signature.subarray(32)) < ORDER;

@@ -1,6 +1,10 @@
 // What callers pass: bytes, names and numbers, of the right type and size. All bytes are copied, since a caller may change them later.
 
-/** A copy of bytes. Node's Buffer is a Uint8Array whose slice is no copy. @param {any} value @param {string} what @param {number | null} size @returns {Uint8Array} */
+/**
+ * A copy of bytes. Node's Buffer is a Uint8Array whose slice is no copy.
+ * @param {any} value @param {string} what @param {number | null} size
+ * @returns {Uint8Array}
+ */
 export function bytes(value, what, size = null) {
   if (!(value instanceof Uint8Array)) throw new TypeError(`${what} is no Uint8Array`);
   const copy = new Uint8Array(value);
@@ -15,7 +19,11 @@ export function nameBytes(name) {
   return new TextEncoder().encode(name);
 }
 
-/** A number of so many bits, from a bigint or a safe integer. @param {any} value @param {number} bits @param {string} what @returns {bigint} */
+/**
+ * A number of so many bits, from a bigint or a safe integer.
+ * @param {any} value @param {number} bits @param {string} what
+ * @returns {bigint}
+ */
 export function unsigned(value, bits, what) {
   if (typeof value !== "bigint" && !Number.isSafeInteger(value)) throw new TypeError(`${what} is neither a bigint nor a safe integer`);
   const number = BigInt(value);
