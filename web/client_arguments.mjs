@@ -187,6 +187,20 @@ async function tryHostile() {
   await throwing("an entry twice", () => begun({ state: wide }), "StateForm");
 }
 
+/** The first of several errors of a state, in the order of docs/FORMATS.md. */
+async function tryOrder() {
+  const [other, version, policyOf] = [data("02"), state.subarray(0, 1), state.subarray(1, 33)];
+  const count = data("ffffffff");
+  for (const [what, wanted, given] of [
+    ["length and version", "StateLength", new Uint8Array(69)],
+    ["version and digest", "StateVersion", Buffer.concat([other, state.subarray(1)])],
+    ["digest and policy", "StateDamaged", Buffer.concat([version, new Uint8Array(32), state.subarray(33)])],
+    ["policy and form", "StatePolicy", renewed(version, new Uint8Array(32), count, data("00"))],
+    ["form and chain", "StateForm", renewed(version, policyOf, data("00000001"), new Uint8Array(218), data("03"))],
+    ["chain", "StateChain", renewed(version, policyOf, data("00000001"), new Uint8Array(218), data("00"))],
+  ]) await throwing(what, () => begun({ state: given }), wanted);
+}
+
 /** A platform without WebCrypto, or without Ed25519 in it. */
 async function tryPlatforms() {
   const real = Object.getOwnPropertyDescriptor(globalThis, "crypto");
@@ -253,6 +267,7 @@ await tryNumbers();
 await tryWrongArguments();
 await tryTimes();
 await tryHostile();
+await tryOrder();
 await tryPlatforms();
 await tryMemory();
 end();
