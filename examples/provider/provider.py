@@ -57,8 +57,9 @@ class KeyServer:
         return self._directory.reply(name, self._secrets.proof(name), epoch)
 
     def line(self, name: str, epoch: int) -> str:
-        """The line that the program prints for a name."""
-        return self._directory.lookup(name, epoch).line.decode()
+        """The line that the program prints for a name, with the proof of the name's index."""
+        line = self._directory.lookup(name, epoch).line.decode()
+        return f'{line[:-1]},"vrf":"{self._secrets.proof(name).hex()}"}}'
 
     def catch_up(self, epoch: int) -> bytes:
         """The entries after an epoch."""
