@@ -5,11 +5,12 @@ import { readFileSync } from "node:fs";
 
 import { bigEndian, bitAt, fromBase64, fromHex, joined, toBase64, toHex } from "./src/bytes.js";
 import { Coniks } from "./src/coniks.js";
-import { SignedEntries, evidenceDigits, evidenceWords } from "./src/evidence.js";
-import { LONGEST, entryOf, linesOf, lookupOf, numberOf, objectOf, proofBytes } from "./src/lines.js";
+import { SignedEntries, evidenceWords } from "./src/evidence.js";
+import { keysOf } from "./src/keys.js";
+import { LONGEST, entryOf, linesOf, lookupOf, numberOf, objectOf, proofBytes, vrfOf } from "./src/lines.js";
+import { signaturesOf } from "./src/schemes.js";
 import { sha256 } from "./src/sha256.js";
-import { NOT_VERIFIED, ProviderKey } from "./src/signatures.js";
-import { counting, keyText, nameText, short } from "./src/words.js";
+import { counting, keyText, nameNote, nameParts, nameText, short } from "./src/words.js";
 
 let [passed, failed] = [0, 0];
 
@@ -75,8 +76,12 @@ for (const [size, is] of [[LONGEST, "aaa"], [LONGEST + 1, { fault: "Long" }]]) {
   const found = [linesIn(line), linesIn(new TextEncoder().encode(line))].flat().map((it) => (typeof it === "string" ? it.slice(0, 3) : it));
   same(`a line of ${size} bytes`, found, [is, is]);
 }
-same("a member's number", String(numberOf('{"a":{"epoch":1},"epoch":7,"b":[{"epoch":2}]}', "epoch")), "7");
-for (const none of ['{"a":{"epoch":1}}', '{"epoch":"7"}', '{"epoch":-1}', '{"epoch":1.5}', "{}"]) same(`no number: ${none}`, numberOf(none, "epoch"), null);
+const epochOf = (/** @type {string} */ line) => String(numberOf(line, /** @type {Record<string, any>} */ (objectOf(line)), "epoch"));
+same("a member's number", epochOf('{"a":{"epoch":1},"epoch":7,"b":[{"epoch":2}]}'), "7");
+same("the last of two numbers", [epochOf('{"epoch":1,"epoch": 7}'), epochOf('{"epoch":7,"epoch":1}')], ["7", "1"]);
+for (const none of ['{"a":{"epoch":1}}', '{"epoch":"7"}', '{"epoch":-1}', '{"epoch":-0}', '{"epoch":1.5}', "{}"]) same(`no number: ${none}`, epochOf(none), "null");
+same("a VRF proof in a line", [{}, { vrf: "00ff" }, { vrf: "0" }, { vrf: 7 }].map((it) => { const proof = vrfOf(it); return proof && [...proof]; }), [undefined, [0, 255], null, null]);
+for (const half of ['{"a":"\ud800"}', '{"\udc00":1}']) same("half of a surrogate pair that isn't escaped", objectOf(half), null);
 same("a pair of surrogates", objectOf('{"a":"\\ud83d\\ude00"}'), { a: "😀" });
 
 const [zeros, ones] = ["00".repeat(32), "11".repeat(32)];
@@ -109,7 +114,11 @@ same("a long key", keyText(long, 3), `"aaa"… (100 bytes, SHA-256 ${hashed(long
 const ended = joined(long, Uint8Array.of(0));
 same("a long key that ends otherwise", keyText(ended, 3), `0x616161… (101 bytes, SHA-256 ${hashed(ended)})`);
 same("a name", nameText('a"b ö 😀'), '"a\\"b ö 😀"');
-same("a name that turns what follows", nameText("gro.live\u202e\u2066\u200b\u2028\u0007"), '"gro.live\\u{202e}\\u{2066}\\u{200b}\\u{2028}\\u0007"');
+same("a name that turns what follows", nameText("gro.live\u202e\u2066\u200b\u2028\u0007"), '"gro.live\\u{202e}\\u{2066}\\u{200b}\\u{2028}\\u{7}"');
+same("a name in parts", nameParts('a"\u00ad\\b'), [{ text: 'a\\"', isOdd: false }, { text: "\\u{ad}", isOdd: true }, { text: "\\\\b", isOdd: false }]);
+same("at most two marks follow a letter", nameText("a\u0301\u0302\u0303"), '"a\u0301\u0302\\u{303}"');
+same("a mark at the start", nameText("\u0301"), '"\\u{301}"');
+same("notes", ["alice", "~ {}", "alic\u00e9", "\u0430lice", "\u4e2d\u56fd\u4eba\u6c11"].map(nameNote), ["", "", "not ASCII: U+00E9", "not ASCII: U+0430; mixed scripts: Cyrillic, Latin", "not ASCII: U+4E2D, U+56FD, U+4EBA and 1 more"]);
 same("a name that no directory registers", nameText("a".repeat(256)), `"${"a".repeat(255)}"… (256 characters)`);
 same("one and several", [counting(1, "line"), counting(0, "line"), counting(2, "entry", "entries")], ["1 line", "0 lines", "2 entries"]);
 same("a short hash", short(ones), "11111111…1111");
@@ -118,31 +127,30 @@ same("a short hash", short(ones), "11111111…1111");
 const stored = (/** @type {string} */ name) => readFileSync(new URL(`../examples/provider/${name}`, import.meta.url), "utf-8");
 const provided = /** @type {RegExpMatchArray} */ (stored("transcript.txt").match(/Ed25519 +([0-9a-f]{64})/))[1];
 const entries = stored("lines.jsonl").trim().split("\n").map((it) => /** @type {Uint8Array} */ (entryOf(JSON.parse(it))));
-const keyOf = async (/** @type {string} */ digits) => /** @type {ProviderKey} */ (await ProviderKey.of(/** @type {Uint8Array} */ (fromHex(digits)), crypto.subtle));
+const keyOf = (/** @type {string} */ digits) => signaturesOf(/** @type {Uint8Array} */ (fromHex(digits)));
+const parts = (/** @type {Uint8Array} */ entry) => /** @type {[Uint8Array, Uint8Array]} */ ([entry.slice(0, 145), entry.slice(145)]);
 const [own, another] = [await keyOf(provided), await keyOf("d75a980182b10ab7d54bfed3c964073a0ee172f3daa62325af021a68f707511a")];
 for (const [i, entry] of entries.entries()) {
-  same(`entry ${i} under the provider's key`, await own.verify(entry, `own ${i}`), true);
-  same(`entry ${i} under another key`, await another.verify(entry, `own ${i}`), false);
+  same(`entry ${i} under the provider's key`, await own(...parts(entry)), true);
+  same(`entry ${i} under another key`, await another(...parts(entry)), false);
 }
-same("a result is known then", [own.verify(entries[0], "own 0"), another.verify(entries[0], "own 0")], [true, false]);
 for (let at = 0; at < 209; at++) {
   const changed = entries[0].slice();
   changed[at] ^= 1 << at % 8;
-  same(`byte ${at} of an entry changed`, await own.verify(changed, `changed ${at}`), false);
+  same(`byte ${at} of an entry changed`, await own(...parts(changed)), false);
 }
-const failing = (/** @type {string} */ name) => /** @type {any} */ ({ importKey: () => Promise.reject(Object.assign(new Error("refused"), { name })) });
-for (const [what, subtle, isBrowsers] of [["no WebCrypto", undefined, true], ["no Ed25519", failing("NotSupportedError"), true], ["no key", failing("DataError"), false]]) {
-  const made = await ProviderKey.of(index, subtle);
-  same(what, typeof made === "string" && made.startsWith(NOT_VERIFIED) === isBrowsers && made.length > 40, true);
+
+// The keys in the page's fields.
+const texts = { signing: provided, vrf: "8f41ef74c6990c41a4e736c037b686f2c12b0b78229b1915d3b79923b95b5587", key: zeros };
+const noCalls = /** @type {any} */ ({ link: toHex });
+const kinds = await Promise.all(["none", "provider", "demonstration"].map((it) => keysOf(noCalls, it, texts)));
+same("the kinds of keys", kinds.map(({ keys }) => [keys.kind, keys.signatures !== null, keys.indices !== null]), [["none", false, false], ["provider", true, true], ["demonstration", true, false]]);
+for (const digits of ["", "00", zeros, "g".repeat(64)]) {
+  const { keys, wrong } = await keysOf(noCalls, "provider", { ...texts, signing: digits });
+  same(`the signing key ${digits.slice(0, 8)}`, [keys.kind, keys.indices, wrong.signing.length > 20], ["none", null, true]);
 }
-const orders = ["00", "01", "ec", "ed", "ee"].map((it) => it + (it[0] === "0" ? "00" : "ff").repeat(30) + (it[0] === "0" ? "00" : "7f"));
-orders.push("26e8958fc2b227b045c3f489f2ef98f0d5dfac05d3c63339b13802886d53fc05", "c7176a703d4dd84fba3c0b760d10670f2a2053fa2c39ccc64ec7fd7792ac037a");
-for (const digits of orders.flatMap((it) => [it, it.slice(0, 62) + (parseInt(it.slice(62), 16) | 128).toString(16)])) {
-  const made = await ProviderKey.of(/** @type {Uint8Array} */ (fromHex(digits)), crypto.subtle);
-  same(`a point of small order: ${digits}`, typeof made === "string" && made.startsWith("not a key"), true);
-}
-const broken = new ProviderKey(/** @type {any} */ ({ verify: () => Promise.reject(new Error("refused")) }), /** @type {any} */ ({}));
-same("a browser's error is no valid signature", await broken.verify(entries[0], ""), false);
+const half = await keysOf(noCalls, "provider", { ...texts, vrf: "" });
+same("a signing key alone", [half.keys.kind, half.keys.indices, half.wrong], ["provider", null, { signing: "", vrf: "", key: "" }]);
 
 // Evidence is found in sorted entries exactly if two of them are evidence, by docs/FORMATS.md.
 const numberAt = (/** @type {Uint8Array} */ entry, /** @type {number} */ place) => Number(new DataView(entry.buffer).getBigUint64(place));
@@ -187,7 +195,6 @@ same("there is evidence in some sets, and none in others", convicted > 300 && co
 const two = [{ before: 2n, epoch: 3n, entry: Uint8Array.of(1) }, { before: 2n, epoch: 4n, entry: Uint8Array.of(2) }];
 same("evidence of two epochs", evidenceWords({ kind: 1, a: two[0], b: two[1] }), "the entries of epochs 3 and 4 both cover epoch 3, and their contents differ");
 same("evidence of one entry", evidenceWords({ kind: 3, a: two[0], b: two[0] }), "no chain has the entry of epoch 3");
-same("the digits of both entries", evidenceDigits({ kind: 1, a: two[0], b: two[1] }), "01\n02");
 
 {
   // A memory of 32 bits grows by a number, and its pointers are bigints.

@@ -1,5 +1,8 @@
 // Bytes, and their texts in hexadecimal digits and base64 (RFC 4648).
 
+/** The digits of each byte. */
+const DIGITS = Array.from({ length: 256 }, (_, byte) => byte.toString(16).padStart(2, "0"));
+
 /**
  * The bytes of hexadecimal digits of either case; null of any other text.
  * @param {string} text
@@ -8,8 +11,14 @@
 export function fromHex(text) {
   if (text.length % 2 !== 0 || !/^[0-9a-fA-F]*$/.test(text)) return null;
   const bytes = new Uint8Array(text.length / 2);
-  for (let i = 0; i < bytes.length; i++) bytes[i] = parseInt(text.slice(2 * i, 2 * i + 2), 16);
+  for (let i = 0; i < bytes.length; i++) bytes[i] = 16 * valueAt(text, 2 * i) + valueAt(text, 2 * i + 1);
   return bytes;
+}
+
+/** The value of a hexadecimal digit. @param {string} text @param {number} at @returns {number} */
+function valueAt(text, at) {
+  const code = text.charCodeAt(at);
+  return code <= 57 ? code - 48 : (code | 32) - 87;
 }
 
 /**
@@ -17,7 +26,9 @@ export function fromHex(text) {
  * @returns {string}
  */
 export function toHex(bytes) {
-  return Array.from(bytes, (it) => it.toString(16).padStart(2, "0")).join("");
+  let text = "";
+  for (const it of bytes) text += DIGITS[it];
+  return text;
 }
 
 /**
@@ -28,7 +39,14 @@ export function toHex(bytes) {
 export function fromBase64(text) {
   if (text.length % 4 !== 0 || !/^[A-Za-z0-9+/]*={0,2}$/.test(text)) return null;
   const chars = atob(text);
-  return btoa(chars) === text ? Uint8Array.from(chars, (it) => it.charCodeAt(0)) : null;
+  return btoa(chars) === text ? bytesOf(chars) : null;
+}
+
+/** The bytes of a text of characters up to U+00FF. @param {string} chars @returns {Uint8Array} */
+export function bytesOf(chars) {
+  const bytes = new Uint8Array(chars.length);
+  for (let i = 0; i < chars.length; i++) bytes[i] = chars.charCodeAt(i);
+  return bytes;
 }
 
 /**

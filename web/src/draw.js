@@ -2,39 +2,14 @@
 // end. Everything from a line goes in as text.
 
 import { bitAt, toHex } from "./bytes.js";
+import { element, hashButton, nameBox } from "./elements.js";
 import { lookupOf } from "./lines.js";
-import { MARKED, keyText, nameText, short } from "./words.js";
+import { MARKED, keyText } from "./words.js";
 
 /**
  * @typedef {import("./reading.js").LookupRow} LookupRow
  * @typedef {import("./lines.js").Lookup} Lookup
  */
-
-/**
- * Returns an element with its text and its parts.
- * @param {string} tag @param {string} kind @param {...(string | Node)} parts
- * @returns {HTMLElement}
- */
-export function element(tag, kind, ...parts) {
-  const made = document.createElement(tag);
-  if (kind) made.className = kind;
-  made.append(...parts);
-  return made;
-}
-
-/** Returns a hash, cut; a press shows the whole, also to a screen reader. @param {string} digits @param {string} what @returns {HTMLElement} */
-export function hashButton(digits, what) {
-  const made = element("button", "hash", short(digits));
-  made.setAttribute("type", "button");
-  const set = (/** @type {boolean} */ isWhole) => {
-    made.setAttribute("aria-expanded", String(isWhole));
-    made.setAttribute("aria-label", isWhole ? `${what} ${digits}` : `${what} ${short(digits)}: show all digits`);
-    made.textContent = isWhole ? digits : short(digits);
-  };
-  made.addEventListener("click", () => set(made.getAttribute("aria-expanded") !== "true"));
-  set(false);
-  return made;
-}
 
 /** The part of a refused proof that the first error is about. @param {LookupRow} row */
 function marked(row) {
@@ -50,9 +25,9 @@ function mark(isMarked, made) {
   return made;
 }
 
-/** A level: the bit that leads there, and the sibling on the other side. @param {Lookup} lookup @param {number} level */
-function levelOf(lookup, level) {
-  const bit = bitAt(lookup.index, level);
+/** A level: the bit that leads there, and the sibling on the other side. @param {Uint8Array} index @param {Lookup} lookup @param {number} level */
+function levelOf(index, lookup, level) {
+  const bit = bitAt(index, level);
   const sibling = element("span", "sibling", hashButton(toHex(lookup.siblings[level]), `sibling at level ${level + 1}`));
   const step = element("span", "bit", String(bit));
   step.title = bit ? "the index goes right here" : "the index goes left here";
@@ -78,7 +53,7 @@ function endOf(row, lookup) {
   }
   const key = element("code", "", keyText(end.key, 400));
   return element("div", "end here", element("h3", "", "The leaf of this index"),
-    fact("name", element("bdi", "code", nameText(end.name)), wrong === "name"),
+    fact("name", nameBox(end.name), wrong === "name"),
     fact("key", key, wrong === "key"),
     fact("opening", hashButton(toHex(end.opening), "the opening")));
 }
@@ -87,13 +62,20 @@ function endOf(row, lookup) {
 const TERMS = [
   ["Epoch", "A numbered version of the directory. The provider signs one root for each."],
   ["Root", "The hash at the top of the tree. It commits to every name and key of the epoch."],
-  ["0 and 1", "The bits of the name's index: 0 leads to the left half of the tree, 1 to the right half."],
+  ["Index", "The place of a name in the tree, 256 bits. The provider computes it with a secret key, so that nobody else can list the names."],
+  ["VRF proof", "Shows that an index is the name's, by the provider's VRF key. Without it, a line can show the place of another name."],
+  ["0 and 1", "The bits of the index: 0 leads to the left half of the tree, 1 to the right half."],
   ["Sibling", "The hash of the half that the path leaves out. What is at the end, hashed upwards with the siblings, must give the root."],
+  ["Nonce", "Random bytes of the directory that go into each hash."],
 ];
 
-/** @param {Lookup} lookup @param {boolean} isMarked */
-function captionOf(lookup, isMarked) {
-  const asked = element("p", "asked", "Asked for ", element("bdi", "", nameText(lookup.name)), " at the index ", hashButton(toHex(lookup.index), "the index"), " under the nonce ", hashButton(toHex(lookup.nonce), "the nonce"));
+/** How the index of a drawing is known. */
+const INDICES = { verified: "verified by its VRF proof", computed: "computed with the demonstration's key", unverified: "which nobody has verified" };
+
+/** @param {LookupRow} row @param {Lookup} lookup @param {Uint8Array} index @param {boolean} isMarked */
+function captionOf(row, lookup, index, isMarked) {
+  const known = toHex(index) === toHex(lookup.index) ? "" : "; the line has another one, which is not used";
+  const asked = element("p", "asked", "Asked for ", nameBox(lookup.name), " at the index ", hashButton(toHex(index), "the index"), `, ${INDICES[row.indexIs]}${known}, under the nonce `, hashButton(toHex(lookup.nonce), "the nonce"));
   const terms = TERMS.flatMap(([term, meaning]) => [element("dt", "", term), element("dd", "", meaning)]);
   return element("figcaption", "", mark(isMarked, asked), element("dl", "", ...terms));
 }
@@ -102,13 +84,13 @@ function captionOf(lookup, isMarked) {
 export function pathOf(row) {
   const lookup = lookupOf(row.text);
   if ("fault" in lookup) return element("p", "unpathed", "The line has no whole proof, so no path is drawn.");
-  const wrong = marked(row);
+  const [wrong, index] = [marked(row), row.index ?? lookup.index];
   const top = element("div", "root", element("h3", "", "Root"), hashButton(toHex(lookup.root), "the root"));
   const levels = element("ol", "levels");
   levels.setAttribute("aria-label", "the authentication path from the root down");
-  for (let level = 0; level < Math.min(lookup.siblings.length, 256); level++) levels.append(levelOf(lookup, level));
+  for (let level = 0; level < Math.min(lookup.siblings.length, 256); level++) levels.append(levelOf(index, lookup, level));
   const drawn = element("div", "drawn", mark(wrong === "root", top), levels);
   if (lookup.siblings.length > 256) drawn.append(mark(true, element("div", "deep", `${lookup.siblings.length} siblings; a path has at most 256`)));
   drawn.append(endOf(row, lookup));
-  return element("figure", "path", drawn, captionOf(lookup, wrong === "asked"));
+  return element("figure", "path", drawn, captionOf(row, lookup, index, wrong === "asked"));
 }

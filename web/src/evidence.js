@@ -1,6 +1,5 @@
 // Evidence that a provider equivocated: two entries with valid signatures of its key that one chain can't have.
 
-import { toHex } from "./bytes.js";
 import { Coniks } from "./coniks.js";
 
 /**
@@ -66,9 +65,4 @@ export function evidenceWords({ kind, a, b }) {
   if (kind === 2) return `the entries of epochs ${a.epoch} and ${b.epoch} have different policies`;
   const both = a.epoch === b.epoch ? `both entries are of epoch ${a.epoch}` : `the entries of epochs ${a.epoch} and ${b.epoch} both cover epoch ${b.before + 1n}`;
   return `${both}, and their contents differ`;
-}
-
-/** The digits of both entries, one on each line. @param {Evidence} evidence @returns {string} */
-export function evidenceDigits({ a, b }) {
-  return [...new Set([a, b])].map((it) => toHex(it.entry)).join("\n");
 }

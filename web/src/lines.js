@@ -77,6 +77,7 @@ const TOKENS = /"[^"\\]*(?:\\.[^"\\]*)*"|-?\d+(?:\.\d+)?(?:[eE][-+]?\d+)?|[[\]{}
  * @returns {boolean}
  */
 function isSound(text) {
+  if (/\p{Cs}/u.test(text)) return false;
   let depth = 0;
   for (const [token] of text.matchAll(TOKENS)) {
     if (token === "{" || token === "[") depth++;
@@ -89,7 +90,7 @@ function isSound(text) {
 
 /** Whether a string has half of a surrogate pair. @param {string} token @returns {boolean} */
 function isHalf(token) {
-  return token.includes("\\u") && /[\ud800-\udfff]/u.test(JSON.parse(token));
+  return token.includes("\\u") && /\p{Cs}/u.test(JSON.parse(token));
 }
 
 /**
@@ -108,11 +109,19 @@ export function objectOf(line) {
 }
 
 /**
- * The number of a line's member as it is written, since a double has no room for all of them; null if there is none.
- * @param {string} line @param {string} name
+ * The number of a member as its line has it, since a double has no room for all of them; null if there is none.
+ * @param {string} line @param {Record<string, any>} object @param {string} name
  * @returns {bigint | null}
  */
-export function numberOf(line, name) {
+export function numberOf(line, object, name) {
+  const value = member(object, name);
+  if (typeof value !== "number" || value < 0 || Object.is(value, -0)) return null;
+  const isPlain = Number.isSafeInteger(value) && [",", "}"].some((it) => line.includes(`"${name}":${value}${it}`));
+  return isPlain ? BigInt(value) : writtenNumber(line, name);
+}
+
+/** @param {string} line @param {string} name @returns {bigint | null} */
+function writtenNumber(line, name) {
   /** The texts of the members of this name, by the objects that they are in. @type {Map<any, string>} */
   const texts = new Map();
   /** @type {(this: any, key: string, value: any, context?: {source?: string}) => any} */
@@ -197,6 +206,16 @@ export function lookupIn(object) {
 export function entryOf(object) {
   const bytes = typeof object.entry === "string" ? fromHex(object.entry) : null;
   return bytes !== null && bytes.length === 209 ? bytes : null;
+}
+
+/**
+ * The VRF proof that a line has beside its lookup, in bytes: none if there is no such member, and null if it is malformed.
+ * @param {Record<string, any>} object
+ * @returns {Uint8Array | null | undefined}
+ */
+export function vrfOf(object) {
+  const value = member(object, "vrf");
+  return value === undefined ? undefined : typeof value === "string" ? fromHex(value) : null;
 }
 
 /**

@@ -1,19 +1,21 @@
 // The page: takes lines, has them checked a few at a time, and shows the results.
 
-import { fromHex } from "./bytes.js";
+import { bytesOf } from "./bytes.js";
+import { equivocation, twoAnswers } from "./contradictions.js";
 import { Coniks } from "./coniks.js";
-import { element, pathOf } from "./draw.js";
-import { evidenceDigits, evidenceWords } from "./evidence.js";
-import { LONGEST, linesOf } from "./lines.js";
-import { Reading, isOtherEpoch } from "./reading.js";
-import { NOT_VERIFIED, ProviderKey } from "./signatures.js";
-import { counting, keyText, nameText } from "./words.js";
+import { pathOf } from "./draw.js";
+import { element, sentence } from "./elements.js";
+import { FIELDS, NOT_VERIFIED, keysOf } from "./keys.js";
+import { linesOf } from "./lines.js";
+import { Reading } from "./reading.js";
+import { Teller, counted, kindOf, seenWords } from "./rows.js";
+import { counting, keyText, nameNote, nameText } from "./words.js";
 
 /**
  * @typedef {import("./reading.js").Row} Row
  * @typedef {import("./reading.js").LookupRow} LookupRow
- * @typedef {import("./reading.js").EntryRow} EntryRow
- * @typedef {import("./reading.js").Seen} Seen
+ * @typedef {import("./rows.js").Counts} Counts
+ * @typedef {import("./keys.js").Field} Field
  */
 
 /** Milliseconds after which the page is drawn again while lines are read, rows that are shown at first, and rows drawn at a time. */
@@ -21,9 +23,10 @@ const TURN = 20;
 const SHOWN = 200;
 const DRAWN = 20;
 
-/** Epochs of a name that are shown at first, and names that the menu lists. */
+/** Epochs of a name that are shown at first, names that the menu lists, and contradictions that are shown. */
 const EPOCHS = 100;
 const NAMES = 500;
+const CONTRADICTIONS = 3;
 
 /** With more lines the first lookup isn't unfolded. */
 const MANY = 100;
@@ -31,8 +34,14 @@ const MANY = 100;
 /** A longer text isn't put into the field, which would take longer than checking it. */
 const LONG = 200_000;
 
-/** The key of the example. */
-const KEY = "0".repeat(64);
+/** The keys of the example's provider. @type {Record<Field, string>} */
+const EXAMPLE = {
+  signing: "7070989e5213af62484d0e6ae00fb96e2a518e43464c94b94047d44c7a231c9e",
+  vrf: "8f41ef74c6990c41a4e736c037b686f2c12b0b78229b1915d3b79923b95b5587",
+  key: "",
+};
+/** @type {Record<Field, string>} */
+const NO_KEYS = { signing: "", vrf: "", key: "" };
 
 /** @param {string} id @returns {any} */
 const part = (id) => document.getElementById(id);
@@ -45,79 +54,47 @@ let given = [];
 let turn = 0;
 /** The reading that is to stop. */
 let cancelled = 0;
+/** Whether the keys are those that came with the example. */
+let isExample = false;
 
-/** Returns the epoch of a line's entry, or of a line without one. @param {{epoch?: bigint | null, said: bigint | null}} row @returns {string} */
-function epochWords(row) {
-  if (typeof row.epoch === "bigint") return ` at epoch ${row.epoch}`;
-  return row.said === null ? "" : ` at an epoch that the line calls ${row.said}`;
+/** A reading with its number. */
+class Work {
+  /** @param {Reading} reading @param {number} mine */
+  constructor(reading, mine) {
+    this.reading = reading;
+    this.mine = mine;
+    this.last = performance.now();
+    this.teller = new Teller(coniks, reading);
+  }
+
+  /** Whether another reading took over. */
+  get isOver() {
+    return this.mine !== turn;
+  }
+
+  /** Lets the browser draw and respond, if it has not for a while. @param {number} [done] @returns {Promise<boolean>} whether the work is to stop */
+  async pause(done) {
+    if (performance.now() - this.last > TURN) {
+      if (done !== undefined) part("progress").value = done;
+      part("reading").hidden = this.isOver;
+      await new Promise((go) => setTimeout(go));
+      this.last = performance.now();
+    }
+    return this.isOver || cancelled === this.mine;
+  }
 }
 
-/** @param {LookupRow | EntryRow} row @returns {string} the epoch of the line, if it is not the entry's */
-function otherEpoch(row) {
-  return isOtherEpoch(row) ? `; the line calls it epoch ${row.said}, which its entry does not` : "";
+/** Waits until the browser has drawn what was added. In a page that isn't shown it does not wait for that. */
+function drawn() {
+  return new Promise((go) => (document.hidden ? setTimeout(go) : requestAnimationFrame(() => setTimeout(go))));
 }
 
-const STANDINGS = {
-  authentic: "its entry is in the audited chain, whose signatures are verified",
-  consistent: "its entry is in the pasted chain, whose signatures are not verified",
-  missing: "its entry isn't in the pasted chain",
-  other: "the root or the nonce isn't that of its entry",
-  unsigned: "its entry's signature isn't one under this key",
-  broken: "its entry isn't 418 hexadecimal digits",
-  none: "the line has no entry",
-};
-
-/** Why a lookup is refused. @param {Reading} reading @param {LookupRow} row @returns {string} */
-function refusalWords(reading, row) {
-  const verdict = row.verdict;
-  if ("answer" in verdict) return STANDINGS[reading.standing(row)];
-  if (verdict.fault === "Member") return `the member ${JSON.stringify(verdict.member)} is missing or malformed`;
-  return coniks.text(verdict.status ?? 0);
-}
-
-/** The name and the epoch of a refused lookup. @param {{name: string | null, epoch?: bigint | null, said: bigint | null}} row @returns {string} */
-function askedWords(row) {
-  return `${row.name === null ? "a lookup" : nameText(row.name)}${epochWords(row)}`;
-}
-
-/** @param {Reading} reading @param {LookupRow} row @returns {string} */
-function verdictWords(reading, row) {
-  if (reading.stateOf(row) === "refused") return `refused: ${askedWords(row)}: ${refusalWords(reading, row)}`;
-  const isBound = "answer" in row.verdict && row.verdict.answer === "key";
-  return `${nameText(row.name ?? "")} is ${isBound ? "bound to this key" : "not registered"}${epochWords(row)}`;
-}
-
-const STATES = { authentic: "authentic: ", consistent: "consistent, not authenticated: ", refused: "" };
-
-/** @param {Reading} reading @param {LookupRow} row @returns {string} */
-function standingWords(reading, row) {
-  const index = reading.key === null ? `; at the index in this line${reading.verifier === null ? "" : ", whose VRF proof this page does not verify"}` : "";
-  return STATES[reading.stateOf(row)] + STANDINGS[reading.standing(row)] + index + otherEpoch(row);
-}
-
-/** @param {EntryRow} row @returns {string} */
-function entryWords(row) {
-  const signature = row.signature === null ? "its signature is not verified" : "its signature is verified";
-  const words = row.status === 0 ? `epoch ${row.epoch} follows in the chain; ${signature}` : `refused: the entry of epoch ${row.epoch}: ${coniks.text(row.status)}`;
-  return words + otherEpoch(row);
-}
-
-/** @param {Exclude<Row, LookupRow>} row @returns {string} */
-function plainWords(row) {
-  if (row.what === "entry") return entryWords(row);
-  if (row.what === "unproved") return `refused: ${askedWords(row)}: the answer has no proof`;
-  if (row.what === "refusal") return `the directory refused a request: ${nameText(row.fault)}`;
-  if (row.what === "broken") return "refused: the entry isn't 418 hexadecimal digits";
-  if (row.what === "other") return "neither a lookup nor an entry";
-  return row.fault === "Json" ? "refused: the line isn't a JSON object" : `refused: the line is longer than ${LONGEST} bytes`;
-}
-
-/** @param {Reading} reading @param {LookupRow} row */
-function lookupItem(reading, row) {
+/** @param {Work} work @param {LookupRow} row */
+function lookupItem({ reading, teller }, row) {
   const made = element("details", `lookup ${reading.stateOf(row)}`);
-  const summary = element("summary", "", element("bdi", "verdict", verdictWords(reading, row)));
-  if ("key" in row.verdict) summary.append(element("code", "key", keyText(row.verdict.key, 80)));
-  summary.append(element("span", "standing", standingWords(reading, row)));
+  const summary = element("summary", "", sentence("verdict", teller.verdict(row)));
+  if ("key" in row.verdict) summary.append(" ", element("code", "key", keyText(row.verdict.key, 80)));
+  summary.append(element("span", "standing", teller.standing(row)));
   made.append(summary);
   made.addEventListener("toggle", () => {
     if (/** @type {HTMLDetailsElement} */ (made).open && made.childElementCount === 1) made.append(pathOf(row));
@@ -125,42 +102,33 @@ function lookupItem(reading, row) {
   return made;
 }
 
-/** @param {Exclude<Row, LookupRow>} row */
-function plainItem(row) {
-  const words = plainWords(row);
-  return element("p", words.startsWith("refused") ? "plain refused" : "plain", element("bdi", row.what === "entry" ? "entry" : "", words));
+/** @param {Work} work @param {Exclude<Row, LookupRow>} row */
+function plainItem({ teller }, row) {
+  const words = teller.plain(row);
+  return element("p", String(words[0]).startsWith("refused") ? "plain refused" : "plain", sentence(row.what === "entry" ? "entry" : "", words));
 }
 
-/** @param {Reading} reading @param {number} from @param {number} to */
-function drawRows(reading, from, to) {
-  const items = reading.rows.slice(from, to).map((row, i) => {
-    const shown = row.what === "lookup" ? lookupItem(reading, row) : plainItem(row);
+/** @param {Work} work @param {number} from @param {number} to */
+function drawRows(work, from, to) {
+  const items = work.reading.rows.slice(from, to).map((row, i) => {
+    const shown = row.what === "lookup" ? lookupItem(work, row) : plainItem(work, row);
     return element("li", "", element("span", "number", `line ${from + i + 1}`), shown);
   });
   part("results").append(...items);
 }
 
-/** Shows the next rows, some at a time. @param {Reading} reading @param {number} from @param {number} mine */
-async function show(reading, from, mine) {
-  const [more, to] = [part("more"), Math.min(from + SHOWN, reading.rows.length)];
+/** Shows the next rows, some at a time. @param {Work} work @param {number} from */
+async function show(work, from) {
+  const { rows } = work.reading;
+  const [more, to] = [part("more"), Math.min(from + SHOWN, rows.length)];
   more.hidden = true;
   for (let next = from; next < to; next += DRAWN) {
-    drawRows(reading, next, Math.min(next + DRAWN, to));
+    drawRows(work, next, Math.min(next + DRAWN, to));
     await drawn();
-    if (mine !== turn) return;
+    if (work.isOver) return;
   }
-  more.hidden = reading.rows.length <= to;
-  more.onclick = () => show(reading, to, mine);
-}
-
-/** @param {Seen} it @returns {string} */
-function seenWords(it) {
-  if (it.seen === "first") return `first key ${keyText(it.key, 64)}`;
-  if (it.seen === "registered") return `registered with the key ${keyText(it.key, 64)}`;
-  if (it.seen === "same") return `same key ${keyText(it.key, 64)}`;
-  if (it.seen === "changed") return `changed from ${keyText(it.from, 64)} to ${keyText(it.key, 64)}`;
-  if (it.seen === "absent") return `absent, after the key ${keyText(it.from, 64)}`;
-  return it.seen === "unregistered" ? "not registered" : `refused: ${coniks.text(it.status)}`;
+  more.hidden = rows.length <= to;
+  more.onclick = () => show(work, to);
 }
 
 /** The epochs of a name, some at a time. @param {Reading} reading @param {string} name */
@@ -171,11 +139,18 @@ function showTimeline(reading, name) {
   later.onclick = () => {
     for (let shown = 0; !next.done && shown < EPOCHS; next = watched.next(), shown++) {
       const it = next.value;
-      list.append(element("li", it.seen, element("span", "epoch", `epoch ${it.epoch}`), element("bdi", "", seenWords(it))));
+      const epochs = it.seen === "missing" && it.last !== it.epoch ? `epochs ${it.epoch} to ${it.last}` : `epoch ${it.epoch}`;
+      list.append(element("li", it.seen, element("span", "epoch", epochs), sentence("", [seenWords(it)])));
     }
     later.hidden = next.done;
   };
   later.onclick();
+}
+
+/** A name in the menu, which no other text follows. @param {string} name */
+function option(name) {
+  const note = nameNote(name);
+  return new Option(`\u2066${nameText(name)}\u2069${note ? ` (${note})` : ""}`, name);
 }
 
 /** @param {Reading} reading */
@@ -183,206 +158,146 @@ function showWatched(reading) {
   const choice = part("watched");
   const names = reading.names();
   part("watch").hidden = names.length === 0;
-  choice.replaceChildren(...names.slice(0, NAMES).map((it) => new Option(nameText(it), it)));
+  choice.replaceChildren(...names.slice(0, NAMES).map(option));
   part("unlisted").textContent = names.length > NAMES ? `The menu has the first ${NAMES} of ${names.length} names.` : "";
   choice.onchange = () => showTimeline(reading, choice.value);
   if (names.length) showTimeline(reading, choice.value);
 }
 
-/**
- * How many rows there are of each kind.
- * @typedef {Record<string, number>} Counts
- */
-
-/** What a row counts as. @param {Row} row @param {Reading} reading @returns {string} */
-function kindOf(row, reading) {
-  if (row.what === "lookup") return reading.stateOf(row);
-  if (row.what === "entry") return row.status === 0 ? "followed" : "unfollowed";
-  return row.what === "unread" ? row.fault : row.what;
-}
-
-/** @param {Counts} counts @param {string} kind */
-function add(counts, kind) {
-  counts[kind] = (counts[kind] ?? 0) + 1;
-}
-
-/** @param {Counts} counts @param {boolean} isKeyed @returns {string} */
-function entriesWords(counts, isKeyed) {
-  const [followed, refused] = [counts.followed ?? 0, (counts.unfollowed ?? 0) + (counts.broken ?? 0)];
-  const broken = counts.broken ? `, ${counts.broken} of them malformed` : "";
-  const signed = `${followed === 1 ? "its signature is" : "their signatures are"}${isKeyed ? "" : " not"} verified`;
-  const chain = followed ? `: ${followed} ${followed === 1 ? "follows" : "follow"} in the chain, ${signed}` : "";
-  return `${counting(followed + refused, "entry", "entries")}${chain}${refused ? `; ${refused} refused${broken}` : ""}.`;
-}
-
-/** @param {Counts} counts @param {boolean} isKeyed @returns {string} */
-function counted(counts, isKeyed) {
-  const [authentic, consistent, refused] = [counts.authentic ?? 0, counts.consistent ?? 0, counts.refused ?? 0];
-  const lookups = `${counting(authentic + consistent + refused, "lookup")}: ${authentic} authentic, ${consistent} consistent but not authenticated, ${refused} refused.`;
-  const rest = [
-    [counts.unproved, "answer without a proof", "answers without a proof"],
-    [counts.refusal, "request that the directory refused", "requests that the directory refused"],
-    [counts.Json, "line that isn't a JSON object", "lines that aren't JSON objects"],
-    [counts.Long, "line that is too long", "lines that are too long"],
-    [counts.other, "other line", "other lines"],
-  ];
-  const others = rest.flatMap(([many, one, more]) => (many ? [`${counting(/** @type {number} */ (many), String(one), String(more))}.`] : []));
-  return [lookups, entriesWords(counts, isKeyed), ...others].join(" ");
-}
-
-/** The fields of the keys, with the places of what is wrong with them. */
-const NOTES = { key: "keyed-as", provided: "provided-as" };
-const TWO_KEYS = "two keys: give the demonstration's key or a provider's. No signature is verified.";
-
-/** @param {"key" | "provided"} field @returns {string} */
-function fieldText(field) {
-  return part(field).value.trim();
-}
-
-/** @param {"key" | "provided"} field @returns {Uint8Array | null} the key in a field, null if there is none */
-function keyIn(field) {
-  const bytes = fromHex(fieldText(field));
-  return bytes !== null && bytes.length === 32 ? bytes : null;
-}
-
-/** @param {"key" | "provided"} field @param {string} words  what is wrong with the key, or why it can't be used */
+/** @param {Field} field @param {string} words  what is wrong with the key, or why it can't be used */
 function tellKey(field, words) {
   part(field).setAttribute("aria-invalid", String(words !== "" && !words.startsWith(NOT_VERIFIED)));
-  part(NOTES[field]).textContent = words;
+  part(`${field}-note`).textContent = words;
 }
 
-/** @param {"key" | "provided"} field @returns {string} what is wrong with a text that isn't a key */
-function keyWords(field) {
-  const text = fieldText(field);
-  if (text === "" || keyIn(field) !== null) return "";
-  const what = /^[0-9a-fA-F]*$/.test(text) ? `this text has ${counting(text.length, "digit")}` : "this text has other characters";
-  return `not a key: a key has 64 hexadecimal digits, and ${what}. No signature is verified.`;
+/** @returns {string} the kind of keys that is chosen */
+function chosen() {
+  return /** @type {HTMLInputElement} */ (document.querySelector("input[name=keys]:checked")).value;
 }
 
-/**
- * The key of the demonstration or of a provider, if there is one that signatures can be verified with, and what is wrong.
- * @typedef {{key: Uint8Array | null, provider: ProviderKey | null, wrong: {key: string, provided: string}}} Keys
- */
-
-/** @returns {Promise<Keys>} */
-async function givenKeys() {
-  const wrong = { key: keyWords("key"), provided: keyWords("provided") };
-  if (fieldText("key") !== "" && fieldText("provided") !== "") return { key: null, provider: null, wrong: { ...wrong, provided: TWO_KEYS } };
-  const bytes = keyIn("provided");
-  const provider = bytes && (await ProviderKey.of(bytes, window.crypto?.subtle));
-  if (typeof provider === "string") return { key: null, provider: null, wrong: { ...wrong, provided: provider } };
-  return { key: keyIn("key"), provider, wrong };
+/** Fills the fields of the keys. @param {string} kind @param {Record<Field, string>} texts */
+function setKeys(kind, texts) {
+  /** @type {HTMLInputElement} */ (document.querySelector(`input[value=${kind}]`)).checked = true;
+  for (const field of FIELDS) part(field).value = texts[field];
+  showFields();
 }
 
-/** Lets the browser draw and respond, if it has not for a while. */
-class Pause {
-  constructor() {
-    this.last = performance.now();
-  }
-
-  /** @returns {boolean} */
-  isDue() {
-    return performance.now() - this.last > TURN;
-  }
-
-  async take() {
-    await new Promise((go) => setTimeout(go));
-    this.last = performance.now();
-  }
+function showFields() {
+  for (const kind of ["provider", "demonstration"]) part(`of-${kind}`).hidden = chosen() !== kind;
 }
 
-/** Waits until the browser has drawn what was added. In a page that isn't shown it does not wait for that. */
-function drawn() {
-  return new Promise((go) => (document.hidden ? setTimeout(go) : requestAnimationFrame(() => setTimeout(go))));
+/** @returns {Record<Field, string>} */
+function keyTexts() {
+  return /** @type {Record<Field, string>} */ (Object.fromEntries(FIELDS.map((it) => [it, part(it).value.trim()])));
 }
 
-/** Reads lines until all are read or reading is cancelled. @param {Reading} reading @param {number} mine @returns {Promise<boolean>} whether another reading took over */
-async function readLines(reading, mine) {
-  const [pause, progress] = [new Pause(), part("progress")];
-  progress.max = given.reduce((size, it) => size + it.length, 0);
+/** Reads lines until all are read or reading is cancelled. @param {Work} work */
+async function readLines(work) {
+  part("progress").max = given.reduce((size, it) => size + it.length, 0);
   for (const line of linesOf(given)) {
-    const verified = reading.read(line);
-    if (verified) await verified;
-    if (mine !== turn) return true;
-    if (!pause.isDue()) continue;
-    progress.value = line.end;
-    part("reading").hidden = false;
-    await pause.take();
-    if (mine !== turn) return true;
-    if (cancelled === mine) break;
+    await work.reading.read(line);
+    if (await work.pause(line.end)) return;
   }
-  return false;
 }
 
-/** @param {Reading} reading @param {number} mine @returns {Promise<Counts | null>} null if another reading took over */
-async function countRows(reading, mine) {
-  const [pause, counts] = [new Pause(), /** @type {Counts} */ ({})];
-  for (const row of reading.rows) {
-    add(counts, kindOf(row, reading));
-    if (row.what === "entry" && row.signature !== null) add(counts, row.signature ? "signed" : "unsigned");
-    if (!pause.isDue()) continue;
-    await pause.take();
-    if (mine !== turn) return null;
+/** Judges the lookups with VRF proofs. @param {Work} work */
+async function judgeLookups(work) {
+  const { lookups } = work.reading;
+  part("progress").max = lookups.length;
+  for (const [i, row] of lookups.entries()) {
+    await work.reading.judge(row);
+    if (await work.pause(i + 1)) return;
+  }
+}
+
+/** @param {Work} work @returns {Promise<Counts>} */
+async function countRows(work) {
+  const counts = /** @type {Counts} */ ({});
+  const add = (/** @type {string} */ kind) => (counts[kind] = (counts[kind] ?? 0) + 1);
+  for (const row of work.reading.rows) {
+    add(kindOf(row, work.reading));
+    if (row.what === "entry" && row.isSigned !== null) add(row.isSigned ? "signed" : "unsigned");
+    if (await work.pause()) break;
   }
   return counts;
 }
 
-/** Shows evidence that the provider equivocated, if its signed entries have some. @param {Reading} reading @param {number} mine */
-async function showEvidence(reading, mine) {
-  const pause = new Pause();
-  for (const found of reading.signed.evidence()) {
-    if (found !== null) {
-      part("shows").textContent = evidenceWords(found);
-      part("both").textContent = evidenceDigits(found);
-      part("evidence").hidden = false;
-      return;
-    }
-    if (!pause.isDue()) continue;
-    await pause.take();
-    if (mine !== turn) return;
+/** Looks for contradictions, and shows some of each kind. @param {Work} work */
+async function showContradictions(work) {
+  const { reading } = work;
+  const kinds = [() => found(work, reading.signed.evidence(), 1, equivocation), () => found(work, reading.contradictions(), CONTRADICTIONS, (it) => twoAnswers(...it))];
+  const shown = [];
+  for (const find of kinds) shown.push(...(await find()));
+  if (work.isOver) return;
+  part("contradictions").replaceChildren(...shown);
+  part("contradictions").hidden = shown.length === 0;
+}
+
+/**
+ * The first of what is found, drawn.
+ * @template T
+ * @param {Work} work @param {Iterable<T | null>} all @param {number} most @param {(it: T) => HTMLElement} draw
+ * @returns {Promise<HTMLElement[]>}
+ */
+async function found(work, all, most, draw) {
+  const shown = [];
+  for (const it of all) {
+    if (it !== null) shown.push(draw(it));
+    if (shown.length === most || (await work.pause())) break;
   }
+  return shown;
+}
+
+/** Shows nothing of what was given before. */
+function clear() {
+  for (const id of ["more", "watch", "reading", "contradictions"]) part(id).hidden = true;
+  for (const id of ["results", "timeline", "contradictions"]) part(id).replaceChildren();
+  part("summary").textContent = "Reading…";
 }
 
 /** Reads what is given, and shows it. */
 async function readAll() {
   const mine = ++turn;
-  const { key, provider, wrong } = await givenKeys();
+  clear();
+  const { keys, wrong } = await keysOf(coniks, chosen(), keyTexts());
   if (mine !== turn) return;
-  tellKey("key", wrong.key);
-  tellKey("provided", wrong.provided);
-  const reading = new Reading(coniks, key, provider);
-  for (const id of ["more", "watch", "reading", "evidence"]) part(id).hidden = true;
-  part("results").replaceChildren();
-  if (await readLines(reading, mine)) return;
-  const counts = await countRows(reading, mine);
-  if (counts === null) return;
-  await showEvidence(reading, mine);
-  if (mine !== turn) return;
-  await showRows(reading, counts, mine);
-  if (mine !== turn) return;
-  showWatched(reading);
-  part("summary").dataset.done = String(reading.rows.length);
+  for (const field of FIELDS) tellKey(field, wrong[field]);
+  const work = new Work(new Reading(coniks, keys), mine);
+  for (const step of [readLines, judgeLookups, showContradictions, showRows]) {
+    await step(work);
+    if (work.isOver) return;
+  }
+  showWatched(work.reading);
+  part("summary").dataset.done = String(work.reading.rows.length);
 }
 
-/** @param {Reading} reading @param {Counts} counts @param {number} mine */
-async function showRows(reading, counts, mine) {
-  const lines = reading.rows.length;
+/** @param {Work} work */
+async function showRows(work) {
+  const [counts, { rows, keys }] = [await countRows(work), work.reading];
+  if (work.isOver) return;
   part("reading").hidden = true;
-  part("folded").textContent = lines ? `${counting(lines, "line")}: show them, or paste others` : "Paste lines";
-  const cut = cancelled === mine ? `Cancelled after ${counting(lines, "line")}; the rest is not read. ` : "";
-  part("summary").textContent = cut + (lines ? counted(counts, reading.verifier !== null) : "Nothing is pasted.");
-  const field = reading.key === null ? "provided" : "key";
-  if (counts.unsigned && !counts.signed) tellKey(field, `wrong key: no signature of ${counting(counts.unsigned, "entry", "entries")} is one under it`);
-  await show(reading, 0, mine);
+  part("folded").textContent = rows.length ? `${counting(rows.length, "line")}: show them, or paste others` : "Paste lines";
+  const cut = cancelled === work.mine ? `Cancelled after ${counting(rows.length, "line")}; the rest is not read. ` : "";
+  part("summary").textContent = cut + (rows.length ? counted(counts, keys.kind) : "Nothing is pasted.");
+  if (counts.unsigned && !counts.signed) tellKey(keys.kind === "provider" ? "signing" : "key", `wrong key: no signature of ${counting(counts.unsigned, "entry", "entries")} is one under it`);
+  await show(work, 0);
   const first = /** @type {HTMLDetailsElement | null} */ (document.querySelector("details.lookup"));
-  if (mine === turn && first && lines <= MANY) first.open = true;
+  if (!work.isOver && first && rows.length <= MANY) first.open = true;
 }
 
 /** The bytes of files, one after another. @param {Iterable<File>} files @returns {Promise<Uint8Array[]>} */
-async function bytesOf(files) {
+async function contentsOf(files) {
   const all = [];
   for (const file of files) all.push(new Uint8Array(await file.arrayBuffer()));
   return all;
+}
+
+/** The keys of the example are for its lines alone. @param {string} [text] */
+function dropExampleKeys(text = "") {
+  const example = part("tour").textContent ?? "";
+  const isKept = text.split("\n").some((it) => it !== "" && example.includes(it));
+  if (isExample && !isKept) setKeys("none", NO_KEYS);
+  isExample &&= isKept;
 }
 
 /** Takes texts or files. Only a short text is put into the field. @param {(string | Uint8Array)[]} parts */
@@ -394,10 +309,16 @@ function take(parts) {
   return readAll();
 }
 
+/** Takes the user's lines. @param {(string | Uint8Array)[]} parts */
+function takeOwn(parts) {
+  dropExampleKeys();
+  return take(parts);
+}
+
 /** @param {DataTransfer | null} dropped */
 async function takeDropped(dropped) {
   const files = [...(dropped?.files ?? [])];
-  return take(files.length ? await bytesOf(files) : [dropped?.getData("text/plain") ?? ""]);
+  return takeOwn(files.length ? await contentsOf(files) : [dropped?.getData("text/plain") ?? ""]);
 }
 
 /** @param {ClipboardEvent} event */
@@ -406,34 +327,44 @@ function takePasted(event) {
   const isShort = text.length <= LONG && /** @type {Element} */ (event.target).closest("input, textarea");
   if (isShort || text === "") return;
   event.preventDefault();
-  take([text]);
+  takeOwn([text]);
 }
 
 function listenToLines() {
   const [input, files] = [part("lines"), part("file")];
   let waiting = 0;
   const soon = () => {
+    // What is shown is that of the text before.
+    turn++;
+    clear();
     clearTimeout(waiting);
     waiting = window.setTimeout(readAll, 150);
   };
   input.addEventListener("input", (/** @type {InputEvent} */ event) => {
     given = [input.value];
     part("pasted").open = event.inputType !== "insertFromPaste";
+    dropExampleKeys(input.value);
     soon();
   });
-  for (const field of ["key", "provided"]) part(field).addEventListener("input", soon);
+  const keysChanged = () => {
+    isExample = false;
+    showFields();
+    soon();
+  };
+  for (const field of FIELDS) part(field).addEventListener("input", keysChanged);
+  part("choice").addEventListener("change", keysChanged);
   files.addEventListener("change", async () => {
-    const parts = await bytesOf(files.files);
+    const parts = await contentsOf(files.files);
     // The same file can be opened again.
     files.value = "";
-    if (parts.length) await take(parts);
+    if (parts.length) await takeOwn(parts);
   });
 }
 
-/** @param {string} key */
-function takeExample(key) {
-  part("key").value = key;
-  part("provided").value = "";
+/** @param {string} kind @param {Record<Field, string>} keys */
+function takeExample(kind, keys) {
+  setKeys(kind, keys);
+  isExample = kind === "provider";
   return take([part("tour").textContent ?? ""]);
 }
 
@@ -445,20 +376,20 @@ function listen() {
     event.preventDefault();
     await takeDropped(event.dataTransfer);
   });
-  part("example").addEventListener("click", () => takeExample(""));
-  part("keyed").addEventListener("click", () => takeExample(KEY));
+  part("example").addEventListener("click", () => takeExample("provider", EXAMPLE));
+  part("unkeyed").addEventListener("click", () => takeExample("none", NO_KEYS));
   part("cancel").addEventListener("click", () => (cancelled = turn));
 }
 
 export async function begin() {
   try {
     const text = part("module").textContent ?? "";
-    coniks = await Coniks.of(Uint8Array.from(atob(text.trim()), (it) => it.charCodeAt(0)));
+    coniks = await Coniks.of(bytesOf(atob(text.trim())));
   } catch (error) {
     part("unsupported").hidden = false;
     part("reason").textContent = String(error);
     return;
   }
   listen();
-  await takeExample("");
+  await takeExample("provider", EXAMPLE);
 }

@@ -1,41 +1,47 @@
-// Reads what was pasted, line by line: lookups are checked, entries audited, names monitored. The library decides.
+// Reads what was pasted, line by line. Entries are fed to a client, which keeps those that continue its chain. Lookups are judged
+// when all lines are read, since an entry may come after its lookups.
 
-import { toHex } from "./bytes.js";
+import { bigEndian, joined, toHex } from "./bytes.js";
+import { Client } from "./client.js";
 import { Coniks } from "./coniks.js";
 import { SignedEntries } from "./evidence.js";
-import { entryOf, lookupIn, lookupOf, nameBytes, numberOf, objectOf, proofBytes } from "./lines.js";
-import { Seal, indexOf } from "./seal.js";
+import { entryOf, lookupIn, nameBytes, numberOf, objectOf, proofBytes, vrfOf } from "./lines.js";
+import { isSame } from "./messages.js";
+import { indexOf } from "./seal.js";
 import { FAULTS } from "./words.js";
 
 /**
- * Where a lookup's entry is: in the chain, whose signatures were verified (authentic) or not (consistent), not in it (missing),
- * of another root or nonce (other), not signed by the key (unsigned), not 209 bytes (broken), or not in the line (none).
- * @typedef {"authentic" | "consistent" | "missing" | "other" | "unsigned" | "broken" | "none"} Standing
+ * A lookup's entry is in the chain (chain) or not (missing), has another root or nonce (other), isn't signed by the key (unsigned),
+ * isn't 209 bytes (broken), or isn't in the line (none).
+ * @typedef {"chain" | "missing" | "other" | "unsigned" | "broken" | "none"} Standing
  *
+ * A lookup is accepted by the client under a provider's keys (authentic), valid under the demonstration's key (forgeable), has a
+ * path that fits but lacks a condition (consistent), or is refused.
+ * @typedef {"authentic" | "forgeable" | "consistent" | "refused"} State
+ *
+ * The index of a lookup was verified by a VRF proof, computed with the demonstration's key, or nobody has verified it.
+ * @typedef {"verified" | "computed" | "unverified"} IndexKind
+ *
+ * @typedef {import("./keys.js").Keys} Keys
  * @typedef {import("./lines.js").Lookup} Lookup
  * @typedef {{fault: string, member?: string, status?: number} | {answer: "absent"} | {answer: "key", key: Uint8Array}} Verdict
- * @typedef {{what: "lookup", text: string, name: string | null, epoch: bigint | null, said: bigint | null, verdict: Verdict, entry: Standing | "own", link: string}} LookupRow
- * @typedef {{what: "entry", epoch: bigint | null, said: bigint | null, status: number, signature: boolean | null}} EntryRow
+ * @typedef {{what: "lookup", number: number, text: string, name: string | null, epoch: bigint | null, said: bigint | null, entry: Standing | "own", link: string, verdict: Verdict, index: Uint8Array | null, indexIs: IndexKind, isAccepted: boolean}} LookupRow
+ * @typedef {{what: "entry", number: number, epoch: bigint | null, said: bigint | null, refusal: {why: string, status: number | null} | null, isSigned: boolean | null}} EntryRow
  * @typedef {{what: "unproved", name: string | null, said: bigint | null}} UnprovedRow
  * @typedef {{what: "refusal", fault: string}} RefusalRow
  * @typedef {{what: "broken"} | {what: "other"} | {what: "unread", fault: "Json" | "Long"}} PlainRow
  * @typedef {LookupRow | EntryRow | UnprovedRow | RefusalRow | PlainRow} Row
- * @typedef {{state: Uint8Array, isGood: boolean}} Before
  *
- * An entry with its link, and whether its signature is good: null if no signature is verified.
- * @typedef {{entry: Uint8Array, link: string, isGood: boolean | null}} Signed
- *
- * What is seen of a name at an epoch: its first key, a key after none, the same one, another one, none any more, or none yet.
+ * What is seen of a name: its first key, a key after none, the same one, another one, none any more, none yet, or nothing at the
+ * epochs up to `last`, of which no line shows it.
  * @typedef {{seen: "first", key: Uint8Array}
  *   | {seen: "registered", key: Uint8Array}
  *   | {seen: "same", key: Uint8Array}
  *   | {seen: "changed", from: Uint8Array, key: Uint8Array}
  *   | {seen: "absent", from: Uint8Array}
  *   | {seen: "unregistered"}
- *   | {seen: "refused", status: number}} Seen
+ *   | {seen: "missing", last: bigint}} Seen
  */
-
-const [SAME, ABSENT, CHANGED] = [0, 1, 9];
 
 /**
  * Rows without content of their lines.
@@ -43,21 +49,23 @@ const [SAME, ABSENT, CHANGED] = [0, 1, 9];
  */
 const PLAIN = { broken: { what: "broken" }, other: { what: "other" }, Json: { what: "unread", fault: "Json" }, Long: { what: "unread", fault: "Long" } };
 
+const VERSION = 1;
+const POLICY = 113;
+const BODY = 145;
+
+/** Most bytes of a VRF proof in a reply. */
+const LONGEST_PROOF = 65_535;
+
 export class Reading {
-  /**
-   * @param {Coniks} coniks
-   * @param {Uint8Array | null} key  of the demonstration, with which signatures are verified and indices computed
-   * @param {import("./signatures.js").ProviderKey | null} provider  with which signatures are verified if there is no other key
-   */
-  constructor(coniks, key, provider = null) {
+  /** @param {Coniks} coniks @param {Keys} keys */
+  constructor(coniks, keys) {
     this.coniks = coniks;
-    this.key = key;
-    /** Null if no signature is verified. @type {import("./signatures.js").Verifier | null} */
-    this.verifier = key === null ? provider : new Seal(key);
+    this.keys = keys;
     this.signed = new SignedEntries(coniks);
-    this.state = coniks.begin();
-    /** The state before each accepted entry, by its link. @type {Map<string, Before>} */
-    this.before = new Map();
+    /** Made with the policy digest of the first entry. @type {Client | null} */
+    this.client = null;
+    /** The epochs of the chain, by the links of their entries. @type {Map<string, bigint>} */
+    this.chain = new Map();
     /** One for each line. @type {Row[]} */
     this.rows = [];
     /** @type {LookupRow[]} */
@@ -66,37 +74,91 @@ export class Reading {
     this.byName = new Map();
   }
 
-  /**
-   * Reads a line. Returns a promise if the browser verifies the signature of its entry first: the next line is read after it.
-   * @param {import("./lines.js").Line} line
-   * @returns {Promise<void> | void}
-   */
-  read(line) {
-    const object = "fault" in line ? null : objectOf(line.text);
-    if (object === null) return this.add("fault" in line ? PLAIN[line.fault] : PLAIN.Json);
-    const { text } = /** @type {{text: string}} */ (line);
-    const entry = entryOf(object);
-    if (entry === null) return this.add(this.rowOf(text, object, null));
-    const link = this.coniks.link(entry);
-    const isGood = this.verifier && this.verifier.verify(entry, link);
-    if (isGood instanceof Promise) return isGood.then((it) => this.add(this.rowOf(text, object, { entry, link, isGood: it })));
-    this.add(this.rowOf(text, object, { entry, link, isGood }));
+  /** Reads a line, after the one before. @param {import("./lines.js").Line} line */
+  async read(line) {
+    const row = "fault" in line ? PLAIN[line.fault] : await this.rowOf(line.text);
+    this.rows.push(row);
+    if (row.what === "lookup") this.keep(row);
   }
 
-  /** @param {string} line @param {Record<string, any>} object @param {Signed | null} signed @returns {Row} */
-  rowOf(line, object, signed) {
-    // Whoever can verify an entry of the demonstration can make one, so it is no evidence.
-    if (this.key === null && signed?.isGood) this.signed.add(signed.link, signed.entry);
-    if ("proof" in object) return this.checked(line, object, signed);
-    if (object.ok === "lookup" || "index" in object) return { what: "unproved", name: textOf(object.name), said: numberOf(line, "epoch") };
-    if ("entry" in object) return signed === null ? PLAIN.broken : this.audited(line, signed);
+  /** @param {string} line @returns {Promise<Row>} */
+  async rowOf(line) {
+    const object = objectOf(line);
+    if (object === null) return PLAIN.Json;
+    const entry = entryOf(object);
+    const isSigned = entry && (await this.isSigned(entry));
+    if ("proof" in object) return this.lookupRow(line, object, entry, isSigned);
+    if (object.ok === "lookup" || "index" in object) return { what: "unproved", name: textOf(object.name), said: numberOf(line, object, "epoch") };
+    if ("entry" in object) return entry === null ? PLAIN.broken : this.fed(entry, isSigned, numberOf(line, object, "epoch"));
     return typeof object.fault === "string" ? { what: "refusal", fault: object.fault } : PLAIN.other;
   }
 
-  /** @param {Row} row */
-  add(row) {
-    this.rows.push(row);
-    if (row.what === "lookup") this.keep(row);
+  /** Whether an entry's signature is valid, null if none is verified. @param {Uint8Array} entry @returns {Promise<boolean | null>} */
+  async isSigned(entry) {
+    if (this.keys.signatures === null) return null;
+    const isGood = (await this.keys.signatures.verify(entry.slice(0, BODY), entry.slice(BODY))) === true;
+    // Whoever can verify an entry of the demonstration can make one, so it is no evidence.
+    if (isGood && this.keys.kind === "provider") this.signed.add(this.coniks.link(entry), entry);
+    return isGood;
+  }
+
+  /** @param {Uint8Array} entry @param {boolean | null} isSigned @param {bigint | null} said @returns {Promise<EntryRow>} */
+  async fed(entry, isSigned, said) {
+    /** @type {EntryRow} */
+    const row = { what: "entry", number: this.rows.length + 1, epoch: this.epochOf(entry), said, refusal: null, isSigned };
+    try {
+      if (this.client === null && isSigned !== false) this.client = await Client.of(this.coniks, this.keys.signatures ?? UNVERIFIED, this.keys.indices, entry.slice(POLICY, BODY));
+      if (this.client === null) return { ...row, refusal: { why: "Signature", status: SIGNATURE } };
+      await this.client.feed([entry]);
+      this.chain.set(this.coniks.link(entry), /** @type {bigint} */ (row.epoch));
+      return row;
+    } catch (error) {
+      return { ...row, refusal: refusalOf(error) };
+    }
+  }
+
+  /** @param {string} line @param {Record<string, any>} object @param {Uint8Array | null} entry @param {boolean | null} isSigned @returns {LookupRow} */
+  lookupRow(line, object, entry, isSigned) {
+    const lookup = lookupIn(object);
+    const tie = entry === null ? ("entry" in object ? "broken" : "none") : this.tie(entry, isSigned, lookup);
+    /** @type {LookupRow} */
+    const row = {
+      what: "lookup",
+      number: this.rows.length + 1,
+      text: line,
+      name: textOf(object.name),
+      epoch: entry && this.epochOf(entry),
+      said: numberOf(line, object, "epoch"),
+      entry: tie,
+      link: entry === null ? "" : this.coniks.link(entry),
+      verdict: UNJUDGED,
+      index: null,
+      indexIs: "unverified",
+      isAccepted: false,
+    };
+    if ("fault" in lookup) row.verdict = lookup;
+    else if (this.keys.indices === null || vrfOf(object) === undefined) this.checkAt(row, lookup, ...this.ownIndex(lookup));
+    return row;
+  }
+
+  /** The index that is computed with the demonstration's key, else that of the line. @param {Lookup} lookup @returns {[Uint8Array, IndexKind]} */
+  ownIndex(lookup) {
+    return this.keys.key === null ? [lookup.index, "unverified"] : [indexOf(this.keys.key, nameBytes(lookup.name)), "computed"];
+  }
+
+  /** Checks a lookup's path under the root and the nonce of its line. @param {LookupRow} row @param {Lookup} lookup @param {Uint8Array} index @param {IndexKind} kind */
+  checkAt(row, lookup, index, kind) {
+    row.index = index;
+    row.indexIs = kind;
+    row.verdict = verdictOf(this.coniks.check(lookup.nonce, lookup.root, index, nameBytes(lookup.name), proofBytes(lookup)));
+  }
+
+  /** Whether an entry is a lookup's own. @param {Uint8Array} entry @param {boolean | null} isSigned @param {Lookup | {fault: string}} lookup @returns {"own" | "other" | "unsigned"} */
+  tie(entry, isSigned, lookup) {
+    const body = this.coniks.body(entry);
+    const isOwn = "fault" in lookup || (body !== null && body.root === toHex(lookup.root) && body.nonce === toHex(lookup.nonce));
+    if (!isOwn) return "other";
+    return isSigned === false ? "unsigned" : "own";
   }
 
   /** @param {LookupRow} row */
@@ -108,57 +170,51 @@ export class Reading {
     else this.byName.set(row.name, [row]);
   }
 
-  /** @param {string} line @param {Signed} signed @returns {EntryRow} */
-  audited(line, { entry, link, isGood: signature }) {
-    const [state, isGood] = [this.state.slice(), signature !== false];
-    const status = this.coniks.feed(this.state, entry, isGood);
-    if (status === 0) this.before.set(link, { state, isGood });
-    return { what: "entry", epoch: this.epochOf(entry), said: numberOf(line, "epoch"), status, signature };
+  /** Judges a lookup with a VRF proof, after all lines are read: by the client if the chain has its entry. @param {LookupRow} row */
+  async judge(row) {
+    if (row.verdict !== UNJUDGED || row.entry === "unsigned") return;
+    const object = /** @type {Record<string, any>} */ (objectOf(row.text));
+    const [lookup, proof] = [/** @type {Lookup} */ (lookupIn(object)), vrfOf(object)];
+    const { indices } = this.keys;
+    row.verdict = NO_INDEX;
+    if (!proof || proof.length > LONGEST_PROOF || indices === null) return;
+    try {
+      if (this.standing(row) === "chain") await this.accept(row, lookup, proof, /** @type {Uint8Array} */ (entryOf(object)));
+      else if ((await indices.verify(nameBytes(lookup.name), proof)) === true) this.checkAt(row, lookup, await this.indexBy(lookup, proof), "verified");
+    } catch (error) {
+      const { why, status } = refusalOf(error);
+      row.verdict = { fault: why, ...(status === null ? {} : { status }) };
+    }
   }
 
-  /** @param {string} line @param {Record<string, any>} object @param {Signed | null} signed @returns {LookupRow} */
-  checked(line, object, signed) {
-    const lookup = lookupIn(object);
-    /** @type {Omit<LookupRow, "verdict">} */
-    const rest = {
-      what: "lookup",
-      text: line,
-      name: textOf(object.name),
-      epoch: signed && this.epochOf(signed.entry),
-      said: numberOf(line, "epoch"),
-      entry: signed === null ? ("entry" in object ? "broken" : "none") : this.tie(signed, lookup),
-      link: signed === null ? "" : signed.link,
-    };
-    if ("fault" in lookup) return { ...rest, verdict: lookup };
-    const name = nameBytes(lookup.name);
-    const index = this.key === null ? lookup.index : indexOf(this.key, name);
-    return { ...rest, verdict: verdictOf(this.coniks.check(lookup.nonce, lookup.root, index, name, proofBytes(lookup))) };
+  /** Has the client accept a lookup as a reply. @param {LookupRow} row @param {Lookup} lookup @param {Uint8Array} proof @param {Uint8Array} entry */
+  async accept(row, lookup, proof, entry) {
+    const reply = joined(Uint8Array.of(VERSION), entry, bigEndian(proof.length, 2), proof, proofBytes(lookup));
+    const found = await /** @type {Client} */ (this.client).lookup(lookup.name, reply, row.epoch);
+    row.isAccepted = true;
+    row.index = await this.indexBy(lookup, proof);
+    row.indexIs = "verified";
+    row.verdict = found.key === null ? { answer: "absent" } : { answer: "key", key: found.key };
   }
 
-  /** Whether an entry is a lookup's own. @param {Signed} signed @param {Lookup | {fault: string}} lookup @returns {"own" | "other" | "unsigned"} */
-  tie({ entry, isGood }, lookup) {
-    const body = this.coniks.body(entry);
-    const isOwn = "fault" in lookup || (body !== null && body.root === toHex(lookup.root) && body.nonce === toHex(lookup.nonce));
-    if (!isOwn) return "other";
-    return isGood === false ? "unsigned" : "own";
+  /** @param {Lookup} lookup @param {Uint8Array} proof @returns {Promise<Uint8Array>} the index of a name whose VRF proof was verified */
+  async indexBy(lookup, proof) {
+    return this.keys.indices.index(nameBytes(lookup.name), proof);
   }
 
-  /**
-   * Returns where a lookup's entry is, after all lines are read.
-   * @param {LookupRow} row
-   * @returns {Standing}
-   */
+  /** Returns where a lookup's entry is, after all lines are read. @param {LookupRow} row @returns {Standing} */
   standing(row) {
     if (row.entry !== "own") return row.entry;
-    if (!this.before.has(row.link)) return "missing";
-    return this.verifier === null ? "consistent" : "authentic";
+    return this.chain.has(row.link) ? "chain" : "missing";
   }
 
-  /** Whether a lookup is authentic, consistent or refused. @param {LookupRow} row @returns {"authentic" | "consistent" | "refused"} */
+  /** @param {LookupRow} row @returns {State} */
   stateOf(row) {
     const standing = this.standing(row);
     if (!("answer" in row.verdict) || standing === "other" || standing === "unsigned") return "refused";
-    return standing === "authentic" && !isOtherEpoch(row) ? "authentic" : "consistent";
+    if (standing !== "chain" || isOtherEpoch(row)) return "consistent";
+    if (row.indexIs === "computed") return "forgeable";
+    return row.isAccepted ? "authentic" : "consistent";
   }
 
   /** Returns the names of lookups with entries, in their order. @returns {string[]} */
@@ -166,47 +222,78 @@ export class Reading {
     return [...this.byName.keys()];
   }
 
+  /** The lookups of a name that are not refused, in the order of their epochs. @param {string} name @returns {LookupRow[]} */
+  accepted(name) {
+    const rows = (this.byName.get(name) ?? []).filter((it) => this.stateOf(it) !== "refused");
+    return rows.sort((a, b) => (/** @type {bigint} */ (a.epoch) < /** @type {bigint} */ (b.epoch) ? -1 : Number(a.epoch !== b.epoch)));
+  }
+
   /**
-   * What a monitor of a name sees at each epoch whose entry is in the chain. It takes the first key that it is shown as right. The
-   * index is the computed one with the demonstration's key, else that of the first line.
-   * @param {string} name
-   * @returns {Generator<{epoch: bigint | null} & Seen>}
+   * Looks for two lookups of one name and epoch with different answers, name by name.
+   * @returns {Generator<[LookupRow, LookupRow] | null>} null for each name that has none
    */
-  *watched(name) {
-    const rows = (this.byName.get(name) ?? []).filter((it) => ["authentic", "consistent"].includes(this.standing(it)));
-    rows.sort((a, b) => (/** @type {bigint} */ (a.epoch) < /** @type {bigint} */ (b.epoch) ? -1 : Number(a.epoch !== b.epoch)));
-    const first = rows.find((it) => "answer" in it.verdict) ?? rows[0];
-    const index = this.key === null ? first && /** @type {Lookup} */ (lookupOf(first.text)).index : indexOf(this.key, nameBytes(name));
-    let [expected, isFirst] = [new Uint8Array(0), true];
-    for (const row of rows) {
-      const seen = this.seen(row, { index, name: nameBytes(name), expected }, isFirst);
-      yield { epoch: row.epoch, ...seen };
-      if (seen.seen === "first" || seen.seen === "registered") expected = seen.key;
-      isFirst &&= seen.seen === "refused";
+  *contradictions() {
+    for (const name of this.byName.keys()) {
+      const rows = this.accepted(name);
+      const at = rows.findIndex((it, i) => i > 0 && it.epoch === rows[i - 1].epoch && !isSameAnswer(it.verdict, rows[i - 1].verdict));
+      yield at < 0 ? null : [rows[at - 1], rows[at]];
     }
   }
 
   /**
-   * @param {LookupRow} row @param {{index: Uint8Array, name: Uint8Array, expected: Uint8Array}} wanted
-   * @param {boolean} isFirst  whether nothing was seen of the name before
-   * @returns {Seen}
+   * What is seen of a name at each epoch of the chain. The first key that is shown is taken as right.
+   * @param {string} name
+   * @returns {Generator<{epoch: bigint} & Seen>}
    */
-  seen(row, wanted, isFirst) {
-    const object = /** @type {Record<string, any>} */ (objectOf(row.text));
-    const [lookup, entry] = [/** @type {Lookup} */ (lookupIn(object)), /** @type {Uint8Array} */ (entryOf(object))];
-    const { state, isGood } = /** @type {Before} */ (this.before.get(row.link));
-    const status = this.coniks.step(state.slice(), wanted, entry, isGood, proofBytes(lookup));
-    const [expects, key] = [wanted.expected.length > 0, lookup.end.kind === "here" ? lookup.end.key : new Uint8Array(0)];
-    if (status === SAME) return expects ? { seen: "same", key } : { seen: "unregistered" };
-    if (status === ABSENT) return { seen: "absent", from: wanted.expected };
-    if (status !== CHANGED) return { seen: "refused", status };
-    return expects ? { seen: "changed", from: wanted.expected, key } : { seen: isFirst ? "first" : "registered", key };
+  *watched(name) {
+    const rows = this.accepted(name).filter((it) => this.standing(it) === "chain");
+    const epochs = [...this.chain.values()];
+    let [at, expected, isFirst] = [0, /** @type {Uint8Array | null} */ (null), true];
+    for (const row of rows) {
+      const epoch = /** @type {bigint} */ (row.epoch);
+      const from = at;
+      while (epochs[at] < epoch) at++;
+      if (at > from) yield { seen: "missing", epoch: epochs[from], last: epochs[at - 1] };
+      const key = "key" in row.verdict ? row.verdict.key : null;
+      yield { epoch, ...seenOf(expected, key, isFirst) };
+      expected ??= key;
+      isFirst = false;
+      if (epochs[at] === epoch) at++;
+    }
+    if (rows.length && at < epochs.length) yield { seen: "missing", epoch: epochs[at], last: epochs[epochs.length - 1] };
   }
 
   /** @param {Uint8Array} entry @returns {bigint | null} */
   epochOf(entry) {
     return this.coniks.body(entry)?.epoch ?? null;
   }
+}
+
+/** @type {Verdict} */
+const UNJUDGED = { fault: "Unjudged" };
+/** @type {Verdict} */
+const NO_INDEX = { fault: "VrfProof" };
+const SIGNATURE = 40;
+
+/** In place of a key, if there is none: what it accepts is never shown as verified. */
+const UNVERIFIED = { verify: () => true };
+
+/** What the client says of what it refuses. @param {any} error @returns {{why: string, status: number | null}} */
+function refusalOf(error) {
+  if (error.name !== "Refusal") throw error;
+  return { why: error.why, status: error.status };
+}
+
+/** @param {Uint8Array | null} expected @param {Uint8Array | null} key @param {boolean} isFirst @returns {Seen} */
+function seenOf(expected, key, isFirst) {
+  if (key === null) return expected === null ? { seen: "unregistered" } : { seen: "absent", from: expected };
+  if (expected === null) return { seen: isFirst ? "first" : "registered", key };
+  return isSame(key, expected) ? { seen: "same", key } : { seen: "changed", from: expected, key };
+}
+
+/** Whether two accepted lookups have the same answer. @param {Verdict} a @param {Verdict} b @returns {boolean} */
+function isSameAnswer(a, b) {
+  return "key" in a && "key" in b ? isSame(a.key, b.key) : "key" in a === "key" in b;
 }
 
 /** Returns whether a line has another epoch than its entry. @param {{epoch: bigint | null, said: bigint | null}} row */

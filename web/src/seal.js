@@ -8,18 +8,14 @@ const LOW_TAG = 0x41;
 const HIGH_TAG = 0x42;
 const INDEX_TAG = 0x56;
 
-/** Bytes of an entry that are signed. */
-export const BODY = 145;
-
 /**
- * Whether an entry's signature is the seal of its body under a key.
- * @param {Uint8Array} key @param {Uint8Array} entry
+ * Whether a signature is the seal of a body under a key.
+ * @param {Uint8Array} key @param {Uint8Array} body @param {Uint8Array} signature
  * @returns {boolean}
  */
-export function isSealed(key, entry) {
-  const half = (/** @type {number} */ tag) => sha256(joined(Uint8Array.of(tag), key, entry.slice(0, BODY)));
-  const seal = joined(half(LOW_TAG), half(HIGH_TAG));
-  return seal.every((it, i) => it === entry[BODY + i]);
+export function isSealed(key, body, signature) {
+  const seal = joined(...[LOW_TAG, HIGH_TAG].map((tag) => sha256(joined(Uint8Array.of(tag), key, body))));
+  return seal.length === signature.length && seal.every((it, i) => it === signature[i]);
 }
 
 /**
@@ -31,15 +27,15 @@ export function indexOf(key, name) {
   return sha256(joined(Uint8Array.of(INDEX_TAG), key, name));
 }
 
-/** Verifies seals under a key. */
+/** Verifies seals under a key, in place of signatures. */
 export class Seal {
   /** @param {Uint8Array} key */
   constructor(key) {
     this.key = key;
   }
 
-  /** @param {Uint8Array} entry @returns {boolean} */
-  verify(entry) {
-    return isSealed(this.key, entry);
+  /** @param {Uint8Array} body @param {Uint8Array} signature @returns {boolean} */
+  verify(body, signature) {
+    return isSealed(this.key, body, signature);
   }
 }

@@ -45,15 +45,69 @@ export function keyText(key, most) {
 const NAME = 255;
 
 /**
- * A name in quotation marks, in which what isn't seen, or turns what follows it, is written out: control and format
- * characters, line and paragraph separators, and what Unicode doesn't assign. A cut name ends with its length.
+ * What isn't seen in a name, or changes how its neighbours look: control, format and unassigned characters, separators, spaces
+ * other than the one of ASCII, what fonts leave blank, marks that enclose, and marks at the start or after two marks.
+ */
+const ODD = /[\p{C}\p{Zl}\p{Zp}\p{DI}\p{Me}\u2800\u{1d159}\u{16fe4}]|(?! )\p{Zs}|(?<=^|\p{M}{2})\p{M}/gu;
+
+/** Scripts with letters that look like those of another one, or are often mixed. */
+const SCRIPTS = ["Arabic", "Armenian", "Cherokee", "Coptic", "Cyrillic", "Greek", "Han", "Hangul", "Hebrew", "Hiragana", "Katakana", "Latin", "Lisu"];
+
+/**
+ * A name in parts: what is seen, and what is written out in its place as \u{...}. Both have the escapes of JSON, so that no two
+ * names have the same parts.
+ * @typedef {{text: string, isOdd: boolean}} NamePart
+ */
+
+/** @param {string} name @returns {NamePart[]} */
+export function nameParts(name) {
+  const [shown, parts] = [name.slice(0, NAME), /** @type {NamePart[]} */ ([])];
+  const add = (/** @type {string} */ text, isOdd = false) => text && parts.push({ text: isOdd ? text : JSON.stringify(text).slice(1, -1), isOdd });
+  let at = 0;
+  for (const { 0: odd, index = 0 } of shown.matchAll(ODD)) {
+    add(shown.slice(at, index));
+    add(`\\u{${point(odd)}}`, true);
+    at = index + odd.length;
+  }
+  add(shown.slice(at));
+  return parts;
+}
+
+/** @param {string} character @returns {string} its number in hexadecimal digits */
+function point(character) {
+  return /** @type {number} */ (character.codePointAt(0)).toString(16);
+}
+
+/** A name in quotation marks, as a text. A cut name ends with its length. @param {string} name @returns {string} */
+export function nameText(name) {
+  return `"${nameParts(name).map((it) => it.text).join("")}"${nameEnd(name)}`;
+}
+
+/** What follows a name that is cut. @param {string} name @returns {string} */
+export function nameEnd(name) {
+  return name.length > NAME ? `… (${name.length} characters)` : "";
+}
+
+/**
+ * What a reader has to know of a name beyond ASCII, since it may look like another one: some of its characters, and its scripts if
+ * they are mixed. Empty for a name of ASCII characters.
  * @param {string} name
  * @returns {string}
  */
-export function nameText(name) {
-  const part = JSON.stringify(name.slice(0, NAME));
-  const text = part.replace(/[\p{Cc}\p{Cf}\p{Co}\p{Cn}\p{Zl}\p{Zp}]/gu, (it) => `\\u{${/** @type {number} */ (it.codePointAt(0)).toString(16)}}`);
-  return name.length > NAME ? `${text}… (${name.length} characters)` : text;
+export function nameNote(name) {
+  const beyond = [...new Set(name.slice(0, NAME).replace(/[ -~]/g, ""))];
+  if (beyond.length === 0) return "";
+  const points = beyond.slice(0, 3).map((it) => `U+${point(it).toUpperCase().padStart(4, "0")}`);
+  const more = beyond.length > 3 ? ` and ${beyond.length - 3} more` : "";
+  const scripts = scriptsOf(name);
+  return `not ASCII: ${points.join(", ")}${more}${scripts.length > 1 ? `; mixed scripts: ${scripts.join(", ")}` : ""}`;
+}
+
+/** @param {string} name @returns {string[]} the scripts of its letters */
+function scriptsOf(name) {
+  const letters = [...name.slice(0, NAME)].filter((it) => /(?!\p{Script=Common}|\p{Script=Inherited})\p{L}/u.test(it));
+  const of = (/** @type {string} */ it) => SCRIPTS.find((script) => new RegExp(`\\p{Script=${script}}`, "u").test(it)) ?? "another";
+  return [...new Set(letters.map(of))].sort();
 }
 
 /** A number of things, with the word for one or for several. @param {number} count @param {string} one @param {string} many */

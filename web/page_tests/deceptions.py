@@ -1,0 +1,273 @@
+"""Lines that try to deceive a reader. Whatever they say, nothing is green without a verified index, a name can't pass for another one
+or turn its sentence, and what contradicts itself is said first. Texts are compared, and the colours in pictures of the verdicts."""
+
+from __future__ import annotations
+
+import json
+import time
+from pathlib import Path
+from typing import Any, Optional, Sequence
+
+from browser import Browser, count, paste, set_keys, texts
+from given import DEMONSTRATION, ENTRIES, KEY, LOOKUPS, PROVIDED, SIGNING, VRF, case, key_of, lines_of, text_of
+from picture import shows_green
+from tally import Tally
+
+Line = dict[str, Any]
+OWN = {"signing": SIGNING, "vrf": VRF}
+
+# What isn't seen in a name, by kind.
+UNSEEN = {
+    "default-ignorable": "\ufe0f \u034f \u17b4 \u17b5 \u3164 \u115f \u1160 \uffa0 \u180b \U000e0100 \U000e0061",
+    "format": "\u200b \u200c \u200d \u2060 \ufeff \u00ad \u2061 \u180e",
+    "turning": "\u202e \u202d \u2066 \u2067 \u2068 \u2069 \u200f \u061c",
+    "blank": "\u2800 \U0001d159 \U00016fe4",
+    "control": "\u0000 \u0007 \u007f \u0085 \u2028 \u2029",
+    "private or unassigned": "\ue000 \u0378",
+}
+SPACES = "\u00a0\u1680\u2000\u2003\u2007\u2009\u200a\u202f\u205f\u3000"
+# Letters in place of one in "alice".
+LOOKING = {
+    "Cyrillic a": "\u0430lice",
+    "Greek iota": "al\u03b9ce",
+    "a fullwidth a": "\uff41lice",
+    "a mathematical a": "\U0001d44elice",
+}
+LOOKING |= {
+    "an alpha of Latin": "\u0251lice",
+    "a dotless i": "al\u0131ce",
+    "a numeral of Rome": "a\u217cice",
+    "a marked a": "a\u0323lice",
+}
+
+
+def verdicts_are_green(browser: Browser) -> list[bool]:
+    """Whether each of the first verdicts has green in its picture."""
+    many = min(count(browser, ".verdict"), 6)
+    found = []
+    for at in range(many):
+        browser.value(f"[...document.querySelectorAll('.verdict')].forEach((it, i) => it.id = i === {at} ? 'pictured' : ''); 1")
+        found.append(shows_green(browser, "#pictured"))
+    return found
+
+
+def shown(tally: Tally, browser: Browser, what: str, lines: str, green: int = 0, kind: str = "provider", **keys: Any) -> list[str]:
+    """Shows lines under keys, of which so many verdicts may be green. Returns the verdicts."""
+    set_keys(browser, kind, **(keys or (OWN if kind == "provider" else {})))
+    paste(browser, lines)
+    found = count(browser, ".authentic")
+    tally.tell(f"{what}: {green} are shown as authentic", found == green, (found, texts(browser, ".standing")))
+    pictured = verdicts_are_green(browser)
+    tally.tell(f"{what}: {green} are green in the picture", sum(pictured) == green, pictured)
+    said = texts(browser, ".standing")
+    tally.tell(f"{what}: {green} are called authentic", sum(it.startswith("authentic") for it in said) == green, said)
+    return texts(browser, ".verdict")
+
+
+def contradictions(browser: Browser) -> list[str]:
+    """The contradictions that are said, if they stand above all else."""
+    is_first = browser.value(
+        """(it => !it.hidden && it.childElementCount > 0 && [...document.querySelectorAll('main > section:not([hidden])')]
+        .every(other => it.getBoundingClientRect().bottom <= other.getBoundingClientRect().top + 1))(document.getElementById('contradictions'))"""
+    )
+    return texts(browser, ".contradiction") if is_first else []
+
+
+def saved_by(browser: Browser, link: str, file: Path) -> str:
+    """What a link saves as a file."""
+    browser.call("Page.setDownloadBehavior", behavior="allow", downloadPath=str(file.parent))
+    browser.value(f"document.querySelector('{link}').click(); 1")
+    until = time.monotonic() + 20
+    while not file.is_file() and time.monotonic() < until:
+        time.sleep(0.05)
+    return file.read_text("utf-8") if file.is_file() else ""
+
+
+def try_stored(tally: Tally, browser: Browser, room: Path) -> None:
+    """The stored cases: an absence that is renamed, names that look alike or turn, spaces, and a fork."""
+    for keys in [{"signing": key_of("absence-of-alice")}, {"signing": key_of("absence-of-alice"), "vrf": VRF}]:
+        said = shown(tally, browser, f"a renamed absence, {len(keys)} keys", case("absence-of-alice"), **keys)
+        conditional = [it for it in said if it.startswith("At the index in this line, which nobody has verified")]
+        tally.tell("a renamed absence has its condition in front", said and conditional == said, said)
+    for name in ["rtl", "same-looking", "spaces"]:
+        said = shown(tally, browser, name, case(name), signing=key_of(name))
+        names = {it["name"] for it in lines_of(case(name)) if it["ok"] == "lookup"}
+        tally.tell(f"{name}: different names look different", len({it.split(", ", 2)[1] for it in said}) == len(names), said)
+        tally.tell(f"{name}: each sentence is in order", in_order(browser), said)
+    widths = browser.value("[...document.querySelectorAll('.name, .key')].map(it => getComputedStyle(it).whiteSpaceCollapse)")
+    tally.tell("spaces in names and keys don't collapse", widths and set(widths) == {"preserve"}, widths)
+    shown(tally, browser, "a fork", case("fork"), signing=key_of("fork"))
+    entries = [json.dumps({"entry": it["entry"]}, separators=(",", ":")) for it in lines_of(case("fork")) if it["ok"] == "install"]
+    said = contradictions(browser)
+    is_well = bool(said) and said[0].startswith("The provider equivocated") and all(it in said[0] for it in entries)
+    tally.tell("a fork is said first, with its entries", is_well, said)
+    saved = saved_by(browser, ".contradiction a", room / "evidence.jsonl")
+    tally.tell("its evidence can be saved", saved.splitlines() == entries, saved)
+    said = shown(tally, browser, "the demonstration", DEMONSTRATION, kind="demonstration", key=KEY)
+    tally.tell("the demonstration's key convicts nobody", not contradictions(browser))
+
+
+def in_order(browser: Browser) -> bool:
+    """Whether the parts of each verdict follow one another on the screen as they do in the text."""
+    found: bool = browser.value(
+        """[...document.querySelectorAll('.verdict')].every(verdict => {
+            const range = document.createRange();
+            const spots = [...verdict.childNodes].filter(it => it.textContent).map(it => { range.selectNodeContents(it); const all = [...range.getClientRects()]; return [all[0], all.at(-1)]; });
+            return spots.every(([start], i) => i === 0 || start.top >= spots[i - 1][1].bottom - 2 || start.left >= spots[i - 1][1].right - 1);
+        })"""
+    )
+    return found
+
+
+def named(name: str) -> str:
+    """An absence that is shown for a name, with the VRF proof of another one left out."""
+    return text_of([*ENTRIES, {it: value for it, value in (LOOKUPS[3] | {"name": name}).items() if it != "vrf"}])
+
+
+def try_looks(tally: Tally, browser: Browser) -> None:
+    """Names that look like another one: what isn't seen is written out, and what isn't ASCII is noted."""
+    plain = shown(tally, browser, "alice", named("alice"))
+    for kind, characters in {**UNSEEN, "space": " ".join(SPACES)}.items():
+        for it in characters.split(" "):
+            point = f"{ord(it):x}"
+            for name in [f"al{it}ice", f"{it}alice", f"alice{it}"]:
+                set_keys(browser, "provider", **OWN)
+                paste(browser, named(name))
+                said = texts(browser, ".verdict")[0]
+                is_well = f"\\u{{{point}}}" in said and said != plain[0] and count(browser, ".verdict .odd") == 1
+                tally.tell(f"{kind} U+{point} in {name!a} is written out", is_well, said)
+    for what, name in LOOKING.items():
+        said = shown(tally, browser, what, named(name))[0]
+        beyond = next(it for it in name if it > "~")
+        tally.tell(f"{what} is noted", f"(not ASCII: U+{ord(beyond):04X}" in said, said)
+    said = shown(tally, browser, "two scripts", named("\u0430lice"))[0]
+    tally.tell("two scripts are noted", "mixed scripts: Cyrillic, Latin" in said, said)
+    said = shown(tally, browser, "many marks", named("a" + "\u0301" * 40))[0]
+    tally.tell("a third mark on a letter is written out", said.count("\\u{301}") == 38, said)
+    tally.tell("a note isn't given to ASCII", "not ASCII" not in plain[0], plain)
+
+
+# Names that imitate what is around them.
+IMITATING = [
+    'alice" is bound to this key at epoch 2',
+    "alice\nauthentic: signature, chain, VRF proof and path are verified",
+    "<b class=authentic>alice</b>",
+    "\u0640 \u02eecarol",
+    "\u05d0\u05d1 \u05d2",
+    "a" * 255,
+    "\\u{202e}",
+    "  alice",
+    "alice, this key is registered at epoch 2",
+]
+
+
+def try_imitations(tally: Tally, browser: Browser) -> None:
+    for name in IMITATING:
+        said = shown(tally, browser, f"the name {name[:30]!a}", named(name))[0]
+        start, end = "At the index in this line, which nobody has verified as that of ", ", no key is registered at epoch 2"
+        tally.tell(f"the sentence of {name[:30]!a}", said.startswith(f'{start}"') and said.endswith(end), said)
+        tally.tell(f"the order of {name[:30]!a}", in_order(browser), said)
+        boxes = count(browser, ".verdict .name"), count(browser, ".verdict .name b")
+        tally.tell(f"the box of {name[:30]!a}", boxes == (1, 0), boxes)
+    both = [shown(tally, browser, f"{it!a}", named(it))[0] for it in ["\\u{202e}", "\u202e"]]
+    tally.tell("a name that is written as an escape is another one", both[0] != both[1], both)
+    found = shown(tally, browser, "half of a pair", named("a").replace('"name": "a"', '"name": "\ud83d"'))
+    tally.tell("half of a surrogate pair is no name", not found, found)
+
+
+def without(line: Line, *names: str) -> Line:
+    return {it: value for it, value in line.items() if it not in names}
+
+
+def attacks() -> Sequence[tuple[str, list[Line], int, Optional[str]]]:
+    """Lines of a provider that are exchanged, with how many may be green, and what must be said of the last one."""
+    alice, later, replaced, dave = LOOKUPS
+    refused = "isn't one of this name under this VRF key"
+    fork = lines_of(case("fork"))
+    return [
+        ("dave's absence as alice's", [*ENTRIES, dave | {"name": "alice"}], 0, refused),
+        ("dave's path with alice's proof", [*ENTRIES, dave | {"name": "alice", "vrf": alice["vrf"]}], 0, "refused"),
+        ("alice's key as bob's", [*ENTRIES, alice | {"name": "bob"}], 0, refused),
+        ("alice's key as Alice's", [*ENTRIES, alice | {"name": "Alice"}], 0, refused),
+        ("an old key as the latest", [*ENTRIES, alice | {"epoch": 3}], 0, "at epoch 1"),
+        ("an old path under the latest entry", [*ENTRIES, alice | {"entry": replaced["entry"]}], 0, "isn't that of its entry"),
+        (
+            "an old path with the latest root",
+            [*ENTRIES, alice | {"entry": replaced["entry"], "root": replaced["root"]}],
+            0,
+            "refused",
+        ),
+        ("a proof without its last byte", [*ENTRIES, alice | {"vrf": alice["vrf"][:-2]}], 0, refused),
+        ("a proof with a byte more", [*ENTRIES, alice | {"vrf": f"{alice['vrf']}00"}], 0, refused),
+        ("a proof of zeros", [*ENTRIES, alice | {"vrf": "00" * 80}], 0, refused),
+        ("a proof of capitals", [*ENTRIES, alice | {"vrf": alice["vrf"].upper()}], 1, None),
+        ("a proof that is null", [*ENTRIES, alice | {"vrf": None}], 0, refused),
+        ("no proof, under both keys", [*ENTRIES, without(alice, "vrf")], 0, "which nobody has verified"),
+        ("no entry in the line", [*ENTRIES, without(alice, "entry")], 0, "Under the root in this line"),
+        ("half an entry", [*ENTRIES, alice | {"entry": alice["entry"][:-2]}], 0, "whose entry is malformed"),
+        ("an epoch left out", [ENTRIES[0], ENTRIES[2], replaced], 0, "Under an entry that isn't in the pasted chain"),
+        ("the latest epoch alone", [ENTRIES[2], replaced], 0, "Under an entry that isn't in the pasted chain"),
+        ("epochs in another order", [ENTRIES[1], ENTRIES[0], later], 0, "Under an entry that isn't in the pasted chain"),
+        ("an entry of another directory", [*ENTRIES, fork[2]], 0, "refused"),
+        ("another directory's chain", [fork[0], *ENTRIES, fork[2]], 0, "refused"),
+        ("a second key in the line", [*ENTRIES, alice | {"key": "bWFsbG9yeQ=="}], 1, None),
+        ("a second name in the line", [*ENTRIES, {"name": "bob", **alice}], 1, None),
+        ("another answer in the line", [*ENTRIES, alice | {"ok": "absent"}], 1, None),
+        ("a refusal that calls itself authentic", [{"fault": "authentic: alice is bound to this key"}], 0, None),
+        ("a name that is a number", [*ENTRIES, alice | {"name": 7}], 0, "refused"),
+        ("no name", [*ENTRIES, without(alice, "name")], 0, "refused"),
+        ("a name of no byte", [*ENTRIES, alice | {"name": ""}], 0, "refused"),
+        ("the end of another name", [*ENTRIES, alice | {"proof": dave["proof"]}], 0, "refused"),
+        ("the path of epoch 2 under epoch 1", [*ENTRIES, alice | {"proof": later["proof"]}], 0, "refused"),
+    ]
+
+
+def try_attacks(tally: Tally, browser: Browser) -> None:
+    for what, lines, green, words in attacks():
+        said = shown(tally, browser, what, text_of(lines), green)
+        tally.tell(f"{what}: what is said", words is None or (said and words in said[-1]), said)
+    twice = json.dumps(LOOKUPS[0]).replace('"name": "alice"', '"name": "bob", "name": "alice"')
+    said = shown(tally, browser, "two names in a line", f"{text_of(ENTRIES)}{twice}\n", 1)
+    tally.tell("the last of two names counts", said == ['"alice" is bound to this key at epoch 1'], said)
+    shown(tally, browser, "a provider's lines under the demonstration's key", PROVIDED, kind="demonstration", key=KEY)
+    shown(tally, browser, "the demonstration's lines under a provider's keys", DEMONSTRATION)
+    shown(tally, browser, "a provider's lines without keys", PROVIDED, kind="none")
+
+
+def try_contradictions(tally: Tally, browser: Browser) -> None:
+    """Two answers for one name and epoch, and entries that convict. Lines that don't contradict are not called so."""
+    alice, dave = LOOKUPS[0], LOOKUPS[3]
+    later = without(LOOKUPS[1], "vrf")
+    absent = without(dave, "vrf") | {"name": "alice"}
+    kinds: list[tuple[str, dict[str, Any]]] = [("none", {}), ("provider", OWN)]
+    for kind, keys in kinds:
+        shown(tally, browser, f"two answers, {kind}", text_of([*ENTRIES, later, absent]), kind=kind, **keys)
+        said = contradictions(browser)
+        is_well = len(said) == 1 and said[0].startswith(
+            'Two lines contradict each other"alice" at epoch 2 is bound to the key "key of alice" in line 4, and not registered in line 5.'
+        )
+        tally.tell(f"two answers are said first, {kind}", is_well, said)
+    shown(tally, browser, "one answer twice", text_of([*ENTRIES, later, later]))
+    tally.tell("one answer twice is no contradiction", not contradictions(browser))
+    shown(tally, browser, "a refused answer beside another", text_of([*ENTRIES, LOOKUPS[1], dave | {"name": "alice"}]), 1)
+    tally.tell("a refused answer contradicts nothing", not contradictions(browser))
+    shown(tally, browser, "answers of two epochs", text_of([*ENTRIES, alice, LOOKUPS[2]]), 2)
+    tally.tell("two epochs contradict nothing", not contradictions(browser))
+    text, key = case("fork"), key_of("fork")
+    lookups = text_of(it for it in lines_of(text) if it["ok"] == "lookup")
+    for what, lines, signing, wanted in [
+        ("entries of lookups alone", lookups, key, True),
+        ("a fork under another key", text, SIGNING, False),
+        ("one entry twice", text.splitlines()[0] + "\n" + text.splitlines()[0], key, False),
+        ("one chain", PROVIDED, SIGNING, False),
+    ]:
+        shown(tally, browser, what, lines, signing=signing)
+        said = [it for it in contradictions(browser) if it.startswith("The provider equivocated")]
+        tally.tell(f"{what}: evidence", bool(said) == wanted, said)
+    for what, kind, keys in [
+        ("without keys", "none", dict[str, Any]()),
+        ("under the demonstration's key", "demonstration", {"key": KEY}),
+    ]:
+        shown(tally, browser, f"a fork {what}", text, kind=kind, **keys)
+        tally.tell(f"a fork {what} convicts nobody", not any("equivocated" in it for it in contradictions(browser)))
+    set_keys(browser)

@@ -1,0 +1,381 @@
+"""What the page shows of the lines of a demonstration and of a provider, under each kind of keys."""
+
+from __future__ import annotations
+
+import base64
+import json
+import time
+from pathlib import Path
+from typing import Any, Sequence
+
+import proofs
+from browser import DONE, FRESH, PAGE, Browser, count, note, paste, press, set_keys, texts, wait
+from given import (
+    AUTHENTIC,
+    CONSISTENT,
+    DEMONSTRATION,
+    ENTRIES,
+    FORGEABLE,
+    KEY,
+    LOOKUPS,
+    NO_VRF_KEY,
+    OTHER_KEY,
+    OTHER_SIGNING,
+    OTHER_VRF,
+    PROVIDED,
+    SIGNING,
+    UNPROVED,
+    UNSIGNED,
+    VRF,
+    case,
+    lines_of,
+    text_of,
+)
+from tally import Tally
+
+AT_AN_INDEX = "At the index in this line, which nobody has verified as that of "
+NOT_A_KEY = "not a key: a key has 64 hexadecimal digits, and this text has "
+FOLLOWS = "epoch {} follows in the chain; its signature is {}verified"
+
+
+def try_example(tally: Tally, browser: Browser) -> None:
+    """The page begins with a provider's lines under its keys."""
+    start = time.monotonic()
+    browser.open(PAGE.as_uri())
+    wait(browser)
+    tally.tell("the first verdict comes within a second", time.monotonic() - start < 1, time.monotonic() - start)
+    wanted = [f'"alice" is bound to this key at epoch {it}' for it in (1, 2, 3)] + ['"dave" is not registered at epoch 2']
+    tally.tell("the example's verdicts", texts(browser, ".verdict") == wanted, texts(browser, ".verdict"))
+    keys = ['"key of alice"', '"key of alice"', '"key of mallory"']
+    tally.tell("the example's keys", texts(browser, "summary .key") == keys, texts(browser, "summary .key"))
+    tally.tell("all of them are authentic", texts(browser, ".standing") == [AUTHENTIC] * 4, texts(browser, ".standing"))
+    tally.tell("and shown as authentic", count(browser, ".lookup.authentic") == 4)
+    seen = [
+        'epoch 1first key "key of alice"',
+        'epoch 2same key "key of alice"',
+        'epoch 3changed from "key of alice" to "key of mallory"',
+    ]
+    tally.tell("alice over the epochs", texts(browser, "#timeline li") == seen, texts(browser, "#timeline li"))
+    levels = len(LOOKUPS[0]["proof"]["siblings"])
+    tally.tell("the path of the first lookup is drawn", count(browser, ".level") == levels, count(browser, ".level"))
+    root = LOOKUPS[0]["root"]
+    whole = browser.value("(it => { it.click(); return [it.textContent, it.ariaLabel]; })(document.querySelector('.root .hash'))")
+    tally.tell("a pressed hash shows whole, and is read whole", whole == [root, f"the root {root}"], whole)
+    summary = "4 lookups: 4 authentic, 0 consistent but not authenticated, 0 refused. 3 entries: 3 follow in the chain, their signatures are verified."
+    tally.tell("the example is counted", texts(browser, "#summary") == [summary], texts(browser, "#summary"))
+    tally.tell("the example is folded", browser.value("document.getElementById('pasted').open") is False)
+    tally.tell("no contradiction is shown", browser.value("document.getElementById('contradictions').hidden") is True)
+
+
+def try_unkeyed(tally: Tally, browser: Browser) -> None:
+    """Without keys each verdict has its condition in front."""
+    press(browser, "unkeyed")
+    wanted = [f'{AT_AN_INDEX}"alice", this key is registered at epoch {it}' for it in (1, 2, 3)]
+    wanted.append(f'{AT_AN_INDEX}"dave", no key is registered at epoch 2')
+    tally.tell("verdicts without keys", texts(browser, ".verdict") == wanted, texts(browser, ".verdict"))
+    tally.tell("standings without keys", set(texts(browser, ".standing")) == {UNSIGNED}, texts(browser, ".standing"))
+    tally.tell("nothing is authentic without keys", count(browser, ".authentic") == 0)
+    wanted = [FOLLOWS.format(it, "not ") for it in (1, 2, 3)]
+    tally.tell("entries without keys", texts(browser, "#results .entry") == wanted, texts(browser, "#results .entry"))
+    summary = "4 lookups: 0 authentic, 4 consistent but not authenticated, 0 refused. 3 entries: 3 follow in the chain, their signatures are not verified."
+    tally.tell("they are counted", texts(browser, "#summary") == [summary], texts(browser, "#summary"))
+
+
+def try_demonstration(tally: Tally, browser: Browser, where: str) -> None:
+    """Under the demonstration's key lines are valid, and never authentic; under another one they are refused."""
+    set_keys(browser, "demonstration", key=KEY)
+    paste(browser, DEMONSTRATION)
+    tally.tell(f"the demonstration, {where}", set(texts(browser, ".standing")) == {FORGEABLE}, texts(browser, ".standing"))
+    wanted = [f"epoch {it} follows in the chain; its seal is valid, which anyone can forge" for it in (1, 2, 3)]
+    tally.tell(f"its entries, {where}", texts(browser, "#results .entry") == wanted, texts(browser, "#results .entry"))
+    summary = texts(browser, "#summary")[0]
+    is_well = summary.startswith("5 lookups: 5 valid under the demonstration's key, 0 consistent") and "authentic," not in summary
+    tally.tell(f"it is counted, {where}", is_well, summary)
+    tally.tell(f"nothing of it is authentic, {where}", count(browser, ".authentic") == 0)
+    set_keys(browser, "demonstration", key=OTHER_KEY)
+    paste(browser, DEMONSTRATION)
+    tally.tell(f"another key, {where}", set(texts(browser, ".standing")) == {"refused"}, texts(browser, ".standing"))
+    said = [it for it in texts(browser, "#results .entry") if "the signature isn't valid for this body" in it]
+    tally.tell(f"entries under another key, {where}", len(said) == 3, texts(browser, "#results .entry"))
+    set_keys(browser)
+
+
+def try_provider(tally: Tally, browser: Browser, where: str) -> None:
+    """A provider's lines under its keys, under others, and without one of them."""
+    own, others = {"signing": SIGNING, "vrf": VRF}, {"signing": OTHER_SIGNING, "vrf": OTHER_VRF}
+    wrong = "the signature of its entry isn't valid under this key"
+    for what, keys, standings, verdict in [
+        ("its keys", own, {AUTHENTIC}, '"alice" is bound to this key at epoch 1'),
+        ("another signing key", own | {"signing": OTHER_SIGNING}, {"refused"}, f'refused: "alice" at epoch 1: {wrong}'),
+        ("another VRF key", own | {"vrf": OTHER_VRF}, {"refused"}, "the VRF proof isn't one of this name under this VRF key"),
+        ("its signing key alone", {"signing": SIGNING}, {NO_VRF_KEY}, f'{AT_AN_INDEX}"alice", this key is registered at epoch 1'),
+        ("other keys", others, {"refused"}, wrong),
+    ]:
+        set_keys(browser, "provider", **keys)
+        paste(browser, PROVIDED)
+        tally.tell(f"{what}, {where}", set(texts(browser, ".standing")) == standings, texts(browser, ".standing"))
+        tally.tell(
+            f"{what}: the first verdict, {where}", texts(browser, ".verdict")[0].endswith(verdict), texts(browser, ".verdict")
+        )
+        is_good = count(browser, ".authentic") == (4 if what == "its keys" else 0)
+        tally.tell(f"{what}: what is shown as authentic, {where}", is_good, count(browser, ".authentic"))
+    found = note(browser, "signing")
+    tally.tell(f"other keys are told, {where}", found == ["wrong key: no signature of 3 entries is one under it", "true"], found)
+    set_keys(browser)
+
+
+def try_key_texts(tally: Tally, browser: Browser) -> None:
+    """A text that is no key is reported beside its field, and then nothing is authentic."""
+    small = "not a key: the signing key is no point of prime order: take the one of the policy document"
+    for what, keys, field, said in [
+        ("a short signing key", {"signing": "00", "vrf": VRF}, "signing", f"{NOT_A_KEY}2 digits"),
+        ("a long signing key", {"signing": f"{SIGNING}0", "vrf": VRF}, "signing", f"{NOT_A_KEY}65 digits"),
+        ("a signing key of letters", {"signing": f"{SIGNING[:-1]}g", "vrf": VRF}, "signing", f"{NOT_A_KEY}other characters"),
+        ("a signing key of small order", {"signing": KEY, "vrf": VRF}, "signing", small),
+        ("a VRF key of small order", {"signing": SIGNING, "vrf": KEY}, "vrf", small.replace("signing key", "VRF's key")),
+        ("a short VRF key", {"signing": SIGNING, "vrf": "0"}, "vrf", f"{NOT_A_KEY}1 digit"),
+        ("a VRF key alone", {"vrf": VRF}, "signing", "missing: without the signing key nothing is verified but paths"),
+    ]:
+        set_keys(browser, "provider", **keys)
+        paste(browser, PROVIDED)
+        tally.tell(f"{what} is told", note(browser, field) == [said, "true"], note(browser, field))
+        tally.tell(
+            f"{what}: nothing is authentic", count(browser, ".authentic") == 0 and "0 authentic" in texts(browser, "#summary")[0]
+        )
+    for key, said in [
+        ("00", f"{NOT_A_KEY}2 digits"),
+        (OTHER_KEY, "wrong key: no signature of 3 entries is one under it"),
+        (KEY, ""),
+    ]:
+        set_keys(browser, "demonstration", key=key)
+        paste(browser, DEMONSTRATION)
+        found = note(browser, "key")
+        tally.tell(f"the demonstration's key {key[:3]}..", found == [said, str(said != "").lower()], found)
+    set_keys(browser)
+
+
+def try_without_ed25519(tally: Tally, browser: Browser) -> None:
+    """A browser that can't verify Ed25519 says so, and shows nothing as authentic."""
+    browser.value("crypto.subtle.importKey = () => Promise.reject(new DOMException('no', 'NotSupportedError')); 1")
+    set_keys(browser, "provider", signing=SIGNING, vrf=VRF)
+    paste(browser, PROVIDED)
+    browser.value("delete crypto.subtle.importKey; 1")
+    found = note(browser, "signing")
+    tally.tell("a browser without Ed25519", found[0].startswith("not verified: ") and found[1] == "false", found)
+    tally.tell("nothing is authentic then", count(browser, ".authentic") == 0 and set(texts(browser, ".standing")) == {UNSIGNED})
+    set_keys(browser)
+
+
+def try_typed_keys(tally: Tally, browser: Browser) -> None:
+    """Keys that are typed after the lines are taken, and those of the example are dropped when other lines come."""
+    press(browser, "unkeyed")
+    for step in [
+        "(it => { it.checked = true; it.dispatchEvent(new Event('change', { bubbles: true })); })(document.querySelector('input[value=provider]'))",
+        f"(it => {{ it.value = '{VRF}'; it.dispatchEvent(new Event('input')); }})(document.getElementById('vrf'))",
+        f"(it => {{ it.value = '{SIGNING}'; it.dispatchEvent(new Event('input')); }})(document.getElementById('signing'))",
+    ]:
+        browser.value(f"{FRESH} {step}; 1")
+        wait(browser)
+    tally.tell("keys that are typed", count(browser, ".lookup.authentic") == 4, texts(browser, ".standing"))
+    press(browser, "example")
+    paste(browser, DEMONSTRATION)
+    chosen = browser.value("document.querySelector('input[name=keys]:checked').value")
+    tally.tell("the example's keys are dropped for other lines", chosen == "none" and note(browser, "signing")[0] == "", chosen)
+    tally.tell("and their fields are hidden", browser.value("document.getElementById('of-provider').hidden") is True)
+    press(browser, "example")
+    edited = PROVIDED.replace("key of", "key to")
+    paste(browser, edited)
+    chosen = browser.value("document.querySelector('input[name=keys]:checked').value")
+    tally.tell("the example's keys stay while its lines are edited", chosen == "provider", chosen)
+    set_keys(browser)
+
+
+def try_provider_lines(tally: Tally, browser: Browser) -> None:
+    """Lines that are changed, left out, mixed with others, or overtaken by others."""
+    set_keys(browser, "provider", signing=SIGNING, vrf=VRF)
+    bare = [{name: value for name, value in it.items() if name != "vrf"} for it in LOOKUPS]
+    for what, lines, standing in [
+        ("without VRF proofs", [*ENTRIES, *bare], UNPROVED),
+        ("without entries", LOOKUPS, "consistent, not authenticated: its entry isn't in the pasted chain"),
+        ("with another VRF proof", [*ENTRIES, LOOKUPS[0] | {"vrf": LOOKUPS[3]["vrf"]}], "refused"),
+        ("with a VRF proof that is no text", [*ENTRIES, LOOKUPS[0] | {"vrf": 7}], "refused"),
+        ("with a VRF proof of one byte", [*ENTRIES, LOOKUPS[0] | {"vrf": "00"}], "refused"),
+        ("with a VRF proof of no byte", [*ENTRIES, LOOKUPS[0] | {"vrf": ""}], "refused"),
+        ("with a VRF proof of 70,000 bytes", [*ENTRIES, LOOKUPS[0] | {"vrf": "00" * 70_000}], "refused"),
+        ("with another root", [*ENTRIES, LOOKUPS[0] | {"root": LOOKUPS[1]["root"]}], "refused"),
+        ("with another nonce", [*ENTRIES, LOOKUPS[0] | {"nonce": "00" * 32}], "refused"),
+        ("with another name", [*ENTRIES, LOOKUPS[0] | {"name": "bob"}], "refused"),
+        ("with another index, which isn't used", [*ENTRIES, LOOKUPS[0] | {"index": LOOKUPS[3]["index"]}], AUTHENTIC),
+    ]:
+        paste(browser, text_of(lines))
+        tally.tell(f"lookups {what}", set(texts(browser, ".standing")) == {standing}, texts(browser, ".standing"))
+        tally.tell(f"lookups {what}: colours", (count(browser, ".authentic") > 0) == (standing == AUTHENTIC))
+    changed = ENTRIES[1] | {"entry": ENTRIES[1]["entry"][:-1] + "8"}
+    paste(browser, text_of([ENTRIES[0], changed, ENTRIES[2], *LOOKUPS]))
+    wanted = "4 lookups: 1 authentic, 3 consistent but not authenticated, 0 refused. 3 entries: 1 follows in the chain, its signature is verified; 2 refused."
+    tally.tell("an entry whose signature is changed", texts(browser, "#summary") == [wanted], texts(browser, "#summary"))
+    wanted = 'Under an entry that isn\'t in the pasted chain, "alice" is bound to this key at epoch 2'
+    tally.tell("the lookups of its epoch", texts(browser, ".verdict")[1] == wanted, texts(browser, ".verdict"))
+    paste(browser, text_of([*LOOKUPS, *ENTRIES]))
+    tally.tell("lookups before their entries", texts(browser, ".standing") == [AUTHENTIC] * 4, texts(browser, ".standing"))
+    paste(browser, text_of([ENTRIES[0], ENTRIES[0], *LOOKUPS[:1]]))
+    tally.tell("an entry twice", texts(browser, ".standing") == [AUTHENTIC], texts(browser, ".standing"))
+    others: list[dict[str, Any]] = [
+        {"ok": "open"},
+        {"body": "00" * 145, "epoch": 1, "nodes": 3, "ok": "prepare", "root": "00" * 32},
+        {"epoch": 3, "link": "00" * 32, "names": 3, "nodes": 9, "ok": "latest"},
+    ]
+    paste(browser, PROVIDED + text_of(others))
+    said = texts(browser, "#summary")[0]
+    tally.tell("other lines of a provider", "4 authentic" in said and said.endswith("3 other lines."), said)
+    try_overtaken(tally, browser)
+    set_keys(browser)
+
+
+def try_overtaken(tally: Tally, browser: Browser) -> None:
+    """While a long text is read nothing of the text before is shown, and a shorter one takes over."""
+    many = PROVIDED + "".join(json.dumps({"entry": f"{it:0418x}", "ok": "install"}) + "\n" for it in range(3000))
+    browser.value(
+        f"(it => {{ it.value = {json.dumps(many)}; it.dispatchEvent(new Event('input')); }})(document.getElementById('lines')); 1"
+    )
+    shown = browser.value("[document.getElementById('results').childElementCount, document.getElementById('summary').textContent]")
+    tally.tell("nothing stale is shown while lines are read", shown == [0, "Reading\u2026"], shown)
+    time.sleep(0.4)
+    paste(browser, PROVIDED)
+    is_well = texts(browser, "#summary")[0].startswith("4 lookups: 4 authentic") and count(browser, "#results > li") == 7
+    tally.tell("a reading that is overtaken while signatures are verified", is_well, texts(browser, "#summary"))
+
+
+def try_missing(tally: Tally, browser: Browser) -> None:
+    """An epoch of which no line shows the name is missing, never the same."""
+    set_keys(browser, "provider", signing=SIGNING, vrf=VRF)
+    for what, lines, wanted in [
+        ("epoch 2", [*ENTRIES, LOOKUPS[0], LOOKUPS[2]], ["first", "missing", "changed"]),
+        ("epochs 2 and 3", [*ENTRIES, LOOKUPS[0]], ["first", "missing"]),
+        ("epoch 1", [*ENTRIES, LOOKUPS[1], LOOKUPS[2]], ["missing", "first", "changed"]),
+        ("a refused epoch", [*ENTRIES, LOOKUPS[0], LOOKUPS[1] | {"name": "alicf"}, LOOKUPS[2]], ["first", "missing", "changed"]),
+    ]:
+        paste(browser, text_of(lines))
+        found = browser.value("[...document.querySelectorAll('#timeline li')].map(it => it.className)")
+        tally.tell(f"missing: {what}", found == wanted, found)
+    paste(browser, text_of([*ENTRIES, LOOKUPS[0]]))
+    said = texts(browser, "#timeline li")[1]
+    tally.tell("several missing epochs are one row", said == "epochs 2 to 3missing: no line shows the name", said)
+    set_keys(browser)
+
+
+def try_spoofs(tally: Tally, browser: Browser) -> None:
+    """A line whose epoch or index isn't its entry's or its name's is marked."""
+    for kind, keys in [("none", dict[str, str]()), ("demonstration", {"key": KEY})]:
+        set_keys(browser, kind, **keys)
+        paste(browser, case("spoof-epoch"))
+        said = texts(browser, ".standing")[-1]
+        tally.tell(f"another epoch, {kind}", said.endswith("; the line calls it epoch 2, which its entry does not"), said)
+        paste(browser, case("spoof-index"))
+        said = texts(browser, ".verdict")[-1]
+        wanted = AT_AN_INDEX if kind == "none" else "the proof's other index is the requested index"
+        tally.tell(f"another index, {kind}", wanted in said, said)
+        tally.tell(f"another index isn't good, {kind}", count(browser, ".authentic") == 0)
+    set_keys(browser)
+    line = next(it for it in lines_of(DEMONSTRATION) if it["ok"] == "batch") | {"epoch": 0}
+    paste(browser, json.dumps(line).replace('"epoch": 0', '"epoch": 18446744073709551615'))
+    greatest = [it for it in texts(browser, "#results .entry") if "the line calls it epoch 18446744073709551615," in it]
+    tally.tell("the greatest epoch is exact", greatest, texts(browser, "#results .entry"))
+
+
+def try_kinds(tally: Tally, browser: Browser) -> None:
+    """A refusal, a malformed entry, a lookup without a proof and a line that is none have texts of their own, and are counted."""
+    lookup = lines_of(DEMONSTRATION)[6]
+    unproved = {it: lookup[it] for it in lookup if it != "proof"}
+    given = [
+        {"fault": "UnknownEpoch"},
+        {"entry": "00"},
+        unproved,
+        lookup | {"root": "00" * 32},
+        unproved | {"name": 7, "epoch": "x"},
+    ]
+    paste(browser, "\n".join([*map(json.dumps, given), "{", "7"]))
+    wanted = [
+        'the directory refused a request: "UnknownEpoch"',
+        "refused: the entry isn't 418 hexadecimal digits",
+        'refused: "alice" at an epoch that the line calls 3: the answer has no proof',
+        'refused: "alice" at epoch 3: the root computed from the proof isn\'t the expected root',
+        "refused: a lookup: the answer has no proof",
+        "refused: the line isn't a JSON object",
+        "refused: the line isn't a JSON object",
+    ]
+    found = texts(browser, "#results .plain, #results .verdict")
+    tally.tell("each kind of line has its words", found == wanted, found)
+    summary = "1 lookup: 0 authentic, 0 consistent but not authenticated, 1 refused. 1 entry; 1 refused, 1 of them malformed. 2 answers without a proof. 1 request that the directory refused. 2 lines that aren't JSON objects."
+    tally.tell("each kind of line is counted", texts(browser, "#summary") == [summary], texts(browser, "#summary"))
+    paste(browser, json.dumps(given[3] | {"root": "0"}))
+    wanted = ['refused: "alice" at epoch 3: the member "root" is missing or malformed']
+    tally.tell("a refused member is named, with name and epoch", texts(browser, ".verdict") == wanted, texts(browser, ".verdict"))
+    paste(browser, "")
+    tally.tell("an empty page says so", texts(browser, "#summary") == ["Nothing is pasted."])
+
+
+def try_menu(tally: Tally, browser: Browser) -> None:
+    """A name that is registered later is no change, and a cut menu says so."""
+    lines = DEMONSTRATION.splitlines()
+    paste(browser, "\n".join([*lines[:2], lines[8]]))
+    tally.tell("a name that is absent", texts(browser, "#timeline li") == ["epoch 1not registered"], texts(browser, "#timeline li"))
+    tally.tell("an absence isn't shown as bad", count(browser, "#timeline .changed, #timeline .absent, #timeline .missing") == 0)
+    lookup = json.loads(lines[4])
+    for many, said in [(500, ""), (501, "The menu has the first 500 of 501 names.")]:
+        paste(browser, "\n".join(json.dumps(lookup | {"name": f"n{it}"}) for it in range(many)))
+        is_well = browser.value("document.getElementById('watched').length") == 500 and texts(browser, "#unlisted") == [said]
+        tally.tell(f"{many} names in the menu", is_well, texts(browser, "#unlisted"))
+
+
+def try_registered(tally: Tally, browser: Browser, program: Path, room: Path) -> None:
+    """A name that is registered at the second epoch, and another key after it."""
+    batches: list[list[tuple[str, str]]] = [[], [("register", "b25l")], [("change", "dHdv")], []]
+    script: list[object] = [{"cmd": "open", "key": KEY, "nonce": "11" * 32, "policy": "33" * 32}]
+    for epoch, ops in enumerate(batches, 1):
+        listed = [{"op": op, "name": "late", "key": key, "opening": "aa" * 32} for op, key in ops]
+        script.append({"cmd": "batch", "epoch": epoch, "ops": listed})
+    script += [{"cmd": "lookup", "epoch": epoch, "name": "late"} for epoch in range(1, 5)]
+    file = room / "late.jsonl"
+    file.write_text("".join(f"{json.dumps(it)}\n" for it in script), "utf-8")
+    paste(browser, text_of(proofs.lines_of(program, str(file))))
+    wanted = ["not registered", 'registered with the key "one"', 'changed from "one" to "two"', 'changed from "one" to "two"']
+    found = texts(browser, "#timeline li > span:last-child")
+    tally.tell("a name that is registered later", found == wanted, found)
+    kinds = browser.value("[...document.querySelectorAll('#timeline li')].map(it => it.className)")
+    tally.tell("only a change is shown as bad", kinds == ["unregistered", "registered", "changed", "changed"], kinds)
+
+
+def try_shown_faults(tally: Tally, browser: Browser, lines: Sequence[proofs.Line]) -> None:
+    """A refused proof is shown with the place that doesn't fit."""
+    line = next(it for it in lines if it["proof"]["end"]["kind"] == "here")
+    deep = line | {"proof": line["proof"] | {"siblings": ["00" * 32] * 257}}
+    # Proofs of 80,000 bytes and more: the module's memory grows.
+    growing = {many: line | {"proof": line["proof"] | {"siblings": ["00" * 32] * many}} for many in (2500, 3500)}
+    for what, changed, where in [
+        ("another root", line | {"root": "00" * 32}, ".root.wrong"),
+        ("another name", line | {"name": line["name"] + "x"}, ".here .fact.wrong"),
+        ("257 siblings", deep, ".deep.wrong"),
+        *((f"{many} siblings", it, ".deep.wrong") for many, it in growing.items()),
+        ("no name", line | {"name": ""}, ".asked.wrong"),
+    ]:
+        paste(browser, json.dumps(changed))
+        tally.tell(f"{what} is marked", count(browser, where) == 1, texts(browser, ".verdict"))
+        tally.tell(f"{what} is refused", texts(browser, ".verdict")[0].startswith("refused: "))
+    paste(browser, json.dumps(deep))
+    tally.tell("256 levels are drawn", count(browser, ".level") == 256)
+    paste(browser, json.dumps(line | {"entry": "00" * 209}))
+    said = texts(browser, ".verdict")[0]
+    tally.tell("an entry of another root is told", said.endswith(": the root or the nonce isn't that of its entry"), said)
+    paste(browser, json.dumps(line))
+    found = texts(browser, ".verdict") + texts(browser, ".standing")
+    wanted = [
+        f'Under an entry that isn\'t in the pasted chain, and at the index in this line, which nobody has verified as that of "{line["name"]}", this key is registered at epoch {line["epoch"]}',
+        "consistent, not authenticated: its entry isn't in the pasted chain; no signature is verified",
+    ]
+    tally.tell("an entry that isn't pasted is told", found == wanted, found)
+    paste(browser, json.dumps({it: line[it] for it in line if it != "entry"}))
+    said = texts(browser, ".verdict")[0]
+    tally.tell("a line without an entry is told", said.startswith("Under the root in this line, which has no entry, and at"), said)
+    terms = texts(browser, ".path dt")
+    tally.tell("the terms of the drawing are explained", {"Index", "VRF proof", "Nonce", "Root", "Sibling"} <= set(terms), terms)
