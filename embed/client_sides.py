@@ -58,7 +58,8 @@ class Side:
         line = self.process.stdout.readline()
         if not line.endswith("\n"):
             raise Broken(f"the program ended at {words[0]}")
-        return line[:-1].split(" ")
+        said: list[str] = line[:-1].split(" ")
+        return said
 
     def end(self) -> int:
         """The status of the program, whose input ends."""
