@@ -171,6 +171,11 @@ def texts(browser: Browser, selector: str) -> list[str]:
     return found
 
 
+def standings(browser: Browser) -> list[str]:
+    """What is said of each lookup, without the epochs that follow."""
+    return [it.split("; later epochs follow, up to ")[0] for it in texts(browser, ".standing")]
+
+
 def count(browser: Browser, selector: str) -> int:
     found: int = browser.value(f"document.querySelectorAll({json.dumps(selector)}).length")
     return found

@@ -9,7 +9,7 @@ from pathlib import Path
 from typing import Any, Sequence
 
 import proofs
-from browser import DONE, FRESH, PAGE, Browser, count, note, paste, press, set_keys, texts, wait
+from browser import FRESH, PAGE, Browser, count, note, paste, press, set_keys, standings, texts, wait
 from given import (
     AUTHENTIC,
     CONSISTENT,
@@ -48,7 +48,10 @@ def try_example(tally: Tally, browser: Browser) -> None:
     tally.tell("the example's verdicts", texts(browser, ".verdict") == wanted, texts(browser, ".verdict"))
     keys = ['"key of alice"', '"key of alice"', '"key of mallory"']
     tally.tell("the example's keys", texts(browser, "summary .key") == keys, texts(browser, "summary .key"))
-    tally.tell("all of them are authentic", texts(browser, ".standing") == [AUTHENTIC] * 4, texts(browser, ".standing"))
+    tally.tell("all of them are authentic", standings(browser) == [AUTHENTIC] * 4, standings(browser))
+    later = [it.removeprefix(AUTHENTIC) for it in texts(browser, ".standing")]
+    wanted = ["; later epochs follow, up to 3"] * 2 + ["", "; later epochs follow, up to 3"]
+    tally.tell("the epochs that follow are told", later == wanted, later)
     tally.tell("and shown as authentic", count(browser, ".lookup.authentic") == 4)
     seen = [
         'epoch 1first key "key of alice"',
@@ -73,7 +76,7 @@ def try_unkeyed(tally: Tally, browser: Browser) -> None:
     wanted = [f'{AT_AN_INDEX}"alice", this key is registered at epoch {it}' for it in (1, 2, 3)]
     wanted.append(f'{AT_AN_INDEX}"dave", no key is registered at epoch 2')
     tally.tell("verdicts without keys", texts(browser, ".verdict") == wanted, texts(browser, ".verdict"))
-    tally.tell("standings without keys", set(texts(browser, ".standing")) == {UNSIGNED}, texts(browser, ".standing"))
+    tally.tell("standings without keys", set(standings(browser)) == {UNSIGNED}, standings(browser))
     tally.tell("nothing is authentic without keys", count(browser, ".authentic") == 0)
     wanted = [FOLLOWS.format(it, "not ") for it in (1, 2, 3)]
     tally.tell("entries without keys", texts(browser, "#results .entry") == wanted, texts(browser, "#results .entry"))
@@ -85,7 +88,7 @@ def try_demonstration(tally: Tally, browser: Browser, where: str) -> None:
     """Under the demonstration's key lines are valid, and never authentic; under another one they are refused."""
     set_keys(browser, "demonstration", key=KEY)
     paste(browser, DEMONSTRATION)
-    tally.tell(f"the demonstration, {where}", set(texts(browser, ".standing")) == {FORGEABLE}, texts(browser, ".standing"))
+    tally.tell(f"the demonstration, {where}", set(standings(browser)) == {FORGEABLE}, standings(browser))
     wanted = [f"epoch {it} follows in the chain; its seal is valid, which anyone can forge" for it in (1, 2, 3)]
     tally.tell(f"its entries, {where}", texts(browser, "#results .entry") == wanted, texts(browser, "#results .entry"))
     summary = texts(browser, "#summary")[0]
@@ -94,7 +97,7 @@ def try_demonstration(tally: Tally, browser: Browser, where: str) -> None:
     tally.tell(f"nothing of it is authentic, {where}", count(browser, ".authentic") == 0)
     set_keys(browser, "demonstration", key=OTHER_KEY)
     paste(browser, DEMONSTRATION)
-    tally.tell(f"another key, {where}", set(texts(browser, ".standing")) == {"refused"}, texts(browser, ".standing"))
+    tally.tell(f"another key, {where}", set(standings(browser)) == {"refused"}, standings(browser))
     said = [it for it in texts(browser, "#results .entry") if "the signature isn't valid for this body" in it]
     tally.tell(f"entries under another key, {where}", len(said) == 3, texts(browser, "#results .entry"))
     set_keys(browser)
@@ -104,7 +107,7 @@ def try_provider(tally: Tally, browser: Browser, where: str) -> None:
     """A provider's lines under its keys, under others, and without one of them."""
     own, others = {"signing": SIGNING, "vrf": VRF}, {"signing": OTHER_SIGNING, "vrf": OTHER_VRF}
     wrong = "the signature of its entry isn't valid under this key"
-    for what, keys, standings, verdict in [
+    for what, keys, wanted, verdict in [
         ("its keys", own, {AUTHENTIC}, '"alice" is bound to this key at epoch 1'),
         ("another signing key", own | {"signing": OTHER_SIGNING}, {"refused"}, f'refused: "alice" at epoch 1: {wrong}'),
         ("another VRF key", own | {"vrf": OTHER_VRF}, {"refused"}, "the VRF proof isn't one of this name under this VRF key"),
@@ -113,7 +116,7 @@ def try_provider(tally: Tally, browser: Browser, where: str) -> None:
     ]:
         set_keys(browser, "provider", **keys)
         paste(browser, PROVIDED)
-        tally.tell(f"{what}, {where}", set(texts(browser, ".standing")) == standings, texts(browser, ".standing"))
+        tally.tell(f"{what}, {where}", set(standings(browser)) == wanted, standings(browser))
         tally.tell(
             f"{what}: the first verdict, {where}", texts(browser, ".verdict")[0].endswith(verdict), texts(browser, ".verdict")
         )
@@ -162,7 +165,7 @@ def try_without_ed25519(tally: Tally, browser: Browser) -> None:
     browser.value("delete crypto.subtle.importKey; 1")
     found = note(browser, "signing")
     tally.tell("a browser without Ed25519", found[0].startswith("not verified: ") and found[1] == "false", found)
-    tally.tell("nothing is authentic then", count(browser, ".authentic") == 0 and set(texts(browser, ".standing")) == {UNSIGNED})
+    tally.tell("nothing is authentic then", count(browser, ".authentic") == 0 and set(standings(browser)) == {UNSIGNED})
     set_keys(browser)
 
 
@@ -176,7 +179,7 @@ def try_typed_keys(tally: Tally, browser: Browser) -> None:
     ]:
         browser.value(f"{FRESH} {step}; 1")
         wait(browser)
-    tally.tell("keys that are typed", count(browser, ".lookup.authentic") == 4, texts(browser, ".standing"))
+    tally.tell("keys that are typed", count(browser, ".lookup.authentic") == 4, standings(browser))
     press(browser, "example")
     paste(browser, DEMONSTRATION)
     chosen = browser.value("document.querySelector('input[name=keys]:checked').value")
@@ -208,7 +211,7 @@ def try_provider_lines(tally: Tally, browser: Browser) -> None:
         ("with another index, which isn't used", [*ENTRIES, LOOKUPS[0] | {"index": LOOKUPS[3]["index"]}], AUTHENTIC),
     ]:
         paste(browser, text_of(lines))
-        tally.tell(f"lookups {what}", set(texts(browser, ".standing")) == {standing}, texts(browser, ".standing"))
+        tally.tell(f"lookups {what}", set(standings(browser)) == {standing}, standings(browser))
         tally.tell(f"lookups {what}: colours", (count(browser, ".authentic") > 0) == (standing == AUTHENTIC))
     changed = ENTRIES[1] | {"entry": ENTRIES[1]["entry"][:-1] + "8"}
     paste(browser, text_of([ENTRIES[0], changed, ENTRIES[2], *LOOKUPS]))
@@ -217,9 +220,9 @@ def try_provider_lines(tally: Tally, browser: Browser) -> None:
     wanted = 'Under an entry that isn\'t in the pasted chain, "alice" is bound to this key at epoch 2'
     tally.tell("the lookups of its epoch", texts(browser, ".verdict")[1] == wanted, texts(browser, ".verdict"))
     paste(browser, text_of([*LOOKUPS, *ENTRIES]))
-    tally.tell("lookups before their entries", texts(browser, ".standing") == [AUTHENTIC] * 4, texts(browser, ".standing"))
+    tally.tell("lookups before their entries", standings(browser) == [AUTHENTIC] * 4, standings(browser))
     paste(browser, text_of([ENTRIES[0], ENTRIES[0], *LOOKUPS[:1]]))
-    tally.tell("an entry twice", texts(browser, ".standing") == [AUTHENTIC], texts(browser, ".standing"))
+    tally.tell("an entry twice", standings(browser) == [AUTHENTIC], standings(browser))
     others: list[dict[str, Any]] = [
         {"ok": "open"},
         {"body": "00" * 145, "epoch": 1, "nodes": 3, "ok": "prepare", "root": "00" * 32},
@@ -269,7 +272,7 @@ def try_spoofs(tally: Tally, browser: Browser) -> None:
     for kind, keys in [("none", dict[str, str]()), ("demonstration", {"key": KEY})]:
         set_keys(browser, kind, **keys)
         paste(browser, case("spoof-epoch"))
-        said = texts(browser, ".standing")[-1]
+        said = standings(browser)[-1]
         tally.tell(f"another epoch, {kind}", said.endswith("; the line calls it epoch 2, which its entry does not"), said)
         paste(browser, case("spoof-index"))
         said = texts(browser, ".verdict")[-1]
@@ -368,7 +371,7 @@ def try_shown_faults(tally: Tally, browser: Browser, lines: Sequence[proofs.Line
     said = texts(browser, ".verdict")[0]
     tally.tell("an entry of another root is told", said.endswith(": the root or the nonce isn't that of its entry"), said)
     paste(browser, json.dumps(line))
-    found = texts(browser, ".verdict") + texts(browser, ".standing")
+    found = texts(browser, ".verdict") + standings(browser)
     wanted = [
         f'Under an entry that isn\'t in the pasted chain, and at the index in this line, which nobody has verified as that of "{line["name"]}", this key is registered at epoch {line["epoch"]}',
         "consistent, not authenticated: its entry isn't in the pasted chain; no signature is verified",

@@ -13,7 +13,7 @@ from pathlib import Path
 from typing import Any, Sequence
 
 import proofs
-from browser import FRESH, HERE, HOST, PAGE, Browser, count, note, paste, press, set_keys, texts, wait
+from browser import FRESH, HERE, HOST, PAGE, Browser, count, note, paste, press, set_keys, standings, texts, wait
 from given import DEMONSTRATION, ENTRIES, LOOKUPS, PROVIDED, SIGNING, UNSIGNED, VRF, case, text_of
 from results import try_demonstration, try_provider
 from tally import Tally
@@ -48,7 +48,7 @@ def try_insecure(tally: Tally, browser: Browser) -> None:
     found = note(browser, "signing")
     tally.tell("a provider's lines from plain http", found[0].startswith("not verified: ") and found[1] == "false", found)
     tally.tell(
-        "nothing is authentic from plain http", count(browser, ".authentic") == 0 and set(texts(browser, ".standing")) == {UNSIGNED}
+        "nothing is authentic from plain http", count(browser, ".authentic") == 0 and set(standings(browser)) == {UNSIGNED}
     )
     set_keys(browser)
 

@@ -66,6 +66,8 @@ export class Reading {
     this.client = null;
     /** The epochs of the chain, by the links of their entries. @type {Map<string, bigint>} */
     this.chain = new Map();
+    /** The latest epoch of the chain, 0 before the first. */
+    this.latest = 0n;
     /** One for each line. @type {Row[]} */
     this.rows = [];
     /** @type {LookupRow[]} */
@@ -110,7 +112,8 @@ export class Reading {
       if (this.client === null && isSigned !== false) this.client = await Client.of(this.coniks, this.keys.signatures ?? UNVERIFIED, this.keys.indices, entry.slice(POLICY, BODY));
       if (this.client === null) return { ...row, refusal: { why: "Signature", status: SIGNATURE } };
       await this.client.feed([entry]);
-      this.chain.set(this.coniks.link(entry), /** @type {bigint} */ (row.epoch));
+      this.latest = /** @type {bigint} */ (row.epoch);
+      this.chain.set(this.coniks.link(entry), this.latest);
       return row;
     } catch (error) {
       return { ...row, refusal: refusalOf(error) };

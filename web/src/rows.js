@@ -88,13 +88,14 @@ export class Teller {
   /** What was verified of a lookup, and what not. @param {LookupRow} row @returns {string} */
   standing(row) {
     const [state, keys] = [this.reading.stateOf(row), this.reading.keys];
+    const later = row.epoch !== null && row.epoch < this.reading.latest ? `; later epochs follow, up to ${this.reading.latest}` : "";
     if (state === "refused") return `refused${otherEpoch(row)}`;
-    if (state === "authentic") return "authentic: signature, chain, VRF proof and path are verified";
-    if (state === "forgeable") return "valid under the demonstration's key, which anyone can forge";
+    if (state === "authentic") return `authentic: signature, chain, VRF proof and path are verified${later}`;
+    if (state === "forgeable") return `valid under the demonstration's key, which anyone can forge${later}`;
     const lacks = [STANDINGS[this.reading.standing(row)]];
     if (keys.signatures === null) lacks.push("no signature is verified");
     else if (row.indexIs === "unverified") lacks.push(keys.indices === null ? "no VRF key is given" : "the line has no VRF proof");
-    return `consistent, not authenticated: ${lacks.join("; ")}${otherEpoch(row)}`;
+    return `consistent, not authenticated: ${lacks.join("; ")}${otherEpoch(row)}${later}`;
   }
 
   /** @param {EntryRow} row @returns {string} */
