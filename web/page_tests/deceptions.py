@@ -89,6 +89,8 @@ def try_stored(tally: Tally, browser: Browser, room: Path) -> None:
         said = shown(tally, browser, f"a renamed absence, {len(keys)} keys", case("absence-of-alice"), **keys)
         conditional = [it for it in said if it.startswith("At the index in this line, which nobody has verified")]
         tally.tell("a renamed absence has its condition in front", said and conditional == said, said)
+        seen = texts(browser, "#timeline li > span:last-child")
+        tally.tell("and over the epochs too", seen and not any(it.startswith("not registered") for it in seen), seen)
     for name in ["rtl", "same-looking", "spaces"]:
         said = shown(tally, browser, name, case(name), signing=key_of(name))
         names = {it["name"] for it in lines_of(case(name)) if it["ok"] == "lookup"}
@@ -210,6 +212,7 @@ def attacks() -> Sequence[tuple[str, list[Line], int, Optional[str]]]:
         ("epochs in another order", [ENTRIES[1], ENTRIES[0], later], 0, "Under an entry that isn't in the pasted chain"),
         ("an entry of another directory", [*ENTRIES, fork[2]], 0, "refused"),
         ("another directory's chain", [fork[0], *ENTRIES, fork[2]], 0, "refused"),
+        ("an entry of another directory first", [fork[0], *ENTRIES, alice], 1, None),
         ("a second key in the line", [*ENTRIES, alice | {"key": "bWFsbG9yeQ=="}], 1, None),
         ("a second name in the line", [*ENTRIES, {"name": "bob", **alice}], 1, None),
         ("another answer in the line", [*ENTRIES, alice | {"ok": "absent"}], 1, None),

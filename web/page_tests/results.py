@@ -80,6 +80,9 @@ def try_unkeyed(tally: Tally, browser: Browser) -> None:
     tally.tell("nothing is authentic without keys", count(browser, ".authentic") == 0)
     wanted = [FOLLOWS.format(it, "not ") for it in (1, 2, 3)]
     tally.tell("entries without keys", texts(browser, "#results .entry") == wanted, texts(browser, "#results .entry"))
+    seen = ['first key "key of alice"', 'same key "key of alice"', 'changed from "key of alice" to "key of mallory"']
+    found = texts(browser, "#timeline li > span:last-child")
+    tally.tell("alice over the epochs without keys", found == [f"not authenticated: {it}" for it in seen], found)
     summary = "4 lookups: 0 authentic, 4 consistent but not authenticated, 0 refused. 3 entries: 3 follow in the chain, their signatures are not verified."
     tally.tell("they are counted", texts(browser, "#summary") == [summary], texts(browser, "#summary"))
 
@@ -95,6 +98,8 @@ def try_demonstration(tally: Tally, browser: Browser, where: str) -> None:
     is_well = summary.startswith("5 lookups: 5 valid under the demonstration's key, 0 consistent") and "authentic," not in summary
     tally.tell(f"it is counted, {where}", is_well, summary)
     tally.tell(f"nothing of it is authentic, {where}", count(browser, ".authentic") == 0)
+    found = texts(browser, "#timeline li > span:last-child")
+    tally.tell(f"its epochs are forgeable, {where}", found and all(it.startswith("forgeable: ") for it in found), found)
     set_keys(browser, "demonstration", key=OTHER_KEY)
     paste(browser, DEMONSTRATION)
     tally.tell(f"another key, {where}", set(standings(browser)) == {"refused"}, standings(browser))
@@ -322,7 +327,11 @@ def try_menu(tally: Tally, browser: Browser) -> None:
     """A name that is registered later is no change, and a cut menu says so."""
     lines = DEMONSTRATION.splitlines()
     paste(browser, "\n".join([*lines[:2], lines[8]]))
-    tally.tell("a name that is absent", texts(browser, "#timeline li") == ["epoch 1not registered"], texts(browser, "#timeline li"))
+    tally.tell(
+        "a name that is absent",
+        texts(browser, "#timeline li") == ["epoch 1not authenticated: not registered"],
+        texts(browser, "#timeline li"),
+    )
     tally.tell("an absence isn't shown as bad", count(browser, "#timeline .changed, #timeline .absent, #timeline .missing") == 0)
     lookup = json.loads(lines[4])
     for many, said in [(500, ""), (501, "The menu has the first 500 of 501 names.")]:
@@ -342,7 +351,8 @@ def try_registered(tally: Tally, browser: Browser, program: Path, room: Path) ->
     file = room / "late.jsonl"
     file.write_text("".join(f"{json.dumps(it)}\n" for it in script), "utf-8")
     paste(browser, text_of(proofs.lines_of(program, str(file))))
-    wanted = ["not registered", 'registered with the key "one"', 'changed from "one" to "two"', 'changed from "one" to "two"']
+    seen = ["not registered", 'registered with the key "one"', 'changed from "one" to "two"', 'changed from "one" to "two"']
+    wanted = [f"not authenticated: {it}" for it in seen]
     found = texts(browser, "#timeline li > span:last-child")
     tally.tell("a name that is registered later", found == wanted, found)
     kinds = browser.value("[...document.querySelectorAll('#timeline li')].map(it => it.className)")

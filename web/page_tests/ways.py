@@ -47,9 +47,7 @@ def try_insecure(tally: Tally, browser: Browser) -> None:
     paste(browser, PROVIDED)
     found = note(browser, "signing")
     tally.tell("a provider's lines from plain http", found[0].startswith("not verified: ") and found[1] == "false", found)
-    tally.tell(
-        "nothing is authentic from plain http", count(browser, ".authentic") == 0 and set(standings(browser)) == {UNSIGNED}
-    )
+    tally.tell("nothing is authentic from plain http", count(browser, ".authentic") == 0 and set(standings(browser)) == {UNSIGNED})
     set_keys(browser)
 
 

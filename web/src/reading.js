@@ -62,7 +62,7 @@ export class Reading {
     this.coniks = coniks;
     this.keys = keys;
     this.signed = new SignedEntries(coniks);
-    /** Made with the policy digest of the first entry. @type {Client | null} */
+    /** Made with the policy digest of the first entry that it accepts. @type {Client | null} */
     this.client = null;
     /** The epochs of the chain, by the links of their entries. @type {Map<string, bigint>} */
     this.chain = new Map();
@@ -116,6 +116,7 @@ export class Reading {
       this.chain.set(this.coniks.link(entry), this.latest);
       return row;
     } catch (error) {
+      if (this.chain.size === 0) this.client = null;
       return { ...row, refusal: refusalOf(error) };
     }
   }
@@ -246,7 +247,7 @@ export class Reading {
   /**
    * What is seen of a name at each epoch of the chain. The first key that is shown is taken as right.
    * @param {string} name
-   * @returns {Generator<{epoch: bigint} & Seen>}
+   * @returns {Generator<{epoch: bigint, state: State} & Seen>}
    */
   *watched(name) {
     const rows = this.accepted(name).filter((it) => this.standing(it) === "chain");
@@ -256,14 +257,14 @@ export class Reading {
       const epoch = /** @type {bigint} */ (row.epoch);
       const from = at;
       while (epochs[at] < epoch) at++;
-      if (at > from) yield { seen: "missing", epoch: epochs[from], last: epochs[at - 1] };
+      if (at > from) yield { seen: "missing", state: "refused", epoch: epochs[from], last: epochs[at - 1] };
       const key = "key" in row.verdict ? row.verdict.key : null;
-      yield { epoch, ...seenOf(expected, key, isFirst) };
+      yield { epoch, state: this.stateOf(row), ...seenOf(expected, key, isFirst) };
       expected ??= key;
       isFirst = false;
       if (epochs[at] === epoch) at++;
     }
-    if (rows.length && at < epochs.length) yield { seen: "missing", epoch: epochs[at], last: epochs[epochs.length - 1] };
+    if (rows.length && at < epochs.length) yield { seen: "missing", state: "refused", epoch: epochs[at], last: epochs[epochs.length - 1] };
   }
 
   /** @param {Uint8Array} entry @returns {bigint | null} */

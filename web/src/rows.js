@@ -122,8 +122,16 @@ function capital(text) {
   return text.slice(0, 1).toUpperCase() + text.slice(1);
 }
 
-/** @param {Seen} it @returns {string} */
+/** What is in front of what is seen, if the lookup is not authentic. @type {Record<string, string>} */
+const UNSURE = { forgeable: "forgeable: ", consistent: "not authenticated: " };
+
+/** What is seen of a name at an epoch. @param {{state: string} & Seen} it @returns {string} */
 export function seenWords(it) {
+  return (UNSURE[it.state] ?? "") + seenText(it);
+}
+
+/** @param {Seen} it @returns {string} */
+function seenText(it) {
   if (it.seen === "first") return `first key ${keyText(it.key, 64)}`;
   if (it.seen === "registered") return `registered with the key ${keyText(it.key, 64)}`;
   if (it.seen === "same") return `same key ${keyText(it.key, 64)}`;
