@@ -26,13 +26,20 @@ client that it had, also if it refuses to begin.
 
 from __future__ import annotations
 
+import copy
 import hashlib
-import os
+import json
+import random
 import subprocess
-from pathlib import Path
+import time
 from typing import Any, Callable, Optional, Sequence, Union
 
-Answer = dict[str, Any]
+import client as second
+from alterations import Alterer, causes_in
+from case_runner import Answer, cases
+from client import plain
+from tally import Tally
+from walks import Walk, seen_in
 
 
 class Broken(Exception):
@@ -42,10 +49,8 @@ class Broken(Exception):
 class Side:
     """The program of one language."""
 
-    def __init__(self, words: Sequence[Union[str, Path]], **more: Any) -> None:
-        self.process = subprocess.Popen(
-            [str(it) for it in words], stdin=subprocess.PIPE, stdout=subprocess.PIPE, text=True, encoding="ascii", **more
-        )
+    def __init__(self, words: Sequence[str]) -> None:
+        self.process = subprocess.Popen(words, stdin=subprocess.PIPE, stdout=subprocess.PIPE, text=True, encoding="ascii")
 
     def ask(self, *words: str) -> list[str]:
         """The words of the reply to a request."""
@@ -192,3 +197,61 @@ def verdicts(side: Side, case: Answer) -> Answer:
             side.ask("now", number(step["now"]))
         answers.append(answer_of(side, step, side.ask(*REQUESTS[step["do"]](step))))
     return {"begin": {"begun": True}, "steps": answers, "state": hashlib.sha256(state_of(side)).hexdigest()}
+
+
+def verdict(side: Side, case: Answer) -> Any:
+    """What a program returns, or what is wrong with its replies."""
+    try:
+        return verdicts(side, case)
+    except (Broken, ValueError, KeyError) as error:
+        return f"{type(error).__name__}: {error}"
+
+
+def try_cases(tally: Tally, what: str, side: Side) -> None:
+    for case in cases():
+        got = verdict(side, case)
+        got = plain(got) if isinstance(got, dict) else got
+        tally.tell(f"{what}: case {case['name']}", got == case["gives"], f"expected {case['gives']}, got {got}"[:3000])
+
+
+def try_alterations(tally: Tally, what: str, side: Side, count: int, seed: int) -> None:
+    """So many alterations, of which both implementations return the same."""
+    alterer, seen, spent = Alterer(list(cases()), seed), dict[str, int](), 0.0
+    for number in range(count):
+        case = alterer.altered()
+        before = time.monotonic()
+        mine = verdict(side, copy.deepcopy(case))
+        spent += time.monotonic() - before
+        theirs = second.verdicts(case)
+        why = "" if mine == theirs else f"{mine}, {theirs}: {json.dumps(case)}"[:9000]
+        tally.tell(f"{what}: alteration {number} of seed {seed}", mine == theirs, why)
+        for cause in causes_in(mine) if isinstance(mine, dict) else []:
+            seen[cause] = seen.get(cause, 0) + 1
+    print(f"{what}: {count} alterations, of which the program took {spent:.1f} s: {dict(sorted(seen.items()))}", flush=True)
+
+
+def try_walks(tally: Tally, what: str, side: Side, count: int, seed: int) -> None:
+    """So many walks, each of which is interrupted by starts from the state, of which both implementations return the same."""
+    seen: set[str] = set()
+    for number in range(count):
+        walk, state = Walk(random.Random(f"{seed} {number}")), None
+        for part in range(3):
+            case = walk.case(state)
+            mine, theirs = verdict(side, case), second.verdicts(case)
+            is_same = mine == theirs and mine["begin"] == {"begun": True}
+            tally.tell(f"{what}: walk {number} of seed {seed}, part {part}", is_same, "" if is_same else f"{mine}, {theirs}"[:3000])
+            if not is_same:
+                break
+            seen.update(seen_in(mine))
+            state = state_of(side)
+    tally.tell(f"{what}: the walks see changes", {"same", "changed", "absent", "misuse"} <= seen, seen)
+
+
+def try_program(tally: Tally, what: str, words: Sequence[str], count: int, seed: int) -> None:
+    start, side = time.monotonic(), Side(words)
+    try_cases(tally, what, side)
+    if count:
+        try_alterations(tally, what, side, count, seed)
+        try_walks(tally, what, side, max(1, count // 4), seed)
+    tally.tell(f"{what}: the program ends", side.end() == 0)
+    print(f"{what}: {time.monotonic() - start:.0f} s", flush=True)
