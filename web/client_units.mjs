@@ -148,12 +148,13 @@ async function tryChangesMeanwhile() {
   }
   {
     let now = given.now;
-    const { client, proof } = await looking({ clock: () => now });
+    const verify = () => {
+      now += 3 * 3600;
+      return true;
+    };
+    const client = await fed({ vrf: { verify, index }, clock: () => now });
     client.watch(name, data(wanted.key));
-    const found = client.lookup(name, reply);
-    now += 3 * 3600;
-    proof.resolve(true);
-    await throwing("a clock that goes on meanwhile", () => found, "Stale");
+    await throwing("a clock that goes on meanwhile", () => client.lookup(name, reply), "Stale");
     same("nothing was seen", client.missing.length, 1);
   }
 }
@@ -194,12 +195,12 @@ async function tryReturnedCopies() {
   const client = await fed();
   client.watch(name, data(wanted.key));
   const found = await client.lookup(name, reply);
-  const before = hex(client.state);
+  const [before, link] = [hex(client.state), hex(client.head().link)];
   zero([found.key, client.state, client.head().link, ...client.entries]);
   client.entries.length = 0;
   client.missing.push(7n);
   same("what was returned changes nothing", hex(client.state), before);
-  same("heads are copies", client.compare(client.head()), "equal");
+  same("heads are copies", client.head().link, link);
   for (const it of [found, client.head(), policy]) same("results are frozen", Object.isFrozen(it), true);
   zero([policy.signingKey, policy.vrfKey, policy.digest, policy.document]);
   same("a policy returns copies", policy.document, textBytes(given.policy));
