@@ -24,6 +24,11 @@ for (const [key, message, signature] of SIGNED) {
     changed[at] ^= 1;
     same(`byte ${at} of the signature of ${message} changed`, await isSigned(data(message), changed), false);
   }
+  for (const length of [0, 31, 32, 33, 63, 65]) {
+    const other = new Uint8Array(length);
+    other.set(data(signature).subarray(0, length));
+    same(`${length} bytes of the signature of ${message}`, await isSigned(data(message), other), false);
+  }
   const greater = data(signature);
   greater.set(littleEndian(numberOf(greater.subarray(32)) + ORDER), 32);
   same("S and the order", await isSigned(data(message), greater), false);
@@ -62,7 +67,7 @@ for (const it of lowOrder) {
   same(`the base point and ${it}`, keyPoint(mixed) !== null, it === lowOrder[0]);
 }
 // y = P and P + 1, the identity with a sign, order 2 with a sign, no point, and other lengths.
-const noPoints = [`ed${"ff".repeat(30)}7f`, `ee${"ff".repeat(30)}7f`, `01${"00".repeat(30)}80`, `ec${"ff".repeat(31)}`, `02${"00".repeat(31)}`, "ff".repeat(32), "58".repeat(31), `58${"66".repeat(32)}`];
+const noPoints = ["", `ed${"ff".repeat(30)}7f`, `ee${"ff".repeat(30)}7f`, `01${"00".repeat(30)}80`, `ec${"ff".repeat(31)}`, `02${"00".repeat(31)}`, "ff".repeat(32), "58".repeat(31), `58${"66".repeat(32)}`];
 for (const it of noPoints) same(`${it} is no key`, keyPoint(data(it)), null);
 
 // RFC 9381, appendix B.3, examples 16 to 18.

@@ -47,7 +47,7 @@ function inverted(x) {
   return folded(folded(squared(powerOfOnes(x, 250), 5) * squared(x, 3)) * folded(squared(x, 1) * x));
 }
 
-/** A number whose least significant byte is first. @param {Uint8Array} bytes @returns {bigint} */
+/** A number of at least one byte, the least significant one first. @param {Uint8Array} bytes @returns {bigint} */
 export function numberOf(bytes) {
   return BigInt(`0x${Array.from(bytes, (it) => it.toString(16).padStart(2, "0")).reverse().join("")}`);
 }
@@ -81,9 +81,10 @@ function xOf(y) {
  * @type {(bytes: Uint8Array) => Point | null}
  */
 export function decoded(bytes) {
+  if (bytes.length !== 32) return null;
   const number = numberOf(bytes);
   const [sign, y] = [number >> 255n, number & LOW];
-  const x = bytes.length === 32 && y < P ? xOf(y) : null;
+  const x = y < P ? xOf(y) : null;
   if (x === null || (x === 0n && sign === 1n)) return null;
   const signed = (x & 1n) === sign ? x : P - x;
   return [signed, y, 1n, folded(signed * y)];

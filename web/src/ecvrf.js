@@ -13,7 +13,7 @@ const PROOF_BYTES = 80;
  * @type {(bytes: Uint8Array) => Point | null}
  */
 export function keyPoint(bytes) {
-  const point = bytes.length === 32 ? decoded(bytes) : null;
+  const point = decoded(bytes);
   return point !== null && hasPrimeOrder(point) ? point : null;
 }
 

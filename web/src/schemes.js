@@ -36,13 +36,13 @@ function checkCalls(key, calls) {
 }
 
 /**
- * A signature whose R is not the identity, and whose S is reduced. Not each platform checks that.
+ * A signature of 64 bytes whose R is not the identity, and whose S is reduced. Not each platform checks that.
  * @param {Uint8Array} signature
  * @returns {boolean}
  */
 function isStrict(signature) {
   const isIdentity = signature[0] === 1 && signature.subarray(1, 32).every((it) => it === 0);
-  return !isIdentity && numberOf(signature.subarray(32)) < ORDER;
+  return signature.length === 64 && !isIdentity && numberOf(signature.subarray(32)) < ORDER;
 }
 
 /** What verifies the signatures of a key, or of the object in place of one. @param {any} key @returns {Promise<IsSigned>} */
