@@ -162,6 +162,8 @@ async function tryHostile() {
   const watch = 473;
   const chain = state.subarray(0, watch);
   const before = process.memoryUsage().arrayBuffers;
+  const seenAs = (/** @type {string} */ seen) => renewed(chain.subarray(0, -1), data(seen), state.subarray(watch, -32));
+  same("each other number is a state", await thrown(() => begun({ state: seenAs("04") })), null);
   const header = [chain.subarray(0, 33), data("ffffffff"), chain.subarray(37)];
   for (const [what, given] of [
     ["2^32 - 1 epochs", renewed(...header, data("00"))],
@@ -169,6 +171,9 @@ async function tryHostile() {
     ["a new key of 2^32 - 1 bytes", renewed(chain, data("0205616c6963650000000000000001000000016b00000000000000020000000000000003ffffffff"))],
     ["an empty name", renewed(chain, data("0100000000000000000100000000"))],
     ["bytes that follow", renewed(chain, data("0000"))],
+    ["a new key and no change", seenAs("02")],
+    ["a watched epoch that is not watched", seenAs("00")],
+    ["an unknown number of what was seen", seenAs("06")],
     ["no watch", renewed(chain)],
   ]) await throwing(what, () => begun({ state: given }), "StateForm");
   const long = (size, digits) => Buffer.concat([reply.subarray(0, 210), data(digits), Buffer.alloc(size)]);
