@@ -50,6 +50,18 @@ const secret = (() => {
   same("the identity as R", await (await signaturesOf(key))(message, signature), false);
 }
 
+{
+  // What this code refuses by itself, on a platform that accepts each signature.
+  const real = Object.getOwnPropertyDescriptor(globalThis, "crypto");
+  const subtle = { importKey: async () => null, verify: async () => true };
+  Object.defineProperty(globalThis, "crypto", { value: { subtle }, configurable: true });
+  const isSigned = await signaturesOf(data(SIGNED[0][0]));
+  const withS = (/** @type {bigint} */ s) => isSigned(new Uint8Array(0), Buffer.concat([data(SIGNED[0][0]), littleEndian(s)]));
+  same("S up to the order", [await withS(0n), await withS(ORDER - 1n)], [true, true]);
+  same("S from the order on", [await withS(ORDER), await withS(2n ** 255n), await withS(2n ** 256n - 1n)], [false, false, false]);
+  Object.defineProperty(globalThis, "crypto", real);
+}
+
 // Points.
 same("the base point", hex(encoded(BASE)[0]), `58${"66".repeat(31)}`);
 same("RFC 8032's key by its secret number", hex(encoded(combined(secret % ORDER, BASE, 0n, BASE))[0]), SIGNED[0][0]);
