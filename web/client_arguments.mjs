@@ -206,6 +206,26 @@ async function tryOrder() {
   ]) await throwing(what, () => begun({ state: given }), wanted);
 }
 
+/** The first of two errors of a step, in the order of docs/FORMATS.md. The history before it has two steps, and one sibling at last. */
+async function tryStepOrder() {
+  const client = await begun({ state });
+  const kept = hex(history.subarray(-32));
+  for (const [what, wanted, step] of [
+    ["cut and epoch", "CutInStep", "00000000000000020300"],
+    ["epoch and kind", "EpochOrder", "0000000000000002040000"],
+    ["kind and depth", "UnknownEnd", "0000000000000003040101"],
+    ["depth and the map's end", "TooDeep", "0000000000000003030101"],
+    ["the map's end and its bits", "CutInStep", "000000000000000303000901"],
+    ["spare bits and the siblings' end", "SiblingMap", "0000000000000003030001ff"],
+    ["a sibling that is in no step", "SiblingMap", "000000000000000303000200"],
+    ["the siblings' end and a repeated one", "CutInStep", `0000000000000003030002c0${kept}`],
+    ["a repeated sibling and the end", "SiblingRepeated", `000000000000000302000180${kept}`],
+    ["the end's end", "CutInStep", `000000000000000302000100${"dd".repeat(32)}0005616c69636500000001`],
+    ["a repeated end", "EndRepeated", `000000000000000302000100${"dd".repeat(32)}0005616c696365000000016b`],
+    ["no error of the bytes", "UnknownEpoch", "000000000000000303000100"],
+  ]) await throwing(what, () => client.history("alice", Buffer.concat([history, data(step)])), wanted);
+}
+
 /** A platform without WebCrypto, or without Ed25519 in it. */
 async function tryPlatforms() {
   const real = Object.getOwnPropertyDescriptor(globalThis, "crypto");
@@ -273,6 +293,7 @@ await tryWrongArguments();
 await tryTimes();
 await tryHostile();
 await tryOrder();
+await tryStepOrder();
 await tryPlatforms();
 await tryMemory();
 end();
