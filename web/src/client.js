@@ -23,7 +23,8 @@ import { TOLD, changed, countUpTo, expectedKey, firstSeen, fits, isMissing, need
  */
 
 const [ENTRY, BODY, KEPT, FIXED] = [209, 145, 218, 70];
-const [GOOD, ABSENT] = [0, 1];
+// Statuses of coniks.h.
+const [GOOD, ABSENT, TOO_DEEP, SIGNATURE, ENTRY_LENGTH] = [0, 1, 2, 40, 48];
 
 /** @param {any} policy @param {any} options */
 function settingsOf(policy, { maxAge = null, skew = 300, clock = () => Date.now() / 1000, ...others }) {
@@ -188,9 +189,9 @@ export class Client {
   /** @param {Uint8Array} entry @param {boolean} isSigned @param {bigint} time @returns {Kept} */
   #signed(entry, isSigned, time) {
     const [fields, link] = [this.#coniks.fields(entry), this.#coniks.linkBytes(entry)];
-    if (fields === null || link === null) throw this.#refusal(48);
-    if (!isSigned) throw this.#refusal(40);
-    return { ...fields, link, entry, time, seen: 0 };
+    if (fields === null || link === null) throw this.#refusal(ENTRY_LENGTH);
+    if (!isSigned) throw this.#refusal(SIGNATURE);
+    return { ...fields, link, entry: entry.slice(), time, seen: 0 };
   }
 
   /** @param {Uint8Array} a @param {Uint8Array} b @returns {string | null} */
@@ -294,7 +295,7 @@ export class Client {
    * @returns {Promise<Found[]>}
    */
   async history(name, history) {
-    const [asked, { vrf, steps }] = [nameBytes(name), readHistory(bytes(history, "a history"), this.#coniks.text(2))];
+    const [asked, { vrf, steps }] = [nameBytes(name), readHistory(bytes(history, "a history"), this.#coniks.text(TOO_DEEP))];
     const index = await this.#index(asked, vrf);
     const now = this.#now();
     /** @type {[Kept, Uint8Array | null][]} */
