@@ -80,7 +80,12 @@ for (const it of lowOrder) {
 }
 // y = P and P + 1, the identity with a sign, order 2 with a sign, no point, and other lengths.
 const noPoints = ["", `ed${"ff".repeat(30)}7f`, `ee${"ff".repeat(30)}7f`, `01${"00".repeat(30)}80`, `ec${"ff".repeat(31)}`, `02${"00".repeat(31)}`, "ff".repeat(32), "58".repeat(31), `58${"66".repeat(32)}`];
-for (const it of noPoints) same(`${it} is no key`, keyPoint(data(it)), null);
+for (const it of noPoints) same(`${it} is no point and no key`, [decoded(data(it)), keyPoint(data(it))], [null, null]);
+// Some y from 0 to 18 are those of points, and no y + P is, with or without a sign.
+const pointsAt = (/** @type {bigint} */ first) =>
+  Array.from({ length: 19 }, (_, y) => [0n, 2n ** 255n].map((sign) => decoded(littleEndian(first + BigInt(y) + sign)))).flat();
+same("points whose y is small", pointsAt(0n).filter((it) => it !== null).length > 10, true);
+same("numbers that are not reduced", pointsAt(2n ** 255n - 19n), Array(38).fill(null));
 
 // RFC 9381, appendix B.3, examples 16 to 18.
 for (const it of JSON.parse(read("examples/provider/vectors.json")).vrf) {
