@@ -4,7 +4,7 @@
 import { createHash } from "node:crypto";
 import { readFileSync } from "node:fs";
 
-import { Refusal, Unsupported, load, readPolicy } from "./out/coniks.js";
+import { Policy, Refusal, Unsupported, load, readPolicy } from "./out/coniks.js";
 import { Coniks } from "./src/coniks.js";
 import { Refusal as Refused } from "./src/messages.js";
 import { data, end, hex, read, same, textBytes, throwing, thrown } from "./telling.mjs";
@@ -66,6 +66,30 @@ async function tryExamples() {
   const found = await timed.history("alice", history);
   same("the history", found.map((it) => [it.epoch, it.seen, it.age]), [[1, "same", 3660], [2, "same", 60]]);
   same("the state once more", (await begun({ state })).state, state);
+}
+
+/** Documents that differ in one line from the example, of which a policy has exactly one. */
+async function tryPolicies() {
+  const document = new TextDecoder().decode(policy.document);
+  const most = String(2n ** 64n - 1n);
+  const good = [
+    ["epoch-period 3600", `epoch-period ${most}`], ["epoch-start 1767225600", "epoch-start 0"], ["kept forever", `kept ${most}`], ["kept forever", "kept 0"],
+    ["epoch-start 1767225600\nepoch-period 3600\n", ""], [/ECVRF(.|\n)*?\n(?=epoch)/, "none\n"], [/origin .*/, `origin ${"~".repeat(255)}`], [/origin .*/, "origin !"],
+  ];
+  const over = String(2n ** 64n);
+  const wrong = [
+    ["epoch-period 3600", "epoch-period 0"], ["epoch-period 3600", `epoch-period ${over}`], ["epoch-start 1767225600", `epoch-start ${over}`], ["kept forever", `kept ${over}`],
+    ["epoch-period 3600", "epoch-period 03600"], ["epoch-period 3600", "epoch-period  3600"], ["epoch-period 3600", "epoch-period -1"], ["epoch-period 3600", "epoch-period 1e3"], ["epoch-period 3600\n", ""], ["epoch-start 1767225600\n", ""],
+    ["kept forever\n", "kept forever"], ["kept forever\n", "kept forever\n\n"], ["kept forever\n", "kept forever\nmore\n"], ["kept forever", "kept ever"], [/\n/g, "\r\n"], ["policy", "\ufeffpolicy"], ["coniks-1", "coniks-2"],
+    [/origin .*/, "origin "], [/origin .*/, `origin ${"~".repeat(256)}`], [/origin .*/, "origin a b"], [/origin .*/, "origin \u00e9"], [/origin .*/, "origin a\u0000"], ["d75a98", "D75A98"], ["d75a98", "d75a9"], ["signature Ed25519", "signature Ed448"], [/ECVRF.*/, "none"], ["one-chain", "two-chains"], [/(.|\n)*/, ""], [/$/, "\n".repeat(1e6)],
+  ];
+  for (const [from, to] of good) {
+    const given = textBytes(document.replace(from, to));
+    same(`a policy with ${to}`, [readPolicy(given).document, hex(given) !== hex(policy.document)], [given, true]);
+    same("its digest", readPolicy(given).digest, createHash("sha256").update(given).digest("hex"));
+  }
+  for (const [from, to] of wrong) await throwing(`no policy: ${String(to).slice(0, 30)}`, () => readPolicy(textBytes(document.replace(from, to))), "RangeError");
+  await throwing("a policy is made by readPolicy alone", () => new Policy(policy.document), "TypeError");
 }
 
 async function tryNumbers() {
@@ -288,6 +312,7 @@ async function tryMemory() {
 }
 
 await tryExamples();
+await tryPolicies();
 await tryNumbers();
 await tryWrongArguments();
 await tryTimes();
