@@ -94,7 +94,13 @@ async function tryPolicies() {
 
 async function tryNumbers() {
   const listed = [...formats.slice(formats.indexOf("## Replies to clients")).matchAll(/^\| `(\w+)` \| (\d+) \|/gm)];
-  same("errors are listed", listed.length > 20, true);
+  const pairs = [...formats.matchAll(/^\| `(\w+)`, `(\w+)` \| (\d+), (\d+) \|/gm)];
+  for (const [, one, other, first, second] of pairs) listed.push([, one, first], [, other, second]);
+  same("errors are listed", [listed.length > 20, pairs.length > 0], [true, true]);
+  const types = read("web/coniks.d.ts").match(/export type Cause =[^;]*/)[0];
+  const typed = [...types.matchAll(/"(\w+)"/g)].map(([, it]) => it);
+  same("each error that is listed has its type", listed.filter(([, it]) => !typed.includes(it)), []);
+  same("each type is an error", [typed.filter((it) => !(new Refused(it).number > 0)), new Set(typed).size], [[], typed.length]);
   for (const [, why, number] of listed) {
     const refusal = new Refused(why);
     same(`the number of ${why}`, [refusal.number, refusal.why], [Number(number), why]);
