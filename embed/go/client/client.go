@@ -1,0 +1,136 @@
+// Package client is a client of a key directory that can't forget a step: it verifies signatures, the chain, VRF proofs,
+// authentication paths and the asked epoch.
+//
+//	it, err := client.New(client.Settings{SigningKey: key, VRFKey: vrfKey, Policy: &policy}) // what the directory publishes
+//	_, err = it.FeedCatchUp(catchUp)                                                         // all entries since the last one
+//	found, err := it.Lookup("alice", reply)                                                  // found.Key is alice's key, or nil
+//
+// Feed takes entries that continue the chain, and Lookup a reply whose entry is one of that chain. For anything else they return a
+// *Refusal, whose Cause says why, and keep nothing of what was refused. Signatures are verified first, so what anyone can send is
+// never an alarm. What convicts the provider is the Evidence of the *Refusal: publish it. Another error is one of the caller.
+//
+//	err = it.Watch("alice", myKey)          // my own name: each epoch must show my key
+//	found, err = it.Lookup("alice", reply)  // found.Seen is Same, Changed or Absent
+//	it.Missing()                            // the epochs for which no reply was accepted
+//	err = it.Expect(newKey, by)             // before I change my key
+//	store(it.State())                       // and then client.Resume
+//
+// If the policy has a clock, the latest epoch must have begun at most MaxAge ago, by default two periods. It must begin at most
+// Skew from now, by default 300 seconds. Only LookupAt accepts an older epoch: pass a number of your own, never that of the reply.
+// Without a clock, Found.FirstSeen says since when this client has had the entry.
+//
+// Each accepted entry is kept, until Cover is called with an auditor's head. Compare heads with auditors and other clients: Compare
+// says whether a head is one of this chain, and Evidence what convicts the provider together with another one's entry.
+//
+// The keys are public keys of Ed25519 (RFC 8032) and of ECVRF-EDWARDS25519-SHA512-TAI (RFC 9381). For other schemes, set Signatures
+// and Indices. The proved C library decides about paths, chains and evidence.
+package client
+
+import (
+	"errors"
+	"sync"
+	"time"
+
+	"example.org/coniks"
+)
+
+// Settings are what a client is made with. SigningKey and VRFKey, and one of Policy and Digest, are what the directory publishes.
+type Settings struct {
+	// SigningKey is the public key of the signatures, 32 bytes. Signatures, in its place, verifies those of another scheme.
+	SigningKey []byte
+	Signatures SignatureScheme
+	// VRFKey is the public key of the VRF, 32 bytes. Indices, in its place, verifies those of another scheme. Both are nil in a
+	// directory without a VRF, in which nothing can be looked up.
+	VRFKey  []byte
+	Indices IndexScheme
+	// Policy is the policy document. Digest, in its place, is the policy digest alone, without a clock.
+	Policy *coniks.Policy
+	Digest *[32]byte
+	// MaxAge is how long ago the latest epoch may have begun, two periods if nil. Skew is how far ahead it may begin, 300 seconds if
+	// nil. Both count only with a policy that has a clock.
+	MaxAge, Skew *time.Duration
+	// Clock returns the time, which is not before 1970. It is time.Now if nil. It must not call the client.
+	Clock func() time.Time
+}
+
+// Client is a client of one directory. All calls can be used from several goroutines, and are made one after another. A client must
+// not be copied: one of both would miss what the other is fed.
+type Client struct {
+	mutex      sync.Mutex
+	signatures SignatureScheme
+	indices    IndexScheme
+	digest     [32]byte
+	clock      clock
+	chain      chain
+	watch      *watch
+}
+
+// New returns a client that has no entry: the first one that it accepts begins the chain.
+func New(settings Settings) (*Client, error) {
+	signatures, indices, err := settings.schemes()
+	if err != nil {
+		return nil, err
+	}
+	it := &Client{signatures: signatures, indices: indices}
+	if it.digest, err = settings.digest(); err != nil {
+		return nil, err
+	}
+	if it.clock, err = newClock(settings); err != nil {
+		return nil, err
+	}
+	return it, nil
+}
+
+// Resume returns a client that goes on from the State of another one, of the same directory.
+func Resume(settings Settings, state []byte) (*Client, error) {
+	it, err := New(settings)
+	if err != nil {
+		return nil, err
+	}
+	if err := it.resume(copied(state)); err != nil {
+		return nil, err
+	}
+	return it, nil
+}
+
+// Vouched returns a client whose chain begins with an entry for which at least so many auditors have a head. The heads are those of
+// the auditors for the entry's epoch, by the auditors' names: get each from the auditor itself.
+func Vouched(settings Settings, entry []byte, heads map[string]coniks.Head, least int) (*Client, error) {
+	it, err := New(settings)
+	if err != nil {
+		return nil, err
+	}
+	if least < 1 {
+		return nil, errors.New("at least one auditor vouches for an entry: pass how many must")
+	}
+	first, err := it.accept(entry)
+	if err != nil {
+		return nil, err
+	}
+	vouching := 0
+	for _, head := range heads {
+		switch {
+		case head.Epoch != first.body.Epoch:
+		case head.Link != first.link:
+			return nil, refusal(AuditorsDiffer)
+		default:
+			vouching++
+		}
+	}
+	if vouching < least {
+		return nil, refusal(NotVouched)
+	}
+	it.chain = chain{first}
+	return it, nil
+}
+
+// digest returns the policy digest.
+func (it *Settings) digest() ([32]byte, error) {
+	switch {
+	case (it.Policy == nil) == (it.Digest == nil):
+		return [32]byte{}, errors.New("Policy and Digest are both missing or both set: set one of them")
+	case it.Digest != nil:
+		return *it.Digest, nil
+	}
+	return it.Policy.Digest()
+}

@@ -1,0 +1,286 @@
+// Replies to the requests of embed/client_sides.py, one on each line, over package client.
+package main
+
+import (
+	"bufio"
+	"encoding/hex"
+	"errors"
+	"fmt"
+	"os"
+	"strconv"
+	"strings"
+	"time"
+
+	"example.org/coniks"
+	"example.org/coniks/client"
+)
+
+// errMisuse is an error in a request that the types of package client rule out.
+var errMisuse = errors.New("a call that the caller must not make")
+
+// program has the client of the last `begin` or `vouched`, nil if that refused, and its clock.
+type program struct {
+	client *client.Client
+	now    time.Time
+}
+
+// data reads bytes, nil for `-`.
+func data(word string) []byte {
+	if word == "-" {
+		return nil
+	}
+	bytes, err := hex.DecodeString(strings.TrimSuffix(word, "."))
+	if err != nil {
+		panic(err)
+	}
+	return bytes
+}
+
+func number(word string) uint64 {
+	value, err := strconv.ParseUint(word, 10, 64)
+	if err != nil {
+		panic(err)
+	}
+	return value
+}
+
+// seconds reads a duration, nil for `-`.
+func seconds(word string) *time.Duration {
+	if word == "-" {
+		return nil
+	}
+	duration := time.Duration(number(word)) * time.Second
+	return &duration
+}
+
+// headOf reads a head. A link of another length can't be passed.
+func headOf(epoch, link string) (head coniks.Head, err error) {
+	bytes := data(link)
+	if len(bytes) != len(head.Link) {
+		return head, errMisuse
+	}
+	head.Epoch = number(epoch)
+	copy(head.Link[:], bytes)
+	return head, nil
+}
+
+// settings reads the first six words of `begin` and `vouched`, and sets the clock.
+func (it *program) settings(words []string) (client.Settings, error) {
+	it.client, it.now = nil, time.Unix(int64(number(words[0])), 0)
+	policy, err := coniks.ReadPolicy(data(words[5]))
+	return client.Settings{
+		MaxAge: seconds(words[1]), Skew: seconds(words[2]), SigningKey: data(words[3]), VRFKey: data(words[4]), Policy: &policy,
+		Clock: func() time.Time { return it.now },
+	}, err
+}
+
+func (it *program) begin(words []string) (string, error) {
+	settings, err := it.settings(words)
+	if err != nil {
+		return "", err
+	}
+	if state := data(words[6]); state != nil {
+		it.client, err = client.Resume(settings, state)
+	} else {
+		it.client, err = client.New(settings)
+	}
+	return "begun", err
+}
+
+func (it *program) vouched(words []string) (string, error) {
+	settings, err := it.settings(words)
+	if err != nil {
+		return "", err
+	}
+	heads := map[string]coniks.Head{}
+	for at, word := range words[8:] {
+		epoch, link, _ := strings.Cut(word, ":")
+		if heads[strconv.Itoa(at)], err = headOf(epoch, link); err != nil {
+			return "", err
+		}
+	}
+	it.client, err = client.Vouched(settings, data(words[6]), heads, int(number(words[7])))
+	return "begun", err
+}
+
+func seenWord(seen client.Watched) string {
+	if seen == client.Unwatched {
+		return "-"
+	}
+	return seen.String()
+}
+
+func fed(steps []client.Step, err error) (string, error) {
+	text := "fed"
+	for _, step := range steps {
+		text += fmt.Sprintf(" %d:%s", step.Epoch, seenWord(step.Seen))
+	}
+	return text, err
+}
+
+func (it *program) feed(words []string) (string, error) {
+	var entries [][]byte
+	for _, word := range words {
+		entries = append(entries, data(word))
+	}
+	return fed(it.client.Feed(entries))
+}
+
+func keyWord(key []byte) string {
+	switch {
+	case key == nil:
+		return "-"
+	case len(key) == 0:
+		return "."
+	}
+	return hex.EncodeToString(key)
+}
+
+func ageWord(age *time.Duration) string {
+	switch {
+	case age == nil:
+		return "-"
+	case *age%time.Second == 0:
+		return strconv.FormatInt(int64(*age/time.Second), 10)
+	}
+	return fmt.Sprintf("%.9f", age.Seconds())
+}
+
+func foundWords(found client.Found) string {
+	return fmt.Sprintf(" %d %s %s %s %d", found.Epoch, keyWord(found.Key), seenWord(found.Seen), ageWord(found.Age), found.FirstSeen)
+}
+
+func (it *program) lookup(words []string) (string, error) {
+	name, reply := string(data(words[0])), data(words[1])
+	var found *client.Found
+	var err error
+	if words[2] == "-" {
+		found, err = it.client.Lookup(name, reply)
+	} else {
+		found, err = it.client.LookupAt(name, reply, number(words[2]))
+	}
+	if err != nil {
+		return "", err
+	}
+	return "found" + foundWords(*found), nil
+}
+
+func (it *program) history(words []string) (string, error) {
+	all, err := it.client.History(string(data(words[0])), data(words[1]))
+	text := "found"
+	for _, found := range all {
+		text += foundWords(found)
+	}
+	return text, err
+}
+
+func (it *program) watch(words []string) (string, error) {
+	name, key := string(data(words[0])), data(words[1])
+	if words[2] == "-" {
+		return "watching", it.client.Watch(name, key)
+	}
+	return "watching", it.client.WatchSince(name, key, number(words[2]))
+}
+
+func (it *program) missing() string {
+	text := "missing"
+	for _, epoch := range it.client.Missing() {
+		text += fmt.Sprintf(" %d", epoch)
+	}
+	return text
+}
+
+func (it *program) head() string {
+	if head := it.client.Head(); head != nil {
+		return fmt.Sprintf("head %d %x", head.Epoch, head.Link)
+	}
+	return "head -"
+}
+
+// compare makes a call with a head.
+func compare(words []string, call func(coniks.Head) client.Comparison) (string, error) {
+	head, err := headOf(words[0], words[1])
+	if err != nil {
+		return "", err
+	}
+	return call(head).String(), nil
+}
+
+func evidenceWords(evidence *client.Evidence) string {
+	if evidence == nil {
+		return "-"
+	}
+	kinds := map[coniks.EvidenceKind]string{
+		coniks.Overlap: "overlap", coniks.OtherPolicy: "other-policy", coniks.Malformed: "malformed",
+	}
+	return fmt.Sprintf("%s %x %x", kinds[evidence.Kind], evidence.Mine, evidence.Other)
+}
+
+// refused is the reply for an error.
+func refused(err error) string {
+	var it *client.Refusal
+	if !errors.As(err, &it) {
+		return "misuse"
+	}
+	status := "-"
+	if it.Status != 0 {
+		status = strconv.FormatUint(uint64(it.Status), 10)
+	}
+	return fmt.Sprintf("refused %v %s %s", it.Cause, status, evidenceWords(it.Evidence))
+}
+
+// answer makes the call of a request.
+func (it *program) answer(word string, words []string) (string, error) {
+	switch word {
+	case "begin":
+		return it.begin(words)
+	case "vouched":
+		return it.vouched(words)
+	case "now":
+		it.now = time.Unix(int64(number(words[0])), 0)
+		return "set", nil
+	case "feed":
+		return it.feed(words)
+	case "catchup":
+		return fed(it.client.FeedCatchUp(data(words[0])))
+	case "lookup":
+		return it.lookup(words)
+	case "history":
+		return it.history(words)
+	case "watch":
+		return it.watch(words)
+	case "expect":
+		return "expected", it.client.Expect(data(words[0]), number(words[1]))
+	case "missing":
+		return it.missing(), nil
+	case "head":
+		return it.head(), nil
+	case "compare":
+		return compare(words, it.client.Compare)
+	case "cover":
+		return compare(words, it.client.Cover)
+	case "evidence":
+		evidence, err := it.client.Evidence(data(words[0]))
+		return "evidence " + evidenceWords(evidence), err
+	case "state":
+		return fmt.Sprintf("state %x", it.client.State()), nil
+	}
+	return "", errMisuse
+}
+
+func main() {
+	it, lines, out := &program{}, bufio.NewReader(os.Stdin), bufio.NewWriter(os.Stdout)
+	for {
+		line, err := lines.ReadString('\n')
+		if err != nil {
+			return
+		}
+		words := strings.Fields(line)
+		text, err := it.answer(words[0], words[1:])
+		if err != nil {
+			text = refused(err)
+		}
+		fmt.Fprintln(out, text)
+		out.Flush()
+	}
+}
