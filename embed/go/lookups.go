@@ -22,6 +22,7 @@ type lookups struct {
 
 // lookup is a name whose proof is asked for. Err is the name's own error, for which nothing is asked.
 type lookup struct {
+	of       *lookups
 	name     string
 	index    [32]byte
 	child    *child
@@ -40,7 +41,7 @@ func (it *Provider) Lookup(ctx context.Context, name string, epoch uint64) (Foun
 		if err != nil {
 			return Found{}, err
 		}
-		found, err := all.end(one)
+		found, err := one.end()
 		if one.err != nil {
 			err = one.err
 		}
@@ -56,79 +57,94 @@ func (it *Provider) Lookups(ctx context.Context, names []string, epoch uint64) (
 	}
 	names = append([]string(nil), names...)
 	return wait(ctx, it.closed, func(*func()) ([]LookupResult, error) {
-		all, begun := &lookups{it, ctx, epoch, epoch != 0}, []*lookup(nil)
+		all := &lookups{it, ctx, epoch, epoch != 0}
 		results := make([]LookupResult, 0, len(names))
-		for at := 0; at < len(names) || len(begun) > 0; {
-			if at < len(names) && len(begun) < lookupsAtOnce {
-				one, err := all.begin(names[at])
-				if err != nil {
-					return nil, err
-				}
-				begun, at = append(begun, one), at+1
-				continue
-			}
-			found, err := all.end(begun[0])
-			if err != nil {
-				return nil, err
-			}
-			results, begun = append(results, LookupResult{found, begun[0].err}), begun[1:]
+		err := pipelined(len(names), func(at int) (*lookup, error) { return all.begin(names[at]) }, func(one *lookup) error {
+			found, err := one.end()
+			results = append(results, LookupResult{found, one.err})
+			return err
+		})
+		if err != nil {
+			return nil, err
 		}
 		return results, nil
 	})
 }
 
+// pipelined begins so many lookups, and makes a call with each to end it, in their order. At most lookupsAtOnce are under way. It
+// returns the first error.
+func pipelined(count int, begin func(at int) (*lookup, error), end func(*lookup) error) error {
+	var begun []*lookup
+	for at := 0; at < count || len(begun) > 0; {
+		if at < count && len(begun) < lookupsAtOnce {
+			one, err := begin(at)
+			if err != nil {
+				return err
+			}
+			begun, at = append(begun, one), at+1
+			continue
+		}
+		if err := end(begun[0]); err != nil {
+			return err
+		}
+		begun = begun[1:]
+	}
+	return nil
+}
+
 // begin asks for a name's proof.
 func (it *lookups) begin(name string) (*lookup, error) {
-	one := &lookup{name: name}
+	one := &lookup{of: it, name: name}
 	if err := it.ctx.Err(); err != nil {
 		return nil, err
 	}
 	if one.index, one.err = it.provider.settings.index(name); one.err != nil {
 		return one, nil
 	}
-	return one, it.ask(one)
+	return one, one.ask()
 }
 
 // ask sends a lookup to the child. The child may have one more epoch than the log.
-func (it *lookups) ask(one *lookup) error {
-	if err := it.provider.host.canLookUp(); err != nil {
+func (it *lookup) ask() error {
+	host := it.of.provider.host
+	if err := host.canLookUp(); err != nil {
 		return err
 	}
-	engine, err := it.provider.host.ready(it.ctx)
+	engine, err := host.ready(it.of.ctx)
 	if err != nil {
 		return err
 	}
 	latest := engine.view().latest.Epoch
-	if !it.isGiven {
-		it.epoch, it.isGiven = latest, true
+	if !it.of.isGiven {
+		it.of.epoch, it.of.isGiven = latest, true
 	}
-	if it.epoch > latest {
-		one.err = &Fault{Name: UnknownEpoch}
+	if it.of.epoch > latest {
+		it.err = &Fault{Name: UnknownEpoch}
 		return nil
 	}
-	one.child, one.question = engine.child, engine.child.send(lookupLine(one.name, one.index, it.epoch))[0]
+	it.child, it.question = engine.child, engine.child.send(lookupLine(it.name, it.index, it.of.epoch))[0]
 	return nil
 }
 
 // end returns the proof. A lookup that the end of a child cut short is asked once more.
-func (it *lookups) end(one *lookup) (found Found, err error) {
-	for tries := 0; one.err == nil; {
+func (it *lookup) end() (found Found, err error) {
+	for tries := 0; it.err == nil; {
 		var line []byte
-		if line, err = one.question.wait(it.ctx); err == nil {
-			found, err = foundOf(line, one.name, one.index, it.epoch)
+		if line, err = it.question.wait(it.of.ctx); err == nil {
+			found, err = foundOf(line, it.name, it.index, it.of.epoch)
 		}
 		if fault := (*Fault)(nil); errors.As(err, &fault) {
-			one.err = err
+			it.err = err
 			break
 		}
 		if errors.Is(err, ErrProgramFailed) {
-			one.child.fail(err)
+			it.child.fail(err)
 			tries++
 		}
 		if err == nil || tries > 1 || !errors.Is(err, ErrProgramFailed) && !errors.Is(err, errReplaced) {
 			return found, err
 		}
-		if err = it.ask(one); err != nil {
+		if err = it.ask(); err != nil {
 			return found, err
 		}
 	}
