@@ -1,0 +1,121 @@
+package client
+
+import (
+	"math"
+	"testing"
+	"time"
+)
+
+// The latest epoch is refused a nanosecond after MaxAge, and a nanosecond before Skew.
+func TestAges(t *testing.T) {
+	it := newWorld(t, "AA")
+	begin, none, ten := it.start(2), time.Duration(0), 10*time.Second
+	for _, wanted := range []struct {
+		maxAge, skew *time.Duration
+		last, first  time.Duration
+	}{
+		{nil, nil, 2 * time.Hour, -300 * time.Second},
+		{&none, &none, 0, 0},
+		{&ten, nil, ten, -300 * time.Second},
+		{nil, &ten, 2 * time.Hour, -ten},
+	} {
+		var now time.Time
+		settings := it.settings(2)
+		settings.MaxAge, settings.Skew, settings.Clock = wanted.maxAge, wanted.skew, func() time.Time { return now }
+		made, err := New(settings)
+		good(t, err)
+		now = begin
+		_, err = made.Feed(it.chain)
+		good(t, err)
+		for _, age := range []time.Duration{wanted.last, wanted.first} {
+			now = begin.Add(age)
+			found, err := made.Lookup("alice", it.reply(2))
+			if err != nil || *found.Age != age || found.FirstSeen != uint64(begin.Unix()) {
+				t.Fatal(age, found, err)
+			}
+		}
+		for age, cause := range map[time.Duration]Cause{wanted.last + 1: Stale, wanted.first - 1: Future} {
+			now = begin.Add(age)
+			found, err := made.Lookup("alice", it.reply(2))
+			if wants(t, err, cause); found != nil {
+				t.Error(found)
+			}
+			found, err = made.LookupAt("alice", it.reply(2), 2)
+			if err != nil || *found.Age != age {
+				t.Error(found, err)
+			}
+		}
+	}
+}
+
+// Numbers of 64 bits in a policy and in an entry do not wrap around.
+func TestGreatNumbers(t *testing.T) {
+	now := time.Unix(1767225600, 1)
+	for _, wanted := range []struct {
+		start, period, epoch uint64
+		age                  time.Duration
+		cause                Cause
+	}{
+		{math.MaxUint64, 1, 1, math.MinInt64, Future},
+		{0, math.MaxUint64, math.MaxUint64, math.MinInt64, Future},
+		{0, math.MaxUint64, 1, 1767225600*time.Second + 1, 0},
+		{0, 1, math.MaxUint64, math.MinInt64, Future},
+		{1767225600, 1 << 63, 3, math.MinInt64, Future},
+		{0, 1 << 60, 1<<4 + 1, math.MinInt64, Future},
+		{0, 1, 1, 1767225600*time.Second + 1, Stale},
+		{1767225601, 1, 1, -999999999, 0},
+	} {
+		it := newWorld(t, "A")
+		settings := it.settings(1)
+		settings.Policy.EpochStart, settings.Policy.EpochPeriod = wanted.start, wanted.period
+		settings.Clock = nil
+		clock, err := newClock(settings)
+		good(t, err)
+		if age := clock.told(wanted.epoch, now); *age != wanted.age {
+			t.Error(wanted, *age)
+		}
+		if err := clock.check(wanted.epoch, now); wanted.cause != 0 {
+			wants(t, err, wanted.cause)
+		} else if err != nil {
+			t.Error(wanted, err)
+		}
+	}
+	it := newWorld(t, "A")
+	settings := it.settings(1)
+	settings.Clock = func() time.Time { return time.Unix(math.MaxInt64/int64(time.Second)*2, 0) }
+	made := it.client(t, 1)
+	made.clock.read = settings.Clock
+	found, err := made.LookupAt("alice", it.reply(1), 1)
+	if err != nil || *found.Age != math.MaxInt64 {
+		t.Error(found, err)
+	}
+}
+
+// A clock that has no Unix time: nothing is accepted.
+func TestClockBefore1970(t *testing.T) {
+	it := newWorld(t, "AA")
+	now := it.start(1)
+	settings := it.settings(1)
+	settings.Clock = func() time.Time { return now }
+	made, err := New(settings)
+	good(t, err)
+	_, err = made.Feed(it.chain[:1])
+	good(t, err)
+	state := string(made.State())
+	for _, now = range []time.Time{time.Unix(-1, 0), time.Unix(0, -1), {}} {
+		_, err := made.Feed(it.chain[1:])
+		misuse(t, err)
+		_, err = made.Lookup("alice", it.reply(1))
+		misuse(t, err)
+		_, err = made.LookupAt("alice", it.reply(1), 1)
+		misuse(t, err)
+		_, err = made.History("alice", []byte{1, 0, 0})
+		misuse(t, err)
+	}
+	if string(made.State()) != state {
+		t.Error("something was kept")
+	}
+	now = time.Unix(0, 0)
+	_, err = made.Feed(it.chain[1:])
+	good(t, err)
+}

@@ -1,0 +1,318 @@
+package client
+
+import (
+	"bytes"
+	"crypto/sha256"
+	"errors"
+	"runtime"
+	"sync"
+	"testing"
+
+	"example.org/coniks"
+)
+
+// accepting accepts each signature and each index proof.
+type accepting struct{}
+
+func (accepting) Verify(body, signature []byte) bool { return true }
+
+// scheme is made of functions.
+type scheme struct {
+	verify func(body, signature []byte) bool
+	index  func(name string, proof []byte) ([32]byte, bool)
+}
+
+func (it scheme) Verify(body, signature []byte) bool { return it.verify(body, signature) }
+
+func (it scheme) Index(name string, proof []byte) ([32]byte, bool) { return it.index(name, proof) }
+
+// renewed appends the digest of a state.
+func renewed(parts ...[]byte) []byte {
+	whole := bytes.Join(parts, nil)
+	digest := sha256.Sum256(whole)
+	return append(whole, digest[:]...)
+}
+
+// allocated is how many bytes a call allocates.
+func allocated(call func()) uint64 {
+	var before, after runtime.MemStats
+	runtime.ReadMemStats(&before)
+	call()
+	runtime.ReadMemStats(&after)
+	return after.TotalAlloc - before.TotalAlloc
+}
+
+// Lengths and numbers that are far too great are errors, and reserve no memory.
+func TestHostileLengths(t *testing.T) {
+	it := newWorld(t, "A")
+	made, settings := it.client(t, 1), it.settings(1)
+	state := made.State()
+	front, most := state[:33], []byte{255, 255, 255, 255}
+	watch := bytes.Join([][]byte{{1, 1, 'a'}, make([]byte, 8)}, nil)
+	states := map[string][]byte{
+		"2^32 - 1 epochs":           renewed(front, most, state[37:]),
+		"2^31 epochs":               renewed(front, []byte{128, 0, 0, 0}, state[37:]),
+		"two epochs":                renewed(front, []byte{0, 0, 0, 2}, state[37:]),
+		"a key of 2^32 - 1 bytes":   renewed(front, make([]byte, 4), watch, most, []byte("key")),
+		"a name of 255 bytes":       renewed(front, make([]byte, 4), []byte{1, 255}, make([]byte, 64)),
+		"a name of no byte":         renewed(front, make([]byte, 4), []byte{1, 0}, make([]byte, 12)),
+		"a watch that is cut":       renewed(front, make([]byte, 4), watch[:5]),
+		"a change that is cut":      renewed(front, make([]byte, 4), []byte{2}, watch[1:], make([]byte, 4), make([]byte, 15)),
+		"a change to the same key":  renewed(front, make([]byte, 4), []byte{2}, watch[1:], make([]byte, 19), []byte{1}, make([]byte, 4)),
+		"a change by its beginning": renewed(front, make([]byte, 4), []byte{2}, watch[1:], make([]byte, 4), make([]byte, 16), []byte{0, 0, 0, 1, 7}),
+		"a kind of 3":               renewed(front, make([]byte, 4), []byte{3}, watch[1:], make([]byte, 4)),
+		"bytes after it":            renewed(front, make([]byte, 4), []byte{0, 0}),
+		"a seen of 6":               renewed(state[:37+217], []byte{6}, []byte{0}),
+		"a seen without a watch":    renewed(state[:37+217], []byte{5}, []byte{0}),
+	}
+	for what, state := range states {
+		if size := allocated(func() {
+			again, err := Resume(settings, state)
+			if wants(t, err, StateForm); again != nil {
+				t.Error(what)
+			}
+		}); size > 1<<18 {
+			t.Error(what, size)
+		}
+	}
+	entry := it.entries[1]
+	replies := map[string]struct {
+		reply []byte
+		cause Cause
+	}{
+		"a VRF proof of 65,535 bytes": {bytes.Join([][]byte{{1}, entry, {255, 255}, make([]byte, 65534)}, nil), CutInVRF},
+		"a key of 2^32 - 1 bytes": {bytes.Join([][]byte{{1}, entry, {0, 0}, {2, 0, 0}, opening[:], {0, 1, 'a'}, most, {1}}, nil),
+			CutInKey},
+		"65,535 siblings": {bytes.Join([][]byte{{1}, entry, {0, 0}, {0, 255, 255}, make([]byte, 64)}, nil), CutInSiblings},
+	}
+	for what, wrong := range replies {
+		if size := allocated(func() {
+			found, err := made.Lookup("alice", wrong.reply)
+			if wants(t, err, wrong.cause); found != nil {
+				t.Error(what)
+			}
+		}); size > 1<<18 {
+			t.Error(what, size)
+		}
+	}
+	histories := map[Cause][]byte{
+		TooDeep:   bytes.Join([][]byte{{1, 0, 0}, number(1, 8), {0, 1, 1}, make([]byte, 33)}, nil),
+		CutInVRF:  {1, 255, 255, 0},
+		CutInStep: bytes.Join([][]byte{{1, 0, 0}, number(1, 8), {2, 0, 0}, opening[:], {0, 1, 'a'}, most, {1}}, nil),
+	}
+	for cause, history := range histories {
+		found, err := made.History("alice", history)
+		if wants(t, err, cause); found != nil {
+			t.Error(found)
+		}
+	}
+	if !bytes.Equal(made.State(), state) {
+		t.Error("something refused was kept")
+	}
+}
+
+// Empty and nil inputs.
+func TestNothing(t *testing.T) {
+	it := newWorld(t, "A")
+	made, err := New(it.settings(1))
+	good(t, err)
+	if made.Head() != nil || len(made.Entries()) != 0 || len(made.Missing()) != 0 || len(made.State()) != 70 {
+		t.Error("a new client has something")
+	}
+	if made.Compare(coniks.Head{}) != Unknown || made.Cover(coniks.Head{}) != Unknown {
+		t.Error("a new client knows a head")
+	}
+	for _, empty := range [][]byte{nil, {}} {
+		steps, err := made.FeedCatchUp(empty)
+		if err != nil || len(steps) > 0 {
+			t.Error(steps, err)
+		}
+		_, err = made.Feed([][]byte{empty})
+		wants(t, err, EntryLength)
+		_, err = made.Lookup("alice", empty)
+		wants(t, err, NoReply)
+		_, err = made.History("alice", empty)
+		wants(t, err, NoHistory)
+		_, err = made.Evidence(empty)
+		wants(t, err, EntryLength)
+		_, err = Resume(it.settings(1), empty)
+		wants(t, err, StateLength)
+		misuse(t, made.Watch("", empty))
+	}
+	misuse(t, made.Watch("alice", []byte{}))
+	misuse(t, made.Watch(string(make([]byte, 256)), []byte("A")))
+	misuse(t, made.Expect([]byte("B"), 9))
+	if _, err = made.Lookup("alice", it.reply(1)); !errors.Is(err, UnknownEpoch) {
+		t.Error(err)
+	}
+	good(t, made.Watch("alice", nil))
+	misuse(t, made.Expect([]byte{}, 9))
+	misuse(t, made.Expect(nil, 9))
+}
+
+// The caller changes what it passed, and what it got.
+func TestAliasing(t *testing.T) {
+	it := newWorld(t, "ABB")
+	settings := it.settings(3)
+	made, err := New(settings)
+	good(t, err)
+	settings.SigningKey[0]++
+	settings.Policy.EpochPeriod = 1
+	entry, key := copied(it.entries[1]), []byte("A")
+	good(t, made.Watch("alice", key))
+	_, err = made.Feed([][]byte{entry})
+	good(t, err)
+	catchUp := bytes.Join(it.chain[1:], nil)
+	_, err = made.FeedCatchUp(catchUp)
+	good(t, err)
+	entry[20]++
+	catchUp[20]++
+	key[0]++
+	change := []byte("B")
+	state := made.State()
+	made.State()[50]++
+	made.Entries()[0][20]++
+	made.Head().Epoch++
+	if !bytes.Equal(made.State(), state) || *made.Head() != it.head(3) {
+		t.Fatal("a change outside changed the client")
+	}
+	evidence, err := made.Evidence(newWorld(t, "B").entries[1])
+	good(t, err)
+	evidence.Mine[20]++
+	evidence.Other[20]++
+	reply := it.reply(1)
+	found, err := made.LookupAt("alice", reply, 1)
+	if err != nil || found.Seen != Same || cap(found.Key) < len(found.Key) {
+		t.Fatal(found, err)
+	}
+	reply[len(reply)-1]++
+	if string(found.Key) != "A" {
+		t.Error("a key is a part of the reply")
+	}
+	found.Key[0]++
+	good(t, made.Expect(change, 4))
+	change[0]++
+	again, err := Resume(it.settings(3), made.State())
+	good(t, err)
+	if !bytes.Equal(again.State(), made.State()) || !bytes.Equal(again.Entries()[0], it.entries[1]) {
+		t.Error("a change outside changed the client")
+	}
+}
+
+// What schemes return, and what they do with their arguments.
+func TestSchemes(t *testing.T) {
+	it := newWorld(t, "AA")
+	settings := it.settings(2)
+	answer := true
+	settings.SigningKey = nil
+	settings.Signatures = scheme{verify: func(body, signature []byte) bool {
+		if len(body) != 145 || len(signature) != 64 {
+			t.Error(len(body), len(signature))
+		}
+		for at := range body {
+			body[at] = 0
+		}
+		signature[0]++
+		return answer
+	}}
+	settings.Indices = scheme{index: func(name string, proof []byte) (index [32]byte, isValid bool) {
+		for at := range proof {
+			proof[at]++
+		}
+		index, _ = named{}.Index(name, nil)
+		_ = append(proof, 7)
+		return index, answer
+	}}
+	made, err := New(settings)
+	good(t, err)
+	_, err = made.Feed(it.chain)
+	if good(t, err); !bytes.Equal(made.Entries()[0], it.entries[1]) {
+		t.Error("a scheme changed an entry")
+	}
+	reply := bytes.Join([][]byte{{1}, it.entries[2], {0, 1, 7}, it.proofs[2]}, nil)
+	_, err = made.Lookup("alice", reply)
+	good(t, err)
+	state := made.State()
+	answer = false
+	_, err = made.Lookup("alice", reply)
+	wants(t, err, VRFProof)
+	_, err = made.History("alice", []byte{1, 0, 0})
+	wants(t, err, VRFProof)
+	_, err = made.Evidence(it.entries[1])
+	wants(t, err, Signature)
+	_, err = Resume(settings, state)
+	wants(t, err, StateChain)
+	_, err = Vouched(settings, it.entries[1], map[string]coniks.Head{"": it.head(1)}, 1)
+	wants(t, err, Signature)
+	made, err = New(settings)
+	good(t, err)
+	_, err = made.Feed(it.chain)
+	if wants(t, err, Signature); len(made.Entries()) > 0 {
+		t.Error("an entry without a signature is kept")
+	}
+}
+
+// A panic in a scheme or a clock leaves the client as it was, and usable.
+func TestPanics(t *testing.T) {
+	it := newWorld(t, "AA")
+	settings, isDown := it.settings(2), false
+	settings.SigningKey = nil
+	settings.Signatures = scheme{verify: func(body, signature []byte) bool {
+		if isDown {
+			panic("down")
+		}
+		return true
+	}}
+	made, err := New(settings)
+	good(t, err)
+	_, err = made.Feed(it.chain[:1])
+	good(t, err)
+	state := made.State()
+	isDown = true
+	func() {
+		defer func() {
+			if recover() == nil {
+				t.Error("no panic")
+			}
+		}()
+		made.Feed(it.chain[1:])
+	}()
+	if !bytes.Equal(made.State(), state) {
+		t.Error("an entry is kept")
+	}
+	isDown = false
+	_, err = made.Feed(it.chain[1:])
+	good(t, err)
+}
+
+// All calls from several goroutines: each epoch is accepted once, and nothing that was seen is forgotten.
+func TestSeveralGoroutines(t *testing.T) {
+	const epochs = 40
+	it := newWorld(t, string(bytes.Repeat([]byte("A"), epochs)))
+	made, err := New(it.settings(epochs))
+	good(t, err)
+	good(t, made.WatchSince("alice", []byte("A"), 1))
+	var group sync.WaitGroup
+	for worker := 0; worker < 8; worker++ {
+		group.Add(1)
+		go func() {
+			defer group.Done()
+			for epoch := uint64(1); epoch <= epochs; epoch++ {
+				if _, err := made.Feed([][]byte{it.entries[epoch]}); err != nil && !errors.Is(err, NotLater) {
+					t.Error(err)
+				}
+				if found, err := made.LookupAt("alice", it.reply(epoch), epoch); err != nil || found.Seen != Same {
+					t.Error(found, err)
+				}
+				made.Compare(it.head(epoch))
+				if again, err := Resume(it.settings(epochs), made.State()); err != nil || again.Head() == nil {
+					t.Error(err)
+				}
+			}
+		}()
+	}
+	group.Wait()
+	if missing := made.Missing(); len(missing) > 0 || len(made.Entries()) != epochs || *made.Head() != it.head(epochs) {
+		t.Error(missing, len(made.Entries()))
+	}
+}
