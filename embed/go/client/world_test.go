@@ -163,7 +163,7 @@ func (it *world) settings(epoch uint64) Settings {
 	now := it.start(epoch).Add(10 * time.Minute)
 	policy := it.policy
 	return Settings{
-		SigningKey: policy.SigningKey[:], Indices: named{}, Policy: &policy, Clock: func() time.Time { return now },
+		SigningKey: copied(policy.SigningKey[:]), Indices: named{}, Policy: &policy, Clock: func() time.Time { return now },
 	}
 }
 
