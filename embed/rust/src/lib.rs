@@ -2,8 +2,19 @@
 //!
 //! It calls the proved C library and decides nothing itself. It verifies no signatures: verify each one and pass the result.
 //! The types ensure the preconditions of `coniks.h`: no pointer is null, and nothing is written while it is read.
+//!
+//! With the feature `client` the module `client` has all steps of a lookup, signatures and VRF proofs among them. It needs `std`
+//! and libsodium.
 #![no_std]
 #![warn(missing_docs)]
+
+#[cfg(feature = "client")]
+extern crate std;
+
+#[cfg(feature = "client")]
+pub mod client;
+#[cfg(feature = "client")]
+mod sodium;
 
 use core::fmt;
 
@@ -249,6 +260,12 @@ impl Auditor {
         // SAFETY: the sizes are equal, and any bytes are a state.
         let state = unsafe { core::mem::transmute::<[u8; STATE_BYTES], c::State>(state) };
         Self(c::State { unused: [0; 7], ..state })
+    }
+
+    /// Returns an auditor that has accepted an entry with this body and link.
+    #[cfg(feature = "client")]
+    pub(crate) fn after(body: &Body, link: [u8; 32]) -> Self {
+        Self(c::State { epoch: body.epoch, link, nonce: body.nonce, version: body.version, unused: [0; 7] })
     }
 
     /// Returns all that the auditor keeps, in this machine's byte order.

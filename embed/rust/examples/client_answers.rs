@@ -1,0 +1,194 @@
+//! Replies to the requests of embed/client_sides.py, one on each line.
+
+use coniks::client::{Cause, Client, Comparison, Evidence, Found, Keys, Misuse, Policy, Refusal, Settings, Step, Watched};
+use coniks::{EvidenceKind, Head};
+use std::collections::BTreeMap;
+use std::io::{stdin, BufRead};
+use std::num::NonZeroUsize;
+use std::sync::atomic::{AtomicU64, Ordering};
+use std::sync::Arc;
+use std::time::Duration;
+
+/// Why a request has no result.
+enum Fault {
+    Refused(Refusal),
+    Misused,
+}
+
+impl From<Refusal> for Fault {
+    fn from(refusal: Refusal) -> Self {
+        Self::Refused(refusal)
+    }
+}
+
+impl From<Misuse> for Fault {
+    fn from(_: Misuse) -> Self {
+        Self::Misused
+    }
+}
+
+fn bytes(word: &str) -> Vec<u8> {
+    let word = word.trim_start_matches('.');
+    (0..word.len() / 2).map(|i| u8::from_str_radix(&word[2 * i..2 * i + 2], 16).expect("two digits")).collect()
+}
+
+/// `-` stands for nothing.
+fn given<T>(word: &str, read: impl Fn(&str) -> T) -> Option<T> {
+    (word != "-").then(|| read(word))
+}
+
+fn number(word: &str) -> u64 {
+    word.parse().expect("a number")
+}
+
+fn hex(bytes: &[u8]) -> String {
+    if bytes.is_empty() {
+        return ".".into();
+    }
+    bytes.iter().map(|it| format!("{it:02x}")).collect()
+}
+
+fn said<T: ToString>(value: Option<T>) -> String {
+    value.map_or("-".into(), |it| it.to_string())
+}
+
+fn head(epoch: &str, link: &str) -> Result<Head, Fault> {
+    Ok(Head { epoch: number(epoch), link: bytes(link).try_into().map_err(|_| Fault::Misused)? })
+}
+
+fn seen(it: Option<Watched>) -> String {
+    it.map_or("-".into(), |it| format!("{it:?}").to_lowercase())
+}
+
+fn found(it: &Found) -> String {
+    let key = it.key.as_deref().map(hex);
+    format!("{} {} {} {} {}", it.epoch, said(key), seen(it.seen), said(it.age), it.first_seen)
+}
+
+fn evidence(it: Option<&Evidence>) -> String {
+    it.map_or("-".into(), |it| {
+        let kind = match it.kind {
+            EvidenceKind::Overlap => "overlap",
+            EvidenceKind::OtherPolicy => "other-policy",
+            EvidenceKind::Malformed => "malformed",
+        };
+        format!("{kind} {} {}", hex(&it.mine), hex(&it.other))
+    })
+}
+
+fn refused(it: &Refusal) -> String {
+    let name = if it.cause == Cause::VersionUnknown { "Version".into() } else { format!("{:?}", it.cause) };
+    format!("refused {name} {} {}", said(it.status.map(|it| it as u32)), evidence(it.evidence.as_deref()))
+}
+
+fn compared(it: Comparison) -> String {
+    format!("{it:?}").to_lowercase()
+}
+
+fn listed(first: &str, rest: impl Iterator<Item = String>) -> String {
+    std::iter::once(first.to_string()).chain(rest).collect::<Vec<_>>().join(" ")
+}
+
+fn fed(steps: &[Step]) -> String {
+    listed("fed", steps.iter().map(|it| format!("{}:{}", it.epoch, seen(it.seen))))
+}
+
+/// The client, and the time of its clock.
+#[derive(Default)]
+struct Held {
+    now: Arc<AtomicU64>,
+    client: Option<Client>,
+}
+
+impl Held {
+    /// The keys, the policy and the settings of the first six words.
+    fn parts(&mut self, words: &[&str]) -> Result<(Keys, Policy, Settings), Fault> {
+        self.client = None;
+        self.now = Arc::new(AtomicU64::new(number(words[0])));
+        let now = self.now.clone();
+        let mut settings = Settings {
+            max_age: given(words[1], number).map(Duration::from_secs),
+            clock: Box::new(move || Duration::from_secs(now.load(Ordering::Relaxed))),
+            ..Settings::default()
+        };
+        if let Some(skew) = given(words[2], number) {
+            settings.skew = Duration::from_secs(skew);
+        }
+        let policy = Policy::read(&bytes(words[5])).map_err(|_| Fault::Misused)?;
+        let keys = Keys::new(&bytes(words[3]), given(words[4], bytes).as_deref())?;
+        Ok((keys, policy, settings))
+    }
+
+    fn begin(&mut self, words: &[&str]) -> Result<String, Fault> {
+        let (keys, policy, settings) = self.parts(words)?;
+        self.client = Some(match given(words[6], bytes) {
+            Some(state) => Client::resume(keys, policy, &state, settings)?,
+            None => Client::new(keys, policy, settings)?,
+        });
+        Ok("begun".into())
+    }
+
+    fn vouched(&mut self, words: &[&str]) -> Result<String, Fault> {
+        let (keys, policy, settings) = self.parts(words)?;
+        let least = words[7].parse().ok().and_then(NonZeroUsize::new).ok_or(Fault::Misused)?;
+        let mut heads = BTreeMap::new();
+        for (auditor, word) in words[8..].iter().enumerate() {
+            let (epoch, link) = word.split_once(':').expect("an epoch and a link");
+            heads.insert(auditor.to_string(), head(epoch, link)?);
+        }
+        self.client = Some(Client::vouched(keys, policy, &bytes(words[6]), &heads, least, settings)?);
+        Ok("begun".into())
+    }
+
+    fn answer(&mut self, words: &[&str]) -> Result<String, Fault> {
+        match words[0] {
+            "begin" => return self.begin(&words[1..]),
+            "vouched" => return self.vouched(&words[1..]),
+            "now" => {
+                self.now.store(number(words[1]), Ordering::Relaxed);
+                return Ok("set".into());
+            }
+            _ => (),
+        }
+        let client = self.client.as_mut().expect("a client");
+        Ok(match words[0] {
+            "feed" => fed(&client.feed(words[1..].iter().map(|it| bytes(it)))?),
+            "catchup" => fed(&client.feed_catch_up(&bytes(words[1]))?),
+            "lookup" => {
+                let it = client.lookup(bytes(words[1]), &bytes(words[2]), given(words[3], number))?;
+                format!("found {}", found(&it))
+            }
+            "history" => listed("found", client.history(bytes(words[1]), &bytes(words[2]))?.iter().map(found)),
+            "watch" => {
+                client.watch(bytes(words[1]), given(words[2], bytes).as_deref(), given(words[3], number))?;
+                "watching".into()
+            }
+            "expect" => {
+                client.expect(given(words[1], bytes).as_deref(), number(words[2]))?;
+                "expected".into()
+            }
+            "missing" => listed("missing", client.missing().iter().map(u64::to_string)),
+            "head" => format!("head {}", said(client.head().map(|it| format!("{} {}", it.epoch, hex(&it.link))))),
+            "compare" => compared(client.compare(&head(words[1], words[2])?)),
+            "cover" => compared(client.cover(&head(words[1], words[2])?)),
+            "evidence" => format!("evidence {}", evidence(client.evidence(&bytes(words[1]))?.as_ref())),
+            "state" => format!("state {}", hex(&client.state())),
+            other => panic!("no request: {other}"),
+        })
+    }
+}
+
+fn main() {
+    let mut held = Held::default();
+    for line in stdin().lock().lines() {
+        let line = line.expect("a line");
+        let words: Vec<&str> = line.split(' ').collect();
+        println!(
+            "{}",
+            held.answer(&words).unwrap_or_else(|fault| match fault {
+                Fault::Refused(it) => refused(&it),
+                Fault::Misused => "misuse".into(),
+            })
+        );
+    }
+}

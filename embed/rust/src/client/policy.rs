@@ -1,0 +1,240 @@
+//! The policy of a directory: a document whose SHA-256 is the policy digest of each entry.
+
+use crate::sodium::sha256;
+use core::fmt;
+use core::num::NonZeroU64;
+use std::string::{String, ToString};
+
+/// Why bytes are no policy document, or why a time has no epoch.
+#[derive(Clone, Copy, Debug, PartialEq, Eq, Hash)]
+#[non_exhaustive]
+pub enum PolicyError {
+    /// The bytes are no policy document.
+    Form,
+    /// The policy has no clock.
+    NoClock,
+    /// Epoch 1 begins later.
+    BeforeFirstEpoch,
+    /// The last epoch number is 2^64 - 1.
+    AfterLastEpoch,
+}
+
+impl fmt::Display for PolicyError {
+    fn fmt(&self, f: &mut fmt::Formatter<'_>) -> fmt::Result {
+        f.write_str(match self {
+            Self::Form => "this is no policy document of docs/FORMATS.md: take the bytes that its directory publishes",
+            Self::NoClock => "the policy has no clock: number the epochs yourself",
+            Self::BeforeFirstEpoch => "epoch 1 begins later: see whether the clock is right",
+            Self::AfterLastEpoch => "the last epoch number is 2^64 - 1: see whether the clock is right",
+        })
+    }
+}
+
+impl core::error::Error for PolicyError {}
+
+/// The clock of a policy: when epoch 1 begins, in Unix seconds, and how many seconds an epoch lasts.
+#[derive(Clone, Copy, Debug, PartialEq, Eq)]
+pub(super) struct EpochClock {
+    pub(super) start: u64,
+    pub(super) period: NonZeroU64,
+}
+
+impl EpochClock {
+    /// Returns when an epoch begins, in Unix seconds: at most 2^128 - 2^65 + 1.
+    pub(super) fn begins(self, epoch: u64) -> u128 {
+        u128::from(self.start) + u128::from(epoch.saturating_sub(1)) * u128::from(self.period.get())
+    }
+}
+
+/// What a directory promises for its life. `docs/FORMATS.md` defines its document.
+#[derive(Clone, Debug, PartialEq, Eq)]
+pub struct Policy {
+    document: String,
+    origin: String,
+    signing_key: [u8; 32],
+    vrf_key: Option<[u8; 32]>,
+    clock: Option<EpochClock>,
+    proofs_kept: Option<u64>,
+}
+
+impl Policy {
+    /// Returns the policy of a document.
+    ///
+    /// # Errors
+    ///
+    /// [`PolicyError::Form`] for any other bytes. A policy has exactly one document.
+    pub fn read(document: &[u8]) -> Result<Self, PolicyError> {
+        Lines::read(document).ok_or(PolicyError::Form)
+    }
+
+    /// Returns the document.
+    #[must_use]
+    pub fn bytes(&self) -> &[u8] {
+        self.document.as_bytes()
+    }
+
+    /// Returns the policy digest: SHA-256 of the document.
+    #[must_use]
+    pub fn digest(&self) -> [u8; 32] {
+        sha256(self.bytes())
+    }
+
+    /// Returns the name of the directory: 1 to 255 printable ASCII characters without space.
+    #[must_use]
+    pub fn origin(&self) -> &str {
+        &self.origin
+    }
+
+    /// Returns the public signing key of the directory (Ed25519).
+    #[must_use]
+    pub fn signing_key(&self) -> &[u8; 32] {
+        &self.signing_key
+    }
+
+    /// Returns the public key of the directory's VRF (ECVRF-EDWARDS25519-SHA512-TAI), None without a VRF.
+    #[must_use]
+    pub fn vrf_key(&self) -> Option<&[u8; 32]> {
+        self.vrf_key.as_ref()
+    }
+
+    /// Returns when epoch 1 begins, in Unix seconds, None in a directory without a clock.
+    #[must_use]
+    pub fn epoch_start(&self) -> Option<u64> {
+        self.clock.map(|it| it.start)
+    }
+
+    /// Returns how many seconds an epoch lasts, None in a directory without a clock.
+    #[must_use]
+    pub fn epoch_period(&self) -> Option<NonZeroU64> {
+        self.clock.map(|it| it.period)
+    }
+
+    /// Returns for how many seconds the directory keeps its proofs, None if it does for ever.
+    #[must_use]
+    pub fn proofs_kept(&self) -> Option<u64> {
+        self.proofs_kept
+    }
+
+    /// Returns the number of the epoch at a time in Unix seconds.
+    ///
+    /// # Errors
+    ///
+    /// Without a clock, before epoch 1, and after the last epoch number.
+    pub fn epoch_at(&self, seconds: u64) -> Result<u64, PolicyError> {
+        let clock = self.clock.ok_or(PolicyError::NoClock)?;
+        let passed = seconds.checked_sub(clock.start).ok_or(PolicyError::BeforeFirstEpoch)?;
+        (passed / clock.period).checked_add(1).ok_or(PolicyError::AfterLastEpoch)
+    }
+
+    pub(super) fn clock(&self) -> Option<EpochClock> {
+        self.clock
+    }
+}
+
+/// The lines of a document that are not yet read.
+struct Lines<'a> {
+    rest: &'a str,
+}
+
+impl<'a> Lines<'a> {
+    fn read(document: &[u8]) -> Option<Policy> {
+        let document = core::str::from_utf8(document).ok()?;
+        let mut it = Lines { rest: document };
+        it.line("policy coniks-1")?;
+        let origin = it.value("origin ").filter(|it| is_origin(it))?.to_string();
+        it.line("signature Ed25519")?;
+        let signing_key = key(it.value("signing-key ")?)?;
+        let vrf_key = it.vrf_key()?;
+        let clock = it.clock()?;
+        it.line("evidence one-chain")?;
+        let proofs_kept = match it.value("proofs-kept ")? {
+            "forever" => None,
+            other => Some(number(other)?),
+        };
+        it.rest.is_empty().then(|| Policy { document: document.to_string(), origin, signing_key, vrf_key, clock, proofs_kept })
+    }
+
+    /// Takes the value of the line with a name and a space.
+    fn value(&mut self, name: &str) -> Option<&'a str> {
+        let (line, rest) = self.rest.split_once('\n')?;
+        let value = line.strip_prefix(name)?;
+        self.rest = rest;
+        Some(value)
+    }
+
+    fn line(&mut self, whole: &str) -> Option<()> {
+        self.value(whole)?.is_empty().then_some(())
+    }
+
+    fn vrf_key(&mut self) -> Option<Option<[u8; 32]>> {
+        match self.value("vrf ")? {
+            "none" => Some(None),
+            "ECVRF-EDWARDS25519-SHA512-TAI" => Some(Some(key(self.value("vrf-key ")?)?)),
+            _ => None,
+        }
+    }
+
+    fn clock(&mut self) -> Option<Option<EpochClock>> {
+        let Some(start) = self.value("epoch-start ") else {
+            return Some(None);
+        };
+        let start = number(start)?;
+        let period = NonZeroU64::new(number(self.value("epoch-period ")?)?)?;
+        Some(Some(EpochClock { start, period }))
+    }
+}
+
+fn is_origin(text: &str) -> bool {
+    (1..=255).contains(&text.len()) && text.bytes().all(|it| it.is_ascii_graphic())
+}
+
+/// Returns the 32 bytes of 64 digits in lower case.
+fn key(digits: &str) -> Option<[u8; 32]> {
+    let mut key = [0; 32];
+    if digits.len() != 64 {
+        return None;
+    }
+    for (byte, pair) in key.iter_mut().zip(digits.as_bytes().chunks_exact(2)) {
+        *byte = pair.iter().try_fold(0, |value, it| Some(value << 4 | digit(*it)?))?;
+    }
+    Some(key)
+}
+
+fn digit(character: u8) -> Option<u8> {
+    match character {
+        b'0'..=b'9' => Some(character - b'0'),
+        b'a'..=b'f' => Some(character - b'a' + 10),
+        _ => None,
+    }
+}
+
+/// Returns the number of decimal digits without leading zeros.
+fn number(digits: &str) -> Option<u64> {
+    let is_plain = digits.bytes().all(|it| it.is_ascii_digit()) && (digits == "0" || !digits.starts_with('0'));
+    if is_plain {
+        digits.parse().ok()
+    } else {
+        None
+    }
+}
+
+#[cfg(test)]
+mod tests {
+    use super::*;
+
+    #[test]
+    fn numbers_have_one_form() {
+        assert_eq!(number("18446744073709551615"), Some(u64::MAX));
+        assert_eq!((number("0"), number("10")), (Some(0), Some(10)));
+        for wrong in ["", "00", "01", "+1", "-0", " 1", "1 ", "1_0", "18446744073709551616", "0x1", "\u{661}"] {
+            assert_eq!(number(wrong), None, "{wrong:?}");
+        }
+    }
+
+    #[test]
+    fn an_epoch_begins_at_any_number() {
+        let clock = EpochClock { start: u64::MAX, period: NonZeroU64::MAX };
+        assert_eq!(clock.begins(u64::MAX), u128::MAX - (1 << 65) + 2);
+        assert_eq!(clock.begins(1), u128::from(u64::MAX));
+    }
+}
