@@ -1,0 +1,119 @@
+/* The policy document, whose SHA-256 is the policy digest of each entry. docs/FORMATS.md defines its lines. */
+#include <string.h>
+
+#include "client_parts.h"
+
+/* Takes the line with a name and a space; the value is the rest of it. Returns 0 if the next line is another one. */
+static int take_value(struct reader *it, const char *name, struct slice *value)
+{
+    size_t length = strlen(name);
+    const uint8_t *end = it->left ? memchr(it->at, '\n', it->left) : NULL;
+    if (end == NULL || (size_t)(end - it->at) < length || memcmp(it->at, name, length) != 0)
+        return 0;
+    *value = client_slice_of(it->at + length, (size_t)(end - it->at) - length);
+    it->left -= (size_t)(end - it->at) + 1;
+    it->at = end + 1;
+    return 1;
+}
+
+static int is_text(struct slice value, const char *text)
+{
+    return client_is_equal(value, client_slice_of((const uint8_t *)text, strlen(text)));
+}
+
+static int take_line(struct reader *it, const char *line)
+{
+    struct slice rest;
+    return take_value(it, line, &rest) && rest.length == 0;
+}
+
+static int take_origin(struct reader *it)
+{
+    struct slice value;
+    size_t i;
+    if (!take_value(it, "origin ", &value) || value.length < 1 || value.length > 255)
+        return 0;
+    for (i = 0; i < value.length; i++) {
+        if (value.bytes[i] < 0x21 || value.bytes[i] > 0x7e)
+            return 0;
+    }
+    return 1;
+}
+
+static int digit(uint8_t c)
+{
+    if (c >= '0' && c <= '9')
+        return c - '0';
+    return c >= 'a' && c <= 'f' ? c - 'a' + 10 : -1;
+}
+
+static int take_key(struct reader *it, const char *name, coniks_bytes32 *key)
+{
+    struct slice value;
+    size_t i;
+    if (!take_value(it, name, &value) || value.length != 64)
+        return 0;
+    for (i = 0; i < 32; i++) {
+        int high = digit(value.bytes[2 * i]), low = digit(value.bytes[2 * i + 1]);
+        if (high < 0 || low < 0)
+            return 0;
+        key->bytes[i] = (uint8_t)(high << 4 | low);
+    }
+    return 1;
+}
+
+/* The number of decimal digits without leading zeros, less than 2^64. */
+static int is_number(struct slice value, uint64_t *number)
+{
+    size_t i;
+    if (value.length == 0 || (value.length > 1 && value.bytes[0] == '0'))
+        return 0;
+    *number = 0;
+    for (i = 0; i < value.length; i++) {
+        uint64_t last = (uint64_t)value.bytes[i] - '0';
+        if (value.bytes[i] < '0' || value.bytes[i] > '9' || *number > (UINT64_MAX - last) / 10)
+            return 0;
+        *number = *number * 10 + last;
+    }
+    return 1;
+}
+
+static int take_vrf(struct reader *it, struct policy *policy)
+{
+    struct slice scheme;
+    if (!take_value(it, "vrf ", &scheme))
+        return 0;
+    policy->has_vrf = is_text(scheme, "ECVRF-EDWARDS25519-SHA512-TAI");
+    return policy->has_vrf ? take_key(it, "vrf-key ", &policy->vrf_key) : is_text(scheme, "none");
+}
+
+static int take_clock(struct reader *it, struct policy *policy)
+{
+    struct slice start, period;
+    if (!take_value(it, "epoch-start ", &start))
+        return 1;
+    return is_number(start, &policy->start) && take_value(it, "epoch-period ", &period) && is_number(period, &policy->period) &&
+           policy->period > 0;
+}
+
+static int take_kept(struct reader *it)
+{
+    struct slice value;
+    uint64_t seconds;
+    return take_value(it, "proofs-kept ", &value) && (is_text(value, "forever") || is_number(value, &seconds));
+}
+
+uint32_t client_read_policy(struct slice document, struct policy *policy)
+{
+    struct reader it;
+    it.at = document.bytes;
+    it.left = document.length;
+    memset(policy, 0, sizeof *policy);
+    if (!take_line(&it, "policy coniks-1") || !take_origin(&it) || !take_line(&it, "signature Ed25519") ||
+        !take_key(&it, "signing-key ", &policy->signing_key) || !take_vrf(&it, policy) || !take_clock(&it, policy) ||
+        !take_line(&it, "evidence one-chain") || !take_kept(&it) || it.left)
+        return CONIKS_CLIENT_E_POLICY_FORM;
+    policy->has_keys = 1;
+    client_hash_bytes(document.bytes, document.length, &policy->digest);
+    return 0;
+}
