@@ -26,6 +26,7 @@ from typing import Any, Callable, Iterator, Optional, Protocol, Sequence, Union
 
 import case_files
 import model
+import native_clients
 import proofs
 import tools
 
@@ -334,19 +335,49 @@ DROPPED = [
     'monitor.step(b"", false, b"")?;',
     "body.bytes();",
 ]
+DROPPED_OF_CLIENTS = [
+    "client.missing();",
+    "client.head();",
+    "client.entries();",
+    "client.state();",
+    "client.compare(head);",
+    "client.cover(head);",
+    'client.evidence(b"");',
+    "client.feed([[0; 209]]);",
+    'client.feed_catch_up(b"");',
+    'client.watch("alice", None, None);',
+    "client.expect(None, 7);",
+    'client.history("alice", b"");',
+    'let _ = client.lookup("alice", b"", None).map(|it| { it; });',
+    "policy.digest();",
+    "policy.epoch_at(7);",
+]
 
 
-def try_dropped(tell: Tell, here: Path) -> None:
+def try_dropped(tell: Tell, here: Path, features: Sequence[str]) -> None:
     """The compiler warns if a result is dropped that must be looked at."""
     room = here / "rust/examples/dropped.rs"
-    given = "auditor: &mut coniks::Auditor, monitor: &mut coniks::Monitor, body: &coniks::Body"
-    lines = [f"fn f({given}) -> Result<(), coniks::Error> {{", "let zeros = [0; 32];", *DROPPED, "Ok(())", "}"]
+    given, dropped = "auditor: &mut coniks::Auditor, monitor: &mut coniks::Monitor, body: &coniks::Body", DROPPED
+    if features:
+        given += ", client: &mut coniks::client::Client, policy: &coniks::client::Policy, head: &coniks::Head"
+        dropped = DROPPED + DROPPED_OF_CLIENTS
+    lines = [f"fn f({given}) -> Result<(), coniks::Error> {{", "let zeros = [0; 32];", *dropped, "Ok(())", "}"]
     room.write_text("\n".join([*lines, "fn main() { let _ = f; }", ""]), "utf-8")
-    ran = run("cargo", "check", "--offline", "--example", "dropped", "--message-format", "short", cwd=here / "rust")
+    words = ["cargo", "check", "--offline", *features, "--example", "dropped", "--message-format", "short"]
+    ran = run(*words, cwd=here / "rust")
     said = [it for it in ran.stderr.decode().splitlines() if "dropped.rs:" in it and "unused" in it]
     warned = [lines[int(it.split(":")[1]) - 1] for it in said]
-    tell("each dropped result is warned of", warned == DROPPED, (set(DROPPED) - set(warned), ran.stderr.decode()[-2000:]))
+    tell("each dropped result is warned of", warned == dropped, (set(dropped) - set(warned), ran.stderr.decode()[-2000:]))
     room.unlink()
+
+
+def try_rust_client(tell: Tell, skip: Skip, here: Path) -> None:
+    """The client in Rust, which is built where libsodium is there."""
+    if not tools.has("libsodium"):
+        return skip("the client in Rust", "libsodium")
+    examples = here / "rust/target/debug/examples"
+    native_clients.try_program(tell, skip, "the client in Rust", [examples / "client_answers"])
+    native_clients.try_example(tell, "the client's example in Rust", examples / "client")
 
 
 def try_rust(tell: Tell, skip: Skip, here: Path, example: Example, requests: Sequence[Request]) -> None:
@@ -354,22 +385,22 @@ def try_rust(tell: Tell, skip: Skip, here: Path, example: Example, requests: Seq
         return skip("the side in Rust", "cargo")
     manifest = here / "rust/Cargo.toml"
     as_it_is = manifest.read_text("utf-8")
+    choices: list[list[str]] = [[], ["--features", "client"]] if tools.has("libsodium") else [[]]
+    more: dict[str, Any] = {"cwd": here / "rust", "env": os.environ | {"RUSTFLAGS": "-Dwarnings"}}
     for edition, needed in [("2024", "1.85"), ("2021", "1.82")]:
         manifest.write_text(as_it_is.replace('"2021"', f'"{edition}"').replace('"1.82"', f'"{needed}"'))
-        ran = run(
-            "cargo",
-            "test",
-            "--offline",
-            "--examples",
-            "--lib",
-            "--tests",
-            cwd=here / "rust",
-            env=os.environ | {"RUSTFLAGS": "-Dwarnings"},
-        )
-        tell(f"cargo test, edition {edition}", ran.returncode == 0, ran.stderr.decode()[-2000:])
-    ran = run("cargo", "build", "--offline", "--examples", cwd=here / "rust", env=os.environ | {"RUSTFLAGS": "-Dwarnings"})
-    tell("cargo build", ran.returncode == 0, ran.stderr.decode()[-2000:])
-    try_dropped(tell, here)
+        for features in choices:
+            ran = run("cargo", "test", "--offline", *features, "--examples", "--lib", "--tests", **more)
+            tell(
+                " ".join([f"cargo test, edition {edition}", *features]),
+                ran.returncode == 0,
+                (ran.stdout + ran.stderr).decode()[-3000:],
+            )
+    for features in choices:
+        ran = run("cargo", "build", "--offline", *features, "--examples", **more)
+        tell(" ".join(["cargo build", *features]), ran.returncode == 0, ran.stderr.decode()[-2000:])
+    try_rust_client(tell, skip, here)
+    try_dropped(tell, here, choices[-1])
     try_requests(tell, "Rust", [here / "rust/target/debug/examples/answers"], requests)
     try_example(tell, "Rust", here / "rust/target/debug/examples/example", *example)
 

@@ -52,6 +52,7 @@ TOOLS: dict[str, tuple[Callable[[], bool], str, str]] = {
     "a C compiler": (lambda: has_program(CC), "gcc libc6-dev", "faults/run and embed/test"),
     "a C++ compiler": (lambda: compiles("", "-fsyntax-only", "-x", "c++"), "g++", "the header as C++"),
     "the headers of OpenSSL": (lambda: compiles("#include <openssl/evp.h>\n", "-E", "-x", "c"), "libssl-dev", "c/audit_signed.c"),
+    "libsodium": (lambda: compiles("#include <sodium.h>\n", "-E", "-x", "c"), "libsodium-dev", "the clients in Rust and C"),
     "pkg-config": (lambda: has_program("pkg-config"), "pkgconf", "embed/install"),
     "valgrind": (lambda: has_program("valgrind"), "valgrind", "answers under valgrind"),
     "cargo": (lambda: has_program("cargo"), "cargo-web", "the side in Rust"),

@@ -1,0 +1,382 @@
+//! The client over the examples of docs/FORMATS.md, and what its callers can do wrong.
+
+mod formats;
+
+use coniks::client::{
+    Cause, Client, Comparison, Found, IndexScheme, Keys, Misuse, Policy, PolicyError, SignatureScheme, SigningKey, Step,
+    VrfKey, Watched,
+};
+use coniks::{link, Body, Error, EvidenceKind, Head};
+use formats::{bytes, entries, fed, keys, policy, Time, HISTORY, PERIOD, POLICY, REPLY, START, STATE};
+use std::collections::BTreeMap;
+use std::num::{NonZeroU64, NonZeroUsize};
+use std::panic::{catch_unwind, AssertUnwindSafe};
+use std::sync::atomic::{AtomicBool, Ordering};
+use std::sync::Arc;
+use std::time::Duration;
+
+const MINUTE: u64 = 60 * 1000;
+
+#[test]
+fn the_policy_of_the_example() {
+    let policy = policy();
+    assert_eq!(policy.bytes(), POLICY.as_bytes());
+    assert_eq!(policy.digest().to_vec(), bytes(formats::DIGEST));
+    assert_eq!((policy.origin(), policy.proofs_kept()), ("keys.example.com/directory", None));
+    assert_eq!(policy.signing_key().to_vec(), bytes(formats::SIGNING_KEY));
+    assert_eq!(policy.vrf_key().map(Vec::from), Some(bytes(formats::VRF_KEY)));
+    assert_eq!((policy.epoch_start(), policy.epoch_period()), (Some(START), NonZeroU64::new(PERIOD)));
+}
+
+#[test]
+fn epochs_by_the_clock() {
+    let policy = policy();
+    assert_eq!(policy.epoch_at(START - 1), Err(PolicyError::BeforeFirstEpoch));
+    assert_eq!((policy.epoch_at(START), policy.epoch_at(START + PERIOD - 1)), (Ok(1), Ok(1)));
+    assert_eq!(policy.epoch_at(START + PERIOD), Ok(2));
+    let longest = POLICY.replace("epoch-start 1767225600", "epoch-start 0").replace("epoch-period 3600", "epoch-period 1");
+    let longest = Policy::read(longest.as_bytes()).expect("a policy");
+    assert_eq!((longest.epoch_at(u64::MAX - 1), longest.epoch_at(u64::MAX)), (Ok(u64::MAX), Err(PolicyError::AfterLastEpoch)));
+    let without = Policy::read(POLICY.replace("epoch-start 1767225600\nepoch-period 3600\n", "").as_bytes()).expect("a policy");
+    assert_eq!((without.epoch_start(), without.epoch_at(START)), (None, Err(PolicyError::NoClock)));
+}
+
+#[test]
+fn other_documents_are_no_policy() {
+    let changes = [
+        ("coniks-1", "coniks-2"),
+        ("policy", "Policy"),
+        ("\n", "\r\n"),
+        ("origin keys.example.com/directory", "origin "),
+        ("origin keys", "origin  keys"),
+        ("keys.example.com", "k\u{e9}ys.example.com"),
+        ("Ed25519\n", "Ed25519 \n"),
+        ("511a\n", "511A\n"),
+        ("511a\n", "511\n"),
+        ("511a\n", "511a00\n"),
+        ("ECVRF-", "ECVRF_"),
+        ("vrf ECVRF-EDWARDS25519-SHA512-TAI", "vrf none"),
+        ("epoch-start 1767225600\n", ""),
+        ("epoch-period 3600\n", ""),
+        ("epoch-period 3600", "epoch-period 0"),
+        ("epoch-period 3600", "epoch-period 03600"),
+        ("epoch-start 1767225600", "epoch-start 18446744073709551616"),
+        ("evidence one-chain\n", ""),
+        ("forever\n", "forever"),
+        ("forever\n", "forever\n\n"),
+        ("forever", "ever"),
+        ("forever", "-1"),
+    ];
+    for (from, to) in changes {
+        assert_ne!(POLICY.replace(from, to), POLICY);
+        assert_eq!(Policy::read(POLICY.replace(from, to).as_bytes()), Err(PolicyError::Form), "{from:?}, {to:?}");
+    }
+    for size in 0..POLICY.len() {
+        assert_eq!(Policy::read(&POLICY.as_bytes()[..size]), Err(PolicyError::Form));
+    }
+    let origin = |size| POLICY.replace("keys.example.com/directory", &"x".repeat(size));
+    assert!(Policy::read(origin(255).as_bytes()).is_ok() && Policy::read(origin(256).as_bytes()).is_err());
+    assert_eq!(Policy::read(&[0xff; 40]), Err(PolicyError::Form));
+    let kept = Policy::read(POLICY.replace("forever", "18446744073709551615").as_bytes()).expect("a policy");
+    assert_eq!(kept.proofs_kept(), Some(u64::MAX));
+}
+
+/// What the example's reply shows, with the key that has one byte.
+fn shown(epoch: u64, seen: Option<Watched>, age: i128) -> Found {
+    let first_seen = START + PERIOD * (epoch - 1) + 60;
+    Found { epoch, key: Some(Arc::from(*b"k")), seen, age: Some(age), first_seen }
+}
+
+#[test]
+fn the_reply_of_the_example() {
+    let (mut client, time) = fed();
+    time.set(1000 * PERIOD + 10 * MINUTE + 999);
+    assert_eq!(client.lookup("alice", &bytes(REPLY), None), Ok(shown(2, None, 600)));
+    assert_eq!(client.lookup("alice", &bytes(REPLY), Some(2)), Ok(shown(2, None, 600)));
+    assert_eq!(client.lookup("alice", &bytes(REPLY), Some(1)).unwrap_err().cause, Cause::OtherEpoch);
+    assert_eq!(client.lookup("alice", &bytes(REPLY), Some(3)).unwrap_err().cause, Cause::UnknownEpoch);
+    for name in ["Alice", "alice ", "bob", "", "alice\0"] {
+        assert_eq!(client.lookup(name, &bytes(REPLY), None).unwrap_err().cause, Cause::VrfProof, "{name:?}");
+    }
+}
+
+#[test]
+fn the_state_of_the_example() {
+    let (mut client, time) = (Client::new(keys(), policy(), Time::default().settings()).expect("a client"), Time::default());
+    assert_eq!(client.state().len(), 70);
+    client = Client::resume(keys(), policy(), &client.state(), time.settings()).expect("its own state");
+    client.watch("alice", Some(b"k"), Some(1)).expect("no other name");
+    for (epoch, entry) in entries().iter().enumerate() {
+        time.set(1000 * PERIOD * epoch as u64 + MINUTE);
+        let step = Step { epoch: epoch as u64 + 1, seen: Some(Watched::Missing) };
+        assert_eq!(client.feed_catch_up(entry), Ok(vec![step]));
+    }
+    assert_eq!(client.missing(), [1, 2]);
+    assert_eq!(client.lookup("alice", &bytes(REPLY), None), Ok(shown(2, Some(Watched::Same), 60)));
+    assert_eq!(client.missing(), [1]);
+    assert_eq!(client.state(), bytes(STATE));
+    let resumed = Client::resume(keys(), policy(), &bytes(STATE), time.settings()).expect("a state");
+    assert_eq!((resumed.state(), resumed.missing()), (bytes(STATE), vec![1]));
+    assert!(resumed.entries().map(|it| it.to_vec()).eq(entries()));
+}
+
+#[test]
+fn the_history_of_the_example() {
+    let (mut client, _) = fed();
+    assert_eq!(client.history("alice", &bytes(HISTORY)), Ok(vec![shown(1, None, 3660), shown(2, None, 60)]));
+    client.watch("alice", Some(b"K"), Some(2)).expect("no other name");
+    let seen = client.history("alice", &bytes(HISTORY)).expect("a history");
+    assert_eq!(seen, [shown(1, None, 3660), shown(2, Some(Watched::Changed), 60)]);
+    let keys: Vec<_> = seen.iter().map(|it| it.key.clone().expect("a key")).collect();
+    assert!(Arc::ptr_eq(&keys[0], &keys[1]), "equal keys are one allocation");
+    assert_eq!(client.history("bob", &bytes(HISTORY)).unwrap_err().cause, Cause::VrfProof);
+}
+
+#[test]
+fn ages_are_compared_to_the_nanosecond() {
+    let (mut client, time) = fed();
+    let mut cause_at = |milliseconds| {
+        time.set(milliseconds);
+        client.lookup("alice", &bytes(REPLY), None).err().map(|it| it.cause)
+    };
+    let (begins, two_periods) = (1000 * PERIOD, 2 * 1000 * PERIOD);
+    assert_eq!((cause_at(begins + two_periods), cause_at(begins + two_periods + 1)), (None, Some(Cause::Stale)));
+    assert_eq!((cause_at(begins - 300_000), cause_at(begins - 300_001)), (None, Some(Cause::Future)));
+    time.set(begins - 1);
+    assert_eq!(client.lookup("alice", &bytes(REPLY), None).map(|it| it.age), Ok(Some(-1)));
+    time.set(100 * two_periods);
+    assert_eq!(client.lookup("alice", &bytes(REPLY), Some(2)).map(|it| it.age), Ok(Some(i128::from(199 * PERIOD))));
+}
+
+#[test]
+fn limits_are_the_callers() {
+    for (max_age, skew, wanted) in [(59, 0, Some(Cause::Stale)), (60, 0, None), (u64::MAX, u64::MAX, None)] {
+        let (client, time) = fed();
+        let (max_age, skew) = (Some(Duration::from_secs(max_age)), Duration::from_secs(skew));
+        let settings = coniks::client::Settings { max_age, skew, ..time.settings() };
+        let mut client = Client::resume(keys(), policy(), &client.state(), settings).expect("a state");
+        assert_eq!(client.lookup("alice", &bytes(REPLY), None).err().map(|it| it.cause), wanted);
+        time.set(0);
+        let is_future = client.lookup("alice", &bytes(REPLY), None).is_err_and(|it| it.cause == Cause::Future);
+        assert_eq!(is_future, skew.is_zero());
+    }
+}
+
+#[test]
+fn a_digest_has_no_clock() {
+    let time = Time::default();
+    time.set(u64::MAX / 2);
+    let mut client = Client::new(keys(), policy().digest(), time.settings()).expect("a client");
+    assert_eq!(client.feed(entries()).map(|it| it.len()), Ok(2));
+    assert_eq!(client.lookup("alice", &bytes(REPLY), None).map(|it| it.age), Ok(None));
+    let mut other = Client::new(keys(), [7; 32], time.settings()).expect("a client");
+    assert_eq!(other.feed(entries()).unwrap_err().cause, Cause::OtherPolicy);
+    assert_eq!(other.entries().len(), 0);
+}
+
+/// With `Clone` a type has both implementations, and the call in the test doesn't compile.
+trait NotClone<Way> {
+    fn is_checked() {}
+}
+
+struct IfClone;
+
+impl<T> NotClone<()> for T {}
+impl<T: Clone> NotClone<IfClone> for T {}
+
+#[test]
+fn a_client_has_no_copy_and_can_move() {
+    fn moves<T: Send + Sync>() {}
+    <Client as NotClone<_>>::is_checked();
+    moves::<Client>();
+    let (mut client, _) = fed();
+    let found = std::thread::spawn(move || client.lookup("alice", &bytes(REPLY), None)).join().expect("no panic");
+    assert!(found.is_ok());
+}
+
+/// Returns what it is told to, or panics.
+#[derive(Clone, Default)]
+struct Scheme {
+    result: Arc<AtomicBool>,
+    panics: Arc<AtomicBool>,
+}
+
+impl Scheme {
+    fn said(&self) -> bool {
+        assert!(!self.panics.load(Ordering::Relaxed), "as it is told to");
+        self.result.load(Ordering::Relaxed)
+    }
+}
+
+impl SignatureScheme for Scheme {
+    fn verify(&self, _: &[u8; 145], _: &[u8; 64]) -> bool {
+        self.said()
+    }
+}
+
+impl IndexScheme for Scheme {
+    fn index(&self, _: &[u8], _: &[u8]) -> Option<[u8; 32]> {
+        self.said().then_some([7; 32])
+    }
+}
+
+fn with_schemes(signatures: &Scheme, indices: &Scheme) -> Keys {
+    Keys { signing: SigningKey::Scheme(Box::new(signatures.clone())), vrf: VrfKey::Scheme(Box::new(indices.clone())) }
+}
+
+#[test]
+fn schemes_of_the_caller_decide() {
+    let (signatures, indices) = (Scheme::default(), Scheme::default());
+    let mut client = Client::new(with_schemes(&signatures, &indices), policy(), Time::default().settings()).expect("a client");
+    assert_eq!(client.feed(entries()).unwrap_err().cause, Cause::Signature);
+    assert_eq!(client.evidence(&entries()[0]).unwrap_err().cause, Cause::Signature);
+    let resumed = Client::resume(with_schemes(&signatures, &indices), policy(), &bytes(STATE), Time::default().settings());
+    assert_eq!(resumed.unwrap_err().cause, Cause::StateChain);
+    signatures.result.store(true, Ordering::Relaxed);
+    assert_eq!(client.feed(entries()).map(|it| it.len()), Ok(2));
+    assert_eq!(client.lookup("alice", &bytes(REPLY), Some(2)).unwrap_err().cause, Cause::VrfProof);
+    assert_eq!(client.history("alice", &bytes(HISTORY)).unwrap_err().cause, Cause::VrfProof);
+    indices.result.store(true, Ordering::Relaxed);
+    assert_eq!(client.lookup("alice", &bytes(REPLY), Some(2)).unwrap_err().cause, Cause::RootMismatch);
+}
+
+#[test]
+fn a_panic_of_a_scheme_changes_nothing() {
+    let scheme = Scheme::default();
+    scheme.result.store(true, Ordering::Relaxed);
+    let mut client = Client::new(with_schemes(&scheme, &scheme), policy(), Time::default().settings()).expect("a client");
+    client.feed(&entries()[..1]).expect("it follows");
+    client.watch("alice", Some(b"k"), None).expect("no other name");
+    let before = client.state();
+    scheme.panics.store(true, Ordering::Relaxed);
+    assert!(catch_unwind(AssertUnwindSafe(|| client.feed(&entries()[1..]))).is_err());
+    assert!(catch_unwind(AssertUnwindSafe(|| client.lookup("alice", &bytes(REPLY), Some(1)))).is_err());
+    scheme.panics.store(false, Ordering::Relaxed);
+    assert_eq!(client.state(), before);
+    assert_eq!(client.feed(&entries()[1..]).map(|it| it.len()), Ok(1));
+}
+
+/// An entry of an epoch with the example's policy digest, signed by nobody.
+fn entry_of(epoch: u64, previous_epoch: u64, previous_link: [u8; 32]) -> Vec<u8> {
+    let policy = policy().digest();
+    let body = Body { version: 1, epoch, previous_epoch, root: [5; 32], previous_link, nonce: [6; 32], policy };
+    [&body.bytes()[..], &[0; 64]].concat()
+}
+
+/// A client to which each signature is good, at a time in seconds.
+fn credulous(document: &str, now: u64) -> Client {
+    let scheme = Scheme::default();
+    scheme.result.store(true, Ordering::Relaxed);
+    let settings = coniks::client::Settings { clock: Box::new(move || Duration::from_secs(now)), ..Default::default() };
+    Client::new(with_schemes(&scheme, &scheme), Policy::read(document.as_bytes()).expect("a policy"), settings)
+        .expect("a client")
+}
+
+#[test]
+fn the_last_epoch_number_at_any_time() {
+    let document = POLICY.replace("epoch-start 1767225600", "epoch-start 18446744073709551615");
+    let document = document.replace("epoch-period 3600", "epoch-period 18446744073709551615");
+    let digest = Policy::read(document.as_bytes()).expect("a policy").digest();
+    let mut entry = entry_of(u64::MAX, 0, [0; 32]);
+    entry[113..145].copy_from_slice(&digest);
+    let reply = [&[1][..], &entry, &[0, 0], &[0, 0, 0]].concat();
+    for (now, wanted) in [(0, Cause::Future), (u64::MAX, Cause::Future)] {
+        let mut client = credulous(&document, now);
+        assert_eq!(client.feed([&entry]).map(|it| it.len()), Ok(1));
+        assert_eq!(client.lookup("alice", &reply, None).unwrap_err().cause, wanted);
+        assert_eq!(client.lookup("alice", &reply, Some(u64::MAX)).unwrap_err().cause, Cause::RootMismatch);
+        client.watch("alice", Some(b"k"), Some(u64::MAX)).expect("no other name");
+        assert_eq!(client.expect(Some(b"K"), u64::MAX), Err(Misuse::NotLater));
+    }
+}
+
+#[test]
+fn a_watch_that_a_caller_can_not_have() {
+    let (mut client, _) = fed();
+    assert_eq!(client.expect(Some(b"K"), 9), Err(Misuse::NotWatching));
+    assert_eq!(client.watch("", Some(b"k"), None), Err(Misuse::NameLength));
+    assert_eq!(client.watch([b'a'; 256], Some(b"k"), None), Err(Misuse::NameLength));
+    assert_eq!(client.watch("alice", Some(b""), None), Err(Misuse::KeyLength));
+    assert_eq!(client.state(), fed().0.state());
+    client.watch("alice", Some(b"k"), Some(1)).expect("no other name");
+    let before = client.state();
+    assert_eq!(client.watch("alice", Some(b"k"), None), Ok(()));
+    assert_eq!(client.watch("alice", Some(b"k"), Some(2)), Err(Misuse::OtherWatch));
+    assert_eq!(client.watch("alice", None, None), Err(Misuse::OtherWatch));
+    assert_eq!(client.watch("bob", Some(b"k"), None), Err(Misuse::OtherWatch));
+    for (key, by, wanted) in
+        [(Some(&b""[..]), 9, Misuse::KeyLength), (Some(b"k"), 9, Misuse::SameKey), (Some(b"K"), 2, Misuse::NotLater)]
+    {
+        assert_eq!(client.expect(key, by), Err(wanted));
+    }
+    assert_eq!(client.state(), before);
+    client.expect(None, 3).expect("a change");
+    assert_eq!(client.expect(Some(b"K"), 9), Err(Misuse::ChangeOpen));
+    assert_eq!(client.watch("alice", None, None), Ok(()));
+}
+
+#[test]
+fn evidence_names_both_entries() {
+    let mut client = credulous(POLICY, START);
+    let first = entry_of(3, 0, [0; 32]);
+    client.feed([&first]).expect("it begins the chain");
+    let other = entry_of(2, 0, [0; 32]);
+    let refusal = client.feed([&other]).unwrap_err();
+    let evidence = refusal.evidence.clone().expect("evidence");
+    assert_eq!((refusal.cause, refusal.status), (Cause::Equivocation, Some(Error::NotLater)));
+    assert_eq!((evidence.mine.to_vec(), evidence.other.to_vec(), evidence.kind), (first.clone(), other, EvidenceKind::Overlap));
+    assert_eq!(
+        refusal.to_string(),
+        "the signed entry and one of the chain convict the provider: keep the evidence, and publish it"
+    );
+    let later = entry_of(5, 3, [9; 32]);
+    let refusal = client.feed([&later]).unwrap_err();
+    assert_eq!((refusal.cause, refusal.status, refusal.evidence), (Cause::PreviousLink, Some(Error::PreviousLink), None));
+    let head = client.head().expect("an entry");
+    assert_eq!(head, Head { epoch: 3, link: link(&first).expect("209 bytes") });
+    let compared = [(3, head.link), (3, [0; 32]), (1, head.link), (4, head.link), (0, head.link)];
+    let wanted = [Comparison::Equal, Comparison::Differs, Comparison::Differs, Comparison::Unknown, Comparison::Unknown];
+    assert_eq!(compared.map(|(epoch, link)| client.compare(&Head { epoch, link })), wanted);
+}
+
+#[test]
+fn an_auditor_counts_once() {
+    let entry = entries()[1].clone();
+    let head = Head { epoch: 2, link: link(&entry).expect("209 bytes") };
+    let vouched = |heads: &[(&str, Head)], least| {
+        let heads: BTreeMap<String, Head> = heads.iter().map(|(name, head)| (name.to_string(), *head)).collect();
+        let least = NonZeroUsize::new(least).expect("not 0");
+        Client::vouched(keys(), policy(), &entry, &heads, least, Time::default().settings()).map(|it| it.head())
+    };
+    let other = Head { link: [0; 32], ..head };
+    let earlier = Head { epoch: 1, ..other };
+    assert_eq!(vouched(&[("one", head), ("two", head)], 2), Ok(Some(head)));
+    assert_eq!(vouched(&[("one", head), ("one", head)], 2).unwrap_err().cause, Cause::NotVouched);
+    assert_eq!(vouched(&[("one", head), ("two", earlier)], 2).unwrap_err().cause, Cause::NotVouched);
+    assert_eq!(vouched(&[("one", head), ("two", other)], 1).unwrap_err().cause, Cause::AuditorsDiffer);
+    assert_eq!(vouched(&[], usize::MAX).unwrap_err().cause, Cause::NotVouched);
+}
+
+#[test]
+fn keys_that_are_not_those_of_the_policy() {
+    let (one, other) = (bytes(formats::SIGNING_KEY), bytes(formats::VRF_KEY));
+    for (signing, vrf) in [(&other, Some(&other)), (&one, Some(&one)), (&one, None)] {
+        let keys = Keys::new(signing, vrf.map(|it| &it[..])).expect("points");
+        let cause = Client::new(keys, policy(), Time::default().settings()).unwrap_err().cause;
+        assert_eq!(cause, Cause::PolicyKeys);
+    }
+    assert_eq!(Keys::new(&[0; 32], Some(&[0; 32])).unwrap_err().cause, Cause::SigningKey);
+    assert_eq!(Keys::new(&one, Some(&[0; 32])).unwrap_err().cause, Cause::VrfKey);
+}
+
+#[test]
+fn causes_have_numbers_and_texts() {
+    assert_eq!(Cause::ALL.len(), 57);
+    for cause in Cause::ALL {
+        let text = cause.to_string();
+        assert!(!text.is_empty() && !text.ends_with('.') && text.len() < 160, "{cause:?}");
+        assert_eq!(cause.error().map(|it| it as u32), (*cause as u32).lt(&64).then_some(*cause as u32));
+    }
+    let numbers = [Cause::NoReply as u32, Cause::EndRepeated as u32, Cause::VrfProof as u32, Cause::PolicyKeys as u32];
+    assert_eq!(numbers, [64, 76, 87, 114]);
+}
