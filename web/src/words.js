@@ -44,11 +44,11 @@ export function keyText(key, most) {
 /** A longer name, which no directory registers, is cut. */
 const NAME = 255;
 
-/**
- * What isn't seen in a name, or changes how its neighbours look: control, format and unassigned characters, separators, spaces
- * other than the one of ASCII, what fonts leave blank, marks that enclose, and marks at the start or after two marks.
- */
-const ODD = /[\p{C}\p{Zl}\p{Zp}\p{DI}\p{Me}\u2800\u{1d159}\u{16fe4}]|(?! )\p{Zs}|(?<=^|\p{M}{2})\p{M}/gu;
+/** What isn't seen in a name, or changes its neighbours: all but letters, marks, digits and signs that are seen, and the space of ASCII. */
+const ODD = /^(?:[\p{C}\p{Zl}\p{Zp}\p{DI}\p{Me}\u2800\u{1d159}\u{16fe4}]|(?! )\p{Zs})$/u;
+
+/** More marks on a letter would cover its neighbours. */
+const MARKS = 2;
 
 /** Scripts with letters that look like those of another one, or are often mixed. */
 const SCRIPTS = ["Arabic", "Armenian", "Cherokee", "Coptic", "Cyrillic", "Greek", "Han", "Hangul", "Hebrew", "Hiragana", "Katakana", "Latin", "Lisu"];
@@ -61,15 +61,17 @@ const SCRIPTS = ["Arabic", "Armenian", "Cherokee", "Coptic", "Cyrillic", "Greek"
 
 /** @param {string} name @returns {NamePart[]} */
 export function nameParts(name) {
-  const [shown, parts] = [name.slice(0, NAME), /** @type {NamePart[]} */ ([])];
-  const add = (/** @type {string} */ text, isOdd = false) => text && parts.push({ text: isOdd ? text : JSON.stringify(text).slice(1, -1), isOdd });
-  let at = 0;
-  for (const { 0: odd, index = 0 } of shown.matchAll(ODD)) {
-    add(shown.slice(at, index));
-    add(`\\u{${point(odd)}}`, true);
-    at = index + odd.length;
+  const parts = /** @type {NamePart[]} */ ([]);
+  // A mark at the start would go onto the quotation mark.
+  let marks = MARKS;
+  for (const it of name.slice(0, NAME)) {
+    marks = /\p{M}/u.test(it) ? marks + 1 : 0;
+    const isOdd = ODD.test(it) || marks > MARKS;
+    const text = isOdd ? `\\u{${point(it)}}` : JSON.stringify(it).slice(1, -1);
+    const last = parts[parts.length - 1];
+    if (last && !last.isOdd && !isOdd) last.text += text;
+    else parts.push({ text, isOdd });
   }
-  add(shown.slice(at));
   return parts;
 }
 
