@@ -4,6 +4,7 @@ import (
 	"bytes"
 	"crypto/sha512"
 	"encoding/hex"
+	"fmt"
 	"testing"
 
 	"filippo.io/edwards25519"
@@ -96,22 +97,27 @@ func plusOrder(text []byte, at int) []byte {
 	return changed
 }
 
-// A proof whose gamma has a part of order 8 satisfies the equations if the challenge is a multiple of 8. It is refused.
+// A gamma with a part of order 8 satisfies the equations for some challenges, by their rest modulo 8. It is refused for each.
 func TestGammaOfMixedOrder(t *testing.T) {
 	it := readVectors(t).VRF[0]
-	public, key := unhex(t, it.Public), decodeKey(unhex(t, it.Public))
-	x := secretScalar(unhex(t, it.Secret))
-	for counter := byte(0); counter < 255; counter++ {
-		proof := mixedProof(t, x, public, string([]byte{counter}))
-		if proof == nil {
-			continue
+	public, key, x := unhex(t, it.Public), decodeKey(unhex(t, it.Public)), secretScalar(unhex(t, it.Secret))
+	torsion, err := edwards25519.NewIdentityPoint().SetBytes(unhex(t, notKeys[5]))
+	good(t, err)
+	rests := map[byte]bool{}
+	for number := 0; number < 1000 && len(rests) < 8; number++ {
+		input := fmt.Sprint(number)
+		if _, isValid := vrfOutput(key, public, input, proofOf(x, public, input, identity)); !isValid {
+			t.Fatal("a proof of prime order is refused")
 		}
-		if _, isValid := vrfOutput(key, public, string([]byte{counter}), proof); isValid {
-			t.Error("accepted a gamma of mixed order")
+		proof := proofOf(x, public, input, torsion)
+		rests[proof[32]%8] = true
+		if _, isValid := vrfOutput(key, public, input, proof); isValid {
+			t.Errorf("accepted a gamma of mixed order, with the challenge %x", proof[32:48])
 		}
-		return
 	}
-	t.Fatal("no input gives a challenge that is a multiple of 8")
+	if len(rests) < 8 {
+		t.Error("not all rests were tried")
+	}
 }
 
 // secretScalar is the scalar of a secret key, RFC 8032, section 5.1.5.
@@ -125,14 +131,7 @@ func secretScalar(secret []byte) *edwards25519.Scalar {
 	return scalar
 }
 
-// mixedProof is a proof of RFC 9381, section 5.1, with a point of order 8 added to gamma, nil if the challenge is no multiple of 8.
-func mixedProof(t *testing.T, x *edwards25519.Scalar, public []byte, input string) []byte {
-	torsion, err := edwards25519.NewIdentityPoint().SetBytes(unhex(t, notKeys[5]))
-	good(t, err)
-	return proofOf(x, public, input, torsion)
-}
-
-// proofOf is a proof of the VRF, with a point added to gamma. The number k is fixed.
+// proofOf is a proof of the VRF (RFC 9381, section 5.1), with a point added to gamma. Its nonce is no secret.
 func proofOf(x *edwards25519.Scalar, public []byte, input string, added *edwards25519.Point) []byte {
 	point := encodeToCurve(public, input)
 	gamma := edwards25519.NewIdentityPoint().ScalarMult(x, point)
@@ -141,9 +140,6 @@ func proofOf(x *edwards25519.Scalar, public []byte, input string, added *edwards
 	u := edwards25519.NewIdentityPoint().ScalarBaseMult(k)
 	v := edwards25519.NewIdentityPoint().ScalarMult(k, point)
 	challenge := challengeOf(public, point.Bytes(), gamma.Bytes(), u.Bytes(), v.Bytes())
-	if added.Equal(identity) != 1 && challenge[0]%8 != 0 {
-		return nil
-	}
 	c, err := edwards25519.NewScalar().SetCanonicalBytes(append(copied(challenge), make([]byte, 16)...))
 	if err != nil {
 		panic(err)
@@ -185,6 +181,23 @@ func TestIdentityAsR(t *testing.T) {
 	signature = append(signature, edwards25519.NewScalar().Multiply(k, x).Bytes()...)
 	if isSigned(public, message, signature) {
 		t.Error("accepted the identity as R")
+	}
+}
+
+// A point has one encoding: the number y is less than 2^255 - 19, and the sign of x = 0 is 0.
+func TestEncodings(t *testing.T) {
+	three := append([]byte{3}, make([]byte, 31)...)
+	if decodePoint(three) == nil {
+		t.Error("there is a point with y = 3")
+	}
+	for _, it := range []string{
+		"f0ffffffffffffffffffffffffffffffffffffffffffffffffffffffffffff7f",
+		"f0ffffffffffffffffffffffffffffffffffffffffffffffffffffffffffffff",
+		notKeys[1], notKeys[7], notKeys[8],
+	} {
+		if decodePoint(unhex(t, it)) != nil {
+			t.Errorf("%s encodes a point", it)
+		}
 	}
 }
 

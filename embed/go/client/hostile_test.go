@@ -6,7 +6,9 @@ import (
 	"errors"
 	"runtime"
 	"sync"
+	"sync/atomic"
 	"testing"
+	"time"
 
 	"example.org/coniks"
 )
@@ -191,7 +193,11 @@ func TestAliasing(t *testing.T) {
 	}
 	found.Key[0]++
 	good(t, made.Expect(change, 4))
+	state = made.State()
 	change[0]++
+	if !bytes.Equal(made.State(), state) {
+		t.Fatal("a change outside changed the client")
+	}
 	again, err := Resume(it.settings(3), made.State())
 	good(t, err)
 	if !bytes.Equal(again.State(), made.State()) || !bytes.Equal(again.Entries()[0], it.entries[1]) {
@@ -316,3 +322,66 @@ func TestSeveralGoroutines(t *testing.T) {
 		t.Error(missing, len(made.Entries()))
 	}
 }
+
+// While one call is under way, no other one begins.
+func TestOneCallAtATime(t *testing.T) {
+	it := newWorld(t, "AAA")
+	var inside, most int32
+	entered, release := make(chan none, 99), make(chan none)
+	settings := it.settings(2)
+	settings.SigningKey = nil
+	settings.Signatures = scheme{verify: func(body, signature []byte) bool {
+		if now := atomic.AddInt32(&inside, 1); now > atomic.LoadInt32(&most) {
+			atomic.StoreInt32(&most, now)
+		}
+		entered <- none{}
+		<-release
+		atomic.AddInt32(&inside, -1)
+		return true
+	}}
+	made, err := New(settings)
+	good(t, err)
+	calls := map[string]func(){
+		"Feed":        func() { made.Feed(it.chain[1:2]) },
+		"FeedCatchUp": func() { made.FeedCatchUp(it.entries[3]) },
+		"Lookup":      func() { made.Lookup("alice", it.reply(2)) },
+		"LookupAt":    func() { made.LookupAt("alice", it.reply(2), 2) },
+		"History":     func() { made.History("alice", []byte{1, 0, 0}) },
+		"Watch":       func() { made.Watch("alice", nil) },
+		"WatchSince":  func() { made.WatchSince("alice", nil, 1) },
+		"Expect":      func() { made.Expect([]byte("B"), 9) },
+		"Missing":     func() { made.Missing() },
+		"Head":        func() { made.Head() },
+		"Compare":     func() { made.Compare(it.head(1)) },
+		"Cover":       func() { made.Cover(it.head(1)) },
+		"Evidence":    func() { made.Evidence(it.entries[3]) },
+		"Entries":     func() { made.Entries() },
+		"State":       func() { made.State() },
+	}
+	ended := make(chan string, len(calls)+1)
+	begin := func(what string, call func()) {
+		go func() {
+			call()
+			ended <- what
+		}()
+	}
+	begin("the first Feed", func() { made.Feed(it.chain[:1]) })
+	<-entered
+	for what, call := range calls {
+		begin(what, call)
+	}
+	select {
+	case what := <-ended:
+		t.Errorf("%s ended while an entry was verified", what)
+	case <-time.After(100 * time.Millisecond):
+	}
+	close(release)
+	for count := 0; count <= len(calls); count++ {
+		<-ended
+	}
+	if most != 1 {
+		t.Errorf("%d signatures were verified at once", most)
+	}
+}
+
+type none = struct{}
