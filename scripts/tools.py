@@ -60,7 +60,7 @@ TOOLS: dict[str, tuple[Callable[[], bool], str, str]] = {
     "valgrind": (lambda: has_program("valgrind"), "valgrind", "answers under valgrind"),
     "cargo": (lambda: has_program("cargo"), "cargo-web", "the side in Rust"),
     "go": (lambda: has_program("go"), "golang-go", "the side in Go"),
-    "edwards25519 for Go": (lambda: GO_CURVE.is_dir(), "golang-filippo-edwards25519-dev", "the client in Go"),
+    "edwards25519 for Go": (lambda: has_program("go") and GO_CURVE.is_dir(), "golang-filippo-edwards25519-dev", "the client in Go"),
     "pip": (lambda: PYTHON is not None, "python3-venv python3-setuptools python3-wheel", "pip install"),
     "PyNaCl": (lambda: SIGNING_PYTHON is not None, "python3-nacl", "signatures by Ed25519 and examples/provider"),
     "PostgreSQL": (lambda: any(Path("/usr/lib/postgresql").glob("*/bin/initdb")), "postgresql", "a directory on several machines"),

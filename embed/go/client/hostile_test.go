@@ -370,13 +370,15 @@ func TestOneCallAtATime(t *testing.T) {
 	for what, call := range calls {
 		begin(what, call)
 	}
+	left := len(calls) + 1
 	select {
 	case what := <-ended:
 		t.Errorf("%s ended while an entry was verified", what)
+		left--
 	case <-time.After(100 * time.Millisecond):
 	}
 	close(release)
-	for count := 0; count <= len(calls); count++ {
+	for ; left > 0; left-- {
 		<-ended
 	}
 	if most != 1 {

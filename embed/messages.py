@@ -1,0 +1,71 @@
+#!/usr/bin/env python3
+"""Writes what `coniks.provider` returns for clients, and the keys that it registered, for the tests of clients in other languages.
+
+    embed/messages.py PROVIDER FILE    over the program `provider`; needs PyNaCl
+"""
+
+from __future__ import annotations
+
+import json
+import sys
+import tempfile
+from pathlib import Path
+from typing import Any, Sequence
+
+TOP = Path(__file__).resolve().parent.parent
+sys.dont_write_bytecode = True
+sys.path[:0] = [str(TOP / "embed/python"), str(TOP / "examples/provider")]
+
+import ecvrf
+from coniks import Policy
+from coniks.provider import Change, FileLog, Operation, Provider, Register
+from nacl.signing import SigningKey
+
+EPOCHS = [1, 2, 3, 5, 8, 13, 300]
+
+
+def vrf_proof(name: str) -> bytes:
+    return ecvrf.prove(bytes(32), name.encode())
+
+
+def index(name: str) -> bytes:
+    return ecvrf.output(vrf_proof(name))[:32]
+
+
+def messages(program: str, log: Path) -> dict[str, Any]:
+    """A directory in which alice changes her key at some epochs, among others who register."""
+    signer = SigningKey(bytes(32))
+    policy = Policy("keys.example.com", bytes(signer.verify_key), ecvrf.public_key(bytes(32)), 1767225600, 3600)
+    keys: list[bytes] = []
+    with FileLog.create(log) as file, Provider(
+        program, index, lambda body: signer.sign(body).signature, file, policy=policy
+    ) as own:
+        for at, epoch in enumerate(EPOCHS):
+            key = b"key %d of alice" % (at // 2)
+            batch: list[Operation] = [Register(f"user {it} of {epoch}", b"key") for it in range(10 * at)]
+            if not keys or keys[-1] != key:
+                batch.append(Change("alice", key) if keys else Register("alice", key))
+            own.commit(epoch, batch, force=True)
+            keys.append(key)
+        whole = {"catchup": own.catch_up(0), "reply": own.reply("alice", vrf_proof("alice"))}
+        whole["absent"] = own.reply("nobody", vrf_proof("nobody"))
+        whole["history"] = own.history("alice", vrf_proof("alice"), 0, 2**64 - 1)
+    digits = {name: it.hex() for name, it in whole.items()}
+    shown = {
+        "policy": bytes(policy).decode(),
+        "name": "alice",
+        "nokey": "nobody",
+        "epochs": EPOCHS,
+        "keys": [it.hex() for it in keys],
+    }
+    return {**digits, **shown}
+
+
+def main(words: Sequence[str]) -> int:
+    with tempfile.TemporaryDirectory() as room:
+        Path(words[1]).write_text(json.dumps(messages(words[0], Path(room) / "log")), "utf-8")
+    return 0
+
+
+if __name__ == "__main__":
+    sys.exit(main(sys.argv[1:]))
