@@ -18,7 +18,7 @@ ARCHIVE, SHARED = HERE / "out/libconiks.a", HERE / "out/libconiks.so"
 CASES = TOP / "cases/client"
 WARNED = ["-std=c99", "-Wall", "-Wextra", "-Wpedantic", "-Wconversion", "-Wshadow", "-Werror"]
 SANITIZED = ["-g", "-O1", "-fsanitize=address,undefined", "-fno-sanitize-recover"]
-PROGRAMS = ["client_answers", "client_lookup"]
+PROGRAMS = ["client_answers", "client_calls", "client_lookup"]
 # The lookup of which status is refused as too old, by the clock of the machine.
 STALE = "the latest epoch is too old by the policy's clock: feed a catch-up, or alarm"
 
@@ -93,6 +93,12 @@ def try_example(tell: Tell, what: str, program: Path) -> None:
             tell(f"{what}: {case['name']}, under another key", b"policy" in ran.stdout + ran.stderr and ran.returncode == 1, ran)
 
 
+def try_calls(tell: Tell, program: Optional[Path]) -> None:
+    if program:
+        ran = run(program)
+        tell("client_calls", ran.returncode == 0 and not ran.stdout, (ran.stdout + ran.stderr).decode()[-2000:])
+
+
 def has_sanitizers(room: Path) -> bool:
     (room / "nothing.c").write_text("int main(void) { return 0; }\n", "utf-8")
     return run(tools.CC, *SANITIZED, room / "nothing.c", "-o", room / "nothing").returncode == 0
@@ -111,11 +117,13 @@ def try_c(tell: Tell, skip: Skip, room: Path) -> None:
         sanitized = compiled(tell, room / "sanitized", "client_answers", *SANITIZED)
         if sanitized:
             try_program(tell, skip, "the client in C, under sanitizers", [sanitized], 20)
+        try_calls(tell, compiled(tell, room / "sanitized-calls", "client_calls", *SANITIZED))
     else:
         skip("the client in C under sanitizers", "the compiler's sanitizers")
     if plain and tools.has("valgrind"):
         checked: list[Word] = ["valgrind", "-q", "--error-exitcode=9", "--leak-check=full", "--errors-for-leak-kinds=all", plain]
         try_program(tell, skip, "the client in C, under valgrind", checked, 10)
+    try_calls(tell, compiled(tell, room / "calls", "client_calls", "-O2"))
     example = compiled(tell, room / "lookup", "client_lookup", "-O2")
     if example:
         try_example(tell, "client_lookup", example)

@@ -1,6 +1,6 @@
 /*
  * A client of a CONIKS key directory in C, over coniks.h and libsodium: it verifies signatures, the chain, VRF proofs, paths and
- * the asked epoch. Copy client.h and client*.c into your program, without the programs client_answers.c and client_lookup.c.
+ * the asked epoch. To take it over, copy client.h, client_parts.h and the eight files of the build line below.
  *
  *     coniks_client_begin_settings(&settings);                    the keys and the policy that the directory publishes
  *     settings.signing_key = &signing_key;
@@ -29,9 +29,10 @@
  * Limits. A name has 1 to 255 bytes, a key that a proof shows 1 to 16,384, and an expected key fewer than 2^32. Times are Unix
  * times in whole seconds; a time, an age or a skew of 2^63 or more counts as 2^63 - 1.
  *
- * Build, in the repository, after embed/build and with libsodium-dev:
+ * Build, in the repository, after embed/build and with libsodium-dev (libsodium 1.0.18):
  *
- *     cc program.c embed/c/client.c embed/c/client_*.c -Iinclude -Iembed/c embed/out/libconiks.a -lsodium
+ *     cd embed/c && cc program.c client.c client_ecvrf.c client_messages.c client_policy.c client_replies.c client_state.c \
+ *         client_texts.c client_watch.c -I../../include ../out/libconiks.a -lsodium
  */
 #ifndef CONIKS_CLIENT_H
 #define CONIKS_CLIENT_H

@@ -329,6 +329,9 @@ fn evidence_names_both_entries() {
         refusal.to_string(),
         "the signed entry and one of the chain convict the provider: keep the evidence, and publish it"
     );
+    let reply = [&[1][..], &entry_of(2, 0, [0; 32]), &[0, 0]].concat();
+    let cause = client.lookup("alice", &reply, Some(9)).unwrap_err().cause;
+    assert_eq!(cause, Cause::Equivocation, "evidence comes before an unknown epoch");
     let later = entry_of(5, 3, [9; 32]);
     let refusal = client.feed([&later]).unwrap_err();
     assert_eq!((refusal.cause, refusal.status, refusal.evidence), (Cause::PreviousLink, Some(Error::PreviousLink), None));

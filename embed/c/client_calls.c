@@ -1,0 +1,380 @@
+/*
+ * Calls of the client in C, over the examples of docs/FORMATS.md: what its callers can do wrong, what is written after an error,
+ * and lengths that nothing follows. Prints each check that fails. The exit status is 0 if none does.
+ */
+#include <stdio.h>
+#include <stdlib.h>
+#include <string.h>
+
+#include "client.h"
+#include "client_examples.h"
+
+enum { ROOM = 1 << 17 };
+
+static int failures;
+
+#define CHECK(is_well) check((is_well), #is_well, __LINE__)
+
+static void check(int is_well, const char *what, int line)
+{
+    if (is_well)
+        return;
+    printf("FAILED: line %d: %s\n", line, what);
+    failures++;
+}
+
+/* How much is allocated at most at once, and what a scheme returns. */
+struct told {
+    size_t largest;
+    uint64_t now;
+    int result;
+};
+
+static void *allocate(void *context, size_t size)
+{
+    struct told *told = context;
+    if (size > told->largest)
+        told->largest = size;
+    return malloc(size);
+}
+
+static void release(void *context, void *block)
+{
+    (void)context;
+    free(block);
+}
+
+static uint64_t clock_of(void *context)
+{
+    return ((const struct told *)context)->now;
+}
+
+static int verify(void *context, const uint8_t *body, const uint8_t *signature)
+{
+    (void)body;
+    (void)signature;
+    return ((const struct told *)context)->result;
+}
+
+static int find(void *context, const uint8_t *name, size_t name_length, const uint8_t *proof, size_t proof_length,
+                coniks_bytes32 *index)
+{
+    (void)name;
+    (void)name_length;
+    (void)proof;
+    (void)proof_length;
+    memset(index, 7, sizeof *index);
+    return ((const struct told *)context)->result;
+}
+
+static size_t read_digits(const char *digits, uint8_t *bytes)
+{
+    size_t i, length = strlen(digits) / 2;
+    for (i = 0; i < length; i++) {
+        unsigned byte = 0;
+        if (sscanf(digits + 2 * i, "%2x", &byte) != 1)
+            exit(2);
+        bytes[i] = (uint8_t)byte;
+    }
+    return length;
+}
+
+static coniks_bytes32 signing_key, vrf_key;
+static uint8_t reply[ROOM], history[ROOM], state[ROOM];
+static size_t reply_length, history_length, state_length;
+
+#define NAME(text) (const uint8_t *)(text), strlen(text)
+
+static void begin_settings(coniks_client_settings *settings, struct told *told)
+{
+    memset(told, 0, sizeof *told);
+    told->now = START + PERIOD + 60;
+    coniks_client_begin_settings(settings);
+    settings->signing_key = &signing_key;
+    settings->vrf_key = &vrf_key;
+    settings->policy = (const uint8_t *)POLICY;
+    settings->policy_length = strlen(POLICY);
+    settings->memory.allocate = allocate;
+    settings->memory.release = release;
+    settings->memory.context = told;
+    settings->clock = clock_of;
+    settings->clock_context = told;
+}
+
+/* A client that goes on from the example's state, without its watched name. */
+static coniks_client *fed(struct told *told)
+{
+    coniks_client_settings settings;
+    coniks_client *client;
+    size_t accepted;
+    begin_settings(&settings, told);
+    CHECK(coniks_client_new(&client, &settings) == 0);
+    CHECK(coniks_client_catch_up(client, state + 37, CONIKS_ENTRY_BYTES, NULL, &accepted, NULL) == 0 && accepted == 1);
+    CHECK(coniks_client_feed(client, state + 37 + 218, CONIKS_ENTRY_BYTES, NULL, NULL) == 0);
+    return client;
+}
+
+static int is_zero(const void *bytes, size_t length)
+{
+    size_t i;
+    for (i = 0; i < length; i++) {
+        if (((const uint8_t *)bytes)[i])
+            return 0;
+    }
+    return 1;
+}
+
+/* What a lookup of alice returns; after an error all of the result must be zero. */
+static uint32_t look_up(coniks_client *client, const uint8_t *bytes, size_t length, const uint64_t *epoch)
+{
+    coniks_client_found found;
+    coniks_client_refusal why;
+    uint32_t status;
+    memset(&found, 0xff, sizeof found);
+    memset(&why, 0xff, sizeof why);
+    status = coniks_client_lookup(client, NAME("alice"), bytes, length, epoch, &found, &why);
+    CHECK(status == 0 || is_zero(&found, sizeof found));
+    CHECK((status == CONIKS_CLIENT_E_EQUIVOCATION || status == CONIKS_CLIENT_E_OTHER_POLICY) || is_zero(&why, sizeof why));
+    return status;
+}
+
+static void try_examples(void)
+{
+    struct told told;
+    coniks_client *client = fed(&told);
+    coniks_client_found found[3];
+    size_t count = 7;
+    uint64_t epoch = 9, missing[2];
+    CHECK(coniks_client_lookup(client, NAME("alice"), reply, reply_length, NULL, &found[0], NULL) == 0);
+    CHECK(found[0].shows == CONIKS_CLIENT_KEY && found[0].key == reply + 370 && found[0].key_length == 1);
+    CHECK(found[0].epoch == 2 && found[0].has_age && found[0].age == 60 && found[0].first_seen == told.now);
+    CHECK(look_up(client, reply, reply_length, &epoch) == CONIKS_CLIENT_E_UNKNOWN_EPOCH);
+    epoch = 1;
+    CHECK(coniks_client_watch(client, NAME("alice"), (const uint8_t *)"K", 1, &epoch) == 0);
+    CHECK(coniks_client_missing(client, missing, 1) == 2 && missing[0] == 1);
+    CHECK(coniks_client_history(client, NAME("alice"), history, history_length, found, 1, &count) == CONIKS_CLIENT_E_ROOM);
+    CHECK(count == 0 && is_zero(found, sizeof found[0]) && coniks_client_missing(client, NULL, 0) == 2);
+    CHECK(coniks_client_history(client, NAME("alice"), history, history_length, found, 2, &count) == 0 && count == 2);
+    CHECK(found[0].epoch == 1 && found[1].epoch == 2 && found[0].seen == CONIKS_CLIENT_KEY_CHANGED);
+    CHECK(found[0].key == history + 137 && found[1].key == history + 137 && found[1].key_length == 1);
+    coniks_client_free(client);
+}
+
+static void try_state(void)
+{
+    static uint8_t again[ROOM];
+    coniks_client_settings settings;
+    struct told told;
+    coniks_client *client;
+    size_t length, at;
+    begin_settings(&settings, &told);
+    CHECK(coniks_client_resume(&client, &settings, state, state_length) == 0);
+    memset(again, 0xaa, sizeof again);
+    CHECK(coniks_client_state(client, again, state_length - 1, &length) == CONIKS_CLIENT_E_ROOM);
+    CHECK(length == state_length && again[0] == 0xaa);
+    CHECK(coniks_client_state(client, again, state_length, &length) == 0);
+    CHECK(length == state_length && memcmp(again, state, length) == 0);
+    CHECK(coniks_client_count(client) == 2 && memcmp(coniks_client_entry(client, 1), state + 255, CONIKS_ENTRY_BYTES) == 0);
+    CHECK(coniks_client_entry(client, 2) == NULL && coniks_client_entry(client, SIZE_MAX) == NULL);
+    coniks_client_free(client);
+    for (at = 0; at < state_length; at++) {
+        uint32_t wanted = at < 70 ? CONIKS_CLIENT_E_STATE_LENGTH : CONIKS_CLIENT_E_STATE_DAMAGED;
+        CHECK(coniks_client_resume(&client, &settings, state, at) == wanted && client == NULL);
+        again[at] ^= 1;
+        wanted = at ? CONIKS_CLIENT_E_STATE_DAMAGED : CONIKS_CLIENT_E_STATE_VERSION;
+        CHECK(coniks_client_resume(&client, &settings, again, state_length) == wanted && client == NULL);
+        again[at] ^= 1;
+    }
+    CHECK(coniks_client_resume(&client, &settings, NULL, 0) == CONIKS_CLIENT_E_STATE_LENGTH);
+}
+
+static void try_lengths(void)
+{
+    static uint8_t other[ROOM];
+    struct told told;
+    coniks_client *client = fed(&told);
+    coniks_client_found found[2];
+    size_t size, count;
+    for (size = 0; size < reply_length; size++)
+        CHECK(look_up(client, reply, size, NULL) != 0);
+    CHECK(look_up(client, NULL, 0, NULL) == CONIKS_CLIENT_E_NO_REPLY);
+    memcpy(other, reply, reply_length);
+    memset(other + 210, 0xff, 2);
+    CHECK(look_up(client, other, reply_length, NULL) == CONIKS_CLIENT_E_CUT_IN_VRF);
+    CHECK(look_up(client, other, 212 + 65535, NULL) == CONIKS_CLIENT_E_VRF_PROOF);
+    memcpy(other, reply, reply_length);
+    memset(other + 366, 0xff, 4);
+    CHECK(look_up(client, other, reply_length, NULL) == CONIKS_E_CUT_IN_KEY);
+    memcpy(other, history, history_length);
+    memset(other + 133, 0xff, 4);
+    CHECK(coniks_client_history(client, NAME("alice"), other, history_length, found, 2, &count) == CONIKS_CLIENT_E_CUT_IN_STEP);
+    CHECK(coniks_client_history(client, NAME("alice"), NULL, 0, found, 2, &count) == CONIKS_CLIENT_E_NO_HISTORY);
+    CHECK(coniks_client_catch_up(client, other, 208, NULL, &count, NULL) == CONIKS_CLIENT_E_CATCH_UP_LENGTH && count == 0);
+    CHECK(coniks_client_catch_up(client, NULL, 0, NULL, &count, NULL) == 0 && count == 0);
+    CHECK(coniks_client_feed(client, NULL, 0, NULL, NULL) == CONIKS_E_ENTRY_LENGTH);
+    CHECK(told.largest < 1 << 14);
+    coniks_client_free(client);
+}
+
+/* Only 1 is the result of a scheme that accepts. */
+static void try_schemes(void)
+{
+    static const int results[] = {0, 2, -1, 256, 1 << 16, -2147483647};
+    coniks_client_settings settings;
+    struct told told;
+    coniks_client *client;
+    coniks_client_evidence evidence;
+    uint64_t epoch = 2;
+    size_t i;
+    for (i = 0; i < sizeof results / sizeof results[0]; i++) {
+        begin_settings(&settings, &told);
+        settings.signatures.verify = verify;
+        settings.signatures.context = &told;
+        settings.indices.index = find;
+        settings.indices.context = &told;
+        CHECK(coniks_client_new(&client, &settings) == 0);
+        told.result = results[i];
+        CHECK(coniks_client_feed(client, state + 37, CONIKS_ENTRY_BYTES, NULL, NULL) == CONIKS_E_SIGNATURE);
+        CHECK(coniks_client_evidence_of(client, state + 37, CONIKS_ENTRY_BYTES, &evidence) == CONIKS_E_SIGNATURE);
+        CHECK(coniks_client_count(client) == 0 && is_zero(&evidence, sizeof evidence));
+        told.result = 1;
+        CHECK(coniks_client_feed(client, state + 37, CONIKS_ENTRY_BYTES, NULL, NULL) == 0);
+        CHECK(coniks_client_feed(client, state + 255, CONIKS_ENTRY_BYTES, NULL, NULL) == 0);
+        CHECK(coniks_client_evidence_of(client, state + 255, CONIKS_ENTRY_BYTES, &evidence) == CONIKS_NO_EVIDENCE);
+        CHECK(look_up(client, reply, reply_length, &epoch) == CONIKS_E_ROOT_MISMATCH);
+        told.result = results[i];
+        CHECK(look_up(client, reply, reply_length, &epoch) == CONIKS_CLIENT_E_VRF_PROOF);
+        coniks_client_free(client);
+    }
+}
+
+/* An entry with the example's policy digest, signed by nobody. */
+static void make(uint64_t epoch, uint64_t previous_epoch, uint8_t *entry)
+{
+    coniks_body body;
+    coniks_bytes145 bytes;
+    memset(&body, 0, sizeof body);
+    body.version = 1;
+    body.epoch = epoch;
+    body.previous_epoch = previous_epoch;
+    memcpy(body.policy.bytes, state + 1, 32);
+    coniks_body_bytes(&body, &bytes);
+    memcpy(entry, bytes.bytes, CONIKS_BODY_BYTES);
+    memset(entry + CONIKS_BODY_BYTES, 0, CONIKS_SIGNATURE_BYTES);
+}
+
+static void try_evidence(void)
+{
+    uint8_t first[CONIKS_ENTRY_BYTES], other[1 + CONIKS_ENTRY_BYTES + 2] = {1};
+    coniks_client_settings settings;
+    coniks_client_refusal why;
+    coniks_client_found found;
+    struct told told;
+    coniks_client *client;
+    uint64_t unknown = 9;
+    begin_settings(&settings, &told);
+    settings.signatures.verify = verify;
+    settings.signatures.context = &told;
+    told.result = 1;
+    CHECK(coniks_client_new(&client, &settings) == 0);
+    make(3, 0, first);
+    make(2, 0, other + 1);
+    CHECK(coniks_client_feed(client, first, sizeof first, NULL, &why) == 0 && is_zero(&why, sizeof why));
+    CHECK(coniks_client_feed(client, other + 1, sizeof first, NULL, &why) == CONIKS_CLIENT_E_EQUIVOCATION);
+    CHECK(why.status == CONIKS_E_NOT_LATER && why.evidence.kind == CONIKS_OVERLAP);
+    CHECK(memcmp(why.evidence.mine, first, sizeof first) == 0 && memcmp(why.evidence.other, other + 1, sizeof first) == 0);
+    CHECK(coniks_client_lookup(client, NAME("alice"), other, sizeof other, &unknown, &found, &why) ==
+          CONIKS_CLIENT_E_EQUIVOCATION);
+    CHECK(why.status == 0 && why.evidence.kind == CONIKS_OVERLAP && is_zero(&found, sizeof found));
+    make(5, 3, other + 1);
+    CHECK(coniks_client_feed(client, other + 1, sizeof first, NULL, &why) == CONIKS_E_PREVIOUS_LINK);
+    CHECK(is_zero(&why, sizeof why) && coniks_client_count(client) == 1);
+    coniks_client_free(client);
+}
+
+static void try_misuse(void)
+{
+    static const uint8_t long_name[256] = {'a'};
+    const uint8_t *k = (const uint8_t *)"k", *new_key = (const uint8_t *)"K";
+    struct told told;
+    coniks_client *client = fed(&told);
+    uint64_t second = 2;
+    CHECK(coniks_client_expect(client, k, 1, 9) == CONIKS_CLIENT_E_NOT_WATCHING);
+    CHECK(coniks_client_watch(client, NULL, 0, k, 1, NULL) == CONIKS_CLIENT_E_NAME);
+    CHECK(coniks_client_watch(client, long_name, sizeof long_name, k, 1, NULL) == CONIKS_CLIENT_E_NAME);
+    CHECK(coniks_client_watch(client, NAME("alice"), k, 0, NULL) == CONIKS_CLIENT_E_EXPECTED_KEY);
+    CHECK(coniks_client_watch(client, NAME("alice"), NULL, 1, NULL) == CONIKS_CLIENT_E_EXPECTED_KEY);
+    CHECK(coniks_client_watch(client, NAME("alice"), k, 1, NULL) == 0);
+    CHECK(coniks_client_watch(client, NAME("alice"), k, 1, &second) == 0);
+    CHECK(coniks_client_watch(client, NAME("bob"), k, 1, NULL) == CONIKS_CLIENT_E_OTHER_WATCH);
+    CHECK(coniks_client_expect(client, k, 1, 9) == CONIKS_CLIENT_E_SAME_KEY);
+    CHECK(coniks_client_expect(client, new_key, 1, 2) == CONIKS_CLIENT_E_NOT_LATER);
+    CHECK(coniks_client_expect(client, new_key, 1, 3) == 0);
+    CHECK(coniks_client_expect(client, NULL, 0, 9) == CONIKS_CLIENT_E_CHANGE_OPEN);
+    coniks_client_free(client);
+}
+
+static void try_settings(void)
+{
+    coniks_client_settings settings;
+    coniks_client_head head;
+    struct told told;
+    coniks_client *client;
+    coniks_bytes32 digest;
+    begin_settings(&settings, &told);
+    settings.policy_length--;
+    CHECK(coniks_client_new(&client, &settings) == CONIKS_CLIENT_E_POLICY_FORM && client == NULL);
+    settings.policy = NULL;
+    CHECK(coniks_client_new(&client, &settings) == CONIKS_CLIENT_E_POLICY_FORM && client == NULL);
+    memcpy(digest.bytes, state + 1, 32);
+    settings.policy_digest = &digest;
+    told.now = UINT64_MAX;
+    CHECK(coniks_client_new(&client, &settings) == 0);
+    CHECK(coniks_client_latest(client, &head) == CONIKS_E_NO_ENTRY && is_zero(&head, sizeof head));
+    CHECK(coniks_client_feed(client, state + 37, CONIKS_ENTRY_BYTES, NULL, NULL) == 0);
+    CHECK(coniks_client_feed(client, state + 255, CONIKS_ENTRY_BYTES, NULL, NULL) == 0);
+    CHECK(look_up(client, reply, reply_length, NULL) == 0);
+    coniks_client_free(client);
+    begin_settings(&settings, &told);
+    settings.signing_key = NULL;
+    CHECK(coniks_client_new(&client, &settings) == CONIKS_CLIENT_E_SIGNING_KEY && client == NULL);
+    CHECK(coniks_client_vouched(&client, &settings, NULL, 0, NULL, 0, 0, NULL) == CONIKS_CLIENT_E_SIGNING_KEY);
+    settings.signing_key = &signing_key;
+    CHECK(coniks_client_vouched(&client, &settings, NULL, 0, NULL, 0, 0, NULL) == CONIKS_CLIENT_E_LEAST && client == NULL);
+    settings.vrf_key = NULL;
+    CHECK(coniks_client_new(&client, &settings) == CONIKS_CLIENT_E_POLICY_KEYS && client == NULL);
+    coniks_client_free(NULL);
+}
+
+static void try_texts(void)
+{
+    uint8_t text[160], cut[5];
+    uint32_t status;
+    for (status = 64; status <= CONIKS_CLIENT_E_SODIUM; status++) {
+        size_t length = coniks_client_text(status, text, sizeof text);
+        CHECK(length < sizeof text && strlen((const char *)text) == length);
+        CHECK(coniks_client_text(status, cut, sizeof cut) == length && (length < 4 || memcmp(cut, text, 4) == 0) &&
+              cut[4] == 0);
+        CHECK(coniks_client_text(status, NULL, 0) == length);
+    }
+    CHECK(coniks_client_text(CONIKS_CLIENT_E_MEMORY, text, sizeof text) == 13 && strcmp((char *)text, "out of memory") == 0);
+    CHECK(coniks_client_text(CONIKS_E_ROOT_MISMATCH, text, sizeof text) > 0 && coniks_client_text(200, text, sizeof text) == 0);
+}
+
+int main(void)
+{
+    read_digits(SIGNING_KEY, signing_key.bytes);
+    read_digits(VRF_KEY, vrf_key.bytes);
+    reply_length = read_digits(REPLY, reply);
+    history_length = read_digits(HISTORY, history);
+    state_length = read_digits(STATE, state);
+    try_examples();
+    try_state();
+    try_lengths();
+    try_schemes();
+    try_evidence();
+    try_misuse();
+    try_settings();
+    try_texts();
+    return failures ? 1 : 0;
+}
