@@ -44,7 +44,7 @@ def sources() -> list[Path]:
 
 def compiled(tell: Tell, program: Path, name: str, *more: str, compiler: str = tools.CC) -> Optional[Path]:
     """A program over the client, or None if there is a warning."""
-    words = [compiler, *WARNED, *more, f"-I{TOP / 'include'}", HERE / f"c/{name}.c", *sources(), "-o", program, ARCHIVE]
+    words: list[Word] = [compiler, *WARNED, *more, f"-I{TOP / 'include'}", HERE / f"c/{name}.c", *sources(), "-o", program, ARCHIVE]
     ran = run(*words, "-lsodium")
     tell(f"{name}.c by {compiler} {' '.join(more)}", ran.returncode == 0, ran.stderr.decode()[-3000:])
     return program if ran.returncode == 0 else None
