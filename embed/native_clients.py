@@ -1,4 +1,4 @@
-"""Builds the client in C and tries it, for embed/test; and tries the programs of a client in C or Rust, for embed/sides.py too."""
+"""Tries the client in C, for embed/test, and the examples of the clients in C and Rust. The cases of both are tried by embed/clients."""
 
 from __future__ import annotations
 
@@ -50,7 +50,7 @@ def compiled(tell: Tell, program: Path, name: str, *more: str, compiler: str = t
     return program if ran.returncode == 0 else None
 
 
-def try_program(tell: Tell, skip: Skip, what: str, words: Sequence[Word], alterations: int = 200) -> None:
+def try_program(tell: Tell, skip: Skip, what: str, words: Sequence[Word], alterations: int) -> None:
     """All cases over the program of a client, and alterations and walks beside the second implementation."""
     if tools.SIGNING_PYTHON is None:
         return skip(f"the cases of {what}", "PyNaCl")
@@ -105,14 +105,11 @@ def has_sanitizers(room: Path) -> bool:
 
 
 def try_c(tell: Tell, skip: Skip, room: Path) -> None:
-    """The client in C, with each allocation refused in turn, under the sanitizers and under valgrind."""
+    """The client in C, under the sanitizers and under valgrind."""
     if not tools.has("libsodium"):
         return skip("the client in C", "libsodium")
     room.mkdir()
     plain = compiled(tell, room / "plain", "client_answers", "-O2")
-    if plain:
-        try_program(tell, skip, "the client in C", [plain])
-        try_program(tell, skip, "the client in C, with allocations that fail", [plain, "refusing"], 20)
     if has_sanitizers(room):
         sanitized = compiled(tell, room / "sanitized", "client_answers", *SANITIZED)
         if sanitized:

@@ -436,12 +436,10 @@ def try_dropped(tell: Tell, here: Path, features: Sequence[str]) -> None:
 
 
 def try_rust_client(tell: Tell, skip: Skip, here: Path) -> None:
-    """The client in Rust, which is built where libsodium is there."""
+    """The example of the client in Rust, which is built where libsodium is there."""
     if not tools.has("libsodium"):
         return skip("the client in Rust", "libsodium")
-    examples = here / "rust/target/debug/examples"
-    native_clients.try_program(tell, skip, "the client in Rust", [examples / "client_answers"])
-    native_clients.try_example(tell, "the client's example in Rust", examples / "client")
+    native_clients.try_example(tell, "the client's example in Rust", here / "rust/target/debug/examples/client")
 
 
 def try_rust(tell: Tell, skip: Skip, here: Path, example: Example, requests: Sequence[Request]) -> None:
