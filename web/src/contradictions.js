@@ -4,7 +4,7 @@ import { toHex } from "./bytes.js";
 import { element, nameBox, sentence } from "./elements.js";
 import { evidenceWords } from "./evidence.js";
 import { epochWords } from "./rows.js";
-import { keyText } from "./words.js";
+import { capital, keyText } from "./words.js";
 
 /**
  * @typedef {import("./reading.js").LookupRow} LookupRow
@@ -27,7 +27,7 @@ function said(title, words, lines, name) {
 /** Two signed entries that one chain can't have. @param {Evidence} found @returns {HTMLElement} */
 export function equivocation(found) {
   const lines = [...new Set([found.a, found.b])].map((it) => JSON.stringify({ entry: toHex(it.entry) }));
-  return said("The provider equivocated", [`${evidenceWords(found)}. The signatures are valid under this key, so the entries convict its owner: keep and publish them.`], lines, "evidence.jsonl");
+  return said("The provider equivocated", [`${capital(evidenceWords(found))}. The signatures are valid under this key, so the entries convict its owner: keep and publish them.`], lines, "evidence.jsonl");
 }
 
 /** @param {LookupRow} row @returns {string} */
@@ -37,7 +37,7 @@ function answer(row) {
 
 /** Two lookups of one name and epoch with different answers. @param {LookupRow} a @param {LookupRow} b @returns {HTMLElement} */
 export function twoAnswers(a, b) {
-  const why = a.link === b.link ? "Both are of one entry at two indices: one of them isn't the name's" : "They are of two entries of this epoch: one chain has one of them";
+  const why = a.link === b.link ? "Both are of one entry at two indices: one of them isn't the name's" : "They are of two entries of this epoch: one chain has only one of them";
   const words = [nameBox(a.name ?? ""), `${epochWords(a)} is ${answer(a)} in line ${a.number}, and ${answer(b)} in line ${b.number}. ${why}.`];
   return said("Two lines contradict each other", words, [a.text, b.text], "contradiction.jsonl");
 }

@@ -3,7 +3,7 @@
 import { nameBox } from "./elements.js";
 import { LONGEST } from "./lines.js";
 import { isOtherEpoch } from "./reading.js";
-import { counting, keyText } from "./words.js";
+import { capital, counting, keyText } from "./words.js";
 
 /**
  * @typedef {import("./reading.js").Row} Row
@@ -115,11 +115,6 @@ export class Teller {
     if (row.what === "other") return ["neither a lookup nor an entry"];
     return [row.fault === "Json" ? "refused: the line isn't a JSON object" : `refused: the line is longer than ${LONGEST} bytes`];
   }
-}
-
-/** @param {string} text */
-function capital(text) {
-  return text.slice(0, 1).toUpperCase() + text.slice(1);
 }
 
 /** What is in front of what is seen, if the lookup is not authentic. @type {Record<string, string>} */

@@ -117,6 +117,11 @@ export function counting(count, one, many = `${one}s`) {
   return `${count} ${count === 1 ? one : many}`;
 }
 
+/** A text that begins a sentence. @param {string} text @returns {string} */
+export function capital(text) {
+  return text.slice(0, 1).toUpperCase() + text.slice(1);
+}
+
 /** The first and last digits of a hash. @param {string} digits @returns {string} */
 export function short(digits) {
   return digits.length > 14 ? `${digits.slice(0, 8)}…${digits.slice(-4)}` : digits;
