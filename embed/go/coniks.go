@@ -2,7 +2,8 @@
 // monitors names. Its Provider is the other side: it runs a directory by the program `provider`.
 //
 // The client's side calls the proved C library and decides nothing itself. It verifies no signatures: verify each one and pass
-// the result. Build the library first with embed/build. A Provider needs neither the library nor cgo.
+// the result, or use the module example.org/coniks/client, which takes all steps of a lookup. Build the library first with
+// embed/build. A Provider needs neither the library nor cgo.
 package coniks
 
 /*

@@ -133,6 +133,8 @@ func (it *Settings) index(name string) (index [32]byte, err error) {
 // minute. Lookups wait for it, at most Timeout. A Commit that waits for its answer returns ErrProgramFailed; the update is
 // pending if Pending returns it.
 //
+// Reply, CatchUp and History return what a service sends to clients.
+//
 // A call whose context is done returns ctx.Err(). A Commit, Retry, Abandon or Restart that has begun goes on to its end without
 // its caller: Latest and Pending show what became of it. All calls can be used from several goroutines.
 type Provider struct {

@@ -83,7 +83,8 @@ func TestExamplesOfMessages(t *testing.T) {
 	}
 }
 
-func TestParts(t *testing.T) {
+// The parts of messages, those without VRF among them.
+func TestPartsOfMessages(t *testing.T) {
 	it, wanted := newExamples(t)
 	header := []byte{1, 0, 0}
 	for _, numbers := range [][2]uint64{{2, 1}, {3, 9}, {0, 0}} {
@@ -149,4 +150,45 @@ func TestErrorsOfReplies(t *testing.T) {
 	it.wants(err, ErrClosed)
 	_, err = provider.History(background, "alice", nil, 1, 2)
 	it.wants(err, ErrClosed)
+}
+
+// What two steps have in common is sent once: after an epoch without a change there is nothing to send.
+func TestHistoryWithoutChanges(t *testing.T) {
+	it := newDirectory(t)
+	var operations []Operation
+	for number := 0; number < 40; number++ {
+		operations = append(operations, Register(strings.Repeat("x", number+1), []byte("key")))
+	}
+	it.commit(1, operations...)
+	it.commit(2)
+	it.commit(4)
+	reply, err := it.provider.Reply(background, "x", nil, 1)
+	it.good(err)
+	proof := reply[1+209+2:]
+	count := int(proof[2])
+	if proof[0] != 2 || count == 0 {
+		t.Fatalf("%x", proof)
+	}
+	sent := make([]byte, (count+7)/8)
+	for at := 0; at < count; at++ {
+		sent[at/8] |= 0x80 >> (at % 8)
+	}
+	wanted := bytes.Join([][]byte{{1, 0, 0}, {0, 0, 0, 0, 0, 0, 0, 1}, proof[:3], sent, proof[3:]}, nil)
+	for _, epoch := range []byte{2, 4} {
+		wanted = bytes.Join([][]byte{wanted, {0, 0, 0, 0, 0, 0, 0, epoch}, {3}, proof[1:3], make([]byte, len(sent))}, nil)
+	}
+	if history, err := it.provider.History(background, "x", nil, 1, 4); err != nil || !bytes.Equal(history, wanted) {
+		t.Errorf("%x, %v, wanted %x", history, err, wanted)
+	}
+}
+
+// The first step has an end also if that has no byte.
+func TestHistoryInAnEmptyDirectory(t *testing.T) {
+	it := newDirectory(t)
+	it.commit(1)
+	it.commit(2)
+	wanted := []byte{1, 0, 0, 0, 0, 0, 0, 0, 0, 0, 1, 0, 0, 0, 0, 0, 0, 0, 0, 0, 0, 2, 3, 0, 0}
+	if history, err := it.provider.History(background, "x", nil, 1, 2); err != nil || !bytes.Equal(history, wanted) {
+		t.Errorf("%x, %v", history, err)
+	}
 }

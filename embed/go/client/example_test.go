@@ -1,0 +1,58 @@
+package client_test
+
+import (
+	"encoding/hex"
+	"encoding/json"
+	"fmt"
+	"log"
+	"os"
+	"time"
+
+	"example.org/coniks"
+	"example.org/coniks/client"
+)
+
+func good(err error) {
+	if err != nil {
+		log.Fatal(err)
+	}
+}
+
+// The directory of docs/FORMATS.md: what it publishes, and what its service sends.
+type directory struct{ Policy, Reply, History, State string }
+
+// bytes is what the service sends.
+func bytes(digits string) []byte {
+	bytes, err := hex.DecodeString(digits)
+	good(err)
+	return bytes
+}
+
+// A client goes on from its state, looks its own name up, and asks for the epochs that are missing.
+func ExampleResume() {
+	var sent directory
+	text, err := os.ReadFile("../testdata/messages.json")
+	good(err)
+	good(json.Unmarshal(text, &sent))
+	policy, err := coniks.ReadPolicy([]byte(sent.Policy))
+	good(err)
+	it, err := client.Resume(client.Settings{
+		SigningKey: policy.SigningKey[:], VRFKey: policy.VRFKey[:], Policy: &policy,
+		Clock: func() time.Time { return time.Unix(1767229260, 0) }, // leave it out for the present time
+	}, bytes(sent.State))
+	good(err)
+	found, err := it.Lookup("alice", bytes(sent.Reply))
+	good(err)
+	fmt.Printf("epoch %d, key %s, %v, began %v ago\n", found.Epoch, found.Key, found.Seen, found.Age)
+	fmt.Println("missing:", it.Missing())
+	_, err = it.History("alice", bytes(sent.History))
+	good(err)
+	fmt.Println("missing:", it.Missing())
+	_, err = it.Lookup("bob", bytes(sent.Reply))
+	fmt.Println(err)
+	// Output:
+	// epoch 2, key k, same, began 1m0s ago
+	// missing: [1]
+	// missing: []
+	// the VRF proof is not one of this name: ask for the reply again
+}
