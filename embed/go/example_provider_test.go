@@ -17,6 +17,9 @@ import (
 // In place of this put the output of a verifiable random function (VRF), which only its secret key predicts.
 func index(name string) ([32]byte, error) { return sha256.Sum256([]byte(name)), nil }
 
+// A directory without a VRF has the proof of no byte.
+func vrfProof(name string) []byte { return nil }
+
 func good(err error) {
 	if err != nil {
 		log.Fatal(err)
@@ -50,12 +53,10 @@ func ExampleStartProvider() {
 	good(err)
 	_, err = directory.Commit(ctx, epoch, []coniks.Operation{coniks.Register("alice", key)}, nil)
 	good(err)
-	found, err := directory.Lookup(ctx, "alice", 0)
-	good(err)
-	proof, err := coniks.ProofBytes(found.Proof)
+	reply, err := directory.Reply(ctx, "alice", vrfProof("alice"), 0) // for a client, as are CatchUp and History
 	good(err)
 
-	fmt.Println(len(found.Entry), len(proof))
+	fmt.Println(len(reply))
 }
 
 // A guard signs one first body of a directory, and no second one.

@@ -102,7 +102,7 @@ func TestProofBytesOfALookup(t *testing.T) {
 	}
 }
 
-// The code of the README is that of ExampleStartProvider.
+// The code of the README's section on directories is that of ExampleStartProvider.
 func TestReadme(t *testing.T) {
 	readme, err := os.ReadFile("README.md")
 	if err != nil {
@@ -112,7 +112,8 @@ func TestReadme(t *testing.T) {
 	if err != nil {
 		t.Fatal(err)
 	}
-	_, code, _ := strings.Cut(string(readme), "```go\n")
+	_, code, _ := strings.Cut(string(readme), "## A directory\n")
+	_, code, _ = strings.Cut(code, "```go\n")
 	code, _, _ = strings.Cut(code, "```")
 	indented := strings.ReplaceAll("\n"+strings.TrimSuffix(code, "\n"), "\n", "\n\t")
 	if len(code) < 100 || !strings.Contains(string(example), indented+"\n") {

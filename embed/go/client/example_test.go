@@ -28,6 +28,24 @@ func bytes(digits string) []byte {
 	return bytes
 }
 
+// A client looks a name up.
+func ExampleNew() {
+	// What the directory publishes, what its service sends, and the key of the owner of the name.
+	var document, catchUp, reply, myKey []byte
+
+	policy, err := coniks.ReadPolicy(document) // what the directory publishes
+	good(err)
+	it, err := client.New(client.Settings{SigningKey: policy.SigningKey[:], VRFKey: policy.VRFKey[:], Policy: &policy})
+	good(err)
+	_, err = it.FeedCatchUp(catchUp) // all entries since the last one
+	good(err)
+	found, err := it.Lookup("alice", reply) // nil with an error
+	good(err)
+	fmt.Printf("%x\n", found.Key)                        // nil if alice has no key
+	good(it.Watch("alice", myKey))                       // my own name: found.Seen is Same, Changed or Absent
+	good(os.WriteFile("alice.state", it.State(), 0o600)) // and then client.Resume
+}
+
 // A client goes on from its state, looks its own name up, and asks for the epochs that are missing.
 func ExampleResume() {
 	var sent directory
