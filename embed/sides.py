@@ -362,6 +362,10 @@ def try_go_client_example(tell: Tell, here: Path) -> None:
     if not program.exists():
         return tell("the example of the client in Go", False, f"{program} is missing")
     wanted = json.loads((data / "messages.json").read_text("utf-8"))
+    page = "".join((TOP / "docs/FORMATS.md").read_text("utf-8").split())
+    tell("messages.json has the examples of docs/FORMATS.md", all(wanted[it] in page for it in ("reply", "history", "state")))
+    vectors = (TOP / "examples/provider/vectors.json", here / "go/client/testdata/vectors.json")
+    tell("the vectors for Go are those of examples/provider", vectors[0].read_bytes() == vectors[1].read_bytes())
     files = {it: here / f"{it}.bytes" for it in ("catch-up", "later", "reply", "other")}
     texts = ["".join(wanted["entries"]), "", wanted["reply"], wanted["reply"][:-2] + "6c"]
     for file, digits in zip(files.values(), texts):

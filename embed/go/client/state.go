@@ -11,8 +11,9 @@ import (
 // fixedBytes is the length of a state without epochs and watch.
 const fixedBytes = 1 + 32 + 4 + 1 + sha256.Size
 
-// State returns all that the client keeps: 70 bytes, 218 for each epoch, and those of the watched name. Store it after each call
-// that returned no error, and pass it to Resume. A state that is older than the client forgets what was accepted since.
+// State returns all that the client keeps, for Resume: 70 bytes, 218 for each epoch, and those of the watched name. Store it after
+// each call that may change it, also after an error: Feed keeps the entries before the one that it refuses. A client that goes on
+// from an older state has forgotten what was accepted since.
 func (it *Client) State() []byte {
 	it.mutex.Lock()
 	defer it.mutex.Unlock()
