@@ -5,12 +5,12 @@ from __future__ import annotations
 import json
 import os
 import shlex
-import subprocess
 import tempfile
 from pathlib import Path
-from typing import Any, Callable, Optional, Protocol, Sequence, Union
+from typing import Any, Optional, Sequence, Union
 
 import tools
+from running import Skip, Tell, run
 
 HERE = Path(__file__).resolve().parent
 TOP = HERE.parent
@@ -22,19 +22,7 @@ PROGRAMS = ["client_answers", "client_calls", "client_lookup"]
 # The lookup of which status is refused as too old, by the clock of the machine.
 STALE = "the latest epoch is too old by the policy's clock: feed a catch-up, or alarm"
 
-Skip = Callable[[str, str], None]
 Word = Union[str, Path]
-
-
-class Tell(Protocol):
-    """Counts one result: the type of `Tally.tell`."""
-
-    def __call__(self, what: str, is_well: object, why: object = "") -> None:
-        ...
-
-
-def run(*words: Word, **more: Any) -> subprocess.CompletedProcess[bytes]:
-    return subprocess.run([str(it) for it in words], capture_output=True, timeout=3000, **more)
 
 
 def sources() -> list[Path]:
