@@ -53,8 +53,8 @@ type Settings struct {
 	Clock func() time.Time
 }
 
-// Client is a client of one directory. All calls can be used from several goroutines, and are made one after another. A client must
-// not be copied: one of both would miss what the other is fed.
+// Client is a client of one directory. New, Resume and Vouched make one: its zero value can't be used. All calls can be used from
+// several goroutines, and are made one after another. A client must not be copied: one of both would miss what the other is fed.
 type Client struct {
 	mutex      sync.Mutex
 	signatures SignatureScheme
