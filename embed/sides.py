@@ -339,7 +339,7 @@ DROPPED_OF_CLIENTS = [
     'client.watch("alice", None, None);',
     "client.expect(None, 7);",
     'client.history("alice", b"");',
-    'let _ = client.lookup("alice", b"", None).map(|it| { it; });',
+    'client.lookup("alice", b"", None).unwrap();',
     "policy.digest();",
     "policy.epoch_at(7);",
 ]

@@ -216,6 +216,24 @@ static void try_lengths(void)
     coniks_client_free(client);
 }
 
+/* States with their digests, of which a length or a number is wrong. No length decides how much is allocated. */
+static void try_wrong_states(void)
+{
+    static uint8_t other[ROOM];
+    coniks_client_settings settings;
+    struct told told;
+    coniks_client *client;
+    size_t i, length;
+    memcpy(other, state, 33);
+    begin_settings(&settings, &told);
+    for (i = 0; i < sizeof NO_STATES / sizeof NO_STATES[0]; i++) {
+        length = 33 + read_digits(NO_STATES[i][0], other + 33);
+        length += read_digits(NO_STATES[i][1], other + length);
+        CHECK(coniks_client_resume(&client, &settings, other, length) == CONIKS_CLIENT_E_STATE_FORM && client == NULL);
+    }
+    CHECK(told.largest < 1 << 14);
+}
+
 /* Only 1 is the result of a scheme that accepts. */
 static void try_schemes(void)
 {
@@ -356,6 +374,10 @@ static void try_texts(void)
         CHECK(coniks_client_text(status, cut, sizeof cut) == length && (length < 4 || memcmp(cut, text, 4) == 0) &&
               cut[4] == 0);
         CHECK(coniks_client_text(status, NULL, 0) == length);
+        if (length == 0)
+            continue;
+        memset(text, 0xaa, sizeof text);
+        CHECK(coniks_client_text(status, text, length) == length && text[length - 1] == 0 && text[length] == 0xaa);
     }
     CHECK(coniks_client_text(CONIKS_CLIENT_E_MEMORY, text, sizeof text) == 13 && strcmp((char *)text, "out of memory") == 0);
     CHECK(coniks_client_text(CONIKS_E_ROOT_MISMATCH, text, sizeof text) > 0 && coniks_client_text(200, text, sizeof text) == 0);
@@ -370,6 +392,7 @@ int main(void)
     state_length = read_digits(STATE, state);
     try_examples();
     try_state();
+    try_wrong_states();
     try_lengths();
     try_schemes();
     try_evidence();

@@ -312,7 +312,6 @@ impl Client {
     }
 
     /// Returns the entries that are kept, in the order of the chain.
-    #[must_use]
     pub fn entries(&self) -> impl ExactSizeIterator<Item = &[u8; ENTRY_BYTES]> + '_ {
         self.kept.values().map(|it| &it.entry)
     }
