@@ -39,6 +39,10 @@
 
 #include "coniks.h"
 
+#ifdef __cplusplus
+extern "C" {
+#endif
+
 /* Why a client refuses something. The first block has the numbers of docs/FORMATS.md; the second is of this client alone. */
 enum coniks_client_status {
     CONIKS_CLIENT_E_NO_REPLY = 64,
@@ -311,5 +315,9 @@ uint32_t coniks_client_state(const coniks_client *client, uint8_t *state, size_t
 
 /* Writes the text of a status of coniks.h or of this client, as coniks_text does. No text is longer than 160 bytes. */
 size_t coniks_client_text(uint32_t status, uint8_t *text, size_t room);
+
+#ifdef __cplusplus
+}
+#endif
 
 #endif

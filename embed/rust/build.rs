@@ -26,8 +26,7 @@ fn link_sodium() {
             println!("cargo:rustc-link-search=native={folder}");
         }
     } else {
-        let compiler = env::var("CC").unwrap_or_else(|_| "cc".into());
-        let file = printed(&compiler, &["-print-file-name=libsodium.so"]).unwrap_or_default();
+        let file = printed("cc", &["-print-file-name=libsodium.so"]).unwrap_or_default();
         assert!(
             Path::new(file.trim()).is_absolute(),
             "libsodium is missing, which the feature `client` needs: install libsodium-dev"

@@ -163,6 +163,25 @@ fn limits_are_the_callers() {
 }
 
 #[test]
+fn a_limit_has_parts_of_a_second() {
+    let (client, time) = fed();
+    let (max_age, skew) = (Some(Duration::from_millis(60_250)), Duration::from_millis(300_250));
+    let settings = coniks::client::Settings { max_age, skew, ..time.settings() };
+    let mut client = Client::resume(keys(), policy(), &client.state(), settings).expect("a state");
+    let begins = 1000 * PERIOD;
+    for (milliseconds, wanted) in [
+        (begins - 300_251, Some(Cause::Future)),
+        (begins - 300_250, None),
+        (begins - 300_200, None),
+        (begins + 60_250, None),
+        (begins + 60_251, Some(Cause::Stale)),
+    ] {
+        time.set(milliseconds);
+        assert_eq!(client.lookup("alice", &bytes(REPLY), None).err().map(|it| it.cause), wanted, "{milliseconds}");
+    }
+}
+
+#[test]
 fn a_digest_has_no_clock() {
     let time = Time::default();
     time.set(u64::MAX / 2);

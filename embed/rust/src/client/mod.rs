@@ -26,7 +26,7 @@
 //! `skew` from now. Only a lookup of an epoch by its number may be older: ask for a number of your own, never for that of the
 //! reply. Without a clock, [`Found::first_seen`] says since when this client has had the entry.
 //!
-//! Each accepted entry is kept (about 500 bytes), until [`Client::cover`] is called with an auditor's head. Compare heads with
+//! Each accepted entry is kept (about 600 bytes), until [`Client::cover`] is called with an auditor's head. Compare heads with
 //! auditors and other clients by [`Client::compare`] and [`Client::evidence`].
 //!
 //! A client can't be copied: one of both would miss what the other is fed. No call panics, whatever its input is, unless memory is
