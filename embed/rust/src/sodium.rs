@@ -92,3 +92,34 @@ pub fn is_signed(key: &[u8; 32], message: &[u8], signature: &[u8; 64]) -> bool {
     // SAFETY: the slice, the signature and the key are there for the call.
     unsafe { c::crypto_sign_ed25519_verify_detached(signature, message.as_ptr(), message.len() as u64, key) == 0 }
 }
+
+#[cfg(test)]
+mod tests {
+    use super::*;
+
+    const fn number_of(least: u8) -> [u8; 32] {
+        let mut number = [0; 32];
+        number[0] = least;
+        number
+    }
+
+    /// The base point has the number y = 4/5 (RFC 8032, section 5.1). 2 is the number y of no point.
+    const BASE: [u8; 32] = {
+        let mut point = [0x66; 32];
+        point[0] = 0x58;
+        point
+    };
+    const NO_POINT: [u8; 32] = number_of(2);
+    const IDENTITY: [u8; 32] = number_of(1);
+
+    #[test]
+    fn a_result_of_no_point_is_none() {
+        assert_eq!((times_base(&number_of(1)), times(&number_of(1), &BASE)), (Some(BASE), Some(BASE)));
+        assert_eq!((times_base(&[0; 32]), times(&[0; 32], &BASE)), (None, None));
+        assert_eq!((times(&number_of(1), &NO_POINT), times(&number_of(1), &IDENTITY)), (None, None));
+        assert_eq!((add(&BASE, &IDENTITY), subtract(&BASE, &BASE)), (Some(BASE), Some(IDENTITY)));
+        assert_eq!((add(&BASE, &NO_POINT), add(&NO_POINT, &BASE)), (None, None));
+        assert_eq!((subtract(&BASE, &NO_POINT), subtract(&NO_POINT, &BASE)), (None, None));
+        assert!(is_point(&BASE) && !is_point(&NO_POINT) && !is_point(&IDENTITY));
+    }
+}

@@ -179,6 +179,23 @@ mod tests {
         }
     }
 
+    /// The number y = 3 of a point, and eight times that point by the second program in Python.
+    const POINT: (u8, &str) = (3, "804b91162dc636168b05aa12f2b5ff897a28fcceefba1a0cb45a150705696515");
+
+    #[test]
+    fn a_hash_is_a_point_if_it_encodes_one() {
+        let (y, eightfold) = POINT;
+        assert_eq!(hashed_point(&number_of(y)), Some(bytes32(eightfold)));
+        let mut not_reduced = PRIME;
+        not_reduced[0] += y;
+        assert_eq!(hashed_point(&not_reduced), None);
+        let mut order_of_two = PRIME;
+        order_of_two[0] -= 1;
+        for text in [PRIME, IDENTITY, order_of_two, number_of(2), [0; 32], [0xff; 32]] {
+            assert_eq!(hashed_point(&text), None);
+        }
+    }
+
     #[test]
     fn numbers_are_compared() {
         assert!(is_less(&number_of(1), &number_of(2)));
