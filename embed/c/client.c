@@ -254,7 +254,8 @@ static uint32_t verify_signature(const coniks_client *client, const uint8_t *ent
     if (own->verify)
         is_valid = own->verify(own->context, entry, entry + CONIKS_BODY_BYTES);
     else
-        is_valid = client_is_signature(&client->signing_key, entry, entry + CONIKS_BODY_BYTES);
+        is_valid =
+            client_is_signature(&client->signing_key, client_slice_of(entry, CONIKS_BODY_BYTES), entry + CONIKS_BODY_BYTES);
     return is_valid == 1 ? 0 : CONIKS_E_SIGNATURE;
 }
 

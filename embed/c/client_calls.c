@@ -6,8 +6,8 @@
 #include <stdlib.h>
 #include <string.h>
 
-#include "client.h"
 #include "client_examples.h"
+#include "client_parts.h"
 
 enum { ROOM = 1 << 17 };
 
@@ -383,6 +383,62 @@ static void try_texts(void)
     CHECK(coniks_client_text(CONIKS_E_ROOT_MISMATCH, text, sizeof text) > 0 && coniks_client_text(200, text, sizeof text) == 0);
 }
 
+/* The examples of RFC 9381, and each proof with one bit changed, with fewer bytes or with one more. */
+static void try_proofs(void)
+{
+    uint8_t input[2], proof[VRF_PROOF_BYTES + 1] = {0};
+    coniks_bytes32 key, output, index;
+    size_t i, bit, length;
+    for (i = 0; i < sizeof PROVED / sizeof PROVED[0]; i++) {
+        struct slice name = {input, read_digits(PROVED[i][1], input)};
+        read_digits(PROVED[i][0], key.bytes);
+        read_digits(PROVED[i][2], proof);
+        read_digits(PROVED[i][3], output.bytes);
+        CHECK(client_is_point(&key));
+        CHECK(client_verify_vrf(&key, name, client_slice_of(proof, VRF_PROOF_BYTES), &index) == 1);
+        CHECK(memcmp(&index, &output, sizeof index) == 0);
+        for (bit = 0; bit < 8 * VRF_PROOF_BYTES; bit++) {
+            proof[bit / 8] = (uint8_t)(proof[bit / 8] ^ 1 << bit % 8);
+            CHECK(client_verify_vrf(&key, name, client_slice_of(proof, VRF_PROOF_BYTES), &index) == 0);
+            proof[bit / 8] = (uint8_t)(proof[bit / 8] ^ 1 << bit % 8);
+        }
+        for (length = 0; length < sizeof proof; length++)
+            CHECK(client_verify_vrf(&key, name, client_slice_of(proof, length), &index) == (length == VRF_PROOF_BYTES));
+        CHECK(client_verify_vrf(&key, client_slice_of(key.bytes, 3), client_slice_of(proof, VRF_PROOF_BYTES), &index) == 0);
+    }
+}
+
+/* The signatures of RFC 8032, and each with one bit changed; keys that are no points of prime order. */
+static void try_signatures(void)
+{
+    /* Of order 1, 2, 4 and 8, not reduced, no point, and of mixed order. */
+    static const char *const wrong[] = {"0100000000000000000000000000000000000000000000000000000000000000",
+                                        "ecffffffffffffffffffffffffffffffffffffffffffffffffffffffffffff7f",
+                                        "0000000000000000000000000000000000000000000000000000000000000000",
+                                        "26e8958fc2b227b045c3f489f2ef98f0d5dfac05d3c63339b13802886d53fc05",
+                                        "eeffffffffffffffffffffffffffffffffffffffffffffffffffffffffffff7f",
+                                        "0200000000000000000000000000000000000000000000000000000000000000",
+                                        "16a567fe7d4ef5482ab4012c369bf8c5f11e8d0c2559dcda50fde59708f8aee5"};
+    uint8_t message[64], signature[64];
+    coniks_bytes32 key;
+    size_t i, bit;
+    for (i = 0; i < sizeof SIGNED / sizeof SIGNED[0]; i++) {
+        struct slice signed_bytes = {message, read_digits(SIGNED[i][1], message)};
+        read_digits(SIGNED[i][0], key.bytes);
+        read_digits(SIGNED[i][2], signature);
+        CHECK(client_is_point(&key) && client_is_signature(&key, signed_bytes, signature));
+        for (bit = 0; bit < 512; bit++) {
+            signature[bit / 8] = (uint8_t)(signature[bit / 8] ^ 1 << bit % 8);
+            CHECK(!client_is_signature(&key, signed_bytes, signature));
+            signature[bit / 8] = (uint8_t)(signature[bit / 8] ^ 1 << bit % 8);
+        }
+    }
+    for (i = 0; i < sizeof wrong / sizeof wrong[0]; i++) {
+        read_digits(wrong[i], key.bytes);
+        CHECK(!client_is_point(&key));
+    }
+}
+
 int main(void)
 {
     read_digits(SIGNING_KEY, signing_key.bytes);
@@ -390,6 +446,8 @@ int main(void)
     reply_length = read_digits(REPLY, reply);
     history_length = read_digits(HISTORY, history);
     state_length = read_digits(STATE, state);
+    try_proofs();
+    try_signatures();
     try_examples();
     try_state();
     try_wrong_states();

@@ -32,9 +32,9 @@ int client_is_point(const coniks_bytes32 *key)
     return crypto_core_ed25519_is_valid_point(key->bytes) == 1;
 }
 
-int client_is_signature(const coniks_bytes32 *key, const uint8_t *body, const uint8_t *signature)
+int client_is_signature(const coniks_bytes32 *key, struct slice message, const uint8_t *signature)
 {
-    return crypto_sign_ed25519_verify_detached(signature, body, CONIKS_BODY_BYTES, key->bytes) == 0;
+    return crypto_sign_ed25519_verify_detached(signature, message.bytes, message.length, key->bytes) == 0;
 }
 
 void client_hash_bytes(const uint8_t *bytes, size_t length, coniks_bytes32 *hash)

@@ -82,8 +82,8 @@ struct step {
 
 /* Returns whether 32 bytes are the encoding of a point of prime order. */
 CONIKS_NODISCARD int client_is_point(const coniks_bytes32 *key);
-/* Returns whether a signature of a body is valid under a key that client_is_point accepts. */
-CONIKS_NODISCARD int client_is_signature(const coniks_bytes32 *key, const uint8_t *body, const uint8_t *signature);
+/* Returns whether a signature of a message is valid under a key that client_is_point accepts. */
+CONIKS_NODISCARD int client_is_signature(const coniks_bytes32 *key, struct slice message, const uint8_t *signature);
 /* Returns 1 and writes the first 32 bytes of the output, if the proof is valid for the input and a key that client_is_point accepts. */
 CONIKS_NODISCARD int client_verify_vrf(const coniks_bytes32 *key, struct slice input, struct slice proof,
                                        coniks_bytes32 *index);
