@@ -408,6 +408,19 @@ static void try_proofs(void)
     }
 }
 
+static void try_challenges(void)
+{
+    uint8_t input[1], proof[VRF_PROOF_BYTES];
+    coniks_bytes32 key, index;
+    size_t i;
+    for (i = 0; i < sizeof CHALLENGES / sizeof CHALLENGES[0]; i++) {
+        struct slice name = {input, read_digits(PROVED[1][1], input)};
+        read_digits(PROVED[1][0], key.bytes);
+        read_digits(CHALLENGES[i], proof);
+        CHECK(client_verify_vrf(&key, name, client_slice_of(proof, sizeof proof), &index) == (i == 0));
+    }
+}
+
 /* The signatures of RFC 8032, and each with one bit changed; keys that are no points of prime order. */
 static void try_signatures(void)
 {
@@ -447,6 +460,7 @@ int main(void)
     history_length = read_digits(HISTORY, history);
     state_length = read_digits(STATE, state);
     try_proofs();
+    try_challenges();
     try_signatures();
     try_examples();
     try_state();

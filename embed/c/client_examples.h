@@ -110,4 +110,17 @@ static const char *const SIGNED[][3] = {
      "331a704"},
 };
 
+/* Proofs for the second example of RFC 9381 by the owner of its key, who took another nonce. The first is valid. The others have the
+ * first, the eighth or the last byte of the challenge changed, and an s that leads to the same points. */
+static const char *const CHALLENGES[] = {
+    "f3141cd382dc42909d19ec5110469e4feae18300e94f304590abdced48aed59301e81b6b6d37a3547e05b21ee8a6aafbb405d4b871941ffce7b345aefd"
+    "64314a3051965c20bcc5b2e16756266da40002",
+    "f3141cd382dc42909d19ec5110469e4feae18300e94f304590abdced48aed59300e81b6b6d37a3547e05b21ee8a6aafbed6b02b29c01a68b021ba6578c"
+    "5112a8b1e42a21a139a954bccd31763e54d200",
+    "f3141cd382dc42909d19ec5110469e4feae18300e94f304590abdced48aed59301e81b6b6d37a3557e05b21ee8a6aafbba54fb94f04c8748fdb0b6af8c"
+    "88a345bd80da89da5066314ed391a5efc05e07",
+    "f3141cd382dc42909d19ec5110469e4feae18300e94f304590abdced48aed59301e81b6b6d37a3547e05b21ee8a6aafadc140abf2a9f3e83296550c6b9"
+    "ec7b14a653fb58d30954be543812f9b20f6003",
+};
+
 #endif
