@@ -240,6 +240,10 @@ def replies() -> Iterator[Answer]:
     ]
     for what, epoch, number_asked, wanted in asked:
         yield case(f"reply: {what}", [THREE, lookup("alice", WORLD.reply("alice", epoch), number_asked)], FED, wanted)
+    parted = WORLD.reply("alice", 3, entry=resigned(WORLD[3], 17, sha256(b"root")))
+    for what, number_asked in [("an epoch that was not fed", 5), ("an older epoch", 1)]:
+        convicting = [THREE, lookup("alice", parted, number_asked)]
+        yield case(f"reply: what convicts, asked for {what}", convicting, FED, "Equivocation overlap 3")
 
 
 def absences() -> Iterator[Answer]:
