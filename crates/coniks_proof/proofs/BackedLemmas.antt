@@ -8,7 +8,8 @@ use Rattle.coniks_proof.specs.Preimages.{inner_preimage}
 use Rattle.coniks_proof.specs.Tree.{node_below, node}
 use Rattle.coniks_proof.specs.Paths.{siblings_below, siblings, end_below, end_of}
 
-filter-backed : {B C : Type 0} (f : B → C) (p : Entry B → Bool) (q : Entry C → Bool) → ((e : Entry B) → q (backed_by f e) ≡ p e) → (es : List (Entry B))
+-- a test that doesn't read what stands behind a commitment
+pub filter-backed : {B C : Type 0} (f : B → C) (p : Entry B → Bool) (q : Entry C → Bool) → ((e : Entry B) → q (backed_by f e) ≡ p e) → (es : List (Entry B))
     → filter q (map (backed_by f) es) ≡ map (backed_by f) (filter p es)
 filter-backed f p q same [] = refl
 filter-backed {B} {C} f p q same (e ∷ es) =

@@ -8,7 +8,7 @@ pub use Rattle.coniks_proof.proofs.OrderLemmas.{AreIncreasing-in_order, in_order
 pub use Rattle.coniks_proof.proofs.FaultLemmas.{accepts-no_fault, no_fault-accepts}
 pub use Rattle.coniks_proof.proofs.LookupLemmas.{end_of-in, end_of-present, path_accepted}
 pub use Rattle.coniks_proof.proofs.RegistryLemmas.{entry_in, in_entries, named_in, within}
-pub use Rattle.coniks_proof.proofs.BackedLemmas.{end_of-backed, node-backed, siblings-backed}
+pub use Rattle.coniks_proof.proofs.BackedLemmas.{end_of-backed, filter-backed, half-backed, node-backed, siblings-backed}
 pub use Rattle.coniks_proof.proofs.NameLemmas.{IsMap-one_more, IsMap-rebound, clash_found, clash_made, clash_of, clashes-append, eq_apart, eq_same, has_of, in_overlaid, in_rebound, named_of, overlaid-append, rebound_new, rebound_old, same_bool}
 pub use Rattle.coniks_proof.proofs.OverwrittenLemmas.{IsMap-overwritten, in_overwritten, index_there, overwritten_index, overwritten_new, overwritten_old, under-apart, under-overwritten}
 pub use Rattle.coniks_proof.proofs.BatchLemmas.{clear_of, may_follow, own_after, own_of_map, placed_none}

@@ -127,6 +127,20 @@ impl<H: Hash32> Epochs<H> {
         }
     }
 
+    /// Returns a page of what a root shows, as `Tree::page` does. Its errors are those of `path`.
+    pub fn page(
+        &self,
+        root: Root,
+        after: Option<Index>,
+        most: usize,
+    ) -> Result<Vec<Change>, OutOfMemory> {
+        if root.0 < self.tree.nodes() {
+            Ok(self.tree.page(root, after, most)?)
+        } else {
+            Err(OutOfMemory)
+        }
+    }
+
     /// Builds the entries of a root again under another nonce, and returns the root's hash. Its errors are those of
     /// `path`.
     pub fn hash_under(&self, root: Root, nonce: &Nonce) -> Result<Digest, OutOfMemory> {

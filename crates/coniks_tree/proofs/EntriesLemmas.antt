@@ -1,16 +1,16 @@
 -- The entries of a map as a list in the order of their indices.
-use Rattle.std.proofs.Common.{◌≡◌, ◌≢◌, ℕ, zero, suc, ◌+◌, ◌-◌, ◌<◌, ◌≤◌, List, [], ◌∷◌, ◌++◌, length, Some, slice_get, Bool, true, false, cond, not}
+use Rattle.std.proofs.Common.{◌≡◌, ◌≢◌, ℕ, zero, suc, ◌+◌, ◌-◌, ◌<◌, ◌≤◌, List, [], ◌∷◌, ◌++◌, length, Some, slice_get, map, Bool, true, false, cond, not}
 use Rattle.std.proofs.Common.{refl, sym, ap, subst, ◌∙◌, arith, inl, inr, append_assoc, append-nil}
 use Rattle.std.proofs.lemmas.List.Elements.{filter-append}
 use Rattle.std.proofs.lemmas.List.{map-append}
 use Rattle.std.proofs.lemmas.Option.{slice_get_cases}
 use Rattle.coniks_proof.specs.Bits.{bit_at, child, turns}
-use Rattle.coniks_proof.specs.Entries.{IsIn, half}
-use Rattle.coniks_proof.specs.Maps.{IsMap}
-use Rattle.coniks_proof.specs.Changes.{ApartWithin, AreApart, AreInOrder, InOrderWithin, overwritten}
+use Rattle.coniks_proof.specs.Entries.{Entry, IsIn, backed_by, half}
+use Rattle.coniks_proof.specs.Maps.{IsMap, SameEntries}
+use Rattle.coniks_proof.specs.Changes.{ApartWithin, AreApart, AreIncreasing, AreInOrder, InOrderWithin, overwritten}
 use Rattle.coniks_proof.specs.Hashing.{Hashing}
-use Rattle.coniks_proof.proofs.Lemmas.{IsIn-append, IsIn-append_left, IsIn-append_right, IsIn-filter, IsMap-append, IsMap-filter, SameEntries-sym, of_filter, passes}
-use Rattle.coniks_proof.proofs.Lemmas.{all_left, all_right, filters_swap, length-halves, overwritten-empty}
+use Rattle.coniks_proof.proofs.Lemmas.{IsIn-append, IsIn-append_left, IsIn-append_right, IsIn-filter, IsMap-apart, IsMap-append, IsMap-filter, SameEntries-filter, SameEntries-sym, of_filter, passes}
+use Rattle.coniks_proof.proofs.Lemmas.{all_left, all_right, filters_swap, half-backed, in_order-AreIncreasing, length-halves, overwritten-empty}
 use Rattle.coniks_proof.specs.declared.values.Digest.{Digest}
 use Rattle.coniks_tree.specs.Entries.{AreStored, Lists, entries_at, entry_at, in_order, in_order_within}
 use Rattle.coniks_tree.specs.Parts.{Stands, entries_in, entry_of_change}
@@ -24,12 +24,13 @@ use Rattle.coniks_tree.specs.declared.table.RecordNo.{RecordNo}
 
 -- ---- the list, level by level
 
-halves-few : (k : ℕ) (es : List Numbered) → length es ≤ 1 → half false k es ++ half true k es ≡ es
+-- at most one entry is on one of its sides
+pub halves-few : {B : Type 0} (k : ℕ) (es : List (Entry B)) → length es ≤ 1 → half false k es ++ half true k es ≡ es
 halves-few k [] few = refl
 halves-few k (e ∷ []) few = elim (bit_at e.index k) as (λ b. cond (not b) (e ∷ []) [] ++ cond b (e ∷ []) [] ≡ e ∷ []) [ true ↦ refl | false ↦ refl ]
 halves-few k (e ∷ f ∷ es) few = absurd (omega arith)
 
-within-few : (h k : ℕ) (es : List Numbered) → length es ≤ 1 → in_order_within h k es ≡ es
+within-few : {B : Type 0} (h k : ℕ) (es : List (Entry B)) → length es ≤ 1 → in_order_within h k es ≡ es
 unfolding in_order_within
 within-few zero k es few = refl
 within-few (suc h) k es few =
@@ -39,7 +40,7 @@ within-few (suc h) k es few =
     ap (λ xs. xs ++ in_order_within h (suc k) (half true k es)) left ∙ ap (λ xs. half false k es ++ xs) right ∙ halves-few k es few
 
 -- a map of at most one entry is its own list
-in_order-few : (k : ℕ) (es : List Numbered) → length es ≤ 1 → in_order k es ≡ es
+pub in_order-few : {B : Type 0} (k : ℕ) (es : List (Entry B)) → length es ≤ 1 → in_order k es ≡ es
 unfolding in_order
 in_order-few k es few = within-few (256 - k) k es few
 
@@ -56,7 +57,7 @@ unfolding AreInOrder in_order
 in_order-same k es order = within-same (256 - k) k es order
 
 -- the list of the left side, then that of the right side
-in_order-inner : (k : ℕ) (es : List Numbered) → k < 256 → in_order k es ≡ in_order (k + 1) (half false k es) ++ in_order (k + 1) (half true k es)
+pub in_order-inner : {B : Type 0} (k : ℕ) (es : List (Entry B)) → k < 256 → in_order k es ≡ in_order (k + 1) (half false k es) ++ in_order (k + 1) (half true k es)
 unfolding in_order in_order_within
 in_order-inner k es short =
     let here : 256 - k ≡ suc (255 - k) = omega arith in
@@ -157,7 +158,7 @@ listed-both old middle new k es short left right =
 -- ---- the whole list
 
 -- no entry is on both sides
-neither : (k : ℕ) (es : List Numbered) → (half false k (half true k es) ≡ []) × (half true k (half false k es) ≡ [])
+neither : {B : Type 0} (k : ℕ) (es : List (Entry B)) → (half false k (half true k es) ≡ []) × (half true k (half false k es) ≡ [])
 neither k [] = (refl, refl)
 neither k (e ∷ es) =
     let rest = neither k es in
@@ -168,11 +169,11 @@ neither k (e ∷ es) =
     ]) refl
 
 -- the list of a side is that side of the list
-within-half : (b : Bool) (j h k : ℕ) (es : List Numbered) → half b j (in_order_within h k es) ≡ in_order_within h k (half b j es)
+within-half : {B : Type 0} (b : Bool) (j h k : ℕ) (es : List (Entry B)) → half b j (in_order_within h k es) ≡ in_order_within h k (half b j es)
 unfolding in_order_within
 within-half b j zero k es = refl
-within-half b j (suc h) k es =
-    let goes : Numbered → Bool = λ e. turns b j e.index in
+within-half {B} b j (suc h) k es =
+    let goes : Entry B → Bool = λ e. turns b j e.index in
     let swapped : (c : Bool) → half b j (half c k es) ≡ half c k (half b j es) = λ c. filters_swap goes (λ e. turns c k e.index) (λ e. turns c k e.index) (λ _ _. refl) es in
     let side : (c : Bool) → half b j (in_order_within h (suc k) (half c k es)) ≡ in_order_within h (suc k) (half c k (half b j es)) =
     λ c. within-half b j h (suc k) (half c k es) ∙ ap (in_order_within h (suc k)) (swapped c) in
@@ -180,8 +181,13 @@ within-half b j (suc h) k es =
     ∙ ap (λ xs. xs ++ half b j (in_order_within h (suc k) (half true k es))) (side false)
     ∙ ap (λ xs. in_order_within h (suc k) (half false k (half b j es)) ++ xs) (side true)
 
+-- the list of those that go to a side at some level is that of the list
+pub in_order-half : {B : Type 0} (b : Bool) (j k : ℕ) (es : List (Entry B)) → half b j (in_order k es) ≡ in_order k (half b j es)
+unfolding in_order
+in_order-half b j k es = within-half b j (256 - k) k es
+
 -- at a level the list's sides are the lists of the sides
-within-sides : (h k : ℕ) (es : List Numbered)
+within-sides : {B : Type 0} (h k : ℕ) (es : List (Entry B))
     → (half false k (in_order_within (suc h) k es) ≡ in_order_within h (suc k) (half false k es)) × (half true k (in_order_within (suc h) k es) ≡ in_order_within h (suc k) (half true k es))
 unfolding in_order_within
 within-sides h k es =
@@ -197,7 +203,7 @@ within-sides h k es =
     (within-half false k (suc h) k es ∙ left, within-half true k (suc h) k es ∙ right)
 
 -- the list is in order
-within-ordered : (h k : ℕ) (es : List Numbered) → ApartWithin h k es → InOrderWithin h k (in_order_within h k es)
+within-ordered : {B : Type 0} (h k : ℕ) (es : List (Entry B)) → ApartWithin h k es → InOrderWithin h k (in_order_within h k es)
 unfolding ApartWithin InOrderWithin in_order_within
 within-ordered zero k es apart = apart
 within-ordered (suc h) k es apart =
@@ -209,7 +215,7 @@ within-ordered (suc h) k es apart =
     )
 
 -- the list contains the entries of the map
-within-there : (h k : ℕ) (es : List Numbered) (e : Numbered) → IsIn e es → IsIn e (in_order_within h k es)
+within-there : {B : Type 0} (h k : ℕ) (es : List (Entry B)) (e : Entry B) → IsIn e es → IsIn e (in_order_within h k es)
 unfolding in_order_within
 within-there zero k es e there = there
 within-there (suc h) k es e there =
@@ -222,7 +228,7 @@ within-there (suc h) k es e there =
     ]) refl
 
 -- the list contains no other entries
-within-back : (h k : ℕ) (es : List Numbered) (e : Numbered) → IsIn e (in_order_within h k es) → IsIn e es
+within-back : {B : Type 0} (h k : ℕ) (es : List (Entry B)) (e : Entry B) → IsIn e (in_order_within h k es) → IsIn e es
 unfolding in_order_within
 within-back zero k es e there = there
 within-back (suc h) k es e there =
@@ -233,13 +239,13 @@ within-back (suc h) k es e there =
     ]
 
 -- entries of different sides have different indices
-sides_part : (k : ℕ) (es : List Numbered) (e f : Numbered) → IsIn e (half false k es) → IsIn f (half true k es) → e.index ≢ f.index
+sides_part : {B : Type 0} (k : ℕ) (es : List (Entry B)) (e f : Entry B) → IsIn e (half false k es) → IsIn f (half true k es) → e.index ≢ f.index
 sides_part k es e f left right same =
     let on : bit_at e.index k ≡ true = ap (λ i. bit_at i k) same ∙ passes f (λ x. turns true k x.index) es right in
     let off : not (bit_at e.index k) ≡ true = passes e (λ x. turns false k x.index) es left in cc
 
 -- the list of a map is a map
-within-map : (h k : ℕ) (es : List Numbered) → IsMap es → IsMap (in_order_within h k es)
+within-map : {B : Type 0} (h k : ℕ) (es : List (Entry B)) → IsMap es → IsMap (in_order_within h k es)
 unfolding in_order_within
 within-map zero k es map = map
 within-map (suc h) k es map =
@@ -259,6 +265,61 @@ in_order-Lists changes es apart is = record {
   };
   once = λ map. subst IsMap (sym is) (within-map 256 0 es map);
 }
+
+-- the list of a map is in increasing order of index
+pub in_order-increasing : (es : List Numbered) → IsMap es → AreIncreasing (in_order 0 es)
+unfolding AreApart AreInOrder in_order
+in_order-increasing es map = in_order-AreIncreasing (in_order_within 256 0 es) (within-map 256 0 es map) (within-ordered 256 0 es (IsMap-apart es map))
+
+-- entries in order are the same list, if they are the same entries
+same_order : {B : Type 0} (h k : ℕ) (es fs : List (Entry B)) → InOrderWithin h k es → InOrderWithin h k fs → SameEntries es fs → es ≡ fs
+unfolding InOrderWithin
+same_order zero k [] [] few few' same = refl
+same_order zero k [] (f ∷ fs) few few' same = absurd (same.back f (inl refl))
+same_order zero k (e ∷ es) [] few few' same = absurd (same.there e (inl refl))
+same_order zero k (e ∷ []) (f ∷ []) few few' same = elim (same.there e (inl refl)) [ inl is ↦ ap (λ x. x ∷ []) (sym is) | inr other ↦ absurd other ]
+same_order zero k (e ∷ e' ∷ es) (f ∷ fs) few few' same = absurd (omega (arith, few))
+same_order zero k (e ∷ []) (f ∷ f' ∷ fs) few few' same = absurd (omega (arith, few'))
+same_order (suc h) k es fs order order' same =
+    let side : (b : Bool) → SameEntries (half b k es) (half b k fs) = λ b. SameEntries-filter (λ e. turns b k e.index) es fs same in
+    order.0 ∙ ap (λ xs. xs ++ half true k es) (same_order h (suc k) (half false k es) (half false k fs) order.1 order'.1 (side false))
+    ∙ ap (λ xs. half false k fs ++ xs) (same_order h (suc k) (half true k es) (half true k fs) order.2 order'.2 (side true)) ∙ sym order'.0
+
+-- maps with the same entries have the same list
+pub in_order-alike : {B : Type 0} (es fs : List (Entry B)) → IsMap es → IsMap fs → SameEntries es fs → in_order 0 es ≡ in_order 0 fs
+unfolding AreApart AreInOrder in_order
+in_order-alike es fs map map' same =
+    same_order 256 0 (in_order_within 256 0 es) (in_order_within 256 0 fs)
+    (within-ordered 256 0 es (IsMap-apart es map)) (within-ordered 256 0 fs (IsMap-apart fs map')) (record {
+      there = λ e listed. within-there 256 0 fs e (same.there e (within-back 256 0 es e listed));
+      back = λ e listed. within-there 256 0 es e (same.back e (within-back 256 0 fs e listed));
+    })
+
+within-backed : {B C : Type 0} (f : B → C) (h k : ℕ) (es : List (Entry B))
+    → in_order_within h k (map (backed_by f) es) ≡ map (backed_by f) (in_order_within h k es)
+unfolding in_order_within
+within-backed f zero k es = refl
+within-backed {B} {C} f (suc h) k es =
+    let list : List (Entry C) → List (Entry C) = in_order_within h (suc k) in
+    let side : (b : Bool) → list (half b k (map (backed_by f) es)) ≡ map (backed_by f) (in_order_within h (suc k) (half b k es)) =
+    λ b. ap list (half-backed f b k es) ∙ within-backed f h (suc k) (half b k es) in
+    ap (λ xs. xs ++ list (half true k (map (backed_by f) es))) (side false)
+    ∙ ap (λ xs. map (backed_by f) (in_order_within h (suc k) (half false k es)) ++ xs) (side true)
+    ∙ sym (map-append (backed_by f) (in_order_within h (suc k) (half false k es)) (in_order_within h (suc k) (half true k es)))
+
+-- the list doesn't depend on what stands behind the commitments
+pub in_order-backed : {B C : Type 0} (f : B → C) (es : List (Entry B)) → in_order 0 (map (backed_by f) es) ≡ map (backed_by f) (in_order 0 es)
+unfolding in_order
+in_order-backed f es = within-backed f 256 0 es
+
+-- what lists a map is the list of the map
+pub Lists-in_order : (changes : List Change) (es : List Numbered) → IsMap es → Lists changes es → entries_in changes ≡ in_order 0 es
+unfolding AreApart AreInOrder in_order
+Lists-in_order changes es map lists =
+    let apart = IsMap-apart es map in
+    let there : (e : Numbered) → IsIn e (entries_in changes) → IsIn e (in_order_within 256 0 es) = λ e in_list. within-there 256 0 es e (lists.same.back e in_list) in
+    let back : (e : Numbered) → IsIn e (in_order_within 256 0 es) → IsIn e (entries_in changes) = λ e in_list. lists.same.there e (within-back 256 0 es e in_list) in
+    same_order 256 0 (entries_in changes) (in_order_within 256 0 es) lists.order (within-ordered 256 0 es apart) (record { there = there; back = back })
 
 -- ---- what is listed, built again
 

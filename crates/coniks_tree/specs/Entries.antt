@@ -1,7 +1,7 @@
 -- The entries of a map as a list in the order of their indices.
 use Rattle.std.specs.Prelude.{ℕ, zero, suc, ◌<◌, ◌-◌, List, [], ◌∷◌, ◌++◌, slice_get, true, false, Option, Some, None}
 use Rattle.coniks_proof.specs.Changes.{AreInOrder}
-use Rattle.coniks_proof.specs.Entries.{half}
+use Rattle.coniks_proof.specs.Entries.{Entry, half}
 use Rattle.coniks_proof.specs.Maps.{IsMap, SameEntries}
 use Rattle.coniks_tree.specs.Table.{Numbered, entry_of_record}
 use Rattle.coniks_tree.specs.Parts.{entries_in}
@@ -10,13 +10,13 @@ use Rattle.coniks_tree.specs.declared.table.Record.{Record}
 use Rattle.coniks_tree.specs.declared.table.RecordNo.{RecordNo}
 
 -- the entries in the order of their next `height` bits: those that go left, and then those that go right
-unfoldable pub in_order_within : ℕ → ℕ → List Numbered → List Numbered
+unfoldable pub in_order_within : {B : Type 0} → ℕ → ℕ → List (Entry B) → List (Entry B)
 in_order_within zero level entries = entries
 in_order_within (suc height) level entries =
     in_order_within height (suc level) (half false level entries) ++ in_order_within height (suc level) (half true level entries)
 
 -- the entries, all under one prefix of `level` bits, in the order of their bits
-unfoldable pub in_order : ℕ → List Numbered → List Numbered
+unfoldable pub in_order : {B : Type 0} → ℕ → List (Entry B) → List (Entry B)
 in_order level entries = in_order_within (256 - level) level entries
 
 -- the entry of the record with a number, if there is one

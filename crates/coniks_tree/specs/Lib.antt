@@ -6,3 +6,4 @@ pub mod Entries
 pub mod Joins
 pub mod Levels
 pub mod Trees
+pub mod Pages

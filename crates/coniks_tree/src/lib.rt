@@ -36,6 +36,7 @@ mod halving;
 mod joining;
 pub mod laws;
 mod levels;
+mod page;
 pub mod part;
 mod path;
 pub mod table;

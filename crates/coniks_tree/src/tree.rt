@@ -9,6 +9,7 @@ ghost use Rattle.coniks_proof.specs.Paths.{IsPath};
 ghost use Rattle.coniks_proof.specs.Tree.{node};
 ghost use Rattle.coniks_tree.specs.Trees.{table_of};
 ghost use Rattle.coniks_tree.specs.Entries.{Lists};
+ghost use Rattle.coniks_tree.specs.Pages.{page_of};
 ghost use Rattle.coniks_tree.specs.Table.{Extends, NodeFits, Numbered, Shows, registered_at};
 ghost use Rattle.coniks_tree.specs.Counts.{joined_count, new_nodes};
 ghost use Rattle.coniks_tree.specs.Parts.{Stands, Fits, KeepsNone, Placed, AllPlaced, node_count, is_made, entries_in};
@@ -18,6 +19,7 @@ use crate::attach::append;
 use crate::entries::{changes_at, list_places};
 use crate::growth::grow_part;
 use crate::halving::side;
+use crate::page::{list_beyond, list_first};
 use crate::part::{Change, Part, hash_at, join_parts, new_nodes};
 use crate::path::{Stop, last_number, path_from, stop_at};
 use crate::table::{Node, Record, RecordNo, Root};
@@ -171,6 +173,34 @@ impl Tree {
     {
         let mut places = Vec::new(self.alloc());
         list_places(self, 0, root.0, &mut places)?;
+        Ok(changes_at(self, &places)?)
+    }
+
+    /// Returns a page of the map that a root shows: at most `most` entries, in increasing order of index.
+    ///
+    /// They are the first entries whose indices are greater than `after`, or the first of all. Each is a change, as in
+    /// `entries`. The call reads the nodes on the way to `after` and those above the entries of the page, and computes no
+    /// hash.
+    ///
+    /// # Errors
+    ///
+    /// `OutOfMemory` if an allocation fails.
+    pub fn page(
+        &self,
+        root: Root,
+        after: Option<Index>,
+        most: usize,
+    ) -> Result<Vec<Change>, OutOfMemory>
+        requires { root.0 < length self.now.nodes }
+        ensures placed { IfOk result (λ page. (all : List Record) → Extends self.now.records all → AllPlaced all page.items) }
+        ensures page { IfOk result (λ page. (by : Hashing) (entries : List Numbered)
+            → Shows by (table_of self.now) root.0 [] entries → entries_in page.items ≡ page_of after most entries) }
+    {
+        let mut places = Vec::new(self.alloc());
+        match after {
+            None => list_first(self, 0, root.0, most, &mut places)?,
+            Some(index) => list_beyond(self, 0, root.0, &index, most, &mut places)?,
+        }
         Ok(changes_at(self, &places)?)
     }
 

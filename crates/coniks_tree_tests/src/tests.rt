@@ -2,6 +2,7 @@ mod deep;
 mod entries;
 mod examples;
 mod large;
+mod pages;
 mod refused;
 mod scattered;
 mod shared;

@@ -37,7 +37,17 @@ fn entries_of(rt: &impl Abort, epochs: &Epochs<Sha256Hash>, root: Root) -> usize
     entries.len()
 }
 
-/// A failed allocation in `add`, `path` or `entries` leaves the tree unchanged, and a second call succeeds. Each
+/// Returns the number of entries after `a` on a page of 2. If an allocation fails, a second call succeeds.
+fn entries_after_a(rt: &impl Abort, epochs: &Epochs<Sha256Hash>, root: Root) -> usize {
+    let a = Some(index_of(0, 0));
+    let page = match epochs.page(root, a, 2) {
+        Ok(page) => page,
+        Err(_) => epochs.page(root, a, 2).expect(rt, "memory"),
+    };
+    page.len()
+}
+
+/// A failed allocation in `add`, `path`, `entries` or `page` leaves the tree unchanged, and a second call succeeds. Each
 /// allocation can be made to fail with `rt try --test --fail-alloc`.
 #[test]
 fn as_it_was(rt: HostRuntime) {
@@ -48,6 +58,7 @@ fn as_it_was(rt: HostRuntime) {
     assert!(rt; epochs.sizes() == (6, 2));
     assert!(rt; siblings_of_a(&rt, &epochs, both) == 2);
     assert!(rt; entries_of(&rt, &epochs, both) == 2);
+    assert!(rt; entries_after_a(&rt, &epochs, both) == 1);
     let root = "cedf53d7b5eac39a73da7f3fd65c38a4c7cf69a351dfde142aa469ba07e25efd";
     assert!(rt; epochs.hash(both) == digest(root));
 }
