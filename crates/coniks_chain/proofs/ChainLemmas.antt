@@ -60,9 +60,14 @@ follows_same v w same before entry follows =
     let m = row v before entry follows in
     record { rows = (m Version, (m VersionBack, (m FirstEpoch, (m NotLater, (m PreviousEpoch, (m PreviousLink, (m NonceChanged, (same _ _ ∙ m Verdict, tt)))))))) }
 
+pub continues_same_verdict : (hash : List ℕ → List ℕ) (v w : List ℕ → List ℕ → Bool)
+    → ((body signature : List ℕ) → w body signature ≡ v body signature)
+    → (start : Option AuditorState) (es : List Entry) → Continues hash v start es → Continues hash w start es
+continues_same_verdict hash v w same start es good = λ k e at. follows_same v w same (before_at hash start es k) e (good k e at)
+
 pub good_same_verdict : (hash : List ℕ → List ℕ) (v w : List ℕ → List ℕ → Bool)
     → ((body signature : List ℕ) → w body signature ≡ v body signature) → (es : List Entry) → GoodChain hash v es → GoodChain hash w es
-good_same_verdict hash v w same es good = λ k e at. follows_same v w same (before_at hash None es k) e (good k e at)
+good_same_verdict hash v w same es good = continues_same_verdict hash v w same None es good
 
 slice_get-push : (es : List Entry) (e : Entry) (k : ℕ) → k < length es → slice_get (es ++ e ∷ []) k ≡ slice_get es k
 slice_get-push [] e k less = absurd (omega arith)
@@ -74,23 +79,28 @@ slice_get-last [] e = refl
 slice_get-last (x ∷ es) e = slice_get-last es e
 
 -- what stands before a place of the longer list
-before_at-push : (hash : List ℕ → List ℕ) (es : List Entry) (e : Entry) (k : ℕ) → k ≤ length es → before_at hash None (es ++ e ∷ []) k ≡ before_at hash None es k
-before_at-push hash es e zero le = refl
-before_at-push hash es e (suc k) le = ap (option_map (before_of hash)) (slice_get-push es e k (omega arith))
+pub before_at-push : (hash : List ℕ → List ℕ) (start : Option AuditorState) (es : List Entry) (e : Entry) (k : ℕ) → k ≤ length es
+    → before_at hash start (es ++ e ∷ []) k ≡ before_at hash start es k
+before_at-push hash start es e zero le = refl
+before_at-push hash start es e (suc k) le = ap (option_map (before_of hash)) (slice_get-push es e k (omega arith))
 
 -- a good chain and an entry that follows it are a good chain
-pub good_push : (hash : List ℕ → List ℕ) (verdict : List ℕ → List ℕ → Bool) (es : List Entry) (e : Entry)
-    → GoodChain hash verdict es → Follows verdict (before_at hash None es (length es)) e → GoodChain hash verdict (es ++ e ∷ [])
-good_push hash verdict es e good follows = λ k x at. ⊎_elim
-    (λ (less : k < length es). subst (λ b. Follows verdict b x) (sym (before_at-push hash es e k (omega arith))) (good k x (sym (slice_get-push es e k less) ∙ at)))
+pub continues_push : (hash : List ℕ → List ℕ) (verdict : List ℕ → List ℕ → Bool) (start : Option AuditorState) (es : List Entry) (e : Entry)
+    → Continues hash verdict start es → Follows verdict (before_at hash start es (length es)) e → Continues hash verdict start (es ++ e ∷ [])
+continues_push hash verdict start es e good follows = λ k x at. ⊎_elim
+    (λ (less : k < length es). subst (λ b. Follows verdict b x) (sym (before_at-push hash start es e k (omega arith))) (good k x (sym (slice_get-push es e k less) ∙ at)))
     (λ (le : length es ≤ k).
     let within = slice_get_within (es ++ e ∷ []) k x at in
     let here : k ≡ length es = omega (arith, length-append es (e ∷ [])) in
     let same : e ≡ x = same_Some e x (sym (slice_get-last es e) ∙ ap (slice_get (es ++ e ∷ [])) (sym here) ∙ at) in
-    subst (λ j. Follows verdict (before_at hash None (es ++ e ∷ []) j) x) (sym here)
-    (subst (λ y. Follows verdict (before_at hash None (es ++ e ∷ []) (length es)) y) same
-    (subst (λ b. Follows verdict b e) (sym (before_at-push hash es e (length es) (omega arith))) follows)))
+    subst (λ j. Follows verdict (before_at hash start (es ++ e ∷ []) j) x) (sym here)
+    (subst (λ y. Follows verdict (before_at hash start (es ++ e ∷ []) (length es)) y) same
+    (subst (λ b. Follows verdict b e) (sym (before_at-push hash start es e (length es) (omega arith))) follows)))
     (cases_lt k (length es))
+
+pub good_push : (hash : List ℕ → List ℕ) (verdict : List ℕ → List ℕ → Bool) (es : List Entry) (e : Entry)
+    → GoodChain hash verdict es → Follows verdict (before_at hash None es (length es)) e → GoodChain hash verdict (es ++ e ∷ [])
+good_push hash verdict es e good follows = continues_push hash verdict None es e good follows
 
 -- what an entry after an entry of a good chain meets
 pub after : (hash : List ℕ → List ℕ) (verdict : List ℕ → List ℕ → Bool) (es : List Entry) (k : ℕ) (d e : Entry) → GoodChain hash verdict es
