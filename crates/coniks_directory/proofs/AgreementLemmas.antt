@@ -1,5 +1,5 @@
 -- What holds of a directory with one function of indices holds with each one that gives the registered names the same indices.
-use Rattle.std.proofs.Common.{◌≡◌, ℕ, ◌+◌, List, [], ◌∷◌, ◌++◌, length, map, take, drop, true, false, refl, sym, ap, subst, ◌∙◌, ◌||◌, inl, inr, Option, None, append_assoc, slice_get, Some}
+use Rattle.std.proofs.Common.{◌≡◌, ℕ, ◌+◌, List, [], ◌∷◌, ◌++◌, length, map, take, drop, true, false, refl, sym, ap, subst, ◌∙◌, ◌||◌, inl, inr, Option, append_assoc, slice_get, Some}
 use Rattle.std.proofs.lemmas.List.{take-append-drop}
 use Rattle.std.proofs.lemmas.Bool.{or_left}
 use Rattle.coniks_tree.specs.Table.{table}
@@ -14,7 +14,8 @@ use Rattle.coniks_proof.proofs.Lemmas.{eq_same, has_of, in_overlaid, named_in, n
 use Rattle.coniks_directory.proofs.FreshLemmas.{fresh_history, fresh_registry}
 use Rattle.coniks_directory.proofs.LastLemmas.{at_end, get-mapped, take_next}
 use Rattle.coniks_directory.proofs.StateLemmas.{latest-is, registry_at-all}
-use Rattle.coniks_directory.proofs.StepLemmas.{Steps, committed, installed, opened, stayed}
+use Rattle.coniks_directory.proofs.StepLemmas.{HasBegun, Steps, begun, committed, installed, stayed}
+use Rattle.coniks_directory.specs.Runs.{Start, opening, restoring}
 
 -- ---- the names of a registry that bindings overwrite
 
@@ -56,7 +57,7 @@ has_right : (xs ys : List Registered) (name : List ℕ) → has_name ys name ≡
 has_right [] ys name has = has
 has_right (x ∷ xs) ys name has = or_right (bytes_eq x.name name) (has_name (xs ++ ys) name) (has_right xs ys name has)
 
-has_either : (xs ys : List Registered) (name : List ℕ) (P : Type 0) → (has_name xs name ≡ true → P) → (has_name ys name ≡ true → P) → has_name (xs ++ ys) name ≡ true → P
+pub has_either : (xs ys : List Registered) (name : List ℕ) (P : Type 0) → (has_name xs name ≡ true → P) → (has_name ys name ≡ true → P) → has_name (xs ++ ys) name ≡ true → P
 has_either [] ys name P first second has = second has
 has_either (x ∷ xs) ys name P first second has = elim (or_cases (bytes_eq x.name name) (has_name (xs ++ ys) name) has) [
   | inl here ↦ first (ap (λ v. v || has_name xs name) here)
@@ -171,20 +172,21 @@ module _ (hash index_of also : List ℕ → List ℕ) where
       };
     }
 
-    chain_agree : (chain : List Signed) → IsChainOf hash index_of s.policy (history_of s) chain → IsChainOf hash also s.policy (history_of s) chain
+    chain_agree : (chain : List Signed) → IsChainOf hash index_of s.policy s.before (history_of s) chain → IsChainOf hash also s.policy s.before (history_of s) chain
     chain_agree chain c = record {
       long = c.long;
       bodies = λ k shown entry at there.
           let e = get-mapped (shown_of s.records) s.epochs k shown at in
           let on : AgreeOn index_of also shown.registry = subst (λ (x : Shown). AgreeOn index_of also x.registry) e.2 (agree_at e.0.count) in
           c.bodies k shown entry at there
-          ∙ ap (λ (r : List ℕ). record (body_of hash index_of s.policy (before_at hash None chain k) shown) { root = record { 0 = r } }) (root_agree shown on);
+          ∙ ap (λ (r : List ℕ). record (body_of hash index_of s.policy (before_at hash s.before chain k) shown) { root = record { 0 = r } }) (root_agree shown on);
     }
 
     pub whole_records : Whole hash index_of s → Whole hash also s
     whole_records whole = record {
       held = λ k e at. holds_agree e (whole.held k e at);
       last = whole.last;
+      begun = whole.begun;
       rising = whole.rising;
       under = whole.under;
       chain = chain_agree s.chain whole.chain;
@@ -277,19 +279,25 @@ module _ (hash index_of also : List ℕ → List ℕ) where
 
   -- ---- runs
 
+  begun_agree : (start : Start) (s : State) → AgreeOn index_of also (latest_registry (history_of s)) → HasBegun hash index_of start s → HasBegun hash also start s
+  begun_agree (opening nonce policy) s agree has = has
+  begun_agree (restoring entry ops) s agree (faultless, r) =
+      let left : latest_registry (history_of s) ≡ after [] ops = ap latest_registry r.history in
+      (sym (first_agree [] ops (subst (AgreeOn index_of also) left agree)) ∙ faultless, r)
+
   -- a run is one with each function of indices that agrees on the registry at its end
-  pub steps_agree : (nonce policy : List ℕ) (batches : List Batch) (s : State) → AgreeOn index_of also (latest_registry (history_of s))
-      → Steps hash index_of nonce policy batches s → Steps hash also nonce policy batches s
-  steps_agree nonce policy _ _ agree opened = opened
-  steps_agree nonce policy _ _ agree (stayed batches s later run same) =
-      stayed batches s later (steps_agree nonce policy batches s (subst (λ (x : State). AgreeOn index_of also (latest_registry (history_of x))) same agree) run) same
-  steps_agree nonce policy _ _ agree (committed batches b s later depth workers published capacity run accepted may history grows) =
+  pub steps_agree : (start : Start) (batches : List Batch) (s : State) → AgreeOn index_of also (latest_registry (history_of s))
+      → Steps hash index_of start batches s → Steps hash also start batches s
+  steps_agree start _ _ agree (begun s has) = begun s (begun_agree start s agree has)
+  steps_agree start _ _ agree (stayed batches s later run same) =
+      stayed batches s later (steps_agree start batches s (subst (λ (x : State). AgreeOn index_of also (latest_registry (history_of x))) same agree) run) same
+  steps_agree start _ _ agree (committed batches b s later depth workers published capacity run accepted may history grows) =
       let left = ap latest_registry history ∙ at_end latest_registry (λ x. x.registry) (λ x. refl) (λ x y xs. refl) (history_of s) (shown_with s b.new_nonce b.ops b.t) in
       let on : AgreeOn index_of also (after (latest_registry (history_of s)) b.ops) = subst (AgreeOn index_of also) left agree in
       let before : AgreeOn index_of also (latest_registry (history_of s)) = λ name has. on name (has_still (latest_registry (history_of s)) (map bound_by b.ops) name has) in
-      committed batches b s later depth workers published capacity (steps_agree nonce policy batches s before run)
+      committed batches b s later depth workers published capacity (steps_agree start batches s before run)
       (accepted_agree (latest_registry (history_of s)) b.ops depth workers on accepted) may history grows
-  steps_agree nonce policy _ _ agree (installed batches b earlier s later update depth workers published capacity run prepared since may history grows) =
+  steps_agree start _ _ agree (installed batches b earlier s later update depth workers published capacity run prepared since may history grows) =
       let left = ap latest_registry history ∙ at_end latest_registry (λ x. x.registry) (λ x. refl) (λ x y xs. refl) (history_of s) (shown_after s update b.t) in
       let same = fresh_registry hash index_of earlier s update since prepared.is_update may.fresh in
       let showed = fresh_history hash index_of earlier s update since prepared.is_update may.fresh in
@@ -297,5 +305,5 @@ module _ (hash index_of also : List ℕ → List ℕ) where
       let left_by : AgreeOn index_of also (after (latest_registry (history_of s)) b.ops) = subst
       (AgreeOn index_of also) (prepared.registry ∙ ap (λ ss. after (latest_registry ss) b.ops) (sym showed)) on in
       let before : AgreeOn index_of also (latest_registry (history_of s)) = λ name has. left_by name (has_still (latest_registry (history_of s)) (map bound_by b.ops) name has) in
-      installed batches b earlier s later update depth workers published capacity (steps_agree nonce policy batches s before run)
+      installed batches b earlier s later update depth workers published capacity (steps_agree start batches s before run)
       (prepared_agree earlier b.new_nonce b.ops depth workers update on prepared) since may history grows

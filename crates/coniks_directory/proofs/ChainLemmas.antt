@@ -1,16 +1,27 @@
 -- The chain of a history, entry by entry.
-use Rattle.std.proofs.Common.{◌≡◌, ℕ, zero, suc, ◌-◌, ◌<◌, ◌≤◌, List, [], ◌∷◌, ◌++◌, length, length-append, Bool, true}
+use Rattle.std.proofs.Common.{◌≡◌, ℕ, ◌-◌, ◌<◌, ◌≤◌, List, [], ◌∷◌, ◌++◌, length, length-append, Bool, true}
 use Rattle.std.proofs.Common.{refl, sym, ap, subst, ◌∙◌, ◌⊎◌, arith, inl, inr, IfSome, Option, Some, None, slice_get}
-use Rattle.coniks_directory.proofs.Words.{AreRising, AreUnder, AuditorState, Body, Follows, IsChainOf, IsUnder, Shown, before_at, before_of, body_bytes, body_of}
-use Rattle.coniks_directory.proofs.Words.{epoch_before, last_number, latest_epoch, latest_nonce, latest_version, link_before, option_map, slice_get-get_or}
+use Rattle.coniks_directory.proofs.Words.{AreRising, AreUnder, AuditorState, Body, Follows, IsChainOf, IsUnder, Shown, before_at, body_bytes, body_of}
+use Rattle.coniks_directory.proofs.Words.{epoch_before, last_number, latest_epoch, latest_nonce, latest_version, link_before, slice_get-get_or}
 use Rattle.coniks_directory.proofs.Words.{slice_get_within}
 use Rattle.coniks_chain.specs.declared.entry.Entry.{Entry}
+use Rattle.coniks_chain.proofs.Lemmas.{before_at-push}
 use Rattle.coniks_tree.proofs.Lemmas.{Extends-append, get-last, get-push}
 use Rattle.coniks_directory.proofs.LastLemmas.{last_found}
 
 pub rising-push : (t : ℕ) (ns : List ℕ) (n : ℕ) → AreRising t ns → last_number t ns < n → AreRising t (ns ++ n ∷ [])
 rising-push t [] n up later = (later, tt)
 rising-push t (m ∷ ns) n up later = (up.0, rising-push m ns n up.1 later)
+
+-- the last number is that from 0 on, if there is one or the start is 0
+pub last-from : (t : ℕ) (ns : List ℕ) → (ns ≡ [] → t ≡ 0) → last_number t ns ≡ last_number 0 ns
+last-from t [] none = none refl
+last-from t (n ∷ ns) none = refl
+
+-- numbers that rise from t rise from 0
+pub rising-weaken : (t : ℕ) (ns : List ℕ) → AreRising t ns → AreRising 0 ns
+rising-weaken t [] up = tt
+rising-weaken t (n ∷ ns) up = ((let least = up.0 in omega arith), up.1)
 
 pub under-push : (version : ℕ) (nonce : List ℕ) (history : List Shown) (s : Shown) → AreUnder version nonce history
     → IsUnder (latest_version version history) (latest_nonce nonce history) s → AreUnder version nonce (history ++ s ∷ [])
@@ -37,12 +48,12 @@ pub record IsLast (nonce : List ℕ) (history : List Shown) (before : Option Aud
   pub version : IfSome before (λ b. latest_version 1 history ≡ b.version)
   pub under : IfSome before (λ b. latest_nonce nonce history ≡ b.nonce.0)
 
-pub is_last : (hash index_of : List ℕ → List ℕ) (policy nonce : List ℕ) (history : List Shown) (chain : List Entry) → IsChainOf hash index_of policy history chain
-    → IsLast nonce history (before_at hash None chain (length chain))
-is_last hash index_of policy nonce [] [] is = record { epoch = refl; version = tt; under = tt }
-is_last hash index_of policy nonce [] (e ∷ chain) is = absurd (let long = is.long in omega arith)
-is_last hash index_of policy nonce (s ∷ history) [] is = absurd (let long = is.long in omega arith)
-is_last hash index_of policy nonce (s ∷ history) (e ∷ chain) is =
+pub is_last : (hash index_of : List ℕ → List ℕ) (policy nonce : List ℕ) (before : Option AuditorState) (history : List Shown) (chain : List Entry) → IsChainOf hash index_of policy before history chain
+    → (chain ≡ [] → before ≡ None) → IsLast nonce history (before_at hash before chain (length chain))
+is_last hash index_of policy nonce before [] [] is begun = rw (begun refl) (record { epoch = refl; version = tt; under = tt })
+is_last hash index_of policy nonce before [] (e ∷ chain) is begun = absurd (let long = is.long in omega arith)
+is_last hash index_of policy nonce before (s ∷ history) [] is begun = absurd (let long = is.long in omega arith)
+is_last hash index_of policy nonce before (s ∷ history) (e ∷ chain) is begun =
     let long : length chain ≡ length history = (let all = is.long in omega arith) in
     let shown = slice_get-get_or (s ∷ history) (length history) s (omega arith) in
     let place : length (s ∷ history) - 1 ≡ length history = omega arith in
@@ -57,26 +68,21 @@ is_last hash index_of policy nonce (s ∷ history) (e ∷ chain) is =
 
 -- ---- one more entry
 
-before_at-push : (hash : List ℕ → List ℕ) (es : List Entry) (e : Entry) (k : ℕ) → k ≤ length es → before_at hash None (es ++ e ∷ []) k ≡ before_at hash None es k
-before_at-push hash es e zero le = refl
-before_at-push hash es e (suc k) le =
-    let at = slice_get-get_or es k e (omega arith) in ap (option_map (before_of hash)) (Extends-append es (e ∷ []) k _ at ∙ sym at)
-
 -- one more epoch, and its entry
-pub chain-push : (hash index_of : List ℕ → List ℕ) (policy : List ℕ) (history : List Shown) (chain : List Entry) (shown : Shown) (entry : Entry) → IsChainOf hash index_of policy history chain
-    → entry.body ≡ body_of hash index_of policy (before_at hash None chain (length chain)) shown → IsChainOf hash index_of policy (history ++ shown ∷ []) (chain ++ entry ∷ [])
-chain-push hash index_of policy history chain shown entry is body = record {
+pub chain-push : (hash index_of : List ℕ → List ℕ) (policy : List ℕ) (start : Option AuditorState) (history : List Shown) (chain : List Entry) (shown : Shown) (entry : Entry) → IsChainOf hash index_of policy start history chain
+    → entry.body ≡ body_of hash index_of policy (before_at hash start chain (length chain)) shown → IsChainOf hash index_of policy start (history ++ shown ∷ []) (chain ++ entry ∷ [])
+chain-push hash index_of policy start history chain shown entry is body = record {
   long = let long = is.long in omega (arith, length-append chain (entry ∷ []), length-append history (shown ∷ []));
   bodies = λ k x e at_x at_e. elim (get-push chain entry k e at_e) [
     | inl old ↦
         let within = slice_get_within chain k e old in
         let at = slice_get-get_or history k x (let long = is.long in omega arith) in
-        is.bodies k x e (at ∙ sym (Extends-append history (shown ∷ []) k _ at) ∙ at_x) old ∙ ap (λ b. body_of hash index_of policy b x) (sym (before_at-push hash chain entry k (omega arith)))
+        is.bodies k x e (at ∙ sym (Extends-append history (shown ∷ []) k _ at) ∙ at_x) old ∙ ap (λ b. body_of hash index_of policy b x) (sym (before_at-push hash start chain entry k (omega arith)))
     | inr (here, same) ↦
         let at = ap (slice_get (history ++ shown ∷ [])) (here ∙ is.long) ∙ get-last history shown in
         let shown-is : shown ≡ x = cc in
-        let before = sym (before_at-push hash chain entry (length chain) (omega arith)) ∙ ap (before_at hash None (chain ++ entry ∷ [])) (sym here) in
-        ap (λ (f : Entry). f.body) (sym same) ∙ body ∙ ap (λ b. body_of hash index_of policy b shown) before ∙ ap (body_of hash index_of policy (before_at hash None (chain ++ entry ∷ []) k)) shown-is
+        let before = sym (before_at-push hash start chain entry (length chain) (omega arith)) ∙ ap (before_at hash start (chain ++ entry ∷ [])) (sym here) in
+        ap (λ (f : Entry). f.body) (sym same) ∙ body ∙ ap (λ b. body_of hash index_of policy b shown) before ∙ ap (body_of hash index_of policy (before_at hash start (chain ++ entry ∷ []) k)) shown-is
   ];
 }
 

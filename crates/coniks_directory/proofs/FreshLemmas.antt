@@ -48,6 +48,7 @@ pub Grows-refl : (s : State) → Grows s s
 Grows-refl s = record {
   nonce = refl;
   policy = refl;
+  before = refl;
   nodes = λ k v at. at;
   longer = omega arith;
   more_records = [];
@@ -62,6 +63,7 @@ pub Grows-trans : (s t u : State) → Grows s t → Grows t u → Grows s u
 Grows-trans s t u a b = record {
   nonce = b.nonce ∙ a.nonce;
   policy = b.policy ∙ a.policy;
+  before = b.before ∙ a.before;
   nodes = Extends-trans s.nodes t.nodes u.nodes a.nodes b.nodes;
   longer = let x = a.longer in let y = b.longer in omega arith;
   more_records = a.more_records ++ b.more_records;

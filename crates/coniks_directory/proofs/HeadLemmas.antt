@@ -1,7 +1,7 @@
 -- The heads of a chain, whose epochs increase.
 use Rattle.std.proofs.Common.{◌≡◌, ℕ, suc, ◌+◌, ◌≤◌, get_or, append_assoc, length-append, List, [], ◌∷◌, ◌++◌, length, map, refl, sym, ap, subst, ◌∙◌, arith, Option, Some, None, slice_get}
 use Rattle.coniks_proof.specs.Octets.{Octets}
-use Rattle.coniks_directory.proofs.Words.{AreRising, Begins, Body, Head, IsChainOf, Shown, before_at, head_at, heads_of, last_of, link_before}
+use Rattle.coniks_directory.proofs.Words.{AreRising, AuditorState, Begins, Body, Head, IsChainOf, Shown, before_at, epoch_before, head_at, heads_of, last_of, link_before}
 use Rattle.coniks_directory.proofs.Words.{map-map, numbers_of, same_Some, zeros}
 use Rattle.coniks_chain.specs.declared.entry.Entry.{Entry}
 use Rattle.coniks_directory.proofs.NumberLemmas.{rising-sorted}
@@ -16,10 +16,10 @@ numbers_alike (s ∷ history) (e ∷ chain) long same =
     ap (λ n. n ∷ map (λ (x : Entry). x.body.t) chain) (same 0 s e refl refl)
     ∙ ap (λ ns. s.t ∷ ns) (numbers_alike history chain (omega arith) (λ k x f at_x at_f. same (suc k) x f at_x at_f))
 
-pub chain-rises : (hash index_of : List ℕ → List ℕ) (policy : List ℕ) (history : List Shown) (chain : List Entry) → IsChainOf hash index_of policy history chain → AreRising 0 (numbers_of history)
-    → AreRising 0 (map (λ (e : Entry). e.body.t) chain)
-chain-rises hash index_of policy history chain is up =
-    subst (AreRising 0) (sym (numbers_alike history chain is.long (λ k s e at_s at_e. ap (λ (b : Body). b.t) (is.bodies k s e at_s at_e)))) up
+pub chain-rises : (hash index_of : List ℕ → List ℕ) (policy : List ℕ) (before : Option AuditorState) (t : ℕ) (history : List Shown) (chain : List Entry) → IsChainOf hash index_of policy before history chain
+    → AreRising t (numbers_of history) → AreRising t (map (λ (e : Entry). e.body.t) chain)
+chain-rises hash index_of policy before t history chain is up =
+    subst (AreRising t) (sym (numbers_alike history chain is.long (λ k s e at_s at_e. ap (λ (b : Body). b.t) (is.bodies k s e at_s at_e)))) up
 
 -- the last of the heads before the others is just before the first of these
 last_place : (heads rest : List Head) (h : Head) → last_of heads ≡ Some h → (n : ℕ) × (suc n ≡ length heads) × ((d : Head) → get_or (heads ++ rest) n d ≡ h)
@@ -27,20 +27,20 @@ last_place [] rest h is = absurd (let never = is in cc)
 last_place (x ∷ []) rest h is = (0, refl, λ d. same_Some x h is)
 last_place (x ∷ y ∷ hs) rest h is = let k = last_place (y ∷ hs) rest h is in (suc k.0, ap suc k.1, k.2)
 
-pub no_older : (hash index_of : List ℕ → List ℕ) (policy : List ℕ) (history : List Shown) (chain : List Entry) (had has : List Head) (latest answer : Head)
-    → IsChainOf hash index_of policy history chain
-    → AreRising 0 (numbers_of history) → Begins had has → Begins has (heads_of hash chain) → last_of had ≡ Some latest → last_of has ≡ Some answer → latest.epoch ≤ answer.epoch
-no_older hash index_of policy history chain had has latest answer is up begins within last_had last_has =
+pub no_older : (hash index_of : List ℕ → List ℕ) (policy : List ℕ) (before : Option AuditorState) (history : List Shown) (chain : List Entry) (had has : List Head) (latest answer : Head)
+    → IsChainOf hash index_of policy before history chain
+    → AreRising (epoch_before before) (numbers_of history) → Begins had has → Begins has (heads_of hash chain) → last_of had ≡ Some latest → last_of has ≡ Some answer → latest.epoch ≤ answer.epoch
+no_older hash index_of policy before history chain had has latest answer is up begins within last_had last_has =
     let epoch : Head → ℕ = λ h. h.epoch in
     let all : heads_of hash chain ≡ had ++ (begins.0 ++ within.0) = within.1 ∙ ap (λ hs. hs ++ within.0) begins.1 ∙ append_assoc had begins.0 within.0 in
-    let rise : AreRising 0 (map epoch (heads_of hash chain)) = rw (map-map epoch (head_at hash) chain) (chain-rises hash index_of policy history chain is up) in
+    let rise : AreRising (epoch_before before) (map epoch (heads_of hash chain)) = rw (map-map epoch (head_at hash) chain) (chain-rises hash index_of policy before (epoch_before before) history chain is up) in
     let first = last_place had (begins.0 ++ within.0) latest last_had in
     let last = last_place has within.0 answer last_has in
     let one : get_or (heads_of hash chain) first.0 latest ≡ latest = ap (λ hs. get_or hs first.0 latest) all ∙ first.2 latest in
     let other : get_or (heads_of hash chain) last.0 latest ≡ answer = ap (λ hs. get_or hs last.0 latest) within.1 ∙ last.2 latest in
     let longer : length has ≡ length had + length begins.0 = ap length begins.1 ∙ length-append had begins.0 in
     let long : length (heads_of hash chain) ≡ length has + length within.0 = ap length within.1 ∙ length-append has within.0 in
-    let sorted = rising-sorted epoch 0 (heads_of hash chain) rise first.0 last.0 latest (omega (arith, first.1, last.1)) (omega (arith, last.1)) in
+    let sorted = rising-sorted epoch (epoch_before before) (heads_of hash chain) rise first.0 last.0 latest (omega (arith, first.1, last.1)) (omega (arith, last.1)) in
     subst (λ h. latest.epoch ≤ h.epoch) other (subst (λ h. h.epoch ≤ epoch (get_or (heads_of hash chain) last.0 latest)) one sorted)
 
 -- the link of a head, or zeros if there is none
@@ -49,7 +49,8 @@ link_in None = zeros
 link_in (Some h) = h.link.0
 
 -- the last head has the link that the next entry contains
-pub last_links : (hash : Octets → Octets) (chain : List Entry) → link_in (last_of (heads_of hash chain)) ≡ link_before (before_at hash None chain (length chain))
-last_links hash [] = refl
-last_links hash (e ∷ []) = refl
-last_links hash (e ∷ f ∷ chain) = last_links hash (f ∷ chain)
+pub last_links : (hash : Octets → Octets) (before : Option AuditorState) (chain : List Entry) → (chain ≡ [] → before ≡ None)
+    → link_in (last_of (heads_of hash chain)) ≡ link_before (before_at hash before chain (length chain))
+last_links hash before [] begun = sym (ap link_before (begun refl))
+last_links hash before (e ∷ []) begun = refl
+last_links hash before (e ∷ f ∷ chain) begun = last_links hash before (f ∷ chain) (λ none. absurd (let never = none in cc))

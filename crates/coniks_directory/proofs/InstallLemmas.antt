@@ -1,16 +1,17 @@
 -- The state that an install leaves.
-use Rattle.std.proofs.Common.{◌≡◌, ℕ, suc, ◌<◌, ◌≤◌, List, [], ◌∷◌, ◌++◌, length, map, Bool, true, refl, sym, ap, subst, ◌∙◌, arith, inl, inr, Some, None, slice_get, length-append}
+use Rattle.std.proofs.Common.{◌≡◌, ℕ, suc, ◌<◌, ◌≤◌, List, [], ◌∷◌, ◌++◌, length, map, Bool, true, refl, sym, ap, subst, ◌∙◌, arith, inl, inr, Some, slice_get, length-append}
 use Rattle.coniks_proof.specs.Hashing.{hashing}
 use Rattle.coniks_tree.specs.Table.{table}
-use Rattle.coniks_directory.proofs.Words.{Body, Digest, Epoch, Extends, GoodChain, HoldsEpoch}
+use Rattle.coniks_directory.proofs.Words.{Body, Continues, Digest, Epoch, Extends, HoldsEpoch, epoch_before, last_number, nil_from_length, length-map}
 use Rattle.coniks_directory.proofs.Words.{IsNext, IsUnder, IsUpdate, Leaves, Node, Numbered, Prepared, Record, Root}
 use Rattle.coniks_directory.proofs.Words.{Shown, Shows, Stands, State, Whole, before_at, body_bytes}
 use Rattle.coniks_directory.proofs.Words.{history_of, last_count, latest_epoch, latest_nonce, latest_version, link_before, map-append, node}
 use Rattle.coniks_directory.proofs.Words.{numbers_of, records_after, registry_after, shown_after, shown_of}
 use Rattle.coniks_chain.specs.declared.entry.Entry.{Entry}
-use Rattle.coniks_chain.proofs.Lemmas.{good_push, good_same_verdict}
+use Rattle.coniks_directory.specs.Installed.{Attached}
+use Rattle.coniks_chain.proofs.Lemmas.{continues_push, continues_same_verdict}
 use Rattle.coniks_tree.proofs.Lemmas.{Extends-append, Shows-extended, get-push}
-use Rattle.coniks_directory.proofs.ChainLemmas.{chain-push, follows_next, is_last, latest-known, rising-push, under-push}
+use Rattle.coniks_directory.proofs.ChainLemmas.{chain-push, follows_next, is_last, last-from, latest-known, rising-push, under-push}
 use Rattle.coniks_directory.proofs.LastLemmas.{at_end}
 use Rattle.coniks_directory.proofs.MirrorLemmas.{Mirrors-extended, mirrored_root}
 use Rattle.coniks_directory.proofs.StateLemmas.{registry_at-append}
@@ -40,6 +41,14 @@ shown-before records more (e ∷ es) counted =
 
 -- ---- the state after an install
 
+-- the latest epoch is the last of the numbers from the start of the chain on
+pub latest_from : (hash index_of : List ℕ → List ℕ) (s : State) → Whole hash index_of s → last_number (epoch_before s.before) (numbers_of (history_of s)) ≡ latest_epoch (history_of s)
+latest_from hash index_of s whole = last-from (epoch_before s.before) (numbers_of (history_of s)) (λ none.
+    let long = whole.chain.long in
+    let numbers = length-map (history_of s) (λ (x : Shown). x.t) in
+    let empty = nil_from_length s.chain (omega (arith, long, numbers, ap length none)) in
+    ap epoch_before (whole.begun empty))
+
 abbrev pub epoch_after : State → Prepared → Root → ℕ → Epoch
 epoch_after s p root t = record { t = t; version = p.version; nonce = p.nonce; root = root; count = length (records_after s p) }
 
@@ -59,14 +68,15 @@ pub installed_is : (s : State) (p : Prepared) (root : Root) (t count : ℕ) (ent
 installed_is s p root t count entry nodes records epochs chain records-are counted epochs-are chain-is = cc
 
 -- the update's part is attached, and its epoch and its entry are added
-module _ (hash index_of : List ℕ → List ℕ) (s : State) (whole : Whole hash index_of s) (p : Prepared) (u : IsUpdate hash index_of s p)
-    (t : ℕ) (later : latest_epoch (history_of s) < t) (entry : Entry) (body : IsNext hash index_of s p t entry.body)
+module _ (hash index_of : List ℕ → List ℕ) (s : State)
+    (holds : (k : ℕ) (e : Epoch) → slice_get s.epochs k ≡ Some e → HoldsEpoch hash index_of (table s.nodes s.records) e)
+    (p : Prepared) (u : IsUpdate hash index_of s p) (t : ℕ) (entry : Entry)
     (nodes : List Node) (root : Root) (longer : length s.nodes ≤ length nodes) (older : Extends s.nodes nodes) (known : root.0 < length nodes)
     (shows : (es : List Numbered) → Stands (hashing hash p.nonce.0) (table s.nodes s.records) p.part [] es → Shows (hashing hash p.nonce.0) (table nodes (records_after s p)) root.0 [] es) where
   history-installed : history_of (installed s p nodes root t entry) ≡ history_of s ++ shown_after s p t ∷ []
   history-installed =
       map-append (shown_of (records_after s p)) s.epochs (epoch_after s p root t ∷ [])
-      ∙ ap (λ (ss : List Shown). ss ++ shown_after s p t ∷ []) (shown-before s.records p.records.items s.epochs (λ k e at. (whole.held k e at).counted))
+      ∙ ap (λ (ss : List Shown). ss ++ shown_after s p t ∷ []) (shown-before s.records p.records.items s.epochs (λ k e at. (holds k e at).counted))
 
   held_next : HoldsEpoch hash index_of (table nodes (records_after s p)) (epoch_after s p root t)
   held_next = record {
@@ -75,39 +85,18 @@ module _ (hash index_of : List ℕ → List ℕ) (s : State) (whole : Whole hash
     registry = record { entries = u.entries; shows = shows u.entries u.stands; mirrors = u.mirrors };
   }
 
-  under_next : IsUnder (latest_version 1 (history_of s)) (latest_nonce s.nonce (history_of s)) (shown_after s p t)
-  under_next = (u.new_nonce, u.rotates.version, u.rotates.nonce)
-
-  -- it satisfies the invariant of a directory
-  whole_next : Whole hash index_of (installed s p nodes root t entry)
-  whole_next = record {
+  pub attached_next : Attached hash index_of s (installed s p nodes root t entry) p t entry
+  attached_next = record {
     held = λ k x at. elim (get-push s.epochs (epoch_after s p root t) k x at) [
-      | inl old ↦ holds-extended hash index_of s.nodes nodes s.records p.records.items x older longer (whole.held k x old)
+      | inl old ↦ holds-extended hash index_of s.nodes nodes s.records p.records.items x older longer (holds k x old)
       | inr new ↦ subst (HoldsEpoch hash index_of (table nodes (records_after s p))) new.1 held_next
     ];
     last = at_end last_count (λ e. e.count) (λ e. refl) (λ x y es. refl) s.epochs (epoch_after s p root t);
-    rising = rw (history-installed, map-append (λ (x : Shown). x.t) (history_of s) (shown_after s p t ∷ [])) (rising-push 0 (numbers_of (history_of s)) t whole.rising later);
-    under = rw history-installed (under-push 1 s.nonce (history_of s) (shown_after s p t) whole.under under_next);
-    chain = rw history-installed (chain-push hash index_of s.policy (history_of s) s.chain (shown_after s p t) entry whole.chain body);
-  }
-
-  -- a good chain stays good
-  good_next : (verdict further : List ℕ → List ℕ → Bool) → ((bytes signature : List ℕ) → further bytes signature ≡ verdict bytes signature) → further (body_bytes entry.body) entry.signature.0 ≡ true
-      → GoodChain hash verdict s.chain → GoodChain hash further (s.chain ++ entry ∷ [])
-  good_next verdict further same signed good =
-      let before = before_at hash None s.chain (length s.chain) in
-      let last = is_last hash index_of s.policy s.nonce (history_of s) s.chain whole.chain in
-      let known = latest-known 1 s.nonce (history_of s) (inl refl) whole.under in
-      good_push hash further s.chain entry (good_same_verdict hash verdict further same s.chain good)
-      (follows_next hash index_of s.policy s.nonce further (history_of s) known (shown_after s p t) later entry signed before body last under_next)
-
-  pub left_next : Leaves hash index_of s (installed s p nodes root t entry) p t entry
-  left_next = record {
-    whole = whole_next;
     history = history-installed;
     grows = record {
       nonce = refl;
       policy = refl;
+      before = refl;
       nodes = older;
       longer = longer;
       more_records = p.records.items;
@@ -116,6 +105,43 @@ module _ (hash index_of : List ℕ → List ℕ) (s : State) (whole : Whole hash
       epochs = refl;
       still = λ none. absurd (let never = none in cc);
     };
+    chain = refl;
+  }
+
+-- the entry is the next one
+module _ (hash index_of : List ℕ → List ℕ) (s : State) (whole : Whole hash index_of s) (p : Prepared) (u : IsUpdate hash index_of s p)
+    (t : ℕ) (later : latest_epoch (history_of s) < t) (entry : Entry) (body : IsNext hash index_of s p t entry.body)
+    (nodes : List Node) (root : Root) (a : Attached hash index_of s (installed s p nodes root t entry) p t entry) where
+  under_next : IsUnder (latest_version 1 (history_of s)) (latest_nonce s.nonce (history_of s)) (shown_after s p t)
+  under_next = (u.new_nonce, u.rotates.version, u.rotates.nonce)
+
+  -- it satisfies the invariant of a directory
+  whole_next : Whole hash index_of (installed s p nodes root t entry)
+  whole_next = record {
+    held = a.held;
+    last = a.last;
+    begun = λ none. absurd (let long = simp length-append at (ap length none) in omega arith);
+    rising = rw (a.history, map-append (λ (x : Shown). x.t) (history_of s) (shown_after s p t ∷ []))
+        (rising-push (epoch_before s.before) (numbers_of (history_of s)) t whole.rising (rw (latest_from hash index_of s whole) later));
+    under = rw a.history (under-push 1 s.nonce (history_of s) (shown_after s p t) whole.under under_next);
+    chain = rw a.history (chain-push hash index_of s.policy s.before (history_of s) s.chain (shown_after s p t) entry whole.chain body);
+  }
+
+  -- a good chain stays good
+  good_next : (verdict further : List ℕ → List ℕ → Bool) → ((bytes signature : List ℕ) → further bytes signature ≡ verdict bytes signature) → further (body_bytes entry.body) entry.signature.0 ≡ true
+      → Continues hash verdict s.before s.chain → Continues hash further s.before (s.chain ++ entry ∷ [])
+  good_next verdict further same signed good =
+      let before = before_at hash s.before s.chain (length s.chain) in
+      let last = is_last hash index_of s.policy s.nonce s.before (history_of s) s.chain whole.chain whole.begun in
+      let known = latest-known 1 s.nonce (history_of s) (inl refl) whole.under in
+      continues_push hash further s.before s.chain entry (continues_same_verdict hash verdict further same s.before s.chain good)
+      (follows_next hash index_of s.policy s.nonce further (history_of s) known (shown_after s p t) later entry signed before body last under_next)
+
+  pub left_next : Leaves hash index_of s (installed s p nodes root t entry) p t entry
+  left_next = record {
+    whole = whole_next;
+    history = a.history;
+    grows = a.grows;
     good = good_next;
   }
 
@@ -123,10 +149,10 @@ module _ (hash index_of : List ℕ → List ℕ) (s : State) (whole : Whole hash
 pub body_is : (hash index_of : List ℕ → List ℕ) (s : State) (p : Prepared) (t latest : ℕ) (root previous : Digest) (u : IsUpdate hash index_of s p)
     → Whole hash index_of s → latest ≡ latest_epoch (history_of s)
     → ((es : List Numbered) → Stands (hashing hash p.nonce.0) (table s.nodes s.records) p.part [] es → root.0 ≡ node (hashing hash p.nonce.0) [] es)
-    → previous.0 ≡ link_before (before_at hash None s.chain (length s.chain))
+    → previous.0 ≡ link_before (before_at hash s.before s.chain (length s.chain))
     → (let b : Body = record { version = p.version; t = t; t_prev = latest; root = root; previous = previous; nonce = p.nonce; policy = s.policy } in IsNext hash index_of s p t b)
 body_is hash index_of s p t latest root previous u whole latest-is root-is previous-is =
-    let epoch = latest-is ∙ sym (is_last hash index_of s.policy s.nonce (history_of s) s.chain whole.chain).epoch in
+    let epoch = latest-is ∙ sym (is_last hash index_of s.policy s.nonce s.before (history_of s) s.chain whole.chain whole.begun).epoch in
     let digest : List ℕ → Digest = λ d. record { 0 = d } in
     let rooted = ap digest (root-is u.entries u.stands ∙ mirrored_root hash index_of p.nonce.0 (records_after s p) u.entries (registry_after s p) u.mirrors) in
     let linked = ap digest previous-is in

@@ -24,3 +24,7 @@ mod AgreementLemmas
 mod RunLemmas
 mod SuppliedLemmas
 mod SuppliedBatchLemmas
+mod RestoreLemmas
+mod AlikeLemmas
+mod BindingsLemmas
+mod RestoreIndexLemmas

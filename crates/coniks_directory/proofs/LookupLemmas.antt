@@ -10,6 +10,7 @@ use Rattle.coniks_chain.specs.declared.entry.Entry.{Entry}
 use Rattle.coniks_directory.specs.Lookups.{IsAcceptedUnder}
 use Rattle.coniks_directory.specs.declared.lookup.SignedProof.{SignedProof}
 use Rattle.coniks_proof.proofs.Lemmas.{own_of_map, path_accepted}
+use Rattle.coniks_directory.proofs.ChainLemmas.{rising-weaken}
 use Rattle.coniks_directory.proofs.HeadLemmas.{chain-rises}
 use Rattle.coniks_directory.proofs.LastLemmas.{get-mapped}
 use Rattle.coniks_directory.proofs.MirrorLemmas.{mirrored_path, mirrored_root}
@@ -28,7 +29,7 @@ shown-found records (e ∷ es) t =
 
 module _ (hash index_of : List ℕ → List ℕ) (s : State) (whole : Whole hash index_of s) where
   pub rising_epochs : AreRising 0 (map (λ (e : Epoch). e.t) s.epochs)
-  rising_epochs = subst (AreRising 0) (map-map (λ (x : Shown). x.t) (shown_of s.records) s.epochs) whole.rising
+  rising_epochs = subst (AreRising 0) (map-map (λ (x : Shown). x.t) (shown_of s.records) s.epochs) (rising-weaken _ _ whole.rising)
 
   module _ (k : ℕ) (e : Epoch) (at : slice_get s.epochs k ≡ Some e) where
     pub installed_at : (t : ℕ) (entry : Entry) → e.t ≡ t → slice_get s.chain k ≡ Some entry → IsEpochAt hash index_of s t e entry
@@ -41,7 +42,7 @@ module _ (hash index_of : List ℕ → List ℕ) (s : State) (whole : Whole hash
           shown = shown-found s.records s.epochs t ∙ ap (option_map (shown_of s.records)) (find_at (λ (f : Epoch). f.t) 0 t k s.epochs e rising_epochs at same);
           root = ap (λ (b : Body). b.root.0) body;
           nonce = ap (λ (b : Body). b.nonce.0) body;
-          signed = find_at (λ (f : Entry). f.body.t) 0 t k s.chain entry (chain-rises hash index_of s.policy (history_of s) s.chain whole.chain whole.rising) there number;
+          signed = find_at (λ (f : Entry). f.body.t) _ t k s.chain entry (chain-rises hash index_of s.policy s.before _ (history_of s) s.chain whole.chain whole.rising) there number;
         }
 
     -- there is an entry

@@ -118,12 +118,12 @@ count_same es fs cs ds old new = count_within 256 0 es fs cs ds old new
 pub nothing_alike : AreAlike [] []
 nothing_alike = record { there = λ e is. absurd is; back = λ e is. absurd is; one = tt; other = tt }
 
-place_in : (index_of : List ℕ → List ℕ) (b : Registered) (registry : Registry) → IsIn b registry → IsIn (index_entry index_of b) (index_entries index_of registry)
+pub place_in : (index_of : List ℕ → List ℕ) (b : Registered) (registry : Registry) → IsIn b registry → IsIn (index_entry index_of b) (index_entries index_of registry)
 place_in index_of b [] there = absurd there
 place_in index_of b (x ∷ xs) (inl here) = inl (ap (index_entry index_of) here)
 place_in index_of b (x ∷ xs) (inr later) = inr (place_in index_of b xs later)
 
-in_places : (index_of : List ℕ → List ℕ) (e : Numbered) (registry : Registry) → IsIn e (index_entries index_of registry) → (b : Registered) × IsIn b registry × (index_entry index_of b ≡ e)
+pub in_places : (index_of : List ℕ → List ℕ) (e : Numbered) (registry : Registry) → IsIn e (index_entries index_of registry) → (b : Registered) × IsIn b registry × (index_entry index_of b ≡ e)
 in_places index_of e [] there = absurd there
 in_places index_of e (x ∷ xs) (inl here) = (x, inl refl, here)
 in_places index_of e (x ∷ xs) (inr later) = let k = in_places index_of e xs later in (k.0, inr k.1, k.2)

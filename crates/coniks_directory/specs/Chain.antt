@@ -1,5 +1,5 @@
 -- The chain of a history, and the heads of a chain.
-use Rattle.std.specs.Prelude.{◌≡◌, ℕ, List, length, map, slice_get, Option, Some, None}
+use Rattle.std.specs.Prelude.{◌≡◌, ℕ, List, length, map, slice_get, Option, Some}
 use Rattle.coniks_proof.specs.Octets.{Octets}
 use Rattle.coniks_proof.specs.declared.values.Head.{Head}
 use Rattle.coniks_chain.specs.Chain.{before_at, epoch_before, link_before}
@@ -21,11 +21,11 @@ body_of hash index_of policy before shown = record {
   policy = policy;
 }
 
--- one entry for each epoch, with the body of that epoch after the entry before it, and whatever signature
-pub record IsChainOf (hash index_of : Octets → Octets) (policy : Octets) (history : List Shown) (chain : List Entry) : Type 0 where
+-- one entry for each epoch, with the body of that epoch after the entry before it, the first one after `before`, and whatever signature
+pub record IsChainOf (hash index_of : Octets → Octets) (policy : Octets) (before : Option AuditorState) (history : List Shown) (chain : List Entry) : Type 0 where
   pub long : length chain ≡ length history
   pub bodies : (k : ℕ) (shown : Shown) (entry : Entry) → slice_get history k ≡ Some shown → slice_get chain k ≡ Some entry
-      → entry.body ≡ body_of hash index_of policy (before_at hash None chain k) shown
+      → entry.body ≡ body_of hash index_of policy (before_at hash before chain k) shown
 
 -- the head that a chain has with this last entry
 abbrev pub head_at : (Octets → Octets) → Entry → Head

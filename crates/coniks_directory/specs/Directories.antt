@@ -1,8 +1,8 @@
 -- A directory as contracts see it, and what is said of the whole of it.
-use Rattle.std.specs.Prelude.{◌≡◌, ◌==◌, ℕ, List, length, Bool, Option, None, option_map}
+use Rattle.std.specs.Prelude.{◌≡◌, ◌==◌, ℕ, List, length, Bool, Option, option_map}
 use Rattle.std.specs.List.{find}
 use Rattle.coniks_proof.specs.Octets.{Octets}
-use Rattle.coniks_chain.specs.Chain.{GoodChain, before_at}
+use Rattle.coniks_chain.specs.Chain.{Continues, before_at}
 use Rattle.coniks_chain.specs.declared.entry.Body.{Body}
 use Rattle.coniks_chain.specs.declared.entry.Entry.{Entry}
 use Rattle.coniks_proof.specs.Registry.{Registry}
@@ -52,13 +52,13 @@ module _ {H X : Type 0} (digest : H → Octets → Octets) (index : X → Octets
 module _ {H X : Type 0} (digest : H → Octets → Octets) where
   abbrev pub NextBodyBy : View H X → (Octets → Octets) → Shown → Body
   NextBodyBy d index_of shown =
-      body_of (digest d.hash) index_of d.state.policy (before_at (digest d.hash) None d.state.chain (length d.state.chain)) shown
+      body_of (digest d.hash) index_of d.state.policy (before_at (digest d.hash) d.state.before d.state.chain (length d.state.chain)) shown
 
   abbrev pub heads : View H X → List Head
   heads d = heads_of (digest d.hash) d.state.chain
 
   abbrev pub HasGoodChain : (Octets → Octets → Bool) → View H X → Type 0
-  HasGoodChain verdict d = GoodChain (digest d.hash) verdict d.state.chain
+  HasGoodChain verdict d = Continues (digest d.hash) verdict d.state.before d.state.chain
 
 -- the body of the next entry, whose epoch this is
 abbrev pub NextBody : {H X : Type 0} → (H → Octets → Octets) → (X → Octets → Octets) → View H X → Shown → Body

@@ -1,5 +1,5 @@
 -- The checked operations of a batch: their records, found by index.
-use Rattle.std.specs.Prelude.{◌≡◌, ◌+◌, ◌++◌, ℕ, List, length, map, take, drop, slice_get, Option, Some}
+use Rattle.std.specs.Prelude.{◌≡◌, ◌+◌, ◌++◌, ℕ, List, [], length, map, take, drop, slice_get, Option, Some}
 use Rattle.std.specs.Ordering.{nat_cmp}
 use Rattle.std.specs.Cmp.Lexicographic.{slice_cmp}
 use Rattle.std.specs.BTreeMap.{BTreeMap, btree_map_len, get, IsOrdered}
@@ -7,7 +7,7 @@ use Rattle.coniks_proof.specs.Changes.{AreIncreasing}
 use Rattle.coniks_proof.specs.Entries.{IsIn}
 use Rattle.coniks_proof.specs.Maps.{IsIndex, IsMap}
 use Rattle.coniks_proof.specs.Registry.{Registry, Registered, commitment_to, entries_of, IsLength}
-use Rattle.coniks_proof.specs.Batches.{Operation, bound_by, fault_from, first_fault}
+use Rattle.coniks_proof.specs.Batches.{Operation, bound_by, fault_from}
 use Rattle.coniks_proof.specs.Octets.{Octets}
 use Rattle.coniks_proof.specs.declared.values.TheConstants.{MAX_KEY, MAX_NAME}
 use Rattle.coniks_tree.specs.Table.{Numbered, entry_of_record}
@@ -15,6 +15,7 @@ use Rattle.coniks_tree.specs.declared.table.Record.{Record}
 use Rattle.coniks_directory.specs.Batches.{fault_is}
 use Rattle.coniks_directory.specs.State.{registered_of}
 use Rattle.coniks_directory.specs.declared.batch.BatchFault.{BatchFault}
+use Rattle.coniks_directory.specs.declared.pending.PendingRecords.{PendingRecords}
 use Rattle.coniks_directory.specs.declared.batch.BatchFault.TheVariants.{Workers, Depth, BatchTooLong, At, OutOfMemory}
 
 -- the record's index is its name's, and name and key are within their limits
@@ -57,10 +58,15 @@ pub record ArePendingRecords (hash index_of : Octets → Octets) (bound : List R
   pub counted : btree_map_len numbers ≡ length records
   pub distinct : IsMap (entries_of hash index_of bound)
 
--- the first `i` operations of a batch have no error, so the batch's first error is that of the others
-abbrev pub IsJudged : (Octets → Octets) → Registry → List Operation → ℕ → Type 0
-IsJudged index_of registry ops i = first_fault index_of registry ops ≡
-    fault_from index_of registry (map bound_by (take i ops)) i (drop i ops)
+-- the records and their numbers are the same
+pub record IsSamePending (old new : PendingRecords) : Type 0 where
+  pub records : new.records.items ≡ old.records.items
+  pub numbers : new.numbers.entries ≡ old.numbers.entries
+
+-- the first `i` operations have no error after earlier bindings, so the first error is that of the others
+abbrev pub IsJudged : (Octets → Octets) → Registry → List Registered → List Operation → ℕ → Type 0
+IsJudged index_of registry bound ops i = fault_from index_of registry bound 0 ops ≡
+    fault_from index_of registry (bound ++ map bound_by (take i ops)) i (drop i ops)
 
 -- the entries are those of the records, which are to be stored from a place on, each once and in increasing order of index
 pub record AreChangesOf (base : ℕ) (records : List Record) (entries : List Numbered) : Type 0 where
@@ -69,10 +75,14 @@ pub record AreChangesOf (base : ℕ) (records : List Record) (entries : List Num
   pub only : (e : Numbered) → IsIn e entries → (n : ℕ) × (r : Record) × (slice_get records n ≡ Some r) × (entry_of_record (base + n) r ≡ e)
   pub counted : length entries ≡ length records
 
--- the first operation with an error, and its first error; or an allocation failed
+-- the first operation with an error after earlier bindings, and its first error; or an allocation failed
+abbrev pub IsJudgedFaultAfter : (Octets → Octets) → Registry → List Registered → List Operation → BatchFault → Type 0
+IsJudgedFaultAfter index_of registry bound ops Workers = ⊥
+IsJudgedFaultAfter index_of registry bound ops Depth = ⊥
+IsJudgedFaultAfter index_of registry bound ops BatchTooLong = ⊥
+IsJudgedFaultAfter index_of registry bound ops (At position fault) = fault_from index_of registry bound 0 ops ≡ Some (position, fault_is fault)
+IsJudgedFaultAfter index_of registry bound ops OutOfMemory = Unit {0}
+
+-- the same of a batch, before which nothing is bound
 abbrev pub IsJudgedFault : (Octets → Octets) → Registry → List Operation → BatchFault → Type 0
-IsJudgedFault index_of registry ops Workers = ⊥
-IsJudgedFault index_of registry ops Depth = ⊥
-IsJudgedFault index_of registry ops BatchTooLong = ⊥
-IsJudgedFault index_of registry ops (At position fault) = first_fault index_of registry ops ≡ Some (position, fault_is fault)
-IsJudgedFault index_of registry ops OutOfMemory = Unit {0}
+IsJudgedFault index_of registry ops fault = IsJudgedFaultAfter index_of registry [] ops fault

@@ -13,3 +13,6 @@ pub mod Directories
 pub mod Runs
 pub mod Nodes
 pub mod SuppliedBatches
+pub mod Restored
+pub mod Alike
+pub mod Bindings

@@ -9,16 +9,20 @@ use Rattle.coniks_proof.specs.Registry.{Registered, Registry, overlaid, entries_
 use Rattle.coniks_tree.specs.Table.{Numbered, Shows, entry_of_record, registered_at, registered_by, Table, table}
 use Rattle.coniks_tree.specs.declared.table.Node.{Node}
 use Rattle.coniks_tree.specs.declared.table.Record.{Record}
+use Rattle.coniks_chain.specs.Chain.{epoch_before}
+use Rattle.coniks_chain.specs.declared.auditor.AuditorState.{AuditorState}
 use Rattle.coniks_chain.specs.declared.entry.Entry.{Entry}
 use Rattle.coniks_directory.specs.History.{Shown, AreRising, AreUnder, numbers_of, root_at, shown_at}
 use Rattle.coniks_directory.specs.Chain.{IsChainOf}
 use Rattle.coniks_directory.specs.declared.epochs.Epoch.{Epoch}
 use Rattle.coniks_directory.specs.declared.state.DirectoryState.{DirectoryState}
 
--- what a directory holds; the nonce is that of `open`
+-- what a directory holds; the nonce is that of `open` or of the entry of `restore`, and `before` is what the chain's first entry
+-- is compared with: nothing after `open`, and what the entry of `restore` says of the one before it
 pub record State : Type 0 where
   pub nonce : Octets
   pub policy : Octets
+  pub before : Option AuditorState
   pub nodes : List Node
   pub records : List Record
   pub epochs : List Epoch
@@ -35,6 +39,7 @@ abbrev pub state_of : DirectoryState → State
 state_of h = record {
   nonce = h.nonce.0;
   policy = h.policy;
+  before = h.before;
   nodes = h.tree.nodes;
   records = h.tree.records;
   epochs = h.epochs.items;
@@ -43,7 +48,7 @@ state_of h = record {
 
 -- the state of a directory that was opened
 abbrev pub opened : Octets → Octets → State
-opened nonce policy = record { nonce = nonce; policy = policy; nodes = []; records = []; epochs = []; chain = [] }
+opened nonce policy = record { nonce = nonce; policy = policy; before = None; nodes = []; records = []; epochs = []; chain = [] }
 
 -- what a record binds
 abbrev pub registered_of : Record → Registered
@@ -95,9 +100,10 @@ last_count (e ∷ f ∷ es) = last_count (f ∷ es)
 pub record Whole (hash index_of : Octets → Octets) (s : State) : Type 0 where
   pub held : (k : ℕ) (e : Epoch) → slice_get s.epochs k ≡ Some e → HoldsEpoch hash index_of (table s.nodes s.records) e
   pub last : last_count s.epochs ≡ length s.records
-  pub rising : AreRising 0 (numbers_of (history_of s))
+  pub begun : s.chain ≡ [] → s.before ≡ None
+  pub rising : AreRising (epoch_before s.before) (numbers_of (history_of s))
   pub under : AreUnder 1 s.nonce (history_of s)
-  pub chain : IsChainOf hash index_of s.policy (history_of s) s.chain
+  pub chain : IsChainOf hash index_of s.policy s.before (history_of s) s.chain
 
 -- the epoch of exactly this number, with the entry of that number
 pub record IsEpochAt (hash index_of : Octets → Octets) (s : State) (t : ℕ) (e : Epoch) (entry : Entry) : Type 0 where

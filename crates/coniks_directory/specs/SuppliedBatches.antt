@@ -19,6 +19,7 @@ use Rattle.coniks_directory.specs.Updates.{IsUpdateOf}
 use Rattle.coniks_directory.specs.declared.batch.BatchFault.TheVariants.{Workers, Depth, BatchTooLong, At, OutOfMemory}
 use Rattle.coniks_directory.specs.declared.batch.Op.{Op}
 use Rattle.coniks_directory.specs.declared.supplied_batch.SuppliedBatchFault.{SuppliedBatchFault}
+use Rattle.coniks_directory.specs.declared.supplied_batch.SuppliedBindings.{SuppliedBindings}
 use Rattle.coniks_directory.specs.declared.supplied_batch.SuppliedBatchFault.TheVariants.{Batch, OtherIndex}
 use Rattle.coniks_directory.specs.declared.update.Prepared.{Prepared}
 
@@ -48,6 +49,10 @@ given_index named index_of name = if is_supplied named name then supplied_index 
 -- the indices that a batch is checked by: a registered name keeps its index, and another name has the one that comes with it
 abbrev pub index_in : (Octets → Octets) → Registry → List Indexed → Octets → Octets
 index_in index_of registry batch name = if has_name registry name then index_of name else given_index (named_in batch) index_of name
+
+-- the indices that bindings are checked by after others: a bound name keeps its index, and another name has the first that comes with it
+abbrev pub binding_index : (Octets → Octets) → List Registered → SuppliedBindings → Octets → Octets
+binding_index index_of bound batch = index_in index_of bound (indexed batch.bindings.now batch.indices.now)
 
 -- of the names of operations, those that aren't registered, each with the index that comes first
 pub record IsFresh (registry : Registry) (fresh named : List Supplied) : Type 0 where

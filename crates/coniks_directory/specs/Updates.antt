@@ -71,6 +71,7 @@ pub record IsUpdate (hash index_of : Octets → Octets) (s : State) (p : Prepare
 pub record Grows (s t : State) : Type 0 where
   pub nonce : t.nonce ≡ s.nonce
   pub policy : t.policy ≡ s.policy
+  pub before : t.before ≡ s.before
   pub nodes : Extends s.nodes t.nodes
   pub longer : length s.nodes ≤ length t.nodes
   pub more_records : List Record

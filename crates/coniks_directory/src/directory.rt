@@ -13,9 +13,11 @@ ghost use Rattle.coniks_directory.specs.History.{AllHaveOwnIndices, AreRising, A
 ghost use Rattle.coniks_directory.specs.Lookups.{IsAcceptedAt, IsAcceptedUnder, IsFound, IsMissed};
 ghost use Rattle.coniks_directory.specs.Updates.{HasRefused, IsUpdate, IsUpdateOf, RotatesTo};
 
+mod restoring;
 mod supplying;
 
 use crate::batch::{BatchFault, Op, within_limits};
+use crate::bindings::{BindingsFault, IndexedBinding, bindings_of};
 use crate::conflicts::{holder_at, is_of};
 use crate::install::{enter, head_of, last_link, make_body, may_install, put_head, signed};
 use crate::lengths::is_length;
@@ -28,15 +30,16 @@ use coniks_chain::{Body, Entry, Sign};
 use coniks_proof::{Digest, Hash32, Index, MAX_NAME, Nonce, Proof};
 use coniks_shared::{Board, Publisher};
 use coniks_work::Gate;
+pub use restoring::Restoring;
 use std::alloc::Global;
 use std::marker::Model;
 use std::thread::Threads;
 
 /// Names bound to keys, epoch by epoch.
 ///
-/// Contracts see a directory as its hash, its index source and its state. The state contains the nonce of `open`, the
-/// policy, the nodes and records of the tree that all epochs share, the epochs and the chain. The history is the list of
-/// the epochs with their registries.
+/// Contracts see a directory as its hash, its index source and its state. The state contains the nonce of `open` or of the
+/// entry that was restored, the policy, what the chain's first entry follows, the nodes and records of the tree that all
+/// epochs share, the epochs and the chain. The history is the list of the epochs with their registries.
 #[derive(Drop)]
 pub struct Directory<H: Hash32, X: IndexSource> {
     alloc: Global,
@@ -56,7 +59,7 @@ impl<H: Hash32, X: IndexSource> Model for Directory<H, X> {
 }
 
 impl<H: Hash32, X: IndexSource> Directory<H, X> {
-    ghost use Rattle.coniks_chain.specs.Chain.{before_at, link_before};
+    ghost use Rattle.coniks_chain.specs.Chain.{before_at, epoch_before, link_before};
     ghost use Rattle.coniks_directory.specs.History.{latest_epoch};
     ghost use Rattle.coniks_directory.specs.State.{opened};
 
@@ -85,8 +88,8 @@ impl<H: Hash32, X: IndexSource> Directory<H, X> {
     /// Returns the signed tree roots (STRs), one entry for each epoch, which an auditor verifies.
     pub fn chain(&self) -> &[Entry]
         ensures value { result.now ≡ self.now.state.chain }
-        ensures of_history { IsChainOf (H.digest_of self.now.hash) (X.index_of self.now.index) self.now.state.policy (history self.now) self.now.state.chain }
-        ensures rising { AreRising 0 (numbers_of (history self.now)) }
+        ensures of_history { IsChainOf (H.digest_of self.now.hash) (X.index_of self.now.index) self.now.state.policy self.now.state.before (history self.now) self.now.state.chain }
+        ensures rising { AreRising (epoch_before self.now.state.before) (numbers_of (history self.now)) }
         ensures under { AreUnder 1 self.now.state.nonce (history self.now) }
         ensures names { AllHaveOwnIndices (X.index_of self.now.index) (history self.now) }
     {
@@ -105,7 +108,7 @@ impl<H: Hash32, X: IndexSource> Directory<H, X> {
     /// The publisher has published exactly the heads of the directory's chain.
     pub fn latest_link(&self, publisher: &Publisher) -> Digest
         requires { publisher.now.heads ≡ heads H.digest_of self.now }
-        ensures { result.0 ≡ link_before (before_at (H.digest_of self.now.hash) None self.now.state.chain (length self.now.state.chain)) }
+        ensures { result.0 ≡ link_before (before_at (H.digest_of self.now.hash) self.now.state.before self.now.state.chain (length self.now.state.chain)) }
     {
         // Read for the contract alone.
         let _ = &self.held;
@@ -177,8 +180,42 @@ impl<H: Hash32, X: IndexSource> Directory<H, X> {
 }
 
 impl<H: Hash32, X: IndexSource> Directory<H, X> {
+    ghost use Rattle.coniks_directory.specs.Bindings.{ArePageAt, IsUnlisted};
     ghost use Rattle.coniks_directory.specs.Supplied.{AgreeOn};
     ghost use Rattle.coniks_directory.specs.Updates.{registry_after, shown_after};
+
+    /// Returns a page of the bindings of an epoch: at most `most` of them, in increasing order of index.
+    ///
+    /// They are the first bindings whose indices are greater than `after`, or the first of all. All pages of an epoch,
+    /// each after the last index of the one before, are what `Restoring` restores the epoch from. The call reads the nodes
+    /// on the way to `after` and those above the page's leaves, and copies no name or key. It waits for no other thread.
+    ///
+    /// # Errors
+    ///
+    /// If both apply, the first in this order is returned.
+    ///
+    /// - `UnknownEpoch` if no epoch was installed under exactly this number.
+    /// - `OutOfMemory` if an allocation fails.
+    pub fn bindings(
+        &self,
+        t: u64,
+        after: Option<Index>,
+        most: usize,
+    ) -> Result<Vec<IndexedBinding<'_>>, BindingsFault>
+        ensures page { IfOk result (λ page. ArePageAt (H.digest_of self.now.hash) (X.index_of self.now.index) (history self.now) t after most page.items) }
+        ensures refused { IfErr result (IsUnlisted (history self.now) t) }
+    {
+        let Some((epoch, _)) = self.held.installed(t) else {
+            return Err(BindingsFault::UnknownEpoch);
+        };
+        let Ok(page) = self.held.tree.page(epoch.root, after, most) else {
+            return Err(BindingsFault::OutOfMemory);
+        };
+        match bindings_of(self.alloc, &self.held.tree, &page) {
+            Ok(bindings) => Ok(bindings),
+            Err(_) => Err(BindingsFault::OutOfMemory),
+        }
+    }
 
     /// Returns the source of indices.
     pub fn source(&self) -> &X

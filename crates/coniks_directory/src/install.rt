@@ -1,14 +1,15 @@
 //! The steps of an install.
 
-ghost use Rattle.std.specs.Prelude.{◌≡◌, ◌≢◌, ◌<◌, ◌≤◌, ◌+◌, ◌-◌, ◌^◌, ◌++◌, ◌∷◌, [], List, ℕ, None, Some, IfErr, IfOk, OnOk, length, vec_len, vec_capacity, true};
+ghost use Rattle.std.specs.Prelude.{◌≡◌, ◌≢◌, ◌<◌, ◌≤◌, ◌+◌, ◌-◌, ◌^◌, ◌++◌, ◌∷◌, [], List, ℕ, Option, None, Some, IfErr, IfOk, OnOk, length, vec_len, vec_capacity, true};
 ghost use Rattle.coniks_proof.specs.Octets.{Octets};
 ghost use Rattle.coniks_chain.specs.Chain.{before_at, link_before};
 ghost use Rattle.coniks_chain.specs.Entries.{body_bytes};
+ghost use Rattle.coniks_chain.specs.declared.auditor.AuditorState.{AuditorState};
 ghost use Rattle.coniks_chain.specs.declared.entry.Body.{Body};
 ghost use Rattle.coniks_shared.specs.Boards.{board_end};
 ghost use Rattle.coniks_tree.specs.Parts.{Fits, Placed, node_count};
 ghost use Rattle.coniks_directory.specs.Chain.{head_at, heads_of};
-ghost use Rattle.coniks_directory.specs.Installed.{IsEntered, IsSigned};
+ghost use Rattle.coniks_directory.specs.Installed.{IsAttached, IsEntered, IsSigned};
 ghost use Rattle.coniks_directory.specs.State.{State, state_of};
 ghost use Rattle.coniks_directory.specs.Updates.{IsRefused, LeavesSigner, MayInstall, nodes_added, refusals};
 
@@ -50,8 +51,8 @@ pub(crate) fn may_install(
 /// Returns the link of the last entry, which the last published head contains, or 32 zero bytes if there is none.
 #[tactic(auto, using(crate::proofs::HeadLemmas::last_links))]
 pub(crate) fn last_link(publisher: &Publisher) -> Digest
-    ensures { (hash : Octets → Octets) (chain : List Entry) → publisher.now.heads ≡ heads_of hash chain
-        → result.0 ≡ link_before (before_at hash None chain (length chain)) }
+    ensures { (hash : Octets → Octets) (before : Option AuditorState) (chain : List Entry) → publisher.now.heads ≡ heads_of hash chain
+        → (chain ≡ [] → before ≡ None) → result.0 ≡ link_before (before_at hash before chain (length chain)) }
 {
     match publisher.last() {
         Some(head) => head.link,
@@ -60,7 +61,7 @@ pub(crate) fn last_link(publisher: &Publisher) -> Digest
 }
 
 /// Reserves room for an update's nodes and records, and for one more epoch and entry.
-fn make_room(held: &mut DirectoryState, update: &Prepared) -> Result<(), OutOfMemory>
+pub(crate) fn make_room(held: &mut DirectoryState, update: &Prepared) -> Result<(), OutOfMemory>
     requires { Fits (length held.old.tree.nodes) 0 update.now.part }
     ensures same { state_of held.new ≡ state_of held.old }
     ensures nodes { OnOk result (length held.new.tree.nodes + node_count update.now.part ≤ held.new.tree.node_room) }
@@ -192,6 +193,7 @@ pub(crate) fn enter<H: Hash32>(
     requires chain { vec_len held.old.chain < vec_capacity held.old.chain }
     ensures count { length held.new.tree.nodes ≡ length held.old.tree.nodes + nodes_added update }
     ensures last { held.new.chain.items ≡ held.old.chain.items ++ entry ∷ [] }
+    ensures attached { (s : State) → state_of held.old ≡ s → IsAttached (H.digest_of h.now) s (state_of held.new) update t entry }
     ensures entered { (s : State) → state_of held.old ≡ s → IsEntered (H.digest_of h.now) s (state_of held.new) update t entry }
 {
     let Prepared {

@@ -1,13 +1,13 @@
 //! Checks a batch on a registry, operation by operation.
 
-ghost use Rattle.std.specs.Prelude.{◌≡◌, ◌++◌, ◌∷◌, ◌<◌, [], List, None, Ok, IfErr, IfOk, IfSome, OnOk, length, map, option_map};
-ghost use Rattle.coniks_proof.specs.Batches.{bound_by, fault_of, first_fault};
+ghost use Rattle.std.specs.Prelude.{◌≡◌, ◌≢◌, ◌++◌, ◌∷◌, ◌<◌, [], List, None, Ok, IfErr, IfOk, IfSome, OnErr, OnOk, length, map, option_map};
+ghost use Rattle.coniks_proof.specs.Batches.{bound_by, fault_from, fault_of, first_fault};
 ghost use Rattle.coniks_proof.specs.Octets.{Octets};
 ghost use Rattle.coniks_proof.specs.Registry.{Registered, Registry};
 ghost use Rattle.coniks_tree.specs.Trees.{table_of};
 ghost use Rattle.coniks_directory.specs.Batches.{fault_is, operation_of, operations};
 ghost use Rattle.coniks_directory.specs.Holders.{ShowsLatest};
-ghost use Rattle.coniks_directory.specs.Judged.{ArePendingRecords, AreSealed, IsJudgedFault};
+ghost use Rattle.coniks_directory.specs.Judged.{ArePendingRecords, AreSealed, IsJudgedFault, IsJudgedFaultAfter, IsSamePending};
 
 use crate::batch::{BatchFault, Op, OpFault};
 use crate::conflicts::{holder_at, op_fault};
@@ -18,7 +18,7 @@ use coniks_proof::Hash32;
 use coniks_tree::{Root, Tree};
 use std::alloc::{AllocError, Global};
 
-/// Adds the record of an operation to those of the earlier ones, or returns the operation's error.
+/// Adds the record of an operation to those of the earlier ones, or returns the operation's error and adds nothing.
 fn judge_one<X: IndexSource>(
     alloc: Global,
     source: &X,
@@ -35,6 +35,7 @@ fn judge_one<X: IndexSource>(
     ensures pending { result ≡ Ok None → (hash : Octets → Octets) (bound : List Registered)
         → ArePendingRecords hash (X.index_of source.now) bound pending.old.records.items pending.old.numbers
         → ArePendingRecords hash (X.index_of source.now) (bound ++ bound_by (operation_of op.now) ∷ []) pending.new.records.items pending.new.numbers }
+    ensures kept { result ≢ Ok None → IsSamePending pending.old pending.new }
 {
     if let Some(fault) = length_fault(op) {
         return Ok(Some(fault));
@@ -48,6 +49,53 @@ fn judge_one<X: IndexSource>(
     let made = record_of(alloc, index, op)?;
     pending.add(made)?;
     Ok(None)
+}
+
+/// Adds the records of a batch's operations to those of earlier ones.
+///
+/// # Errors
+///
+/// The position of the first operation that has an error, and its first error, or `OutOfMemory` if an allocation fails.
+/// The records are then those of the earlier operations.
+pub(crate) fn judge_all<X: IndexSource>(
+    alloc: Global,
+    source: &X,
+    tree: &Tree,
+    root: Option<Root>,
+    pending: &mut PendingRecords,
+    ops: &[Op],
+) -> Result<(), BatchFault>
+    requires { IfSome root (λ r. r.0 < length tree.now.nodes) }
+    ensures pending { OnOk result ((hash : Octets → Octets) (bound : List Registered)
+        → ArePendingRecords hash (X.index_of source.now) bound pending.old.records.items pending.old.numbers
+        → ArePendingRecords hash (X.index_of source.now) (bound ++ map bound_by (operations ops.now)) pending.new.records.items pending.new.numbers) }
+    ensures faultless { OnOk result ((hash : Octets → Octets) (nonce : Octets) (registry : Registry) (bound : List Registered)
+        → ShowsLatest hash (X.index_of source.now) nonce (table_of tree.now) root registry
+        → ArePendingRecords hash (X.index_of source.now) bound pending.old.records.items pending.old.numbers
+        → fault_from (X.index_of source.now) registry bound 0 (operations ops.now) ≡ None) }
+    ensures fault { IfErr result (λ fault. (hash : Octets → Octets) (nonce : Octets) (registry : Registry) (bound : List Registered)
+        → ShowsLatest hash (X.index_of source.now) nonce (table_of tree.now) root registry
+        → ArePendingRecords hash (X.index_of source.now) bound pending.old.records.items pending.old.numbers
+        → IsJudgedFaultAfter (X.index_of source.now) registry bound (operations ops.now) fault) }
+    ensures kept { OnErr result ((hash : Octets → Octets) (bound : List Registered)
+        → ArePendingRecords hash (X.index_of source.now) bound pending.old.records.items pending.old.numbers
+        → ArePendingRecords hash (X.index_of source.now) bound pending.new.records.items pending.new.numbers) }
+{
+    let earlier = pending.count();
+    for (position, op) in ops.iter().enumerate() {
+        match judge_one(alloc, source, tree, root, pending, op) {
+            Ok(None) => {}
+            Ok(Some(fault)) => {
+                pending.truncate(earlier);
+                return Err(BatchFault::At { position, fault });
+            }
+            Err(_) => {
+                pending.truncate(earlier);
+                return Err(BatchFault::OutOfMemory);
+            }
+        }
+    }
+    Ok(())
 }
 
 /// Returns the records of a batch's operations, with their commitments after all are checked.
@@ -77,13 +125,7 @@ pub(crate) fn judged<H: Hash32, X: IndexSource>(
     let Ok(mut pending) = PendingRecords::new(alloc, ops.len()) else {
         return Err(BatchFault::OutOfMemory);
     };
-    for (position, op) in ops.iter().enumerate() {
-        match judge_one(alloc, source, tree, root, &mut pending, op) {
-            Ok(None) => {}
-            Ok(Some(fault)) => return Err(BatchFault::At { position, fault }),
-            Err(_) => return Err(BatchFault::OutOfMemory),
-        }
-    }
+    judge_all(alloc, source, tree, root, &mut pending, ops)?;
     pending.seal(h);
     Ok(pending)
 }

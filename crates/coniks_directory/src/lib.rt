@@ -6,7 +6,8 @@
 //! `prepare` checks a batch of operations and builds its epoch's tree with several worker threads, and only reads the
 //! directory. `install` installs the update. It allocates all memory before it asks for the signature, and nothing can
 //! fail after that. Every epoch is kept: `lookup`, `root_at` and `chain` return what was installed for an epoch.
-//! `prepare_with` rotates the nonce, and rehashes the tree under the new nonce.
+//! `prepare_with` rotates the nonce, and rehashes the tree under the new nonce. `Restoring` restores a directory from an
+//! entry and the bindings at its epoch. It continues the same chain, without the epochs before.
 //!
 //! You provide the hash, the index source and the signer. The publisher is that of a board (`coniks_shared`):
 //!
@@ -61,6 +62,7 @@
 #![tactic(auto)]
 
 pub mod batch;
+pub mod bindings;
 mod changes;
 mod conflicts;
 pub mod directory;
@@ -73,17 +75,21 @@ mod lengths;
 pub mod lookup;
 mod pending;
 mod preparing;
+pub mod restoring;
 mod sealing;
 pub mod source;
 mod state;
 pub mod supplied;
 pub mod supplied_batch;
+mod supplied_bindings;
 pub mod update;
 
 pub use batch::{BatchFault, Op, OpFault, OpKind};
-pub use directory::Directory;
+pub use bindings::{BindingsFault, IndexedBinding};
+pub use directory::{Directory, Restoring};
 pub use lookup::{LookupAtFault, LookupFault, SignedProof};
+pub use restoring::RestoreFault;
 pub use source::IndexSource;
 pub use supplied::{SuppliedIndices, SupplyFault, SupplyIndex};
-pub use supplied_batch::{SuppliedBatch, SuppliedBatchFault};
+pub use supplied_batch::{SuppliedBatch, SuppliedBatchFault, SuppliedBindings};
 pub use update::{CommitFault, InstallFault, Prepared};

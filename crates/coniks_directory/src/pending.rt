@@ -1,15 +1,16 @@
 //! The checked operations of a batch: their records, found by index, and the commitments of these.
 
-ghost use Rattle.std.specs.Prelude.{◌≡◌, ◌++◌, ◌∷◌, [], List, IfOk, MatchOption, None, OnOk, Some, map, slice_get};
+ghost use Rattle.std.specs.Prelude.{◌≡◌, ◌<◌, ◌≤◌, ◌+◌, ◌++◌, ◌∷◌, [], List, IfOk, MatchOption, None, OnErr, OnOk, Some, drop, length, map, slice_get, take};
 ghost use Rattle.coniks_proof.specs.Batches.{bound_by};
 ghost use Rattle.coniks_proof.specs.Octets.{Octets};
-ghost use Rattle.coniks_proof.specs.Registry.{AreWithin, IsFree, IsLength, Registered};
+ghost use Rattle.coniks_proof.specs.Registry.{AreWithin, IsFree, IsLength, Registered, has_name};
 ghost use Rattle.coniks_directory.specs.Batches.{operation_of};
 ghost use Rattle.coniks_directory.specs.Holders.{HolderIs};
-ghost use Rattle.coniks_directory.specs.Judged.{ArePendingRecords, AreSealed, IsPendingRecord};
+ghost use Rattle.coniks_directory.specs.Judged.{ArePendingRecords, AreSealed, IsPendingRecord, IsSamePending};
 ghost use Rattle.coniks_directory.specs.State.{registered_of};
 
 use crate::batch::Op;
+use crate::conflicts::is_of;
 use crate::sealing::seal_all;
 use coniks_proof::{Binding, Bytes, Digest, Hash32, Index, MAX_KEY, MAX_NAME};
 use coniks_tree::Record;
@@ -46,9 +47,34 @@ impl PendingRecords {
         record_at(&self.records, *number)
     }
 
-    /// Adds the record of the next operation, whose index has none.
+    /// Returns whether one of the operations has the name, which has this index.
+    pub(crate) fn binds(&self, index: &Index, name: &[u8]) -> bool
+        ensures { (hash index_of : Octets → Octets) (bound : List Registered) → ArePendingRecords hash index_of bound self.now.records.items self.now.numbers
+            → index.now.0 ≡ index_of name.now → result ≡ has_name bound name.now }
+    {
+        is_of(self.holder(index), name)
+    }
+
+    /// Returns the number of operations.
+    pub(crate) fn count(&self) -> usize
+        ensures { result ≡ length self.now.records.items }
+    {
+        self.records.len()
+    }
+
+    /// Returns the records of the operations from a number on.
+    pub(crate) fn since(&self, number: usize) -> &[Record]
+        requires { number ≤ length self.now.records.items }
+        ensures { result.now ≡ drop number self.now.records.items }
+    {
+        &self.records[number..]
+    }
+
+    /// Adds the record of the next operation, whose index has none. After an error nothing has changed.
     pub(crate) fn add(&mut self, made: Record) -> Result<(), AllocError>
-        ensures { OnOk result ((hash index_of : Octets → Octets) (bound : List Registered)
+        ensures records { OnOk result (self.new.records.items ≡ self.old.records.items ++ made ∷ []) }
+        ensures kept { OnErr result (IsSamePending self.old self.new) }
+        ensures pending { OnOk result ((hash index_of : Octets → Octets) (bound : List Registered)
             → ArePendingRecords hash index_of bound self.old.records.items self.old.numbers
             → IsPendingRecord index_of made → IsFree index_of bound made.index.0
             → ArePendingRecords hash index_of (bound ++ registered_of made ∷ []) self.new.records.items self.new.numbers) }
@@ -56,8 +82,40 @@ impl PendingRecords {
         let index = made.index.0;
         let number = self.records.len();
         self.records.push(made)?;
-        self.numbers.insert(index, number)?;
-        Ok(())
+        match self.numbers.insert(index, number) {
+            Ok(_) => Ok(()),
+            Err(_) => {
+                self.records.pop();
+                Err(AllocError)
+            }
+        }
+    }
+
+    /// Removes the record of the last operation.
+    fn remove_last(&mut self)
+        requires { 0 < length self.old.records.items }
+        ensures fewer { length self.new.records.items + 1 ≡ length self.old.records.items }
+        ensures records { (more : List Record) × (self.old.records.items ≡ self.new.records.items ++ more) }
+        ensures pending { (hash index_of : Octets → Octets) (bound : List Registered)
+            → ArePendingRecords hash index_of bound self.old.records.items self.old.numbers
+            → ArePendingRecords hash index_of (map registered_of self.new.records.items) self.new.records.items self.new.numbers }
+    {
+        let Some(record) = self.records.pop() else {
+            unreachable!()
+        };
+        self.numbers.remove(&record.index.0);
+    }
+
+    /// Keeps the records of the first operations, this number of them, and removes the others.
+    pub(crate) fn truncate(&mut self, count: usize)
+        ensures records { self.new.records.items ≡ take count self.old.records.items }
+        ensures pending { (hash index_of : Octets → Octets) (bound : List Registered)
+            → ArePendingRecords hash index_of bound self.old.records.items self.old.numbers
+            → ArePendingRecords hash index_of (map registered_of self.new.records.items) self.new.records.items self.new.numbers }
+    {
+        for _place in count..self.records.len() {
+            self.remove_last();
+        }
     }
 
     /// Stores its commitment in each record.

@@ -22,7 +22,7 @@ use crate::pending::PendingRecords;
 use crate::source::IndexSource;
 use crate::state::DirectoryState;
 use crate::update::Prepared;
-use coniks_proof::{Hash32, MAX_OPERATIONS, Nonce};
+use coniks_proof::{Hash32, Nonce};
 use coniks_tree::{OutOfMemory, Part, Root};
 use coniks_work::{Gate, MAX_DEPTH};
 use std::alloc::Global;
@@ -70,7 +70,7 @@ fn nonce_after(new_nonce: Option<Nonce>, latest: Nonce) -> Nonce
 ///
 /// It is the map under the root, or the empty map if there is none, overwritten by their changes. If it is made anew,
 /// nothing of the root is kept.
-fn part_of<H: Hash32 + Sync, X: IndexSource, G: Gate + Sync, R: Threads + Sync>(
+pub(crate) fn part_of<H: Hash32 + Sync, X: IndexSource, G: Gate + Sync, R: Threads + Sync>(
     build: &Build<'_, G, R>,
     origin: &Origin<'_, H, X>,
     pending: &PendingRecords,
@@ -108,7 +108,7 @@ fn part_of<H: Hash32 + Sync, X: IndexSource, G: Gate + Sync, R: Threads + Sync>(
 }
 
 /// Returns the update of a part that was built of the records, or `OutOfMemory` if no memory could hold the part's nodes.
-fn update_of(
+pub(crate) fn update_of(
     held: &DirectoryState,
     version: u8,
     nonce: Nonce,
@@ -147,7 +147,6 @@ pub(crate) fn update_on<H: Hash32 + Sync, X: IndexSource, G: Gate + Sync, R: Thr
     ops: &[Op],
 ) -> Result<Prepared, BatchFault>
     requires whole { Whole (H.digest_of origin.now.h.now) (X.index_of origin.now.source.now) (state_of origin.now.held.now) }
-    requires few { length ops.now ≤ MAX_OPERATIONS }
     requires depth { build.now.depth ≤ MAX_DEPTH }
     requires workers { AreWorkers build.now.workers }
     ensures update { IfOk result (IsUpdateBy (H.digest_of origin.now.h.now)

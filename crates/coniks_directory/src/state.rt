@@ -6,18 +6,20 @@ ghost use Rattle.coniks_directory.specs.History.{latest_epoch, latest_nonce, lat
 ghost use Rattle.coniks_directory.specs.Holders.{IsLatestRoot};
 
 use crate::epochs::Epoch;
-use coniks_chain::Entry;
+use coniks_chain::{AuditorState, Entry};
 use coniks_proof::Nonce;
 use coniks_tree::{Root, Tree};
 use std::alloc::Global;
 
 /// The state of a directory beside its hash and its index source.
 ///
-/// It contains the nonce of `open`, the policy, the tree that all epochs share, the epochs and the chain.
+/// It contains the nonce of `open` or of the entry that was restored, the policy, what the chain's first entry follows, the
+/// tree that all epochs share, the epochs and the chain.
 #[derive(Drop)]
 pub(crate) struct DirectoryState {
     pub(crate) nonce: Nonce,
     pub(crate) policy: [u8; 32],
+    pub(crate) before: Option<AuditorState>,
     pub(crate) tree: Tree,
     pub(crate) epochs: Vec<Epoch>,
     pub(crate) chain: Vec<Entry>,
@@ -33,6 +35,7 @@ impl DirectoryState {
         DirectoryState {
             nonce,
             policy,
+            before: None,
             tree: Tree::new(alloc),
             epochs: Vec::new(alloc),
             chain: Vec::new(alloc),

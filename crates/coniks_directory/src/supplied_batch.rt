@@ -23,6 +23,14 @@ pub struct SuppliedBatch<'a> {
     pub indices: &'a [Index],
 }
 
+/// Bindings that come with the indices of their names, each a `Register` operation.
+#[derive(Clone, Copy)]
+pub struct SuppliedBindings<'a> {
+    pub bindings: &'a [Op],
+    /// The index of each binding's name, in the order of the bindings.
+    pub indices: &'a [Index],
+}
+
 /// The error of a batch that comes with its indices.
 #[derive(Clone, Copy, Debug, Drop, PartialEq, Eq, Error)]
 pub enum SuppliedBatchFault {

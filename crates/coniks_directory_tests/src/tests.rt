@@ -3,6 +3,7 @@
 mod answers;
 mod asking;
 mod batches;
+mod bindings;
 mod boards;
 mod clerk;
 mod clients;
@@ -14,6 +15,7 @@ mod installs;
 mod largest;
 mod outside;
 mod refused;
+mod restores;
 mod rotations;
 mod runs;
 mod supplying;

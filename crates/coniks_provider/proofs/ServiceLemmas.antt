@@ -201,8 +201,8 @@ module _ {H : Type 0} (d e : Held H) (p : Update) (entry : Entry) (signature : L
   installed_reply pending some = rw (some, is) refl
 
   pub installed_state : (pending after : Option Update) → pending ≡ Some p → after ≡ None
-      → e.state.nonce ≡ d.state.nonce → e.state.policy ≡ d.state.policy → e.index ≡ put_indices d.index (indices_of p.update)
+      → e.state.nonce ≡ d.state.nonce → e.state.policy ≡ d.state.policy → e.state.before ≡ d.state.before → e.index ≡ put_indices d.index (indices_of p.update)
       → history_of e.state ≡ history_of d.state ++ shown_after d.state p.update p.body.t ∷ []
       → e.state.chain ≡ d.state.chain ++ entry ∷ [] → length e.state.nodes ≡ length d.state.nodes + nodes_added p.update
       → (let s : ProviderState = Some (provided_by e after) in s) ≡ (install_on (provided_by d pending) signature (option_map (pending_of d) pending)).state
-  installed_state pending after some none nonce policy index history chain nodes = rw (some, none, nonce, policy, index, history, chain, nodes, is) refl
+  installed_state pending after some none nonce policy before index history chain nodes = rw (some, none, nonce, policy, before, index, history, chain, nodes, is) refl

@@ -44,6 +44,7 @@ abbrev pub provided_by : {H : Type 0} → Held H → Option Update → ProviderD
 provided_by {H} d pending = record {
   nonce = d.state.nonce;
   policy = d.state.policy;
+  before = d.state.before;
   indices = d.index;
   history = history_of d.state;
   chain = d.state.chain;
@@ -66,7 +67,7 @@ pub record IsPending {H : Type 0} (d : Held H) (p : Update) : Type 0 where
   pub later : latest_epoch (history_of d.state) < p.body.t
   pub room : length d.state.chain < most_provider_epochs
   pub body : p.body ≡ body_of sha256 index d.state.policy
-      (before_at sha256 None d.state.chain (length d.state.chain)) (shown_after d.state p.update p.body.t)
+      (before_at sha256 d.state.before d.state.chain (length d.state.chain)) (shown_after d.state p.update p.body.t)
 
 -- the heads of the chain are those that are published, and what is pending can be installed
 pub record IsServing {H : Type 0} (published : BoardEnd) (d : Held H) (update : Option Update) : Type 0 where

@@ -11,6 +11,7 @@ use Rattle.coniks_proof.specs.Registry.{has_name}
 use Rattle.coniks_proof.specs.declared.values.TheConstants.{MAX_NAME, MAX_OPERATIONS}
 use Rattle.coniks_chain.specs.Chain.{before_at, link_before}
 use Rattle.coniks_chain.specs.Entries.{link_preimage, signed}
+use Rattle.coniks_chain.specs.declared.auditor.AuditorState.{AuditorState}
 use Rattle.coniks_chain.specs.declared.entry.Body.{Body}
 use Rattle.coniks_chain.specs.declared.entry.Entry.{Entry}
 use Rattle.coniks_directory.specs.Chain.{body_of}
@@ -34,11 +35,12 @@ pub record Pending : Type 0 where
   pub indices : List Supplied
   pub nodes : ℕ
 
--- a directory that was opened: its nonce and policy, the registered names with their indices, its history with its chain, how many nodes
--- its tree has, and the update that is pending, if one is
+-- a directory that was opened: its nonce and policy, what the first entry of its chain is compared with, the registered names with their
+-- indices, its history with its chain, how many nodes its tree has, and the update that is pending, if one is
 pub record ProviderDirectory : Type 0 where
   pub nonce : Octets
   pub policy : Octets
+  pub before : Option AuditorState
   pub indices : List Supplied
   pub history : List Shown
   pub chain : List Entry
@@ -57,7 +59,7 @@ ProviderTurn = Turn ProviderOutcome ProviderState
 
 -- a directory with no epochs
 abbrev pub nothing_yet : Octets → Octets → ProviderDirectory
-nothing_yet nonce policy = record { nonce = nonce; policy = policy; indices = []; history = []; chain = []; nodes = 0; pending = None }
+nothing_yet nonce policy = record { nonce = nonce; policy = policy; before = None; indices = []; history = []; chain = []; nodes = 0; pending = None }
 
 -- a directory is opened once
 abbrev pub provider_open_with : ProviderState → Octets → Octets → ProviderTurn
@@ -91,7 +93,7 @@ index_for o b = index_in (supplied_index o.indices) (latest_registry o.history) 
 -- the update of a batch
 abbrev pub pending_by : ProviderDirectory → BatchLine → Pending
 pending_by o b = record {
-  body = body_of sha256 (index_for o b) o.policy (before_at sha256 None o.chain (length o.chain)) (epoch_next o b);
+  body = body_of sha256 (index_for o b) o.policy (before_at sha256 o.before o.chain (length o.chain)) (epoch_next o b);
   shown = epoch_next o b;
   indices = indices_by (index_for o b) (operations_of b.ops);
   nodes = epoch_nodes (index_for o b) o.history b.new_nonce (operations_of b.ops);
@@ -218,7 +220,7 @@ provider_lookup_outcome s (Some epoch) (Some name) (Some index) = provider_looku
 abbrev pub latest_outcome : ProviderState → ProviderOutcome
 latest_outcome None = not_open
 latest_outcome (Some o) = at_latest (latest_epoch o.history)
-    (link_before (before_at sha256 None o.chain (length o.chain))) (length o.indices) o.nodes
+    (link_before (before_at sha256 o.before o.chain (length o.chain))) (length o.indices) o.nodes
 
 -- ---- lines
 

@@ -64,12 +64,12 @@ module _ (key policy : List ℕ) where
         ap (λ (x : List ℕ). signed e.body (record { 0 = x })) seal ∙ ap (λ (b : Body). signed b (record { 0 = seal_of key (body_bytes b) })) body
 
     -- a good chain of a history is the sealed one
-    pub chain_is : (history : List Shown) (chain : List Entry) → IsChainOf sha256 (demo_index key) policy history chain → GoodChain sha256 verdict chain → chain ≡ chain_of key policy history
+    pub chain_is : (history : List Shown) (chain : List Entry) → IsChainOf sha256 (demo_index key) policy None history chain → GoodChain sha256 verdict chain → chain ≡ chain_of key policy history
     chain_is history chain is good =
         same_chain None history chain is.long (λ k s e at_s at_e. sealed_is (before_at sha256 None chain k) s e (is.bodies k s e at_s at_e) (good k e at_e))
 
     -- so its last entry is the next one after the earlier epochs
-    pub entry_is : (history : List Shown) (s : Shown) (chain : List Entry) (entry : Entry) → IsChainOf sha256 (demo_index key) policy (history ++ s ∷ []) (chain ++ entry ∷ [])
+    pub entry_is : (history : List Shown) (s : Shown) (chain : List Entry) (entry : Entry) → IsChainOf sha256 (demo_index key) policy None (history ++ s ∷ []) (chain ++ entry ∷ [])
         → GoodChain sha256 verdict (chain ++ entry ∷ []) → entry ≡ next_entry key policy history s
     entry_is history s chain entry is good =
         same_last chain (chain_of key policy history) entry (next_entry key policy history s) (chain_is (history ++ s ∷ []) (chain ++ entry ∷ []) is good ∙ chain_after-push None history s)

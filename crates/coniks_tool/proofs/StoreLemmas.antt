@@ -7,7 +7,8 @@ use Rattle.coniks_proof.specs.Sha256.{sha256}
 use Rattle.coniks_proof.specs.Batches.{Operation}
 use Rattle.coniks_proof.specs.declared.values.Head.{Head}
 use Rattle.coniks_proof.specs.declared.values.TheConstants.{MAX_OPERATIONS}
-use Rattle.coniks_chain.specs.Chain.{GoodChain}
+use Rattle.coniks_chain.specs.Chain.{Continues, GoodChain}
+use Rattle.coniks_chain.specs.declared.auditor.AuditorState.{AuditorState}
 use Rattle.coniks_chain.specs.Entries.{link_preimage}
 use Rattle.coniks_chain.specs.declared.entry.Entry.{Entry}
 use Rattle.coniks_directory.specs.Batches.{AreWorkers, IsAccepted}
@@ -81,21 +82,30 @@ refused_is index_of s ops depth workers epoch published capacity (Install instal
 refused_is index_of s ops depth workers epoch published capacity (Install install.OutOfMemory) parallelism shallow long full signed f = tt
 refused_is index_of s ops depth workers epoch published capacity (Install install.SignerRefused) parallelism shallow long full signed f = omega arith
 
+-- the chain of a directory that begins with its first entry
+pub from_first : (verdict : List ℕ → List ℕ → Bool) (s : State) → s.before ≡ None → Continues sha256 verdict s.before s.chain → GoodChain sha256 verdict s.chain
+from_first verdict s begun good = subst (λ (b : Option AuditorState). Continues sha256 verdict b s.chain) begun good
+
+pub to_first : (verdict : List ℕ → List ℕ → Bool) (s : State) → s.before ≡ None → GoodChain sha256 verdict s.chain → Continues sha256 verdict s.before s.chain
+to_first verdict s begun good = subst (λ (b : Option AuditorState). Continues sha256 verdict b s.chain) (sym begun) good
+
 -- a batch that was committed is installed
 pub installs : (key key' : List ℕ) (s t : State) (b : Batch) (depth workers published capacity : ℕ) (entry : Entry) (verdict : List ℕ → List ℕ → Bool)
     → ((bytes signature : List ℕ) → verdict bytes signature ≡ is_seal key bytes signature) → key' ≡ key → Grows s t → history_of t ≡ history_of s ++ shown_on s b ∷ [] → t.chain ≡ s.chain ++ entry ∷ []
-    → IsChainOf sha256 (demo_index key') t.policy (history_of t) t.chain → GoodChain sha256 verdict t.chain
+    → t.before ≡ None → IsChainOf sha256 (demo_index key') t.policy t.before (history_of t) t.chain → Continues sha256 verdict t.before t.chain
     → IsAccepted (demo_index key) (latest_registry (history_of s)) b.ops depth workers → MayInstall s (length s.epochs) b.t published capacity
     → published ≡ length (history_of s) → capacity ≡ most_epochs → published ≤ most_epochs
     → Installs (opened_by key s) b entry (opened_by key' t)
-installs key key' s t b depth workers published capacity entry verdict own same_key grows history chain is good accepted may long full most =
+installs key key' s t b depth workers published capacity entry verdict own same_key grows history chain begun is good accepted may long full most =
     let shown = shown_on s b in
-    let is' : IsChainOf sha256 (demo_index key) s.policy (history_of s ++ shown ∷ []) (s.chain ++ entry ∷ []) =
-    subst (λ (h : List Shown). IsChainOf sha256 (demo_index key) s.policy h (s.chain ++ entry ∷ [])) history
-    (subst (λ (es : List Entry). IsChainOf sha256 (demo_index key) s.policy (history_of t) es) chain
-    (subst (λ (p : List ℕ). IsChainOf sha256 (demo_index key) p (history_of t) t.chain) grows.policy
-    (subst (λ (k : List ℕ). IsChainOf sha256 (demo_index k) t.policy (history_of t) t.chain) same_key is))) in
-    let good' : GoodChain sha256 verdict (s.chain ++ entry ∷ []) = subst (λ (es : List Entry). GoodChain sha256 verdict es) chain good in
+    let is' : IsChainOf sha256 (demo_index key) s.policy None (history_of s ++ shown ∷ []) (s.chain ++ entry ∷ []) =
+    subst (λ (h : List Shown). IsChainOf sha256 (demo_index key) s.policy None h (s.chain ++ entry ∷ [])) history
+    (subst (λ (es : List Entry). IsChainOf sha256 (demo_index key) s.policy None (history_of t) es) chain
+    (subst (λ (p : List ℕ). IsChainOf sha256 (demo_index key) p None (history_of t) t.chain) grows.policy
+    (subst (λ (k : List ℕ). IsChainOf sha256 (demo_index k) t.policy None (history_of t) t.chain) same_key
+    (subst (λ (b : Option AuditorState). IsChainOf sha256 (demo_index key') t.policy b (history_of t) t.chain) begun is)))) in
+    let good' : GoodChain sha256 verdict (s.chain ++ entry ∷ []) =
+    subst (λ (es : List Entry). GoodChain sha256 verdict es) chain (from_first verdict t begun good) in
     let room : published ≢ most_epochs = subst (λ n. published ≢ n) full may.room in
     record {
       faultless = accepted_is (demo_index key) (history_of s) b.t b.ops depth workers published accepted may.later room most long;
@@ -139,7 +149,7 @@ pub refused_by : {H X P : Type 0} (index_of index_of' : List ℕ → List ℕ) (
     (depth workers epoch published capacity made made' : ℕ) (last last' : Option Entry) (result : Result Entry CommitFault) → AreWorkers workers → depth ≤ MAX_DEPTH
     → published ≡ length v.state.chain → capacity ≡ most_epochs → IfErr result (λ fault. (made' ≡ made) × (0 ≡ 0 + commit_refusals fault) × (last' ≡ last))
     → IfErr result (IsCommitFault index_of v.state ops depth workers epoch published capacity)
-    → OnErr result ((v' ≡ v) × (p' ≡ p)) → IsChainOf sha256 index_of' v'.state.policy (history_of v'.state) v'.state.chain
+    → OnErr result ((v' ≡ v) × (p' ≡ p)) → IsChainOf sha256 index_of' v'.state.policy v'.state.before (history_of v'.state) v'.state.chain
     → IfErr result (IsRefusedBy (refusal index_of (history_of v.state) epoch ops))
 refused_by {H} {X} {P} index_of index_of' v v' p p' ops depth workers epoch published capacity made made' last last' (Ok e) parallelism shallow long full unsigned f same is = tt
 refused_by {H} {X} {P} index_of index_of' v v' p p' ops depth workers epoch published capacity made made' last last' (Err fault) parallelism shallow long full unsigned f same is =
@@ -150,17 +160,17 @@ refused_by {H} {X} {P} index_of index_of' v v' p p' ops depth workers epoch publ
 pub installed_by : (key key' : List ℕ) (s t : State) (b : Batch) (depth workers published capacity : ℕ) (verdict : List ℕ → List ℕ → Bool) (result : Result Entry CommitFault)
     → ((bytes signature : List ℕ) → verdict bytes signature ≡ is_seal key bytes signature) → key' ≡ key → Grows s t
     → OnOk result (history_of t ≡ history_of s ++ shown_on s b ∷ []) → IfOk result (λ entry. t.chain ≡ s.chain ++ entry ∷ [])
-    → IsChainOf sha256 (demo_index key') t.policy (history_of t) t.chain → GoodChain sha256 verdict t.chain
+    → t.before ≡ None → IsChainOf sha256 (demo_index key') t.policy t.before (history_of t) t.chain → Continues sha256 verdict t.before t.chain
     → OnOk result (IsAccepted (demo_index key) (latest_registry (history_of s)) b.ops depth workers) → OnOk result (MayInstall s (length s.epochs) b.t published capacity)
     → published ≡ length s.chain → capacity ≡ most_epochs → length s.chain ≤ most_epochs
     → IfOk result (λ entry. Installs (opened_by key s) b entry (opened_by key' t))
-installed_by key key' s t b depth workers published capacity verdict (Err fault) own same_key grows history chain is good accepted may long full most = tt
-installed_by key key' s t b depth workers published capacity verdict (Ok entry) own same_key grows history chain is good accepted may long full most =
+installed_by key key' s t b depth workers published capacity verdict (Err fault) own same_key grows history chain begun is good accepted may long full most = tt
+installed_by key key' s t b depth workers published capacity verdict (Ok entry) own same_key grows history chain begun is good accepted may long full most =
     let entries : length t.chain ≡ length s.chain + 1 = ap length chain ∙ length-append s.chain (entry ∷ []) in
     let epochs : length (history_of t) ≡ length (history_of s) + 1 = ap length history ∙ length-append (history_of s) (shown_on s b ∷ []) in
     let long' : published ≡ length (history_of s) = (let both = is.long in omega arith) in
     let most' : published ≤ most_epochs = omega arith in
-    installs key key' s t b depth workers published capacity entry verdict own same_key grows history chain is good accepted may long' full most'
+    installs key key' s t b depth workers published capacity entry verdict own same_key grows history chain begun is good accepted may long' full most'
 
 -- a refused batch
 pub refused_turn : (o : ScriptDirectory) (b : Batch) (why : Option Refusal) (outcome : Outcome) → option_map refusal_outcome why ≡ Some outcome → batch_on o b why ≡ refused (Some o) outcome

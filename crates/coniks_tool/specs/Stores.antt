@@ -35,9 +35,10 @@ abbrev pub script_state_of : Option Service → ScriptState
 script_state_of None = None
 script_state_of (Some s) = Some (opened_of s)
 
--- the signer has the key of the directory's index source and made exactly the chain's entries, which are a good chain, and the heads
--- of the chain are those that are published
+-- the directory's chain is one from its first entry on, the signer has the key of the directory's index source and made exactly the
+-- chain's entries, which are a good chain, and the heads of the chain are those that are published
 pub record IsServed (published : BoardEnd) (s : Service) : Type 0 where
+  pub begun : s.directory.state.before ≡ None
   pub verdicts : (bytes signature : Octets) → is_seal s.signer.key bytes signature ≡ is_seal s.directory.index bytes signature
   pub good : GoodChain sha256 (is_seal s.signer.key) s.directory.state.chain
   pub made : s.signer.made ≡ length s.directory.state.chain

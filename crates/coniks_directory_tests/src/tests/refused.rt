@@ -14,6 +14,7 @@ ghost use Rattle.coniks_proof.specs.Octets.{Octets};
 mod install;
 mod lookup;
 mod prepare;
+mod restore;
 
 use crate::tests::answers::{Told, asked};
 use crate::tests::clerk::{Clerk, Letters, Written, new_board, ops_of, refusing, with_clerk};

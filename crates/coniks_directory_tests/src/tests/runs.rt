@@ -5,7 +5,7 @@ ghost use Rattle.coniks_directory.specs.Batches.{operations};
 ghost use Rattle.coniks_directory.specs.Chain.{heads_of};
 ghost use Rattle.coniks_directory.specs.History.{root_at, shown_at};
 ghost use Rattle.coniks_directory.specs.Lookups.{IsAcceptedAt};
-ghost use Rattle.coniks_directory.specs.Runs.{Batch, IsPreparedOf, Run, defined};
+ghost use Rattle.coniks_directory.specs.Runs.{Batch, IsPreparedOf, Run, Start, defined, restoring};
 ghost use Rattle.coniks_directory.specs.State.{State};
 ghost use Rattle.coniks_directory.specs.Directories.{registry};
 ghost use Rattle.coniks_directory.specs.Supplied.{AgreeOn, supplied_index};
@@ -20,7 +20,8 @@ use coniks_directory::OpKind::{Change, Register};
 use coniks_directory::laws::{directories_grow, directory_theorem, updates_stay};
 use coniks_directory::{
     BatchFault, CommitFault, Directory, IndexSource, InstallFault, LookupFault, Op, Prepared,
-    SuppliedBatch, SuppliedBatchFault, SuppliedIndices, SupplyFault, SupplyIndex,
+    RestoreFault, Restoring, SuppliedBatch, SuppliedBatchFault, SuppliedIndices, SupplyFault,
+    SupplyIndex,
 };
 use coniks_proof::{Digest, Hash32, Index, Nonce, Proof, Sha256Hash};
 use coniks_shared::{Board, Publisher};
@@ -67,13 +68,13 @@ pub fn install_next<H: Hash32, X: IndexSource, S: Sign>(
     requires refused { S.refused_of signer.old < 2 ^ 64 - 1 }
     requires table { publisher.old.table ≡ board.now.table }
     requires published { publisher.old.heads ≡ heads_of (H.digest_of directory.old.hash) directory.old.state.chain }
-    ensures run { OnOk result ((then : Octets → Octets) (nonce policy : Octets) (batches : List Batch)
+    ensures run { OnOk result ((then : Octets → Octets) (start : Start) (batches : List Batch)
         (earlier : State) (new_nonce : Option Octets) (ops : List Operation) (depth workers : ℕ)
-        → Run (H.digest_of directory.old.hash) (X.index_of directory.old.index) nonce policy batches directory.old.state
+        → Run (H.digest_of directory.old.hash) (X.index_of directory.old.index) start batches directory.old.state
         → IsPreparedOf (H.digest_of directory.old.hash) then earlier new_nonce ops depth workers update
         → AgreeOn then (X.index_of directory.old.index) (registry_after earlier update)
         → Grows earlier directory.old.state
-        → Run (H.digest_of directory.new.hash) (X.index_of directory.new.index) nonce policy
+        → Run (H.digest_of directory.new.hash) (X.index_of directory.new.index) start
         (batches ++ record { t = t; new_nonce = new_nonce; ops = ops } ∷ []) directory.new.state) }
     ensures heads { publisher.new.heads ≡ heads_of (H.digest_of directory.new.hash) directory.new.state.chain }
     ensures table { publisher.new.table ≡ publisher.old.table }
@@ -113,12 +114,12 @@ pub fn install_supplied_next<H: Hash32, S: Sign>(
     requires refused { S.refused_of signer.old < 2 ^ 64 - 1 }
     requires table { publisher.old.table ≡ board.now.table }
     requires published { publisher.old.heads ≡ heads_of (H.digest_of directory.old.hash) directory.old.state.chain }
-    ensures run { OnOk result ((index : Octets → Octets) (nonce policy : Octets)
+    ensures run { OnOk result ((index : Octets → Octets) (start : Start)
         (batches : List Batch) (new_nonce : Option Octets) (ops : List Operation) (depth workers : ℕ)
-        → Run (H.digest_of directory.old.hash) (supplied_index directory.old.index) nonce policy batches directory.old.state
+        → Run (H.digest_of directory.old.hash) (supplied_index directory.old.index) start batches directory.old.state
         → IsSuppliedUpdate (H.digest_of directory.old.hash) (supplied_index directory.old.index) directory.old.state update index
         → IsPreparedOf (H.digest_of directory.old.hash) index directory.old.state new_nonce ops depth workers update
-        → Run (H.digest_of directory.new.hash) (supplied_index directory.new.index) nonce policy
+        → Run (H.digest_of directory.new.hash) (supplied_index directory.new.index) start
         (batches ++ record { t = t; new_nonce = new_nonce; ops = ops } ∷ []) directory.new.state) }
     ensures heads { publisher.new.heads ≡ heads_of (H.digest_of directory.new.hash) directory.new.state.chain }
     ensures table { publisher.new.table ≡ publisher.old.table }
@@ -133,9 +134,9 @@ pub fn supply_next<H: Hash32, X: SupplyIndex>(
     name: &[u8],
     index: Index,
 ) -> Result<(), SupplyFault>
-    ensures run { (nonce policy : Octets) (batches : List Batch)
-        → Run (H.digest_of directory.old.hash) (X.index_of directory.old.index) nonce policy batches directory.old.state
-        → Run (H.digest_of directory.new.hash) (X.index_of directory.new.index) nonce policy batches directory.new.state }
+    ensures run { (start : Start) (batches : List Batch)
+        → Run (H.digest_of directory.old.hash) (X.index_of directory.old.index) start batches directory.old.state
+        → Run (H.digest_of directory.new.hash) (X.index_of directory.new.index) start batches directory.new.state }
     ensures chain { directory.new.state.chain ≡ directory.old.state.chain }
     ensures hash { directory.new.hash ≡ directory.old.hash }
 {
@@ -174,9 +175,9 @@ pub fn commit_next<H: Hash32 + Sync, X: IndexSource, S: Sign, R: Threads + Sync>
     requires refused { S.refused_of signer.old < 2 ^ 64 - 1 }
     requires table { publisher.old.table ≡ board.now.table }
     requires published { publisher.old.heads ≡ heads_of (H.digest_of directory.old.hash) directory.old.state.chain }
-    ensures run { OnOk result ((nonce policy : Octets) (batches : List Batch)
-        → Run (H.digest_of directory.old.hash) (X.index_of directory.old.index) nonce policy batches directory.old.state
-        → Run (H.digest_of directory.new.hash) (X.index_of directory.new.index) nonce policy
+    ensures run { OnOk result ((start : Start) (batches : List Batch)
+        → Run (H.digest_of directory.old.hash) (X.index_of directory.old.index) start batches directory.old.state
+        → Run (H.digest_of directory.new.hash) (X.index_of directory.new.index) start
         (batches ++ record { t = t; new_nonce = None; ops = operations ops.now } ∷ []) directory.new.state) }
     ensures heads { publisher.new.heads ≡ heads_of (H.digest_of directory.new.hash) directory.new.state.chain }
     ensures table { publisher.new.table ≡ publisher.old.table }
@@ -184,12 +185,29 @@ pub fn commit_next<H: Hash32 + Sync, X: IndexSource, S: Sign, R: Threads + Sync>
     directory.commit(rt, ops, 1, 2, &Open, t, signer, publisher, board)
 }
 
+/// Calls `finish`, with which the run of a restored directory begins.
+pub fn finish_first<H: Hash32 + Sync + Drop, X: IndexSource + Drop, R: Threads + Sync>(
+    rt: &R,
+    begun: Restoring<H, X>,
+    publisher: &mut Publisher,
+    board: &Board,
+) -> Result<Directory<H, X>, RestoreFault>
+    requires table { publisher.old.table ≡ board.now.table }
+    requires published { publisher.old.heads ≡ [] }
+    requires room { 0 < board.now.capacity }
+    ensures run { IfOk result (λ directory. Run (H.digest_of directory.hash) (X.index_of directory.index) (restoring begun.entry begun.ops) [] directory.state) }
+    ensures heads { IfOk result (λ directory. publisher.new.heads ≡ heads_of (H.digest_of directory.hash) directory.state.chain) }
+    ensures table { publisher.new.table ≡ publisher.old.table }
+{
+    begun.finish(rt, 1, 2, &Open, publisher, board)
+}
+
 /// Calls `root_at`. After a run, the root is that of the directory that the run's batches define.
 pub fn root_of<H: Hash32, X: IndexSource>(directory: &Directory<H, X>, t: u64) -> Option<Digest>
-    ensures { (nonce policy : Octets) (batches : List Batch)
-        → Run (H.digest_of directory.now.hash) (X.index_of directory.now.index) nonce policy batches directory.now.state
+    ensures { (start : Start) (batches : List Batch)
+        → Run (H.digest_of directory.now.hash) (X.index_of directory.now.index) start batches directory.now.state
         → option_map (λ root. root.0) result ≡ option_map
-        (root_at (H.digest_of directory.now.hash) (X.index_of directory.now.index)) (shown_at (defined nonce batches) t) }
+        (root_at (H.digest_of directory.now.hash) (X.index_of directory.now.index)) (shown_at (defined start batches) t) }
 {
     directory_theorem();
     directory.root_at(t)
@@ -201,9 +219,9 @@ fn path_of<H: Hash32, X: IndexSource>(
     t: u64,
     name: &[u8],
 ) -> Result<Proof, LookupFault>
-    ensures { (nonce policy : Octets) (batches : List Batch)
-        → Run (H.digest_of directory.now.hash) (X.index_of directory.now.index) nonce policy batches directory.now.state
-        → IfOk result (IsAcceptedAt (H.digest_of directory.now.hash) (X.index_of directory.now.index) (defined nonce batches) t name.now) }
+    ensures { (start : Start) (batches : List Batch)
+        → Run (H.digest_of directory.now.hash) (X.index_of directory.now.index) start batches directory.now.state
+        → IfOk result (IsAcceptedAt (H.digest_of directory.now.hash) (X.index_of directory.now.index) (defined start batches) t name.now) }
 {
     directory_theorem();
     directory.lookup(t, name)

@@ -33,4 +33,4 @@ returns-clause-pending g c = λ _ hash bound s.
     (c.holder-earlier.ensures hash index_of bound s) in
     let own : IsFree index_of bound c.in_ok-made.made.index.0 = subst (λ i. IsFree index_of bound i) (sym c.in_ok-made.ensures.indexed) free in
     subst (λ (b : Registered). ArePendingRecords hash index_of (bound ++ b ∷ []) c.add.new.self.records.items c.add.new.self.numbers) c.in_ok-made.ensures.binds
-    (c.in_ok-add.ensures hash index_of bound s (c.in_ok-made.ensures.drafted index_of at) own)
+    (c.in_ok-add.ensures.pending hash index_of bound s (c.in_ok-made.ensures.drafted index_of at) own)

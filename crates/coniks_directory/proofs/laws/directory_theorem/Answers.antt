@@ -9,17 +9,17 @@ pub returns-clause-accepted : goal.returns-clause-accepted
 returns-clause-accepted c = accepted_by
 
 pub returns-clause-entries : goal.returns-clause-entries
-returns-clause-entries c = λ hash index_of nonce policy batches s run chain.
-    rw (← history_by hash index_of nonce policy batches s run, ← (defined_by hash index_of nonce policy batches s run).policy_is) chain
+returns-clause-entries c = λ hash index_of start batches s run chain.
+    rw (← history_by hash index_of start batches s run, ← (defined_by hash index_of start batches s run).policy_is, ← (defined_by hash index_of start batches s run).before_is) chain
 
 pub returns-clause-roots : goal.returns-clause-roots
-returns-clause-roots c = λ hash index_of nonce policy batches s run t root is. rw (← history_by hash index_of nonce policy batches s run) is
+returns-clause-roots c = λ hash index_of start batches s run t root is. rw (← history_by hash index_of start batches s run) is
 
 pub returns-clause-paths : goal.returns-clause-paths
-returns-clause-paths c = λ hash index_of nonce policy batches s run t name proof is. rw (← history_by hash index_of nonce policy batches s run) is
+returns-clause-paths c = λ hash index_of start batches s run t name proof is. rw (← history_by hash index_of start batches s run) is
 
 pub returns-clause-lookups : goal.returns-clause-lookups
-returns-clause-lookups c = λ hash index_of nonce policy batches s run t name proof is. rw (← history_by hash index_of nonce policy batches s run) is
+returns-clause-lookups c = λ hash index_of start batches s run t name proof is. rw (← history_by hash index_of start batches s run) is
 
 pub returns-clause-answers : goal.returns-clause-answers
 returns-clause-answers c = λ by root index name_a name_b a b x y left right differ.

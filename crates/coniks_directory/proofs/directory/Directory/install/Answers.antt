@@ -1,7 +1,7 @@
-use Rattle.std.proofs.Common.{None, length, subst, sym}
-use Rattle.coniks_directory.proofs.Words.{Fits, GoodChain, IsUpdate, Leaves, State, before_at, body_of, state_of}
+use Rattle.std.proofs.Common.{length, subst, sym}
+use Rattle.coniks_directory.proofs.Words.{Continues, Fits, IsUpdate, Leaves, State, before_at, body_of, state_of}
 use Rattle.coniks_directory.specs.Updates.{shown_after}
-use Rattle.coniks_chain.proofs.Lemmas.{good_same_verdict}
+use Rattle.coniks_chain.proofs.Lemmas.{continues_same_verdict}
 use Rattle.coniks_directory.proofs.FreshLemmas.{fresh}
 use Rattle.coniks_directory.proofs.directory.Directory.install.Goals.{In_default}
 use Rattle.coniks_directory.proofs.directory.Directory.install.Given as given
@@ -29,8 +29,8 @@ returns-in-Err-signed-clause-unasked g c =
     let index_of = g.X.IndexSource.index_of d.source in
     let s = state_of d.held in
     let u = fresh_in g (goal.at.returns-in-Err-signed-clause-unasked g c).In_default in
-    let linked = c.last_link-previous.ensures hash d.held.chain.items (rw (← c.self.view_is) at c.requires.published) in
-    rw (← c.self.view_is) (c.in-Err-signed.ensures.unasked (body_of hash index_of s.policy (before_at hash None s.chain (length s.chain)) (shown_after s c.args.update c.args.t))
+    let linked = c.last_link-previous.ensures hash d.held.before d.held.chain.items (rw (← c.self.view_is) at c.requires.published) c.self.invariant.begun in
+    rw (← c.self.view_is) (c.in-Err-signed.ensures.unasked (body_of hash index_of s.policy (before_at hash s.before s.chain (length s.chain)) (shown_after s c.args.update c.args.t))
     (λ body signed. signed index_of c.self.invariant u linked))
 
 -- a chain that was good is good under the current signer
@@ -39,8 +39,8 @@ returns-in-Err-signed-clause-good g c = λ good.
     let d = c.self.inside in
     let hash = g.H.Hash32.digest_of d.h in
     let now = g.S.Verify.verdict_of c.signed.new.signer in
-    subst (λ (s : State). GoodChain hash now s.chain) (sym c.signed.ensures.same)
-    (good_same_verdict hash (g.S.Verify.verdict_of c.args.signer.now) now c.signed.ensures.verdicts_kept d.held.chain.items (rw (← c.self.view_is) at good))
+    subst (λ (s : State). Continues hash now s.before s.chain) (sym c.signed.ensures.same)
+    (continues_same_verdict hash (g.S.Verify.verdict_of c.args.signer.now) now c.signed.ensures.verdicts_kept d.held.before d.held.chain.items (rw (← c.self.view_is) at good))
 
 pub enter-requires-clause-fits : goal.enter-requires-clause-fits
 enter-requires-clause-fits g c =
@@ -54,7 +54,7 @@ left_in g c =
     let hash = g.H.Hash32.digest_of d.h in
     let index_of = g.X.IndexSource.index_of d.source in
     let u = fresh hash index_of (state_of d.held) c.args.update (rw (← c.self.view_is) at c.requires.update) c.in_default.ensures.ok.fresh in
-    let linked = c.last_link-previous.ensures hash d.held.chain.items (rw (← c.self.view_is) at c.requires.published) in
+    let linked = c.last_link-previous.ensures hash d.held.before d.held.chain.items (rw (← c.self.view_is) at c.requires.published) c.self.invariant.begun in
     c.enter.ensures.entered (state_of d.held) c.signed.ensures.same index_of c.self.invariant u c.in_default.ensures.ok.later (c.in-Ok.ensures.body index_of c.self.invariant u linked)
 
 pub invariant_of-self : goal.invariant_of-self
@@ -78,5 +78,5 @@ returns-in-Ok-clause-body g c =
     let hash = g.H.Hash32.digest_of d.h in
     let index_of = g.X.IndexSource.index_of d.source in
     let u = fresh hash index_of (state_of d.held) c.args.update (rw (← c.self.view_is) at c.requires.update) c.in_default.ensures.ok.fresh in
-    let linked = c.last_link-previous.ensures hash d.held.chain.items (rw (← c.self.view_is) at c.requires.published) in
+    let linked = c.last_link-previous.ensures hash d.held.before d.held.chain.items (rw (← c.self.view_is) at c.requires.published) c.self.invariant.begun in
     rw (← c.self.view_is) (c.in-Ok.ensures.body index_of c.self.invariant u linked)

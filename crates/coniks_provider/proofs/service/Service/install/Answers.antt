@@ -49,4 +49,4 @@ returns-clause-state c =
     let e = c.in-Ok.ensures in
     installed_state c.args.self.now.directory c.install_supplied-installed.new.self (update at) c.in-Ok.entry
     c.args.signature (entry_in at) c.args.self.now.pending c.take.new.self (pending_in at) c.take.ensures.after
-    e.grows.nonce e.grows.policy e.indices e.history e.chain e.nodes
+    e.grows.nonce e.grows.policy e.grows.before e.indices e.history e.chain e.nodes

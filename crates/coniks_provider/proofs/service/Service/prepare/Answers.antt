@@ -44,13 +44,13 @@ shown_in g c =
 -- and the body is that of this epoch
 body_in : (g : given.Over) (c : Joined-self g) → (let s = c.args.self.now.directory.state in
     c.next_body-body.result ≡ body_of sha256 (index_for (provided_of c.args.self.now) (batch_line_of c.args.batch.now))
-    s.policy (before_at sha256 None s.chain (length s.chain)) (shown_after s c.in-Ok.update c.args.batch.now.epoch))
+    s.policy (before_at sha256 s.before s.chain (length s.chain)) (shown_after s c.in-Ok.update c.args.batch.now.epoch))
 body_in g c = c.next_body-body.ensures (index_for (provided_of c.args.self.now) (batch_line_of c.args.batch.now)) c.in-Ok.ensures.installable.agree c.in-Ok.ensures.update
 
 body_is : (g : given.Over) (c : Joined-self g) → c.next_body-body.result ≡ (pending_by (provided_of c.args.self.now) (batch_line_of c.args.batch.now)).body
 body_is g c =
     let s = c.args.self.now.directory.state in
-    body_in g c ∙ ap (λ (x : Shown). body_of sha256 (index_for (provided_of c.args.self.now) (batch_line_of c.args.batch.now)) s.policy (before_at sha256 None s.chain (length s.chain)) x)
+    body_in g c ∙ ap (λ (x : Shown). body_of sha256 (index_for (provided_of c.args.self.now) (batch_line_of c.args.batch.now)) s.policy (before_at sha256 s.before s.chain (length s.chain)) x)
     (shown_in g c)
 
 indices_in : (g : given.Over) (c : Joined-self g) → indices_of c.in-Ok.update ≡ (pending_by (provided_of c.args.self.now) (batch_line_of c.args.batch.now)).indices
@@ -79,7 +79,7 @@ returns-clause-served g c =
         later = rw number free.0;
         room = free.1;
         body = body_in g c ∙ ap (λ (n : ℕ). body_of sha256 (index_for o (batch_line_of c.args.batch.now)) d.state.policy
-            (before_at sha256 None d.state.chain (length d.state.chain)) (shown_after d.state c.in-Ok.update n)) (sym number);
+            (before_at sha256 d.state.before d.state.chain (length d.state.chain)) (shown_after d.state c.in-Ok.update n)) (sym number);
       };
     }
 

@@ -1,4 +1,4 @@
-use Rattle.std.proofs.Common.{◌≡◌, List, ℕ, None, ap, length, subst, sym, take, ◌∙◌}
+use Rattle.std.proofs.Common.{◌≡◌, List, ℕ, ap, length, subst, sym, take, ◌∙◌}
 use Rattle.std.specs.declared.alloc.AllocError.{AllocError}
 use Rattle.coniks_directory.proofs.Words.{Body, Record, Whole, before_at, history_of, latest_registry, registry_after, shown_after, state_of}
 use Rattle.coniks_directory.specs.Supplied.{AgreeOn, Supplied, supplied_index}
@@ -74,7 +74,7 @@ returns-clause-body g c =
     rw (← c.self.view_is)
     (if_ok-map c.install.result _ _ (λ entry is index u.
     let agree = agree_in g (goal.at.returns-clause-body g c).Else-is_err index u in
-    is ∙ sym (body_agree hash index (supplied_index c.supply_all.new.source) s.policy (before_at hash None s.chain (length s.chain)) (shown_after s c.args.update c.args.t) agree))
+    is ∙ sym (body_agree hash index (supplied_index c.supply_all.new.source) s.policy (before_at hash s.before s.chain (length s.chain)) (shown_after s c.args.update c.args.t) agree))
     c.install.ensures.body)
 
 pub returns-then-is_err-clause-kept : goal.returns-then-is_err-clause-kept
@@ -111,5 +111,5 @@ returns-clause-unasked g c =
     (if_err-map c.install.result _ _ (λ r leaves index u.
     let agree = agree_in g (goal.at.returns-clause-unasked g c).Else-is_err index u in
     subst (λ (b : Body). LeavesSigner g.S.Sign.signs b signer c.install.new.signer r.0)
-    (sym (body_agree hash index (supplied_index c.supply_all.new.source) s.policy (before_at hash None s.chain (length s.chain)) (shown_after s c.args.update c.args.t) agree)) leaves)
+    (sym (body_agree hash index (supplied_index c.supply_all.new.source) s.policy (before_at hash s.before s.chain (length s.chain)) (shown_after s c.args.update c.args.t) agree)) leaves)
     c.install.ensures.unasked)

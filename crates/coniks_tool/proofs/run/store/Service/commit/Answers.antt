@@ -3,7 +3,7 @@ use Rattle.coniks_directory.specs.Batches.{operations}
 use Rattle.coniks_tool.specs.Demo.{demo_index}
 use Rattle.coniks_tool.specs.Seal.{is_seal}
 use Rattle.coniks_tool.specs.Stores.{batch_of}
-use Rattle.coniks_tool.proofs.StoreLemmas.{as_many, made_and_room, refused_by, installed_by, last_published}
+use Rattle.coniks_tool.proofs.StoreLemmas.{as_many, from_first, made_and_room, refused_by, installed_by, last_published, to_first}
 use Rattle.coniks_tool.proofs.run.store.Service.commit.Goals as goal
 
 pub returns-clause-served : goal.returns-clause-served
@@ -15,8 +15,10 @@ returns-clause-served g c =
     (length c.args.publisher.now.heads) c.args.board.now.capacity c.args.self.now.signer.last c.commit_with-committed.new.signer.last
     e.made e.chain e.may e.unsigned e.unchanged s.made s.room (as_many c.args.publisher.now.heads c.args.self.now.directory.state.chain s.heads) c.requires.capacity in
     record {
+      begun = e.grows.before ∙ s.begun;
       verdicts = λ b x. e.verdicts_kept b x ∙ s.verdicts b x ∙ ap (λ (k : List ℕ). is_seal k b x) (sym e.same.index);
-      good = e.good s.good;
+      good = from_first (is_seal c.commit_with-committed.new.signer.key) c.commit_with-committed.new.self.state (e.grows.before ∙ s.begun)
+          (e.good (to_first (is_seal c.args.self.now.signer.key) c.args.self.now.directory.state s.begun s.good));
       made = counts.0;
       heads = e.heads;
       room = counts.1;
@@ -29,7 +31,9 @@ returns-clause-ok g c =
     installed_by c.args.self.now.directory.index c.commit_with-committed.new.self.index c.args.self.now.directory.state
     c.commit_with-committed.new.self.state (batch_of c.args.batch.now) c.args.parallelism.now.depth c.args.parallelism.now.workers
     (length c.args.publisher.now.heads) c.args.board.now.capacity (is_seal c.commit_with-committed.new.signer.key) c.commit_with-committed.result
-    (λ b x. e.verdicts_kept b x ∙ s.verdicts b x) e.same.index e.grows (rw c.nonce_of.ensures at e.history) e.chain c.chain-chain.ensures.of_history (e.good s.good) e.accepted e.may
+    (λ b x. e.verdicts_kept b x ∙ s.verdicts b x) e.same.index e.grows (rw c.nonce_of.ensures at e.history) e.chain
+    (e.grows.before ∙ s.begun) c.chain-chain.ensures.of_history
+    (e.good (to_first (is_seal c.args.self.now.signer.key) c.args.self.now.directory.state s.begun s.good)) e.accepted e.may
     (as_many c.args.publisher.now.heads c.args.self.now.directory.state.chain s.heads) c.requires.capacity s.room
 
 pub returns-clause-refused : goal.returns-clause-refused

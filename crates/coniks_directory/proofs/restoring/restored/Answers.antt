@@ -1,0 +1,30 @@
+use Rattle.std.proofs.Common.{◌≡◌, Err, rules}
+use Rattle.coniks_directory.proofs.Words.{Whole, state_of}
+use Rattle.coniks_directory.specs.Restored.{Restores, registrations}
+use Rattle.coniks_directory.proofs.RestoreLemmas.{first_of}
+use Rattle.coniks_directory.proofs.restoring.restored.Goals.{In-Ok-enter_first}
+use Rattle.coniks_directory.proofs.restoring.restored.Given as given
+use Rattle.coniks_directory.proofs.restoring.restored.Goals as goal
+
+pub returns-in_err-build_limits-clause-refused : goal.returns-in_err-build_limits-clause-refused
+returns-in_err-build_limits-clause-refused g c =
+    let is : c.from_residual.result ≡ Err c.in_err-build_limits.field-0.0 = search rules in
+    rw is (c.in_err-build_limits.ensures.refused (g.H.Hash32.digest_of c.args.h.now) (g.X.IndexSource.index_of c.args.source.now) c.args.entry (registrations c.args.pending.records.items))
+
+-- what the last step leaves
+left_in : (g : given.Over) (c : In-Ok-enter_first g) → Whole (g.H.Hash32.digest_of c.args.h.now) (g.X.IndexSource.index_of c.args.source.now) (state_of c.enter_first.new.held)
+    × Restores c.args.entry (registrations c.args.pending.records.items) (state_of c.enter_first.new.held)
+left_in g c =
+    let hash = g.H.Hash32.digest_of c.args.h.now in
+    let index_of = g.X.IndexSource.index_of c.args.source.now in
+    let ops = registrations c.args.pending.records.items in
+    let u = c.in-Ok.ensures in
+    let root = c.has_root.ensures.same c.if-not-has_root.false index_of u.update in
+    let first = first_of hash index_of (state_of c.args.held) c.in-Ok.update ops c.args.entry c.requires.begins u.version u.nonce u.registry root in
+    c.in-Ok-enter_first.ensures.restored index_of ops c.requires.opened u.update first
+
+pub returns-in-Ok-enter_first-clause-whole : goal.returns-in-Ok-enter_first-clause-whole
+returns-in-Ok-enter_first-clause-whole g c = (left_in g (goal.at.returns-in-Ok-enter_first-clause-whole g c).In-Ok-enter_first).0
+
+pub returns-in-Ok-enter_first-clause-restored : goal.returns-in-Ok-enter_first-clause-restored
+returns-in-Ok-enter_first-clause-restored g c = (left_in g (goal.at.returns-in-Ok-enter_first-clause-restored g c).In-Ok-enter_first).1

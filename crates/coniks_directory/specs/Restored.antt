@@ -1,0 +1,87 @@
+-- A directory that is restored from the latest entry and the bindings at it.
+use Rattle.std.specs.Prelude.{◌≡◌, ◌≢◌, ◌<◌, ◌≤◌, ◌⊎◌, ℕ, List, [], ◌∷◌, map, Some, None}
+use Rattle.std.specs.BTreeMap.{BTreeMap}
+use Rattle.coniks_proof.specs.Batches.{Operation, after, first_fault, register}
+use Rattle.coniks_proof.specs.Octets.{Octets}
+use Rattle.coniks_proof.specs.Registry.{Registered, root_of}
+use Rattle.coniks_work.specs.declared.building.TheConstants.{MAX_WORKERS}
+use Rattle.coniks_work.specs.declared.jobs.TheConstants.{MAX_DEPTH}
+use Rattle.coniks_tree.specs.declared.table.Record.{Record}
+use Rattle.coniks_chain.specs.declared.auditor.AuditorState.{AuditorState}
+use Rattle.coniks_chain.specs.declared.entry.Entry.{Entry}
+use Rattle.coniks_directory.specs.Batches.{AreWorkers}
+use Rattle.coniks_directory.specs.History.{Shown}
+use Rattle.coniks_directory.specs.Judged.{ArePendingRecords}
+use Rattle.coniks_directory.specs.State.{State, history_of, opened, registered_of}
+use Rattle.coniks_directory.specs.declared.restoring.RestoreFault.{RestoreFault}
+use Rattle.coniks_directory.specs.declared.restoring.RestoreFault.TheVariants.{NotLater, Version, Workers, Depth, RootDiffers, OutOfMemory}
+
+-- what an entry itself says of the one before it, with its own version and nonce
+abbrev pub said_before : Entry → AuditorState
+said_before entry = record { t = entry.body.t_prev; link = entry.body.previous; version = entry.body.version; nonce = entry.body.nonce }
+
+-- the epoch of an entry, with the registry that bindings leave
+abbrev pub restored_epoch : Entry → List Operation → Shown
+restored_epoch entry ops = record { t = entry.body.t; version = entry.body.version; nonce = entry.body.nonce.0; registry = after [] ops }
+
+-- the entry can be the first of a directory's chain that isn't the first of all
+pub record MayBegin (entry : Entry) : Type 0 where
+  pub later : entry.body.t_prev < entry.body.t
+  pub version : (entry.body.version ≡ 1) ⊎ (entry.body.version ≡ 2)
+
+-- the state has one epoch, that of the entry, with the registry of the bindings, and the entry as it is
+pub record Restores (entry : Entry) (ops : List Operation) (s : State) : Type 0 where
+  pub nonce : s.nonce ≡ entry.body.nonce.0
+  pub policy : s.policy ≡ entry.body.policy
+  pub before : s.before ≡ Some (said_before entry)
+  pub history : history_of s ≡ restored_epoch entry ops ∷ []
+  pub chain : s.chain ≡ entry ∷ []
+
+-- entry and bindings are restored: the entry can begin, the bindings have no error, and their root is the entry's
+pub record IsRestorable (hash index_of : Octets → Octets) (entry : Entry) (ops : List Operation) (depth workers : ℕ) : Type 0 where
+  pub begins : MayBegin entry
+  pub worker_count : AreWorkers workers
+  pub shallow : depth ≤ MAX_DEPTH
+  pub faultless : first_fault index_of [] ops ≡ None
+  pub root : entry.body.root.0 ≡ root_of hash index_of entry.body.nonce.0 (after [] ops)
+
+-- the error of an entry that can't be the first of a chain: the first that applies, in their order; or an allocation failed
+abbrev pub IsEntryFault : Entry → RestoreFault → Type 0
+IsEntryFault entry NotLater = entry.body.t ≤ entry.body.t_prev
+IsEntryFault entry Version = (entry.body.t_prev < entry.body.t) × (entry.body.version ≢ 1) × (entry.body.version ≢ 2)
+IsEntryFault entry Workers = ⊥
+IsEntryFault entry Depth = ⊥
+IsEntryFault entry RootDiffers = ⊥
+IsEntryFault entry OutOfMemory = MayBegin entry
+
+-- the error of a restore of bindings, the first that applies, in their order; or an allocation failed
+abbrev pub IsRestoreFault : (hash index_of : Octets → Octets) → Entry → List Operation → ℕ → ℕ → RestoreFault → Type 0
+IsRestoreFault hash index_of entry ops depth workers NotLater = ⊥
+IsRestoreFault hash index_of entry ops depth workers Version = ⊥
+IsRestoreFault hash index_of entry ops depth workers Workers = (workers ≡ 0) ⊎ (MAX_WORKERS < workers)
+IsRestoreFault hash index_of entry ops depth workers Depth = AreWorkers workers × (MAX_DEPTH < depth)
+IsRestoreFault hash index_of entry ops depth workers RootDiffers =
+    AreWorkers workers × (depth ≤ MAX_DEPTH) × (entry.body.root.0 ≢ root_of hash index_of entry.body.nonce.0 (after [] ops))
+IsRestoreFault hash index_of entry ops depth workers OutOfMemory = AreWorkers workers × (depth ≤ MAX_DEPTH)
+
+-- a restore that has begun, as contracts see it: the hash, the index source, the entry, and the bindings so far
+pub record RestoringView (H X : Type 0) : Type 0 where
+  pub hash : H
+  pub index : X
+  pub entry : Entry
+  pub ops : List Operation
+
+-- the operation that registers a binding
+abbrev pub registration : Registered → Operation
+registration b = record { kind = register; name = b.name; key = b.key; opening = b.opening }
+
+-- the operations that register what records bind
+abbrev pub registrations : List Record → List Operation
+registrations records = map registration (map registered_of records)
+
+-- the entry can begin a chain, the state is that of `open` under the entry's nonce and policy, and the bindings so far have no error
+pub record IsRestoring (hash index_of : Octets → Octets) (entry : Entry) (s : State) (records : List Record) (numbers : BTreeMap Octets ℕ) : Type 0 where
+  pub begins : MayBegin entry
+  pub opened : s ≡ opened entry.body.nonce.0 entry.body.policy
+  pub pending : ArePendingRecords hash index_of (map registered_of records) records numbers
+  pub faultless : first_fault index_of [] (registrations records) ≡ None

@@ -1,0 +1,229 @@
+//! A directory that is restored from a snapshot: the latest entry, and the bindings at its epoch.
+
+ghost use Rattle.std.specs.Prelude.{◌≡◌, ◌<◌, ◌++◌, [], ℕ, Bool, Err, IfErr, IfOk, None, OnErr, OnOk, length, map, true};
+ghost use Rattle.coniks_chain.specs.Entries.{body_bytes};
+ghost use Rattle.coniks_proof.specs.Batches.{bound_by, fault_from};
+ghost use Rattle.coniks_proof.specs.Octets.{Octets};
+ghost use Rattle.coniks_directory.specs.Batches.{operations};
+ghost use Rattle.coniks_directory.specs.Directories.{HasGoodChain, heads};
+ghost use Rattle.coniks_directory.specs.Judged.{IsJudgedFaultAfter};
+ghost use Rattle.coniks_directory.specs.Nodes.{epoch_nodes};
+ghost use Rattle.coniks_directory.specs.Supplied.{AgreeOn, supplied_index};
+ghost use Rattle.coniks_directory.specs.SuppliedBatches.{binding_index, indices_by, put_indices};
+ghost use Rattle.coniks_directory.specs.declared.batch.BatchFault.TheVariants.{At};
+ghost use Rattle.coniks_directory.specs.declared.batch.OpFault.{OpFault};
+ghost use Rattle.coniks_directory.specs.Restored.{IsEntryFault, IsRestorable, IsRestoreFault, MayBegin, Restores};
+
+use crate::batch::{BatchFault, Op};
+use crate::directory::Directory;
+use crate::install::{head_of, put_head};
+use crate::judge::judge_all;
+use crate::pending::PendingRecords;
+use crate::preparing::Build;
+use crate::restoring::{RestoreFault, check_entry, restored};
+use crate::source::IndexSource;
+use crate::state::DirectoryState;
+use crate::supplied::SuppliedIndices;
+use crate::supplied_batch::SuppliedBindings;
+use crate::supplied_bindings::{judge_bindings, supply_since};
+use coniks_chain::Entry;
+use coniks_proof::Hash32;
+use coniks_shared::{Board, Publisher};
+use coniks_work::Gate;
+use std::alloc::Global;
+use std::marker::Model;
+use std::thread::Threads;
+
+/// A directory that is being restored: an entry, and the bindings at its epoch so far.
+///
+/// Contracts see it as its hash, its index source, the entry and the bindings, each as an operation that registers it.
+#[derive(Drop)]
+pub struct Restoring<H: Hash32, X: IndexSource> {
+    alloc: Global,
+    h: H,
+    source: X,
+    entry: Entry,
+    held: DirectoryState,
+    pending: PendingRecords,
+}
+
+impl<H: Hash32, X: IndexSource> Model for Restoring<H, X> {
+    ghost use Rattle.coniks_directory.specs.Restored.{IsRestoring, RestoringView, registrations};
+    ghost use Rattle.coniks_directory.specs.State.{state_of};
+
+    ghost Value = { RestoringView H X };
+
+    ghost view = { λ r. record { hash = r.h; index = r.source; entry = r.entry; ops = registrations r.pending.records.items } };
+
+    ghost invariant = { λ r. IsRestoring (H.digest_of r.h) (X.index_of r.source) r.entry (state_of r.held) r.pending.records.items r.pending.numbers };
+}
+
+impl<H: Hash32 + Drop, X: IndexSource + Drop> Restoring<H, X> {
+    /// Begins to restore a directory whose only epoch is that of an entry. There are no bindings yet.
+    ///
+    /// # Errors
+    ///
+    /// If several apply, the first in this order is returned.
+    ///
+    /// - `NotLater` if the entry's epoch is not later than the one before it.
+    /// - `Version` if its version is neither 1 nor 2.
+    /// - `OutOfMemory` if an allocation fails.
+    pub fn new(alloc: Global, h: H, source: X, entry: Entry) -> Result<Self, RestoreFault>
+        ensures begun { IfOk result (λ r. r ≡ record { hash = h; index = source; entry = entry; ops = [] }) }
+        ensures begins { OnOk result (MayBegin entry) }
+        ensures refused { IfErr result (IsEntryFault entry) }
+    {
+        check_entry(&entry)?;
+        let Ok(pending) = PendingRecords::new(alloc, 0) else {
+            return Err(RestoreFault::OutOfMemory);
+        };
+        let held = DirectoryState::new(alloc, entry.body.nonce, entry.body.policy);
+        Ok(Restoring {
+            alloc,
+            h,
+            source,
+            entry,
+            held,
+            pending,
+        })
+    }
+}
+
+impl<H: Hash32, X: IndexSource> Restoring<H, X> {
+    /// Adds bindings to those so far, each a `Register` operation.
+    ///
+    /// # Errors
+    ///
+    /// `At` with the position and the error of the first binding that has one, or `OutOfMemory` if an allocation fails.
+    /// After an error the bindings are those before the call.
+    pub fn add(&mut self, bindings: &[Op]) -> Result<(), BatchFault>
+        ensures added { OnOk result (self.new ≡ record self.old { ops = self.old.ops ++ operations bindings.now }) }
+        ensures accepted { OnOk result (fault_from (X.index_of self.old.index) [] (map bound_by self.old.ops) 0 (operations bindings.now) ≡ None) }
+        ensures refused { IfErr result (IsJudgedFaultAfter (X.index_of self.old.index) [] (map bound_by self.old.ops) (operations bindings.now)) }
+        ensures unchanged { OnErr result (self.new ≡ self.old) }
+    {
+        let (alloc, tree) = (self.alloc, &self.held.tree);
+        judge_all(alloc, &self.source, tree, None, &mut self.pending, bindings)?;
+        Ok(())
+    }
+}
+
+impl<H: Hash32, X: IndexSource> Restoring<H, X> {
+    /// Returns the number of bindings so far.
+    pub fn count(&self) -> usize
+        ensures { result ≡ length self.now.ops }
+    {
+        self.pending.records.len()
+    }
+}
+
+impl<H: Hash32> Restoring<H, SuppliedIndices> {
+    /// Adds bindings that come with the indices of their names, as `add` does.
+    ///
+    /// A new name has the index that comes with it, whatever index the source has for it. There are as many indices as
+    /// bindings.
+    ///
+    /// # Errors
+    ///
+    /// The errors of `add`. After an error the bindings are those before the call. After `OutOfMemory` some of the indices
+    /// may be stored, and the same call can be made again.
+    pub fn add_supplied(&mut self, batch: &SuppliedBindings<'_>) -> Result<(), BatchFault>
+        requires { length batch.now.bindings.now ≡ length batch.now.indices.now }
+        ensures added { OnOk result (self.new.ops ≡ self.old.ops ++ operations batch.now.bindings.now) }
+        ensures accepted { OnOk result (fault_from (binding_index (supplied_index self.old.index) (map bound_by self.old.ops) batch.now)
+            [] (map bound_by self.old.ops) 0 (operations batch.now.bindings.now) ≡ None) }
+        ensures indices { OnOk result (self.new.index ≡ put_indices self.old.index
+            (indices_by (binding_index (supplied_index self.old.index) (map bound_by self.old.ops) batch.now) (operations batch.now.bindings.now))) }
+        ensures hash { self.new.hash ≡ self.old.hash }
+        ensures entry { self.new.entry ≡ self.old.entry }
+        ensures refused { IfErr result (IsJudgedFaultAfter (binding_index (supplied_index self.old.index) (map bound_by self.old.ops) batch.now)
+            [] (map bound_by self.old.ops) (operations batch.now.bindings.now)) }
+        ensures unchanged { OnErr result (self.new.ops ≡ self.old.ops) }
+        ensures kept { OnErr result (AgreeOn (supplied_index self.old.index) (supplied_index self.new.index) (map bound_by self.old.ops)) }
+        ensures whole { (position : ℕ) (fault : OpFault) → result ≡ Err (At position fault) → self.new ≡ self.old }
+    {
+        let earlier = self.pending.count();
+        judge_bindings(
+            self.alloc,
+            &self.source,
+            &self.held.tree,
+            &mut self.pending,
+            batch,
+        )?;
+        let Ok(()) = supply_since(&mut self.source, &mut self.pending, earlier) else {
+            return Err(BatchFault::OutOfMemory);
+        };
+        Ok(())
+    }
+}
+
+impl<H: Hash32 + Sync + Drop, X: IndexSource + Drop> Restoring<H, X> {
+    /// Returns the directory, and publishes the entry's head.
+    ///
+    /// The bindings are those of the directory that had the entry, in any order. The tree is built as that of an update
+    /// is. The entry is kept as it is, with its signature, and nothing is signed. The publisher is the board's, and has
+    /// published no head.
+    ///
+    /// # Errors
+    ///
+    /// If several apply, the first in this order is returned. `OutOfMemory` can replace `RootDiffers`. After an error the
+    /// board is unchanged.
+    ///
+    /// - `Workers` if `workers` is not 1 to `coniks_work::MAX_WORKERS`.
+    /// - `Depth` if `depth` is more than `coniks_work::MAX_DEPTH`.
+    /// - `RootDiffers` if the root of the bindings is not the entry's.
+    /// - `OutOfMemory` if an allocation fails.
+    pub fn finish<G: Gate + Sync, R: Threads + Sync>(
+        self,
+        rt: &R,
+        depth: usize,
+        workers: usize,
+        gate: &G,
+        publisher: &mut Publisher,
+        board: &Board,
+    ) -> Result<Directory<H, X>, RestoreFault>
+        requires table { publisher.old.table ≡ board.now.table }
+        requires published { publisher.old.heads ≡ [] }
+        requires room { 0 < board.now.capacity }
+
+        // What is restored.
+        ensures restored { IfOk result (λ d. Restores self.entry self.ops d.state) }
+        ensures nodes { IfOk result (λ d. length d.state.nodes ≡ epoch_nodes (X.index_of self.index) [] None self.ops) }
+        ensures hash { IfOk result (λ d. d.hash ≡ self.hash) }
+        ensures index { IfOk result (λ d. d.index ≡ self.index) }
+        ensures accepted { OnOk result (IsRestorable (H.digest_of self.hash) (X.index_of self.index) self.entry self.ops depth workers) }
+        ensures good { IfOk result (λ d. (verdict : Octets → Octets → Bool)
+            → verdict (body_bytes self.entry.body) self.entry.signature.0 ≡ true → HasGoodChain H.digest_of verdict d) }
+
+        // The head on the board.
+        ensures heads { IfOk result (λ d. publisher.new.heads ≡ heads H.digest_of d) }
+        ensures table { publisher.new.table ≡ publisher.old.table }
+
+        // An error.
+        ensures refused { IfErr result (IsRestoreFault (H.digest_of self.hash) (X.index_of self.index) self.entry self.ops depth workers) }
+        ensures unchanged { OnErr result (publisher.new ≡ publisher.old) }
+    {
+        let build = Build {
+            rt,
+            depth,
+            workers,
+            gate,
+        };
+        let Restoring {
+            alloc,
+            h,
+            source,
+            entry,
+            held,
+            pending,
+        } = self;
+        let held = restored(&build, alloc, &h, &source, entry, held, pending)?;
+        put_head(publisher, board, head_of(&h, &entry));
+        Ok(Directory {
+            alloc,
+            h,
+            source,
+            held,
+        })
+    }
+}

@@ -1,0 +1,183 @@
+//! The state of a directory that is restored from a snapshot.
+
+ghost use Rattle.std.specs.Prelude.{◌≡◌, ◌≢◌, ◌≤◌, ◌+◌, ◌++◌, [], None, List, IfErr, IfOk, OnOk, length, true, false};
+ghost use Rattle.coniks_proof.specs.Batches.{Operation, after};
+ghost use Rattle.coniks_proof.specs.Octets.{Octets};
+ghost use Rattle.coniks_proof.specs.Registry.{root_of};
+ghost use Rattle.coniks_tree.specs.Parts.{Fits, Placed};
+ghost use Rattle.coniks_directory.specs.Batches.{AreWorkers};
+ghost use Rattle.coniks_directory.specs.Installed.{IsFirst};
+ghost use Rattle.coniks_directory.specs.Nodes.{epoch_nodes};
+ghost use Rattle.coniks_directory.specs.Restored.{IsEntryFault, IsRestorable, IsRestoreFault, IsRestoring, MayBegin, Restores, registrations, said_before};
+ghost use Rattle.coniks_directory.specs.State.{Whole, opened, state_of};
+ghost use Rattle.coniks_directory.specs.Updates.{IsUpdate, nodes_added, registry_after};
+
+use crate::install::{enter, make_room};
+use crate::pending::PendingRecords;
+use crate::preparing::{Build, Origin, part_of, update_of};
+use crate::source::IndexSource;
+use crate::state::DirectoryState;
+use crate::update::Prepared;
+use coniks_chain::{AuditorState, Entry};
+use coniks_proof::{Digest, Hash32};
+use coniks_tree::OutOfMemory;
+use coniks_work::{Gate, MAX_DEPTH, MAX_WORKERS};
+use std::alloc::Global;
+use std::thread::Threads;
+use thiserror::Error;
+
+/// The error of a restore. If several apply, the first in declaration order is returned.
+#[derive(Clone, Copy, Debug, Drop, PartialEq, Eq, Error)]
+pub enum RestoreFault {
+    #[error("the entry's epoch isn't later than the one before it")]
+    NotLater,
+    #[error("the entry's version is neither 1 nor 2")]
+    Version,
+    #[error("the number of workers isn't 1 to {}", MAX_WORKERS)]
+    Workers,
+    #[error("the depth is more than {}", MAX_DEPTH)]
+    Depth,
+    #[error("the root of the bindings isn't the entry's")]
+    RootDiffers,
+    #[error("out of memory")]
+    OutOfMemory,
+}
+
+/// Checks that an entry can be the first of a chain.
+pub(crate) fn check_entry(entry: &Entry) -> Result<(), RestoreFault>
+    ensures begins { OnOk result (MayBegin entry.now) }
+    ensures refused { IfErr result (IsEntryFault entry.now) }
+{
+    let body = &entry.body;
+    if body.t <= body.t_prev {
+        return Err(RestoreFault::NotLater);
+    }
+    if body.version != 1 && body.version != 2 {
+        return Err(RestoreFault::Version);
+    }
+    Ok(())
+}
+
+/// Returns what an entry says of the one before it.
+fn said_before(entry: &Entry) -> AuditorState
+    ensures { result ≡ said_before entry.now }
+{
+    AuditorState {
+        t: entry.body.t_prev,
+        link: entry.body.previous,
+        version: entry.body.version,
+        nonce: entry.body.nonce,
+    }
+}
+
+/// Checks that the workers and the split depth are within their limits.
+fn build_limits(depth: usize, workers: usize) -> Result<(), RestoreFault>
+    ensures workers { OnOk result (AreWorkers workers) }
+    ensures depth { OnOk result (depth ≤ MAX_DEPTH) }
+    ensures refused { IfErr result (λ fault. (hash index_of : Octets → Octets) (entry : Entry) (ops : List Operation)
+        → IsRestoreFault hash index_of entry ops depth workers fault) }
+{
+    if workers == 0 || workers > MAX_WORKERS {
+        return Err(RestoreFault::Workers);
+    }
+    if depth > MAX_DEPTH {
+        return Err(RestoreFault::Depth);
+    }
+    Ok(())
+}
+
+/// Returns the update of all bindings on the state of `open`, with the version and the nonce of the entry.
+fn first_update<H: Hash32 + Sync, X: IndexSource, G: Gate + Sync, R: Threads + Sync>(
+    build: &Build<'_, G, R>,
+    origin: &Origin<'_, H, X>,
+    entry: &Entry,
+    mut pending: PendingRecords,
+) -> Result<Prepared, OutOfMemory>
+    requires depth { build.now.depth ≤ MAX_DEPTH }
+    requires workers { AreWorkers build.now.workers }
+    requires restoring { IsRestoring (H.digest_of origin.now.h.now) (X.index_of origin.now.source.now)
+        entry.now (state_of origin.now.held.now) pending.records.items pending.numbers }
+    ensures update { IfOk result (IsUpdate (H.digest_of origin.now.h.now) (X.index_of origin.now.source.now) (state_of origin.now.held.now)) }
+    ensures version { IfOk result (λ p. p.version ≡ entry.now.body.version) }
+    ensures nonce { IfOk result (λ p. p.nonce ≡ entry.now.body.nonce) }
+    ensures registry { IfOk result (λ p. registry_after (state_of origin.now.held.now) p ≡ after [] (registrations pending.records.items)) }
+    ensures nodes { IfOk result (λ p. nodes_added p ≡ epoch_nodes (X.index_of origin.now.source.now) [] None (registrations pending.records.items)) }
+{
+    let nonce = entry.body.nonce;
+    pending.seal(origin.h);
+    let part = part_of(build, origin, &pending, None, false, &nonce)?;
+    let update = update_of(origin.held, entry.body.version, nonce, part, pending)?;
+    Ok(update)
+}
+
+/// Returns whether the tree that an update leaves has this root.
+fn has_root<H: Hash32>(held: &DirectoryState, h: &H, update: &Prepared, root: &Digest) -> bool
+    requires { Fits (length held.now.tree.nodes) 0 update.now.part }
+    ensures same { result ≡ true → (index_of : Octets → Octets) → IsUpdate (H.digest_of h.now) index_of (state_of held.now) update.now
+        → root.now.0 ≡ root_of (H.digest_of h.now) index_of update.now.nonce.0 (registry_after (state_of held.now) update.now) }
+    ensures other { result ≡ false → (index_of : Octets → Octets) → IsUpdate (H.digest_of h.now) index_of (state_of held.now) update.now
+        → root.now.0 ≢ root_of (H.digest_of h.now) index_of update.now.nonce.0 (registry_after (state_of held.now) update.now) }
+{
+    held.tree.part_hash(h, &update.nonce, &update.part).0 == root.0
+}
+
+/// Attaches an update to the state of `open`, and adds this entry, which follows what it says of the one before it.
+fn enter_first<H: Hash32>(
+    held: &mut DirectoryState,
+    h: &H,
+    update: Prepared,
+    entry: Entry,
+) -> Result<(), OutOfMemory>
+    requires fits { Fits (length held.old.tree.nodes) 0 update.part }
+    requires placed { Placed (held.old.tree.records ++ update.records.items) update.part }
+    ensures nodes { OnOk result (length held.new.tree.nodes ≡ length held.old.tree.nodes + nodes_added update) }
+    ensures restored { OnOk result ((index_of : Octets → Octets) (ops : List Operation) → state_of held.old ≡ opened entry.body.nonce.0 entry.body.policy
+        → IsUpdate (H.digest_of h.now) index_of (state_of held.old) update → IsFirst (H.digest_of h.now) index_of (state_of held.old) update ops entry
+        → Whole (H.digest_of h.now) index_of (state_of held.new) × Restores entry ops (state_of held.new)) }
+{
+    make_room(held, &update)?;
+    let t = entry.body.t;
+    held.before = Some(said_before(&entry));
+    enter(held, h, update, t, entry);
+    Ok(())
+}
+
+/// Returns the state of a directory whose only epoch is that of the entry, with these bindings.
+///
+/// The state before is that of `open`, under the entry's nonce and policy.
+pub(crate) fn restored<H: Hash32 + Sync, X: IndexSource, G: Gate + Sync, R: Threads + Sync>(
+    build: &Build<'_, G, R>,
+    alloc: Global,
+    h: &H,
+    source: &X,
+    entry: Entry,
+    mut held: DirectoryState,
+    pending: PendingRecords,
+) -> Result<DirectoryState, RestoreFault>
+    requires { IsRestoring (H.digest_of h.now) (X.index_of source.now) entry (state_of held) pending.records.items pending.numbers }
+    ensures whole { IfOk result (λ later. Whole (H.digest_of h.now) (X.index_of source.now) (state_of later)) }
+    ensures restored { IfOk result (λ later. Restores entry (registrations pending.records.items) (state_of later)) }
+    ensures nodes { IfOk result (λ later. length (state_of later).nodes ≡ epoch_nodes (X.index_of source.now) [] None (registrations pending.records.items)) }
+    ensures accepted { OnOk result (IsRestorable (H.digest_of h.now) (X.index_of source.now)
+        entry (registrations pending.records.items) build.now.depth build.now.workers) }
+    ensures refused { IfErr result (IsRestoreFault (H.digest_of h.now) (X.index_of source.now)
+        entry (registrations pending.records.items) build.now.depth build.now.workers) }
+{
+    build_limits(build.depth, build.workers)?;
+    let origin = Origin {
+        alloc,
+        h,
+        source,
+        held: &held,
+    };
+    let Ok(update) = first_update(build, &origin, &entry, pending) else {
+        return Err(RestoreFault::OutOfMemory);
+    };
+    if !has_root(&held, h, &update, &entry.body.root) {
+        return Err(RestoreFault::RootDiffers);
+    }
+    match enter_first(&mut held, h, update, entry) {
+        Ok(()) => Ok(held),
+        Err(_) => Err(RestoreFault::OutOfMemory),
+    }
+}
