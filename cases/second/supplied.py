@@ -2,14 +2,16 @@
 
 from __future__ import annotations
 
+import base64
 from bisect import bisect_right
-from typing import Container, Iterator, Optional
+from typing import Container, Iterator, Optional, Union
 
-from bytelists import ZEROS, commitment
+import members as read
+from bytelists import LONGEST_KEY, LONGEST_NAME, ZEROS, commitment
 from chain import Entry, body_after
-from directory import Answer, Lines, Operation, answer_of_entry, answer_of_lookup, end_elsewhere, end_here
+from directory import MOST_OPERATIONS, Answer, Lines, Operation, answer_of_entry, answer_of_lookup, end_elsewhere, end_here
 from grown import Node, built, grown, nodes_under, path_to
-from members import Fault, bytes_in_digits, h32, member, object_in
+from members import Fault, Wrong, array, b64, bytes_in_digits, h32, member, object_in, texts_bytes, whole_number
 from strict_json import Json
 from tree import Entries
 
@@ -26,6 +28,79 @@ class SuppliedOperation(Operation):
     @property
     def entry(self) -> tuple[bytes, bytes]:
         return self.index, commitment(self.opening, self.name, self.key)
+
+
+class Binding:
+    """What a name is bound to, and its index: an element of a page, and of what is restored."""
+
+    def __init__(self, value: Json) -> None:
+        found = object_in(value)
+        self.index, self.key = h32(found.get("index")), b64(found.get("key"))
+        self.name, self.opening = texts_bytes(found.get("name")), h32(found.get("opening"))
+
+    @property
+    def entry(self) -> tuple[bytes, bytes]:
+        return self.index, commitment(self.opening, self.name, self.key)
+
+
+Bound = Union[Binding, SuppliedOperation]
+
+
+def shown(bound: Bound) -> dict[str, str]:
+    """A binding as a page has it."""
+    key, name = base64.b64encode(bound.key).decode(), bound.name.decode("utf-8")
+    return {"index": bound.index.hex(), "key": key, "name": name, "opening": bound.opening.hex()}
+
+
+class Restore:
+    """A restore that has begun: the entry, and the bindings so far by their indices, in any order."""
+
+    def __init__(self, entry: Entry) -> None:
+        self.entry = entry
+        self.bindings: dict[bytes, Binding] = {}
+        self.names: set[bytes] = set()
+
+    def add(self, bindings: list[Binding]) -> None:
+        """Adds all bindings of a line, or none if one has a fault."""
+        kept, names = dict(self.bindings), set(self.names)
+        for position, it in enumerate(bindings):
+            fault = self.fault_of(it, kept, names)
+            if fault:
+                raise Fault(fault, position=position)
+            kept[it.index] = it
+            names.add(it.name)
+        self.bindings, self.names = kept, names
+
+    @staticmethod
+    def fault_of(it: Binding, before: Container[bytes], names: Container[bytes]) -> Optional[str]:
+        if not 1 <= len(it.name) <= LONGEST_NAME:
+            return "NameLength"
+        if not 1 <= len(it.key) <= LONGEST_KEY:
+            return "KeyLength"
+        if it.name in names:
+            return "NameTwice"
+        return "IndexClash" if it.index in before else None
+
+    @property
+    def entries(self) -> Entries:
+        return sorted(it.entry for it in self.bindings.values())
+
+
+def bindings_of(elements: list[Json]) -> list[Binding]:
+    found = []
+    for position, element in enumerate(elements):
+        try:
+            found.append(Binding(element))
+        except Wrong:
+            raise Fault("Member", member="bindings", position=position)
+    return found
+
+
+def page_size(value: Json) -> int:
+    number = whole_number(value)
+    if not 1 <= number <= MOST_OPERATIONS:
+        raise Wrong
+    return number
 
 
 def signature(value: Json) -> bytes:
@@ -52,21 +127,35 @@ class Record:
 
     def __init__(self) -> None:
         self.epochs: list[int] = []
-        self.operations: list[SuppliedOperation] = []
+        self.operations: list[Bound] = []
 
-    def add(self, epoch: int, operation: SuppliedOperation) -> None:
+    def add(self, epoch: int, operation: Bound) -> None:
         self.epochs.append(epoch)
         self.operations.append(operation)
 
-    def at(self, epoch: int) -> SuppliedOperation:
+    def at(self, epoch: int) -> Bound:
         """The latest operation at an epoch. The name must be registered there."""
         return self.operations[bisect_right(self.epochs, epoch) - 1]
+
+    def is_at(self, epoch: int) -> bool:
+        """Whether the name is registered at an epoch."""
+        return self.epochs[0] <= epoch
 
 
 class SuppliedDirectory(Lines[SuppliedOperation, Epoch]):
     """A directory with the index of each registered name, the record of each index, and the number of nodes made so far."""
 
-    COMMANDS = {"open": "open", "prepare": "prepare", "install": "install", "lookup": "look_up", "latest": "tell_latest"}
+    COMMANDS = {
+        "open": "open",
+        "prepare": "prepare",
+        "install": "install",
+        "lookup": "look_up",
+        "latest": "tell_latest",
+        "bindings": "tell_bindings",
+        "restore": "begin_restore",
+        "restoring": "restore_more",
+        "restored": "end_restore",
+    }
     MOST_EPOCHS = 65536
     OPERATION = SuppliedOperation
 
@@ -76,10 +165,17 @@ class SuppliedDirectory(Lines[SuppliedOperation, Epoch]):
         self.records: dict[bytes, Record] = {}
         self.nodes = 0
         self.pending: Optional[Update] = None
+        self.restore: Optional[Restore] = None
 
     def open(self, members: dict[str, Json]) -> Answer:
         nonce = member(members, "nonce", h32)
-        return self.be_open(nonce, member(members, "policy", h32))
+        policy = member(members, "policy", h32)
+        self.must_not_restore()
+        return self.be_open(nonce, policy)
+
+    def must_not_restore(self) -> None:
+        if self.restore is not None:
+            raise Fault("AlreadyOpen")
 
     def judge_batch(self, ops: list[SuppliedOperation], registered: Container[bytes]) -> dict[bytes, SuppliedOperation]:
         self.indices_before: set[bytes] = set()
@@ -155,6 +251,57 @@ class SuppliedDirectory(Lines[SuppliedOperation, Epoch]):
             return end_elsewhere(found)
         shown = self.records[index].at(number)
         return end_here(shown.name.decode("utf-8"), shown.key, shown.opening)
+
+    def tell_bindings(self, members: dict[str, Json]) -> Answer:
+        number = member(members, "epoch", whole_number)
+        after = member(members, "after", h32) if "after" in members else None
+        most = member(members, "most", page_size)
+        self.must_be_open()
+        if number not in self.epochs:
+            raise Fault("UnknownEpoch")
+        beyond = sorted(it for it in self.records if (after is None or it > after) and self.records[it].is_at(number))
+        listed = [shown(self.records[it].at(number)) for it in beyond[:most]]
+        return {"bindings": listed, "epoch": number, "more": len(beyond) > most, "ok": "bindings"}
+
+    def begin_restore(self, members: dict[str, Json]) -> Answer:
+        entry = Entry(member(members, "entry", read.entry))
+        self.must_not_restore()
+        if self.is_open:
+            raise Fault("AlreadyOpen")
+        if entry.epoch <= entry.epoch_before:
+            raise Fault("NotLater")
+        if entry.version not in (1, 2):
+            raise Fault("Version")
+        self.restore = Restore(entry)
+        return {"ok": "restore"}
+
+    def under_way(self) -> Restore:
+        if self.restore is None:
+            raise Fault("NotRestoring")
+        return self.restore
+
+    def restore_more(self, members: dict[str, Json]) -> Answer:
+        bindings = bindings_of(member(members, "bindings", array))
+        restore = self.under_way()
+        if len(bindings) > MOST_OPERATIONS:
+            raise Fault("BatchTooLong")
+        restore.add(bindings)
+        return {"names": len(restore.names), "ok": "restoring"}
+
+    def end_restore(self, members: dict[str, Json]) -> Answer:
+        restore, self.restore = self.under_way(), None
+        entry, entries = restore.entry, restore.entries
+        tree = built(entry.nonce, (), entries)
+        if tree.hash != entry.root:
+            raise Fault("RootDiffers")
+        self.is_open = True
+        self.version, self.nonce, self.policy, self.latest = entry.version, entry.nonce, entry.body[113:], entry.epoch
+        self.epochs[entry.epoch] = Epoch(entry, tree)
+        self.nodes = nodes_under(entries, tree, 0)
+        for it in restore.bindings.values():
+            self.indices[it.name] = it.index
+            self.records.setdefault(it.index, Record()).add(entry.epoch, it)
+        return answer_of_entry(entry, "restored")
 
     def tell_latest(self, members: dict[str, Json]) -> Answer:
         self.must_be_open()

@@ -19,15 +19,20 @@ use Rattle.coniks_lines.specs.Machine.{state_after}
 use Rattle.coniks_proof.proofs.Lemmas.{eq_apart, eq_same}
 use Rattle.coniks_proof.specs.Batches.{AreOnce, Operation, after, bound_by}
 use Rattle.coniks_proof.specs.Registry.{Registered, Registry, has_name, rebound}
+use Rattle.coniks_chain.specs.declared.entry.Entry.{Entry}
 use Rattle.coniks_directory.specs.History.{Shown, latest_registry}
 use Rattle.coniks_directory.specs.Supplied.{Supplied, is_supplied}
 use Rattle.coniks_directory.specs.SuppliedBatches.{Indexed, indices_by, operations_of, put_index, put_indices}
+use Rattle.coniks_tool.specs.EntryLines.{entry_in}
 use Rattle.coniks_tool.specs.Members.{array_in, digits_in, if_there, number_in, object_in, text_in}
 use Rattle.coniks_tool.specs.Turns.{refused}
 use Rattle.coniks_provider.specs.Answers.{ProviderOutcome, not_json}
 use Rattle.coniks_provider.specs.Lines.{batch_in}
-use Rattle.coniks_provider.specs.Turns.{BatchLine, ProviderDirectory, Pending, ProviderTurn, ProviderState, batch_read_turn, provider_command_turn, index_for, install_on, install_turn, install_with, installed_with, provider_open_turn, provider_open_with, prepare_on, prepare_turn}
-use Rattle.coniks_provider.specs.Turns.{prepare_with, provider_answer, provider_refusal, provider_turn}
+use Rattle.coniks_provider.specs.Turns.{BatchLine, ProviderDirectory, Pending, ProviderTurn, ProviderState, Restore, nothing, restoring, serving}
+use Rattle.coniks_provider.specs.Turns.{batch_read_turn, bindings_read_turn, entry_refusal, index_for, install_on, install_turn, install_with, installed_with, prepare_on, prepare_turn, prepare_with}
+use Rattle.coniks_provider.specs.Turns.{provider_answer, provider_command_turn, provider_open_turn, provider_open_with, provider_refusal, provider_turn, restore_and, restore_from, restore_turn, restore_with}
+use Rattle.coniks_provider.specs.Turns.{restored_directory, restored_turn, restoring_index, restoring_on, restoring_refusal, restoring_turn, restoring_with, root_of_bindings}
+use Rattle.coniks_provider.specs.declared.operations.Elements.TheVariants.{Operations, Bindings}
 use Rattle.coniks_provider.proofs.RefusedLemmas.{either}
 
 -- ---- names
@@ -252,12 +257,20 @@ record IsCounted (o : ProviderDirectory) : Type 0 where
   once : AreOnce (latest_registry o.history)
   pending : IfSome o.pending (IsOfBatch (latest_registry o.history))
 
+-- the names of a restore are those that have an index
+record IsBegun (r : Restore) : Type 0 where
+  names : (name : List ℕ) → is_supplied r.indices name ≡ has_name (after [] r.ops) name
+  sorted : AreSorted r.indices
+
 abbrev Counted : ProviderState → Type 0
-Counted s = IfSome s IsCounted
+Counted nothing = Unit {0}
+Counted (restoring r) = IsBegun r
+Counted (serving o) = IsCounted o
 
 open_with-counted : (s : ProviderState) (nonce policy : List ℕ) → Counted s → Counted (provider_open_with s nonce policy).state
-open_with-counted None nonce policy was = record { names = λ name. refl; sorted = tt; once = tt; pending = tt }
-open_with-counted (Some o) nonce policy was = was
+open_with-counted nothing nonce policy was = record { names = λ name. refl; sorted = tt; once = tt; pending = tt }
+open_with-counted (restoring r) nonce policy was = was
+open_with-counted (serving o) nonce policy was = was
 
 open-counted : (s : ProviderState) (nonce policy : Option (List ℕ)) → Counted s → Counted (provider_open_turn s nonce policy).state
 open-counted s None _ was = was
@@ -274,8 +287,9 @@ prepare_on-counted o b None was = record {
 }
 
 prepare_with-counted : (s : ProviderState) (b : BatchLine) → Counted s → Counted (prepare_with s b).state
-prepare_with-counted None b was = was
-prepare_with-counted (Some o) b was = prepare_on-counted o b (provider_refusal o b) was
+prepare_with-counted nothing b was = was
+prepare_with-counted (restoring r) b was = was
+prepare_with-counted (serving o) b was = prepare_on-counted o b (provider_refusal o b) was
 
 batch_read-counted : (s : ProviderState) (epoch : ℕ) (new_nonce : Option (List ℕ)) (ops : Result (List Indexed) ℕ) → Counted s → Counted (batch_read_turn s epoch new_nonce ops).state
 batch_read-counted s epoch new_nonce (Err place) was = was
@@ -285,7 +299,7 @@ prepare-counted : (s : ProviderState) (epoch : Option ℕ) (new_nonce : Option (
 prepare-counted s None _ _ was = was
 prepare-counted s (Some epoch) None _ was = was
 prepare-counted s (Some epoch) (Some new_nonce) None was = was
-prepare-counted s (Some epoch) (Some new_nonce) (Some items) was = batch_read-counted s epoch new_nonce (batch_in items) was
+prepare-counted s (Some epoch) (Some new_nonce) (Some items) was = batch_read-counted s epoch new_nonce (batch_in Operations items) was
 
 latest_end : (history : List Shown) (shown : Shown) → latest_registry (history ++ shown ∷ []) ≡ shown.registry
 latest_end [] shown = refl
@@ -313,12 +327,72 @@ install_on-counted o signature None was batch = was
 install_on-counted o signature (Some p) was batch = installed-counted o p signature was batch
 
 install_with-counted : (s : ProviderState) (signature : List ℕ) → Counted s → Counted (install_with s signature).state
-install_with-counted None signature was = was
-install_with-counted (Some o) signature was = install_on-counted o signature o.pending was was.pending
+install_with-counted nothing signature was = was
+install_with-counted (restoring r) signature was = was
+install_with-counted (serving o) signature was = install_on-counted o signature o.pending was was.pending
 
 install-counted : (s : ProviderState) (signature : Option (List ℕ)) → Counted s → Counted (install_turn s signature).state
 install-counted s None was = was
 install-counted s (Some signature) was = install_with-counted s signature was
+
+restore_from-counted : (entry : Entry) (why : Option ProviderOutcome) → Counted (restore_from entry why).state
+restore_from-counted entry (Some why) = tt
+restore_from-counted entry None = record { names = λ name. refl; sorted = tt }
+
+restore_with-counted : (s : ProviderState) (entry : Entry) → Counted s → Counted (restore_with s entry).state
+restore_with-counted nothing entry was = restore_from-counted entry (entry_refusal entry)
+restore_with-counted (restoring r) entry was = was
+restore_with-counted (serving o) entry was = was
+
+restore-counted : (s : ProviderState) (entry : Option Entry) → Counted s → Counted (restore_turn s entry).state
+restore-counted s None was = was
+restore-counted s (Some entry) was = restore_with-counted s entry was
+
+after-append : (registry : Registry) (ops more : List Operation) → after registry (ops ++ more) ≡ after (after registry ops) more
+after-append registry [] more = refl
+after-append registry (op ∷ ops) more = after-append (rebound registry (bound_by op)) ops more
+
+-- the names after all operations are those after the first of them, and those of the others
+after_both : (index_of : List ℕ → List ℕ) (ops more : List Operation) (name : List ℕ)
+    → has_name (after [] (ops ++ more)) name ≡ has_name (after [] ops) name || is_supplied (indices_by index_of more) name
+after_both index_of ops more name = ap (λ (r : Registry). has_name r name) (after-append [] ops more) ∙ has_after index_of (after [] ops) more name
+
+added-counted : (r : Restore) (bs : List Indexed) → IsBegun r → IsBegun (restore_and r bs)
+added-counted r bs was =
+    let index = restoring_index r bs in
+    let more = operations_of bs in
+    record {
+      names = λ name.
+          has_puts r.indices (indices_by index more) name
+          ∙ ap (λ b. b || is_supplied (indices_by index more) name) (was.names name)
+          ∙ sym (after_both index r.ops more name);
+      sorted = sorted_puts r.indices (indices_by index more) was.sorted;
+    }
+
+restoring_on-counted : (r : Restore) (bs : List Indexed) (why : Option ProviderOutcome) → IsBegun r → Counted (restoring_on r bs why).state
+restoring_on-counted r bs (Some why) was = was
+restoring_on-counted r bs None was = added-counted r bs was
+
+restoring_with-counted : (s : ProviderState) (bs : List Indexed) → Counted s → Counted (restoring_with s bs).state
+restoring_with-counted nothing bs was = was
+restoring_with-counted (restoring r) bs was = restoring_on-counted r bs (restoring_refusal r bs) was
+restoring_with-counted (serving o) bs was = was
+
+bindings_read-counted : (s : ProviderState) (bs : Result (List Indexed) ℕ) → Counted s → Counted (bindings_read_turn s bs).state
+bindings_read-counted s (Err place) was = was
+bindings_read-counted s (Ok bs) was = restoring_with-counted s bs was
+
+restoring-counted : (s : ProviderState) (items : Option Items) → Counted s → Counted (restoring_turn s items).state
+restoring-counted s None was = was
+restoring-counted s (Some items) was = bindings_read-counted s (batch_in Bindings items) was
+
+restored-is : (r : Restore) → IsBegun r → IsCounted (restored_directory r)
+restored-is r was = record { names = was.names; sorted = was.sorted; once = once_after [] r.ops tt; pending = tt }
+
+restored-counted : (s : ProviderState) → Counted s → Counted (restored_turn s).state
+restored-counted nothing was = was
+restored-counted (restoring r) was = either (λ (t : ProviderTurn). Counted t.state) (bytes_eq r.entry.body.root.0 (root_of_bindings r)) _ _ (restored-is r was) tt
+restored-counted (serving o) was = was
 
 command-counted : (s : ProviderState) (d : Data) (name : Option (List ℕ)) → Counted s → Counted (provider_command_turn s d name).state
 command-counted s d None was = was
@@ -328,7 +402,11 @@ command-counted s d (Some name) was =
     (prepare-counted s (number_in (codes "epoch") d) (if_there (codes "nonce") d (digits_in 32 (codes "nonce") d)) (array_in (codes "ops") d) was)
     (either (λ (t : ProviderTurn). Counted t.state) (bytes_eq name (codes "install")) _ _ (install-counted s (digits_in 64 (codes "signature") d) was)
     (either (λ (t : ProviderTurn). Counted t.state) (bytes_eq name (codes "lookup")) _ _ was
-    (either (λ (t : ProviderTurn). Counted t.state) (bytes_eq name (codes "latest")) _ _ was was))))
+    (either (λ (t : ProviderTurn). Counted t.state) (bytes_eq name (codes "latest")) _ _ was
+    (either (λ (t : ProviderTurn). Counted t.state) (bytes_eq name (codes "bindings")) _ _ was
+    (either (λ (t : ProviderTurn). Counted t.state) (bytes_eq name (codes "restore")) _ _ (restore-counted s (entry_in d) was)
+    (either (λ (t : ProviderTurn). Counted t.state) (bytes_eq name (codes "restoring")) _ _ (restoring-counted s (array_in (codes "bindings") d) was)
+    (either (λ (t : ProviderTurn). Counted t.state) (bytes_eq name (codes "restored")) _ _ (restored-counted s was) was))))))))
 
 object-counted : (s : ProviderState) (d : Option Data) → Counted s → Counted (option_map_or (λ x. provider_command_turn s x (text_in (codes "cmd") x)) d (refused s not_json)).state
 object-counted s None was = was
@@ -339,7 +417,7 @@ lines-counted s [] was = was
 lines-counted s (line ∷ lines) was = lines-counted (provider_turn s line).state lines (object-counted s (object_in line) was)
 
 -- so there are as many indices, which `latest` counts, as registered names
-pub all_registered : (lines : List (List ℕ)) (o : ProviderDirectory) → state_after provider_answer None lines ≡ Some o → length o.indices ≡ length (latest_registry o.history)
+pub all_registered : (lines : List (List ℕ)) (o : ProviderDirectory) → state_after provider_answer nothing lines ≡ serving o → length o.indices ≡ length (latest_registry o.history)
 all_registered lines o is =
-    let counted : IsCounted o = subst Counted is (lines-counted None lines tt) in
+    let counted : IsCounted o = subst Counted is (lines-counted nothing lines tt) in
     as_many o.indices (latest_registry o.history) counted.sorted counted.once counted.names

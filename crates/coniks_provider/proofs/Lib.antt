@@ -2,3 +2,6 @@ mod OperationsLemmas
 mod RefusedLemmas
 mod CountLemmas
 mod ServiceLemmas
+mod RestoringLemmas
+mod PageLemmas
+mod HeldLemmas

@@ -35,8 +35,8 @@ use Rattle.coniks_tool.specs.Paths.{path_of, path_to}
 use Rattle.coniks_tool.proofs.Lemmas.{path_is}
 use Rattle.coniks_provider.specs.Answers.{ProviderOutcome, bad_index, bad_name_length, board_full, epoch_not_later, installed, looked_up, prepared, unknown_epoch}
 use Rattle.coniks_provider.specs.Limits.{most_provider_epochs}
-use Rattle.coniks_provider.specs.Stores.{Held, IsRefusable, provided_by, pending_of, refused_as}
-use Rattle.coniks_provider.specs.Turns.{BatchLine, ProviderDirectory, Pending, ProviderState, install_on, prepare_on, chain_entry_at, has_other_index, index_with, provider_lookup_at, provider_lookup_with, provider_number_refusal, pending_by, provider_refusal, epoch_next}
+use Rattle.coniks_provider.specs.Stores.{DirectoryView, IsRefusable, provided_by, pending_of, refused_as}
+use Rattle.coniks_provider.specs.Turns.{BatchLine, ProviderDirectory, Pending, install_on, prepare_on, chain_entry_at, has_other_index, index_with, provider_lookup_at, provider_lookup_with, provider_number_refusal, pending_by, provider_refusal, epoch_next, serving}
 use Rattle.coniks_provider.specs.declared.service.Pending.{Pending as Update}
 
 -- ---- lists
@@ -96,7 +96,7 @@ module _ (o : ProviderDirectory) (b : BatchLine) (depth workers : ℕ) (parallel
 -- ---- updates
 
 -- the epoch that an update makes is that of its batch
-pub shown_is : {H : Type 0} (d : Held H) (pending : Option Update) (b : BatchLine) (p : Prepared)
+pub shown_is : {H : Type 0} (d : DirectoryView H) (pending : Option Update) (b : BatchLine) (p : Prepared)
     → RotatesTo d.state b.new_nonce p → registry_after d.state p ≡ after (latest_registry (history_of d.state)) (operations_of b.ops)
     → shown_after d.state p b.epoch ≡ epoch_next (provided_by d pending) b
 shown_is {H} d pending b p rotates registry = rw (rotates.version, rotates.nonce, registry) refl
@@ -104,7 +104,7 @@ shown_is {H} d pending b p rotates registry = rw (rotates.version, rotates.nonce
 -- ---- lookups
 
 -- the indices with one more agree on the registry
-pub agree_with : {H : Type 0} (d : Held H) (pending : Option Update) (name index : List ℕ) → MaySupply (supplied_index d.index) (latest_registry (history_of d.state)) name index
+pub agree_with : {H : Type 0} (d : DirectoryView H) (pending : Option Update) (name index : List ℕ) → MaySupply (supplied_index d.index) (latest_registry (history_of d.state)) name index
     → AgreeOn (supplied_index d.index) (index_with (provided_by d pending) name index) (latest_registry (history_of d.state))
 agree_with {H} d pending name index may other has = (elim (bytes_eq other name) as (λ b. bytes_eq other name ≡ b → supplied_index d.index other ≡ (if b then index else supplied_index d.index other)) [
   | true ↦ λ on. let same = (bytes_eq-Decides other name).0 on in ap (supplied_index d.index) same ∙ may.kept (subst (λ n. has_name (latest_registry (history_of d.state)) n ≡ true) same has)
@@ -131,23 +131,23 @@ is_other o name index other =
     rw (other.0, off) refl
 
 module _ (o : ProviderDirectory) (epoch : ℕ) (name index : List ℕ) where
-  pub missed_epoch : shown_at o.history epoch ≡ None → unknown_epoch ≡ provider_lookup_with (Some o) epoch name index
+  pub missed_epoch : shown_at o.history epoch ≡ None → unknown_epoch ≡ provider_lookup_with (serving o) epoch name index
   missed_epoch none = rw none refl
 
-  pub missed_length : is_some (shown_at o.history epoch) ≡ true → fits MAX_NAME name ≡ false → bad_name_length ≡ provider_lookup_with (Some o) epoch name index
+  pub missed_length : is_some (shown_at o.history epoch) ≡ true → fits MAX_NAME name ≡ false → bad_name_length ≡ provider_lookup_with (serving o) epoch name index
   missed_length there long = (elim (shown_at o.history epoch) as (λ s. is_some s ≡ true → bad_name_length ≡ provider_lookup_at o epoch name index s) [
     | None ↦ λ never. absurd (false≢true never)
     | Some shown ↦ λ _. rw long refl
   ]) there
 
-  pub missed_index : is_some (shown_at o.history epoch) ≡ true → fits MAX_NAME name ≡ true → has_other_index o name index ≡ true → bad_index ≡ provider_lookup_with (Some o) epoch name index
+  pub missed_index : is_some (shown_at o.history epoch) ≡ true → fits MAX_NAME name ≡ true → has_other_index o name index ≡ true → bad_index ≡ provider_lookup_with (serving o) epoch name index
   missed_index there sized other = (elim (shown_at o.history epoch) as (λ s. is_some s ≡ true → bad_index ≡ provider_lookup_at o epoch name index s) [
     | None ↦ λ never. absurd (false≢true never)
     | Some shown ↦ λ _. rw (sized, other) refl
   ]) there
 
   pub found_is : (entry : Entry) (proof : Proof) → chain_entry_at o epoch ≡ Some entry → has_other_index o name index ≡ false → IsFound sha256 (index_with o name index) o.history epoch name proof
-      → looked_up entry index name (path_of proof) ≡ provider_lookup_with (Some o) epoch name index
+      → looked_up entry index name (path_of proof) ≡ provider_lookup_with (serving o) epoch name index
   found_is entry proof at own found =
       let here = index_here o name index in
       let path = path_is (hashing sha256 found.shown.nonce) (entries_of sha256 (index_with o name index) found.shown.registry) (index_with o name index name) proof found.path in
@@ -172,7 +172,7 @@ number_none o epoch none =
           ]) refl
     ]) refl none
 
-module _ {H : Type 0} (d : Held H) (was : Option Update) (b : BatchLine) (p : Prepared) (body : Body) (none : provider_refusal (provided_by d was) b ≡ None)
+module _ {H : Type 0} (d : DirectoryView H) (was : Option Update) (b : BatchLine) (p : Prepared) (body : Body) (none : provider_refusal (provided_by d was) b ≡ None)
     (body_is : body ≡ (pending_by (provided_by d was) b).body) (shown : shown_after d.state p b.epoch ≡ epoch_next (provided_by d was) b)
     (indices : indices_of p ≡ (pending_by (provided_by d was) b).indices) (nodes : nodes_added p ≡ (pending_by (provided_by d was) b).nodes) where
   abbrev opened : ProviderDirectory
@@ -190,12 +190,12 @@ module _ {H : Type 0} (d : Held H) (was : Option Update) (b : BatchLine) (p : Pr
   pub prepared_reply : (n : ℕ) → n ≡ nodes_added p → prepared body n ≡ (prepare_on opened b (provider_refusal opened b)).outcome
   prepared_reply n is = rw (none, body_is, is, nodes) refl
 
-  pub prepared_state : (let s : ProviderState = Some (provided_by d (Some update)) in s) ≡ (prepare_on opened b (provider_refusal opened b)).state
-  prepared_state = rw none (ap (λ (x : Pending). let s : ProviderState = Some (record opened { pending = Some x }) in s) pending_is)
+  pub prepared_state : serving (provided_by d (Some update)) ≡ (prepare_on opened b (provider_refusal opened b)).state
+  prepared_state = rw none (ap (λ (x : Pending). serving (record opened { pending = Some x })) pending_is)
 
 -- ---- an update that was installed
 
-module _ {H : Type 0} (d e : Held H) (p : Update) (entry : Entry) (signature : List ℕ) (is : entry ≡ signed p.body (record { 0 = signature })) where
+module _ {H : Type 0} (d e : DirectoryView H) (p : Update) (entry : Entry) (signature : List ℕ) (is : entry ≡ signed p.body (record { 0 = signature })) where
   pub installed_reply : (pending : Option Update) → pending ≡ Some p
       → installed entry (sha256 (link_preimage entry)) ≡ (install_on (provided_by d pending) signature (option_map (pending_of d) pending)).outcome
   installed_reply pending some = rw (some, is) refl
@@ -204,5 +204,5 @@ module _ {H : Type 0} (d e : Held H) (p : Update) (entry : Entry) (signature : L
       → e.state.nonce ≡ d.state.nonce → e.state.policy ≡ d.state.policy → e.state.before ≡ d.state.before → e.index ≡ put_indices d.index (indices_of p.update)
       → history_of e.state ≡ history_of d.state ++ shown_after d.state p.update p.body.t ∷ []
       → e.state.chain ≡ d.state.chain ++ entry ∷ [] → length e.state.nodes ≡ length d.state.nodes + nodes_added p.update
-      → (let s : ProviderState = Some (provided_by e after) in s) ≡ (install_on (provided_by d pending) signature (option_map (pending_of d) pending)).state
+      → serving (provided_by e after) ≡ (install_on (provided_by d pending) signature (option_map (pending_of d) pending)).state
   installed_state pending after some none nonce policy before index history chain nodes = rw (some, none, nonce, policy, before, index, history, chain, nodes, is) refl

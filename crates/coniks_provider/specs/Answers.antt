@@ -1,12 +1,17 @@
 -- What is printed for a line.
-use Rattle.std.specs.Prelude.{ℕ, codes, Bool, true, false}
+use Rattle.std.specs.Prelude.{ℕ, List, codes, map, Bool, true, false}
+use Rattle.std.specs.Str.Lossy.{utf8_lossy}
 use Rattle.std.specs.String.{string_bytes}
 use Rattle.coniks_proof.specs.Octets.{Octets}
-use Rattle.serde_json.specs.Data.{Data, string, number, unsigned, object, member, no_members}
+use Rattle.serde_json.specs.Data.{Data, array, boolean, string, number, unsigned, object, member, no_members}
+use Rattle.serde_json.specs.View.{items_of, view}
+use Rattle.base64.specs.Engines.{standard}
+use Rattle.base64.specs.GeneralPurpose.{encode_of}
 use Rattle.coniks_chain.specs.Entries.{body_bytes, entry_bytes}
 use Rattle.coniks_chain.specs.declared.entry.Body.{Body}
 use Rattle.coniks_chain.specs.declared.entry.Entry.{Entry}
 use Rattle.coniks_directory.specs.Batches.{fault_is}
+use Rattle.coniks_directory.specs.Bindings.{Indexed as IndexedBinding}
 use Rattle.coniks_directory.specs.SuppliedBatches.{SuppliedFault, of_operation, other_index}
 use Rattle.coniks_tool.specs.Paths.{Path, path_of}
 use Rattle.coniks_tool.specs.ProofTexts.{digits}
@@ -27,6 +32,14 @@ pub data ProviderOutcome : Type 0 where
   looked_up : (entry : Entry) (index name : Octets) (path : Path) → ProviderOutcome
   -- the latest epoch, its entry's link, and how many names and nodes there are
   at_latest : (epoch : ℕ) (link : Octets) (names nodes : ℕ) → ProviderOutcome
+  -- a page of bindings, as it is printed
+  listed : Data → ProviderOutcome
+  -- a restore has begun
+  restore_begun : ProviderOutcome
+  -- bindings were added to a restore: how many names it has
+  bindings_added : (names : ℕ) → ProviderOutcome
+  -- the directory of this entry is restored and open: the entry and its link
+  restored : (entry : Entry) (link : Octets) → ProviderOutcome
   -- the line isn't a JSON object
   not_json : ProviderOutcome
   -- the line has no known command
@@ -35,13 +48,23 @@ pub data ProviderOutcome : Type 0 where
   bad_member : Member → ProviderOutcome
   -- the element of `ops` at this place is no operation
   bad_operation : (place : ℕ) → ProviderOutcome
+  -- the element of `bindings` at this place is no binding
+  bad_binding : (place : ℕ) → ProviderOutcome
   -- the directory isn't open yet
   not_open : ProviderOutcome
-  -- the directory is open already
+  -- a directory is open, or a restore has begun
   already_open : ProviderOutcome
-  -- a batch has too many operations
+  -- no restore has begun
+  not_restoring : ProviderOutcome
+  -- the entry's epoch isn't later than the epoch before it
+  not_later : ProviderOutcome
+  -- the entry's version is neither 1 nor 2
+  bad_version : ProviderOutcome
+  -- the root of the bindings isn't the entry's
+  root_differs : ProviderOutcome
+  -- a line has too many operations or bindings
   batch_too_long : ProviderOutcome
-  -- the operation at this place has an error
+  -- the operation or the binding at this place has an error
   bad_batch : (place : ℕ) → SuppliedFault → ProviderOutcome
   -- the epoch isn't later than the latest one
   epoch_not_later : (latest : ℕ) → ProviderOutcome
@@ -63,12 +86,21 @@ provider_outcome_of (reply.Prepared body nodes) = prepared body nodes
 provider_outcome_of (reply.Installed entry link) = installed entry link.0
 provider_outcome_of (reply.LookedUp name found) = looked_up found.entry found.index.0 (string_bytes name) (path_of found.proof)
 provider_outcome_of (reply.Latest epoch link names nodes) = at_latest epoch link.0 names nodes
+provider_outcome_of (reply.Bindings page) = listed (view page.value)
+provider_outcome_of reply.Restore = restore_begun
+provider_outcome_of (reply.Restoring names) = bindings_added names
+provider_outcome_of (reply.Restored entry link) = restored entry link.0
 provider_outcome_of reply.NotJson = not_json
 provider_outcome_of reply.NoCommand = no_command
 provider_outcome_of (reply.BadMember m) = bad_member m
 provider_outcome_of (reply.BadOperation place) = bad_operation place
+provider_outcome_of (reply.BadBinding place) = bad_binding place
 provider_outcome_of reply.NotOpen = not_open
 provider_outcome_of reply.AlreadyOpen = already_open
+provider_outcome_of reply.NotRestoring = not_restoring
+provider_outcome_of reply.NotLater = not_later
+provider_outcome_of reply.Version = bad_version
+provider_outcome_of reply.RootDiffers = root_differs
 provider_outcome_of reply.BatchTooLong = batch_too_long
 provider_outcome_of (reply.BadBatch place fault) = bad_batch place (of_operation (fault_is fault))
 provider_outcome_of (reply.OtherIndex place) = bad_batch place other_index
@@ -94,14 +126,14 @@ prepared_data body nodes =
     (member (codes "ok") (string (codes "prepare"))
     (member (codes "root") (digits body.root.0) no_members)))))
 
--- {"entry":DIGITS,"epoch":NUM,"link":DIGITS,"ok":"install","root":DIGITS}
-abbrev pub provider_installed_data : Entry → Octets → Data
-provider_installed_data entry link =
+-- {"entry":DIGITS,"epoch":NUM,"link":DIGITS,"ok":COMMAND,"root":DIGITS}
+abbrev pub entry_data : Octets → Entry → Octets → Data
+entry_data command entry link =
     object
     (member (codes "entry") (digits (entry_bytes entry))
     (member (codes "epoch") (number (unsigned entry.body.t))
     (member (codes "link") (digits link)
-    (member (codes "ok") (string (codes "install"))
+    (member (codes "ok") (string command)
     (member (codes "root") (digits entry.body.root.0) no_members)))))
 
 -- {"epoch":NUM,"link":DIGITS,"names":NUM,"nodes":NUM,"ok":"latest"}
@@ -114,19 +146,65 @@ latest_data epoch link names nodes =
     (member (codes "nodes") (number (unsigned nodes))
     (member (codes "ok") (string (codes "latest")) no_members)))))
 
+-- {"index":DIGITS,"key":BASE64,"name":TEXT,"opening":DIGITS}
+abbrev pub binding_data : IndexedBinding → Data
+binding_data b =
+    object
+    (member (codes "index") (digits b.0)
+    (member (codes "key") (string (encode_of standard b.1.key))
+    (member (codes "name") (string (utf8_lossy b.1.name))
+    (member (codes "opening") (digits b.1.opening) no_members))))
+
+-- {"bindings":[BINDING,..],"epoch":NUM,"more":BOOL,"ok":"bindings"}
+abbrev pub page_data : ℕ → List IndexedBinding → Bool → Data
+page_data epoch bindings more =
+    object
+    (member (codes "bindings") (array (items_of (map binding_data bindings)))
+    (member (codes "epoch") (number (unsigned epoch))
+    (member (codes "more") (boolean more)
+    (member (codes "ok") (string (codes "bindings")) no_members))))
+
+-- {"ok":"restore"}
+abbrev pub restore_begun_data : Data
+restore_begun_data = object (member (codes "ok") (string (codes "restore")) no_members)
+
+-- {"names":NUM,"ok":"restoring"}
+abbrev pub restoring_data : ℕ → Data
+restoring_data names =
+    object
+    (member (codes "names") (number (unsigned names))
+    (member (codes "ok") (string (codes "restoring")) no_members))
+
+-- {"fault":"Member","member":"bindings","position":NUM}
+abbrev pub bad_binding_data : ℕ → Data
+bad_binding_data place =
+    object
+    (member (codes "fault") (string (codes "Member"))
+    (member (codes "member") (string (codes "bindings"))
+    (member (codes "position") (number (unsigned place)) no_members)))
+
 -- what is printed for what comes of a line
 abbrev pub provider_reply_data : ProviderOutcome → Data
 provider_reply_data opened = opened_data
 provider_reply_data (prepared body nodes) = prepared_data body nodes
-provider_reply_data (installed entry link) = provider_installed_data entry link
+provider_reply_data (installed entry link) = entry_data (codes "install") entry link
 provider_reply_data (looked_up entry index name path) = looked_up_data entry index name path
 provider_reply_data (at_latest epoch link names nodes) = latest_data epoch link names nodes
+provider_reply_data (listed page) = page
+provider_reply_data restore_begun = restore_begun_data
+provider_reply_data (bindings_added names) = restoring_data names
+provider_reply_data (restored entry link) = entry_data (codes "restored") entry link
 provider_reply_data not_json = fault_data (codes "Json")
 provider_reply_data no_command = fault_data (codes "Command")
 provider_reply_data (bad_member m) = bad_member_data (member_name m)
 provider_reply_data (bad_operation place) = bad_operation_data place
+provider_reply_data (bad_binding place) = bad_binding_data place
 provider_reply_data not_open = fault_data (codes "NotOpen")
 provider_reply_data already_open = fault_data (codes "AlreadyOpen")
+provider_reply_data not_restoring = fault_data (codes "NotRestoring")
+provider_reply_data not_later = fault_data (codes "NotLater")
+provider_reply_data bad_version = fault_data (codes "Version")
+provider_reply_data root_differs = fault_data (codes "RootDiffers")
 provider_reply_data batch_too_long = fault_data (codes "BatchTooLong")
 provider_reply_data (bad_batch place fault) = placed_fault_data (supplied_fault_name fault) place
 provider_reply_data (epoch_not_later latest) = epoch_not_later_data latest
@@ -143,4 +221,8 @@ is_accepted_line (prepared body nodes) = true
 is_accepted_line (installed entry link) = true
 is_accepted_line (looked_up entry index name path) = true
 is_accepted_line (at_latest epoch link names nodes) = true
+is_accepted_line (listed page) = true
+is_accepted_line restore_begun = true
+is_accepted_line (bindings_added names) = true
+is_accepted_line (restored entry link) = true
 is_accepted_line _ = false

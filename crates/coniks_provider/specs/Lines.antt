@@ -1,14 +1,30 @@
--- The operations of a `prepare` line, each with the index of its name.
+-- The operations of a `prepare` line and the bindings of a `restoring` line, each with the index of its name.
 use Rattle.std.specs.Prelude.{ℕ, ◌+◌, List, [], ◌∷◌, codes, Option, Some, None, Result, Ok, Err}
 use Rattle.serde_json.specs.Data.{Data, Items, no_items, item}
 use Rattle.coniks_directory.specs.SuppliedBatches.{Indexed, indexed}
-use Rattle.coniks_tool.specs.Members.{digits_in, given}
+use Rattle.coniks_proof.specs.Batches.{Operation, register}
+use Rattle.coniks_tool.specs.Members.{base64_in, digits_in, given, text_in}
 use Rattle.coniks_tool.specs.Operations.{operation_in}
 use Rattle.coniks_provider.specs.declared.batch.Operations.{Operations}
+use Rattle.coniks_provider.specs.declared.operations.Elements.{Elements}
+use Rattle.coniks_provider.specs.declared.operations.Elements.TheVariants as elements
+
+-- the operation that registers a binding: `key` in base64, `name`, and `opening` in 64 digits
+abbrev pub registration_in : Data → Option Operation
+registration_in element =
+    given (base64_in (codes "key") element) (λ key.
+    given (text_in (codes "name") element) (λ name.
+    given (digits_in 32 (codes "opening") element) (λ opening.
+    Some (record { kind = register; name = name; key = key; opening = opening }))))
+
+-- the operation that an element is, by what the elements are
+abbrev pub element_in : Elements → Data → Option Operation
+element_in elements.Operations element = operation_in element
+element_in elements.Bindings element = registration_in element
 
 -- the operation that an element is, and `index`, 64 digits
-abbrev pub indexed_in : Data → Option Indexed
-indexed_in element = given (operation_in element)
+abbrev pub indexed_in : Elements → Data → Option Indexed
+indexed_in kind element = given (element_in kind element)
     (λ op. given (digits_in 32 (codes "index") element) (λ index. Some (record { op = op; index = index })))
 
 -- an operation before others
@@ -22,13 +38,13 @@ indexed_at_place place None others = Err place
 indexed_at_place place (Some x) others = indexed_with_first x others
 
 -- the operations of elements, the first of which is at this place, or the first place without one
-abbrev pub batch_from : ℕ → Items → Result (List Indexed) ℕ
-batch_from place no_items = Ok []
-batch_from place (item element others) = indexed_at_place place (indexed_in element) (batch_from (place + 1) others)
+abbrev pub batch_from : Elements → ℕ → Items → Result (List Indexed) ℕ
+batch_from kind place no_items = Ok []
+batch_from kind place (item element others) = indexed_at_place place (indexed_in kind element) (batch_from kind (place + 1) others)
 
 -- the operations of an array, or the place of the first element that is none
-abbrev pub batch_in : Items → Result (List Indexed) ℕ
-batch_in elements = batch_from 0 elements
+abbrev pub batch_in : Elements → Items → Result (List Indexed) ℕ
+batch_in kind elements = batch_from kind 0 elements
 
 -- what was read, as the definitions see it
 abbrev pub batch_line_read : Result Operations ℕ → Result (List Indexed) ℕ

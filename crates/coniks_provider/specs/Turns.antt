@@ -1,32 +1,39 @@
 -- What `provider` replies to a line.
-use Rattle.std.specs.Prelude.{◌==◌, ℕ, ◌+◌, List, [], ◌∷◌, ◌++◌, codes, find, length, Bool, not, ◌&&◌, nat_le, nat_lt, Option, Some, None, Result, Ok, Err, if◌then◌else◌}
+use Rattle.std.specs.Prelude.{◌==◌, ℕ, ◌+◌, List, [], ◌∷◌, ◌++◌, codes, find, length, map, take, Bool, not, ◌&&◌, ◌||◌, nat_le, nat_lt, Option, Some, None, option_map, Result, Ok, Err, if◌then◌else◌}
 use Rattle.std.specs.Option.{option_map_or}
 use Rattle.std.specs.Str.{bytes_eq}
 use Rattle.serde_json.specs.Data.{Data, Items}
 use Rattle.coniks_lines.specs.Machine.{Answer}
 use Rattle.coniks_proof.specs.Sha256.{sha256}
-use Rattle.coniks_proof.specs.Batches.{fits}
+use Rattle.coniks_proof.specs.Batches.{Fault, Operation, after, bound_by, fault_from, fits}
 use Rattle.coniks_proof.specs.Octets.{Octets}
-use Rattle.coniks_proof.specs.Registry.{has_name}
+use Rattle.coniks_proof.specs.Registry.{Registry, has_name, root_of}
+use Rattle.coniks_proof.specs.declared.values.Index.{Index}
 use Rattle.coniks_proof.specs.declared.values.TheConstants.{MAX_NAME, MAX_OPERATIONS}
 use Rattle.coniks_chain.specs.Chain.{before_at, link_before}
 use Rattle.coniks_chain.specs.Entries.{link_preimage, signed}
 use Rattle.coniks_chain.specs.declared.auditor.AuditorState.{AuditorState}
 use Rattle.coniks_chain.specs.declared.entry.Body.{Body}
 use Rattle.coniks_chain.specs.declared.entry.Entry.{Entry}
+use Rattle.coniks_directory.specs.Bindings.{Indexed as IndexedBinding, bindings_page}
 use Rattle.coniks_directory.specs.Chain.{body_of}
 use Rattle.coniks_directory.specs.History.{Shown, latest_epoch, latest_nonce, latest_registry, latest_version, shown_at}
 use Rattle.coniks_directory.specs.Nodes.{epoch_nodes}
+use Rattle.coniks_directory.specs.Restored.{restored_epoch, said_before}
 use Rattle.coniks_directory.specs.Runs.{shown_by}
 use Rattle.coniks_directory.specs.Supplied.{Supplied, supplied_index}
-use Rattle.coniks_directory.specs.SuppliedBatches.{Indexed, SuppliedFault, index_in, indices_by, operations_of, put_indices, supplied_fault}
-use Rattle.coniks_tool.specs.Members.{array_in, digits_in, if_there, number_in, object_in, text_in}
+use Rattle.coniks_directory.specs.SuppliedBatches.{Indexed, SuppliedFault, index_in, indices_by, of_operation, operations_of, put_indices, supplied_fault}
+use Rattle.coniks_tool.specs.EntryLines.{entry_in}
+use Rattle.coniks_tool.specs.Members.{array_in, digits_in, given, if_there, number_in, object_in, text_in}
 use Rattle.coniks_tool.specs.Paths.{path_to}
 use Rattle.coniks_tool.specs.Turns.{Turn, answer_by, refused}
-use Rattle.coniks_tool.specs.declared.lines.printing.Member.TheVariants.{Nonce, Policy, Epoch, Ops, Name, Index, Signature}
-use Rattle.coniks_provider.specs.Answers.{ProviderOutcome, already_open, bad_batch, bad_index, bad_member, bad_name_length, bad_operation, batch_too_long, board_full, epoch_not_later, installed, is_accepted_line, at_latest, looked_up, no_command, not_json, not_open, not_prepared, opened, prepared, provider_reply_data, unknown_epoch}
+use Rattle.coniks_tool.specs.declared.lines.printing.Member.TheVariants.{Nonce, Policy, Epoch, Ops, Name, Index as IndexMember, Signature, Entry as EntryMember, After, Most, Bindings as BindingsMember}
+use Rattle.coniks_provider.specs.Answers.{ProviderOutcome, already_open, at_latest, bad_batch, bad_binding, bad_index, bad_member, bad_name_length, bad_operation, bad_version, batch_too_long, bindings_added, board_full}
+use Rattle.coniks_provider.specs.Answers.{epoch_not_later, installed, is_accepted_line, listed, looked_up, no_command, not_json, not_later, not_open, not_prepared, not_restoring, opened, page_data, prepared, provider_reply_data}
+use Rattle.coniks_provider.specs.Answers.{restore_begun, restored, root_differs, unknown_epoch}
 use Rattle.coniks_provider.specs.Limits.{most_provider_epochs}
 use Rattle.coniks_provider.specs.Lines.{batch_in}
+use Rattle.coniks_provider.specs.declared.operations.Elements.TheVariants.{Operations, Bindings}
 
 -- an update that was prepared: the body to sign, the epoch that it makes, its names with their indices, and how many nodes it adds
 pub record Pending : Type 0 where
@@ -47,9 +54,20 @@ pub record ProviderDirectory : Type 0 where
   pub nodes : ℕ
   pub pending : Option Pending
 
--- nothing, before a line opens a directory
-abbrev pub ProviderState : Type 0
-ProviderState = Option ProviderDirectory
+-- a restore that has begun: the entry, and the bindings so far, each as the operation that registers it, with the indices of their names
+pub record Restore : Type 0 where
+  pub entry : Entry
+  pub ops : List Operation
+  pub indices : List Supplied
+
+-- the state of a run
+pub data ProviderState : Type 0 where
+  -- nothing is open, and no restore has begun
+  nothing : ProviderState
+  -- a restore has begun
+  restoring : Restore → ProviderState
+  -- a directory is open
+  serving : ProviderDirectory → ProviderState
 
 -- what comes of a line, and the state after it
 abbrev pub ProviderTurn : Type 0
@@ -61,10 +79,11 @@ ProviderTurn = Turn ProviderOutcome ProviderState
 abbrev pub nothing_yet : Octets → Octets → ProviderDirectory
 nothing_yet nonce policy = record { nonce = nonce; policy = policy; before = None; indices = []; history = []; chain = []; nodes = 0; pending = None }
 
--- a directory is opened once
+-- a directory is opened once, and not while one is restored
 abbrev pub provider_open_with : ProviderState → Octets → Octets → ProviderTurn
-provider_open_with None nonce policy = record { outcome = opened; state = Some (nothing_yet nonce policy) }
-provider_open_with (Some o) nonce policy = refused (Some o) already_open
+provider_open_with nothing nonce policy = record { outcome = opened; state = serving (nothing_yet nonce policy) }
+provider_open_with (restoring r) nonce policy = refused (restoring r) already_open
+provider_open_with (serving o) nonce policy = refused (serving o) already_open
 
 -- `open`, by its members in the order of reading
 abbrev pub provider_open_turn : ProviderState → Option Octets → Option Octets → ProviderTurn
@@ -120,17 +139,18 @@ provider_refusal o b =
 
 -- a batch is refused, or its update takes the place of the pending one
 abbrev pub prepare_on : ProviderDirectory → BatchLine → Option ProviderOutcome → ProviderTurn
-prepare_on o b (Some why) = refused (Some o) why
+prepare_on o b (Some why) = refused (serving o) why
 prepare_on o b None = record {
   outcome = prepared (pending_by o b).body
       (pending_by o b).nodes;
-  state = Some (record o { pending = Some (pending_by o b) });
+  state = serving (record o { pending = Some (pending_by o b) });
 }
 
 -- a batch that was read
 abbrev pub prepare_with : ProviderState → BatchLine → ProviderTurn
-prepare_with None b = refused None not_open
-prepare_with (Some o) b = prepare_on o b (provider_refusal o b)
+prepare_with nothing b = refused nothing not_open
+prepare_with (restoring r) b = refused (restoring r) not_open
+prepare_with (serving o) b = prepare_on o b (provider_refusal o b)
 
 -- the operations were read, or one was not
 abbrev pub batch_read_turn : ProviderState → ℕ → Option Octets → Result (List Indexed) ℕ → ProviderTurn
@@ -142,7 +162,7 @@ abbrev pub prepare_turn : ProviderState → Option ℕ → Option (Option Octets
 prepare_turn s None new_nonce items = refused s (bad_member Epoch)
 prepare_turn s (Some epoch) None items = refused s (bad_member Nonce)
 prepare_turn s (Some epoch) (Some new_nonce) None = refused s (bad_member Ops)
-prepare_turn s (Some epoch) (Some new_nonce) (Some items) = batch_read_turn s epoch new_nonce (batch_in items)
+prepare_turn s (Some epoch) (Some new_nonce) (Some items) = batch_read_turn s epoch new_nonce (batch_in Operations items)
 
 -- ---- install
 
@@ -158,16 +178,17 @@ installed_with o p signature = record o {
 
 -- the pending update is installed
 abbrev pub install_on : ProviderDirectory → Octets → Option Pending → ProviderTurn
-install_on o signature None = refused (Some o) not_prepared
+install_on o signature None = refused (serving o) not_prepared
 install_on o signature (Some p) = record {
   outcome = installed (signed p.body (record { 0 = signature })) (sha256 (link_preimage (signed p.body (record { 0 = signature }))));
-  state = Some (installed_with o p signature);
+  state = serving (installed_with o p signature);
 }
 
 -- a signature that was read
 abbrev pub install_with : ProviderState → Octets → ProviderTurn
-install_with None signature = refused None not_open
-install_with (Some o) signature = install_on o signature o.pending
+install_with nothing signature = refused nothing not_open
+install_with (restoring r) signature = refused (restoring r) not_open
+install_with (serving o) signature = install_on o signature o.pending
 
 -- `install`, by its member
 abbrev pub install_turn : ProviderState → Option Octets → ProviderTurn
@@ -204,23 +225,169 @@ provider_lookup_at o number name index (Some shown) =
 
 -- a lookup that was read
 abbrev pub provider_lookup_with : ProviderState → ℕ → Octets → Octets → ProviderOutcome
-provider_lookup_with None number name index = not_open
-provider_lookup_with (Some o) number name index = provider_lookup_at o number name index (shown_at o.history number)
+provider_lookup_with nothing number name index = not_open
+provider_lookup_with (restoring r) number name index = not_open
+provider_lookup_with (serving o) number name index = provider_lookup_at o number name index (shown_at o.history number)
 
 -- `lookup`, by its members in the order of reading
 abbrev pub provider_lookup_outcome : ProviderState → Option ℕ → Option Octets → Option Octets → ProviderOutcome
 provider_lookup_outcome s None name index = bad_member Epoch
 provider_lookup_outcome s (Some epoch) None index = bad_member Name
-provider_lookup_outcome s (Some epoch) (Some name) None = bad_member Index
+provider_lookup_outcome s (Some epoch) (Some name) None = bad_member IndexMember
 provider_lookup_outcome s (Some epoch) (Some name) (Some index) = provider_lookup_with s epoch name index
 
 -- ---- latest
 
 -- the latest epoch, its entry's link, and how many names and nodes there are
 abbrev pub latest_outcome : ProviderState → ProviderOutcome
-latest_outcome None = not_open
-latest_outcome (Some o) = at_latest (latest_epoch o.history)
+latest_outcome nothing = not_open
+latest_outcome (restoring r) = not_open
+latest_outcome (serving o) = at_latest (latest_epoch o.history)
     (link_before (before_at sha256 o.before o.chain (length o.chain))) (length o.indices) o.nodes
+
+-- ---- bindings
+
+-- how many bindings a page may have at most: the member `most`, a whole number from 1 to the most operations of a batch
+abbrev pub most_in : Data → Option ℕ
+most_in d = given (number_in (codes "most") d) (λ most. if nat_le 1 most && nat_le most MAX_OPERATIONS then Some most else None)
+
+-- the first of the bindings that were looked for, and whether there are more
+abbrev pub page_of_found : ℕ → ℕ → List IndexedBinding → ProviderOutcome
+page_of_found number most found = listed (page_data number (take most found) (nat_lt most (length found)))
+
+-- the index that bytes are
+abbrev pub index_of_bytes : Octets → Index
+index_of_bytes bytes = record { 0 = bytes }
+
+-- the page of an epoch that shows this
+abbrev pub bindings_at : ProviderDirectory → ℕ → Option Octets → ℕ → Option Shown → ProviderOutcome
+bindings_at o number after most None = unknown_epoch
+bindings_at o number after most (Some shown) =
+    page_of_found number most (bindings_page sha256 (supplied_index o.indices) shown.registry (option_map index_of_bytes after) (most + 1))
+
+-- a page that was asked for
+abbrev pub bindings_with : ProviderState → ℕ → Option Octets → ℕ → ProviderOutcome
+bindings_with nothing number after most = not_open
+bindings_with (restoring r) number after most = not_open
+bindings_with (serving o) number after most = bindings_at o number after most (shown_at o.history number)
+
+-- `bindings`, by its members in the order of reading; the index may be missing
+abbrev pub bindings_outcome : ProviderState → Option ℕ → Option (Option Octets) → Option ℕ → ProviderOutcome
+bindings_outcome s None after most = bad_member Epoch
+bindings_outcome s (Some epoch) None most = bad_member After
+bindings_outcome s (Some epoch) (Some after) None = bad_member Most
+bindings_outcome s (Some epoch) (Some after) (Some most) = bindings_with s epoch after most
+
+-- ---- restore
+
+-- a restore without bindings
+abbrev pub no_bindings_yet : Entry → Restore
+no_bindings_yet entry = record { entry = entry; ops = []; indices = [] }
+
+-- why an entry can't be restored: its epoch isn't later than the one before it, else its version is neither 1 nor 2
+abbrev pub entry_refusal : Entry → Option ProviderOutcome
+entry_refusal entry =
+    if nat_lt entry.body.t_prev entry.body.t
+    then (if entry.body.version == 1 || entry.body.version == 2 then None else Some bad_version)
+    else Some not_later
+
+-- the entry is refused, or a restore begins
+abbrev pub restore_from : Entry → Option ProviderOutcome → ProviderTurn
+restore_from entry (Some why) = refused nothing why
+restore_from entry None = record { outcome = restore_begun; state = restoring (no_bindings_yet entry) }
+
+-- an entry that was read
+abbrev pub restore_with : ProviderState → Entry → ProviderTurn
+restore_with nothing entry = restore_from entry (entry_refusal entry)
+restore_with (restoring r) entry = refused (restoring r) already_open
+restore_with (serving o) entry = refused (serving o) already_open
+
+-- `restore`, by its member
+abbrev pub restore_turn : ProviderState → Option Entry → ProviderTurn
+restore_turn s None = refused s (bad_member EntryMember)
+restore_turn s (Some entry) = restore_with s entry
+
+-- ---- restoring
+
+-- the names and keys that a restore binds so far
+abbrev pub bound_in : Restore → Registry
+bound_in r = map bound_by r.ops
+
+-- the indices that bindings are checked by
+abbrev pub restoring_index : Restore → List Indexed → Octets → Octets
+restoring_index r bs = index_in (supplied_index r.indices) (bound_in r) bs
+
+-- a restore with these bindings after those so far
+abbrev pub restore_and : Restore → List Indexed → Restore
+restore_and r bs = record r {
+  ops = r.ops ++ operations_of bs;
+  indices = put_indices r.indices (indices_by (restoring_index r bs) (operations_of bs));
+}
+
+-- the first binding with an error refuses them all
+abbrev pub restoring_refusal_from : Option (ℕ × Fault) → Option ProviderOutcome
+restoring_refusal_from (Some at) = Some (bad_batch at.0 (of_operation at.1))
+restoring_refusal_from None = None
+
+-- why bindings aren't added
+abbrev pub restoring_refusal : Restore → List Indexed → Option ProviderOutcome
+restoring_refusal r bs =
+    if nat_le (length bs) MAX_OPERATIONS
+    then restoring_refusal_from (fault_from (restoring_index r bs) [] (bound_in r) 0 (operations_of bs))
+    else Some batch_too_long
+
+-- bindings are refused, or added
+abbrev pub restoring_on : Restore → List Indexed → Option ProviderOutcome → ProviderTurn
+restoring_on r bs (Some why) = refused (restoring r) why
+restoring_on r bs None = record { outcome = bindings_added (length (restore_and r bs).ops); state = restoring (restore_and r bs) }
+
+-- bindings that were read
+abbrev pub restoring_with : ProviderState → List Indexed → ProviderTurn
+restoring_with nothing bs = refused nothing not_restoring
+restoring_with (restoring r) bs = restoring_on r bs (restoring_refusal r bs)
+restoring_with (serving o) bs = refused (serving o) not_restoring
+
+-- the bindings were read, or one was not
+abbrev pub bindings_read_turn : ProviderState → Result (List Indexed) ℕ → ProviderTurn
+bindings_read_turn s (Err place) = refused s (bad_binding place)
+bindings_read_turn s (Ok bs) = restoring_with s bs
+
+-- `restoring`, by its member
+abbrev pub restoring_turn : ProviderState → Option Items → ProviderTurn
+restoring_turn s None = refused s (bad_member BindingsMember)
+restoring_turn s (Some items) = bindings_read_turn s (batch_in Bindings items)
+
+-- ---- restored
+
+-- the root of the bindings under the entry's nonce
+abbrev pub root_of_bindings : Restore → Octets
+root_of_bindings r = root_of sha256 (supplied_index r.indices) r.entry.body.nonce.0 (after [] r.ops)
+
+-- the directory whose only epoch is that of the entry
+abbrev pub restored_directory : Restore → ProviderDirectory
+restored_directory r = record {
+  nonce = r.entry.body.nonce.0;
+  policy = r.entry.body.policy;
+  before = Some (said_before r.entry);
+  indices = r.indices;
+  history = restored_epoch r.entry r.ops ∷ [];
+  chain = r.entry ∷ [];
+  nodes = epoch_nodes (supplied_index r.indices) [] None r.ops;
+  pending = None;
+}
+
+-- the directory is open if its root is the entry's; otherwise nothing is open, and no restore has begun
+abbrev pub end_restore : Restore → ProviderTurn
+end_restore r =
+    if bytes_eq r.entry.body.root.0 (root_of_bindings r)
+    then record { outcome = restored r.entry (sha256 (link_preimage r.entry)); state = serving (restored_directory r) }
+    else record { outcome = root_differs; state = nothing }
+
+-- `restored`
+abbrev pub restored_turn : ProviderState → ProviderTurn
+restored_turn nothing = refused nothing not_restoring
+restored_turn (restoring r) = end_restore r
+restored_turn (serving o) = refused (serving o) not_restoring
 
 -- ---- lines
 
@@ -239,7 +406,12 @@ provider_command_turn s d (Some name) =
     else (if bytes_eq name (codes "lookup") then reads s
     (provider_lookup_outcome s (number_in (codes "epoch") d) (text_in (codes "name") d) (digits_in 32 (codes "index") d))
     else (if bytes_eq name (codes "latest") then reads s (latest_outcome s)
-    else refused s no_command))))
+    else (if bytes_eq name (codes "bindings") then reads s
+    (bindings_outcome s (number_in (codes "epoch") d) (if_there (codes "after") d (digits_in 32 (codes "after") d)) (most_in d))
+    else (if bytes_eq name (codes "restore") then restore_turn s (entry_in d)
+    else (if bytes_eq name (codes "restoring") then restoring_turn s (array_in (codes "bindings") d)
+    else (if bytes_eq name (codes "restored") then restored_turn s
+    else refused s no_command))))))))
 
 -- what comes of a line
 abbrev pub provider_turn : ProviderState → Octets → ProviderTurn

@@ -12,10 +12,13 @@
 #![tactic(auto)]
 
 mod batch;
+mod held;
 pub mod laws;
 mod machine;
 mod operations;
+mod page;
 mod reply;
+mod restoring;
 mod service;
 mod signature;
 mod store;

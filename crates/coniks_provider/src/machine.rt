@@ -1,20 +1,24 @@
 //! The machine of `provider`, and its engine.
 
-ghost use Rattle.std.specs.Prelude.{◌≡◌, ◌<◌, ◌≤◌, ◌+◌, ◌^◌, None, Some, IfOk, OnOk, codes};
+ghost use Rattle.std.specs.Prelude.{◌≡◌, ◌<◌, ◌≤◌, ◌+◌, ◌^◌, IfOk, IfSome, OnOk, codes};
+ghost use Rattle.coniks_proof.specs.declared.values.TheConstants.{MAX_OPERATIONS};
+ghost use Rattle.coniks_tool.specs.EntryLines.{entry_in};
 ghost use Rattle.serde_json.specs.View.{view};
 ghost use Rattle.coniks_directory.specs.Batches.{AreWorkers};
 ghost use Rattle.coniks_lines.specs.Runs.{FailsWithBoard, IsRunOf, streams};
 ghost use Rattle.coniks_work.specs.declared.jobs.TheConstants.{MAX_DEPTH};
 ghost use Rattle.coniks_tool.specs.Members.{array_in, digits_in, if_there, number_in, text_in};
 ghost use Rattle.coniks_provider.specs.Answers.{provider_outcome_of};
-ghost use Rattle.coniks_provider.specs.Turns.{ProviderState, provider_command_turn, install_turn, provider_lookup_outcome, provider_open_turn, prepare_turn, provider_answer, provider_turn};
+ghost use Rattle.coniks_provider.specs.Turns.{bindings_outcome, install_turn, most_in, nothing, prepare_turn, provider_answer, provider_command_turn, provider_lookup_outcome, provider_open_turn, provider_turn, restore_turn, restoring_turn};
 
 use crate::batch::BatchRead;
-use crate::operations::read_operations;
+use crate::operations::{Elements, read_operations};
 use crate::reply::Reply;
 use crate::store::Store;
 use coniks_lines::{ByteIn, ByteOut, LineMachine, RunFault, run_lines};
+use coniks_proof::MAX_OPERATIONS;
 use coniks_tool::Parallelism;
+use coniks_tool::lines::entries::read_entry;
 use coniks_tool::lines::members::{
     array, bytes_of_digits, digits32, digits32_if_there, number, read_object, text,
 };
@@ -37,6 +41,18 @@ fn signature_in(object: &Value) -> Option<[u8; 64]>
 {
     let digits = text(object, "signature")?;
     bytes_of_digits(digits)
+}
+
+/// The number of the member `most`, from 1 to `MAX_OPERATIONS`.
+fn most_in(object: &Value) -> Option<usize>
+    ensures value { result ≡ most_in (view object.now) }
+    ensures few { IfSome result (λ most. most ≤ MAX_OPERATIONS) }
+{
+    let most = number(object, "most")?;
+    if most == 0 || most > MAX_OPERATIONS as u64 {
+        return None;
+    }
+    Some(most as usize)
 }
 
 impl<'r, T: Threads + Sync> Providing<'r, T> {
@@ -70,7 +86,7 @@ impl<'r, T: Threads + Sync> Providing<'r, T> {
         let Some(elements) = array(object, "ops") else {
             return Ok(Reply::BadMember(Member::Ops));
         };
-        match read_operations(self.alloc, elements)? {
+        match read_operations(self.alloc, Elements::Operations, elements)? {
             Ok(read) => {
                 let batch = BatchRead {
                     epoch,
@@ -111,6 +127,46 @@ impl<'r, T: Threads + Sync> Providing<'r, T> {
         self.store.look_up(epoch, name, index)
     }
 
+    fn bindings(&self, object: &Value) -> Result<Reply, AllocError>
+        ensures { IfOk result (λ reply. provider_outcome_of reply ≡ bindings_outcome self.now.store (number_in (codes "epoch") (view object.now))
+            (if_there (codes "after") (view object.now) (digits_in 32 (codes "after") (view object.now))) (most_in (view object.now))) }
+    {
+        let Some(epoch) = number(object, "epoch") else {
+            return Ok(Reply::BadMember(Member::Epoch));
+        };
+        let Some(after) = digits32_if_there(object, "after") else {
+            return Ok(Reply::BadMember(Member::After));
+        };
+        let Some(most) = most_in(object) else {
+            return Ok(Reply::BadMember(Member::Most));
+        };
+        self.store.bindings(epoch, after, most)
+    }
+
+    fn restore(&mut self, object: &Value) -> Result<Reply, AllocError>
+        ensures reply { IfOk result (λ reply. provider_outcome_of reply ≡ (restore_turn self.old.store (entry_in (view object.now))).outcome) }
+        ensures state { OnOk result (self.new.store ≡ (restore_turn self.old.store (entry_in (view object.now))).state) }
+    {
+        match read_entry(object) {
+            Some(entry) => self.store.restore(entry),
+            None => Ok(Reply::BadMember(Member::Entry)),
+        }
+    }
+
+    fn restoring(&mut self, object: &Value) -> Result<Reply, AllocError>
+        ensures reply { IfOk result (λ reply. provider_outcome_of reply ≡
+            (restoring_turn self.old.store (array_in (codes "bindings") (view object.now))).outcome) }
+        ensures state { OnOk result (self.new.store ≡ (restoring_turn self.old.store (array_in (codes "bindings") (view object.now))).state) }
+    {
+        let Some(elements) = array(object, "bindings") else {
+            return Ok(Reply::BadMember(Member::Bindings));
+        };
+        match read_operations(self.alloc, Elements::Bindings, elements)? {
+            Ok(read) => self.store.restore_more(&read),
+            Err(place) => Ok(Reply::BadBinding(place)),
+        }
+    }
+
     fn command(&mut self, object: &Value) -> Result<Reply, AllocError>
         ensures reply { IfOk result (λ reply. provider_outcome_of reply ≡
             (provider_command_turn self.old.store (view object.now) (text_in (codes "cmd") (view object.now))).outcome) }
@@ -134,6 +190,18 @@ impl<'r, T: Threads + Sync> Providing<'r, T> {
         }
         if name == "latest" {
             return Ok(self.store.latest());
+        }
+        if name == "bindings" {
+            return self.bindings(object);
+        }
+        if name == "restore" {
+            return self.restore(object);
+        }
+        if name == "restoring" {
+            return self.restoring(object);
+        }
+        if name == "restored" {
+            return self.store.end_restore(&self.parallelism);
         }
         Ok(Reply::NoCommand)
     }
@@ -163,12 +231,13 @@ impl<'r, T: Threads + Sync> LineMachine for Providing<'r, T> {
 
     fn step(&mut self, line: &[u8], out: &mut Vec<u8>) -> Result<bool, AllocError> {
         let reply = self.reply(line)?;
+        let is_accepted = reply.is_accepted();
         reply.object(self.alloc)?.print(self.alloc, out)?;
-        Ok(reply.is_accepted())
+        Ok(is_accepted)
     }
 }
 
-/// Answers the lines of a provider: `open`, `prepare`, `install`, `lookup` and `latest` over one directory.
+/// Answers the lines of a provider over one directory, which `open` opens or a restore restores.
 ///
 /// Answers each line with one line and one flush, until a read returns 0. Returns whether each line was accepted.
 /// `workers` worker threads build the epochs, at the split depth `depth` in bits, both within the limits of
@@ -190,7 +259,7 @@ pub fn run_provider<T: Threads + Sync, R: ByteIn, W: ByteOut>(
     requires depth { depth ≤ MAX_DEPTH }
     requires reads { (R.source reader.old).failed + 1 < 2 ^ 64 }
     requires writes { (W.sink writer.old).failed + 1 < 2 ^ 64 }
-    ensures run { IsRunOf provider_answer None (FailsWithBoard provider_answer None)
+    ensures run { IsRunOf provider_answer nothing (FailsWithBoard provider_answer nothing)
         (streams (R.source reader.old) (R.source reader.new) (W.sink writer.old) (W.sink writer.new))
         result }
 {

@@ -1,23 +1,68 @@
-//! The operations of a `prepare` line, each with the index of its name.
+//! The operations of a `prepare` line and the bindings of a `restoring` line, each with the index of its name.
 
 ghost use Rattle.std.specs.Prelude.{IfOk, option_map, ◌≡◌};
 ghost use Rattle.serde_json.specs.View.{view, items_view};
 ghost use Rattle.coniks_directory.specs.Batches.{operation_of};
-ghost use Rattle.coniks_provider.specs.Lines.{batch_in, batch_line_read, indexed_in};
+ghost use Rattle.coniks_provider.specs.Lines.{batch_in, batch_line_read, element_in, indexed_in, registration_in};
 
 use crate::batch::Operations;
-use coniks_directory::Op;
-use coniks_proof::Index;
-use coniks_tool::lines::members::digits32;
+use coniks_directory::{Op, OpKind};
+use coniks_proof::{Bytes, Index, Opening};
+use coniks_tool::lines::members::{base64, digits32, text};
 use coniks_tool::read_op;
 use serde_json::Value;
 use std::alloc::{AllocError, Global};
 
-/// Reads the operation of an element, and its member `index`, 64 digits.
-fn read_indexed(alloc: Global, element: &Value) -> Result<Option<(Op, Index)>, AllocError>
-    ensures { IfOk result (λ found. option_map (λ x. record { op = operation_of x.0; index = x.1.0 }) found ≡ indexed_in (view element.now)) }
+/// What the elements of a line are.
+#[derive(Clone, Copy)]
+pub(crate) enum Elements {
+    /// Operations: the elements of `ops`.
+    Operations,
+    /// Bindings: the elements of `bindings`. Each is read as the operation that registers it.
+    Bindings,
+}
+
+/// Reads the operation that registers a binding: `key` in base64, `name`, and `opening` in 64 digits.
+fn read_binding(alloc: Global, element: &Value) -> Result<Option<Op>, AllocError>
+    ensures { IfOk result (λ op. option_map operation_of op ≡ registration_in (view element.now)) }
 {
-    let Some(op) = read_op(alloc, element)? else {
+    let Some(key) = base64(alloc, element, "key")? else {
+        return Ok(None);
+    };
+    let Some(name) = text(element, "name") else {
+        return Ok(None);
+    };
+    let Some(opening) = digits32(element, "opening") else {
+        return Ok(None);
+    };
+    let name = Bytes::copy_of(alloc, name.as_bytes())?;
+    Ok(Some(Op {
+        kind: OpKind::Register,
+        name,
+        key: Bytes::new(key),
+        opening: Opening(opening),
+    }))
+}
+
+/// Reads the operation of an element.
+fn read_element(alloc: Global, kind: Elements, element: &Value) -> Result<Option<Op>, AllocError>
+    ensures { IfOk result (λ op. option_map operation_of op ≡ element_in kind (view element.now)) }
+{
+    match kind {
+        Elements::Operations => read_op(alloc, element),
+        Elements::Bindings => read_binding(alloc, element),
+    }
+}
+
+/// Reads the operation of an element, and its member `index`, 64 digits.
+fn read_indexed(
+    alloc: Global,
+    kind: Elements,
+    element: &Value,
+) -> Result<Option<(Op, Index)>, AllocError>
+    ensures { IfOk result (λ found. option_map (λ x. record { op = operation_of x.0; index = x.1.0 }) found ≡ indexed_in kind (view element.now)) }
+{
+    let Some(op) = read_element(alloc, kind, element)? else {
         return Ok(None);
     };
     match digits32(element, "index") {
@@ -32,14 +77,15 @@ fn read_indexed(alloc: Global, element: &Value) -> Result<Option<(Op, Index)>, A
 /// accepted.
 pub(crate) fn read_operations(
     alloc: Global,
+    kind: Elements,
     list: &[Value],
 ) -> Result<Result<Operations, usize>, AllocError>
-    ensures { IfOk result (λ read. batch_line_read read ≡ batch_in (items_view list.now)) }
+    ensures { IfOk result (λ read. batch_line_read read ≡ batch_in kind (items_view list.now)) }
 {
     let mut ops = Vec::with_capacity(alloc, list.len())?;
     let mut indices = Vec::with_capacity(alloc, list.len())?;
     for (place, element) in list.iter().enumerate() {
-        match read_indexed(alloc, element)? {
+        match read_indexed(alloc, kind, element)? {
             Some((op, index)) => {
                 ops.push(op)?;
                 indices.push(index)?;

@@ -3,7 +3,7 @@
 ghost use Rattle.std.specs.Prelude.{◌≡◌, IfOk};
 ghost use Rattle.serde_json.specs.View.{view};
 ghost use Rattle.coniks_chain.specs.Entries.{body_bytes};
-ghost use Rattle.coniks_provider.specs.Answers.{provider_installed_data, latest_data, provider_outcome_of, prepared_data, provider_reply_data};
+ghost use Rattle.coniks_provider.specs.Answers.{bad_binding_data, entry_data, latest_data, provider_outcome_of, prepared_data, provider_reply_data, restoring_data};
 
 use coniks_chain::{Body, Entry};
 use coniks_directory::{OpFault, SignedProof};
@@ -43,6 +43,19 @@ pub(crate) enum Reply {
         names: usize,
         nodes: usize,
     },
+    /// A page of bindings, as it is printed.
+    Bindings(Printable),
+    /// A restore has begun.
+    Restore,
+    /// Bindings were added to a restore: the number of its names.
+    Restoring {
+        names: usize,
+    },
+    /// The directory is restored: its entry, and the entry's link.
+    Restored {
+        entry: Entry,
+        link: Digest,
+    },
     /// The line is not a JSON object.
     NotJson,
     /// The line has no known command.
@@ -51,13 +64,23 @@ pub(crate) enum Reply {
     BadMember(Member),
     /// The element of `ops` at this position is no operation.
     BadOperation(usize),
+    /// The element of `bindings` at this position is no binding.
+    BadBinding(usize),
     /// The directory is not open.
     NotOpen,
-    /// The directory is open already.
+    /// A directory is open, or a restore has begun.
     AlreadyOpen,
-    /// A batch has too many operations.
+    /// No restore has begun.
+    NotRestoring,
+    /// The entry's epoch is not later than the epoch before it.
+    NotLater,
+    /// The entry's version is neither 1 nor 2.
+    Version,
+    /// The root of the bindings is not that of the entry.
+    RootDiffers,
+    /// A line has too many operations or bindings.
     BatchTooLong,
-    /// The operation at this position has an error.
+    /// The operation or the binding at this position has an error.
     BadBatch {
         position: usize,
         fault: OpFault,
@@ -92,13 +115,22 @@ impl Reply {
             | Reply::Prepared { .. }
             | Reply::Installed { .. }
             | Reply::LookedUp { .. }
-            | Reply::Latest { .. } => true,
+            | Reply::Latest { .. }
+            | Reply::Bindings(_)
+            | Reply::Restore
+            | Reply::Restoring { .. }
+            | Reply::Restored { .. } => true,
             Reply::NotJson
             | Reply::NoCommand
             | Reply::BadMember(_)
             | Reply::BadOperation(_)
+            | Reply::BadBinding(_)
             | Reply::NotOpen
             | Reply::AlreadyOpen
+            | Reply::NotRestoring
+            | Reply::NotLater
+            | Reply::Version
+            | Reply::RootDiffers
             | Reply::BatchTooLong
             | Reply::BadBatch { .. }
             | Reply::OtherIndex(_)
@@ -112,34 +144,39 @@ impl Reply {
     }
 
     /// Returns the object that is printed.
-    pub(crate) fn object(&self, alloc: Global) -> Result<Printable, AllocError>
-        ensures { IfOk result (λ object. view object.value ≡ provider_reply_data (provider_outcome_of self.now)) }
+    pub(crate) fn object(self, alloc: Global) -> Result<Printable, AllocError>
+        ensures { IfOk result (λ object. view object.value ≡ provider_reply_data (provider_outcome_of self)) }
     {
         match self {
             Reply::Opened => opened(alloc),
-            Reply::Prepared { body, nodes } => prepared(alloc, body, *nodes),
-            Reply::Installed { entry, link } => installed(alloc, entry, link),
-            Reply::LookedUp { name, found } => looked_up(alloc, name.as_str(), found),
+            Reply::Prepared { body, nodes } => prepared(alloc, &body, nodes),
+            Reply::Installed { entry, link } => with_entry(alloc, "install", &entry, &link),
+            Reply::LookedUp { name, found } => looked_up(alloc, name.as_str(), &found),
             Reply::Latest {
                 epoch,
                 link,
                 names,
                 nodes,
-            } => latest(alloc, *epoch, link, *names, *nodes),
+            } => latest(alloc, epoch, &link, names, nodes),
+            Reply::Bindings(page) => Ok(page),
+            Reply::Restore => object(alloc, &[Field("ok", Shown::Text("restore"))]),
+            Reply::Restoring { names } => restoring(alloc, names),
+            Reply::Restored { entry, link } => with_entry(alloc, "restored", &entry, &link),
             Reply::NotJson => fault(alloc, "Json"),
             Reply::NoCommand => fault(alloc, "Command"),
-            Reply::BadMember(member) => bad_member(alloc, member_text(*member)),
-            Reply::BadOperation(place) => bad_operation(alloc, *place),
+            Reply::BadMember(member) => bad_member(alloc, member_text(member)),
+            Reply::BadOperation(place) => bad_operation(alloc, place),
+            Reply::BadBinding(place) => bad_binding(alloc, place),
             Reply::NotOpen => fault(alloc, "NotOpen"),
             Reply::AlreadyOpen => fault(alloc, "AlreadyOpen"),
+            Reply::NotRestoring => fault(alloc, "NotRestoring"),
+            Reply::NotLater => fault(alloc, "NotLater"),
+            Reply::Version => fault(alloc, "Version"),
+            Reply::RootDiffers => fault(alloc, "RootDiffers"),
             Reply::BatchTooLong => fault(alloc, "BatchTooLong"),
-            Reply::BadBatch { position, fault } => placed_fault(
-                alloc,
-                fault_text(*fault),
-                *position,
-            ),
-            Reply::OtherIndex(position) => placed_fault(alloc, "OtherIndex", *position),
-            Reply::EpochNotLater { latest } => epoch_not_later(alloc, *latest),
+            Reply::BadBatch { position, fault } => placed_fault(alloc, fault_text(fault), position),
+            Reply::OtherIndex(position) => placed_fault(alloc, "OtherIndex", position),
+            Reply::EpochNotLater { latest } => epoch_not_later(alloc, latest),
             Reply::BoardFull => fault(alloc, "BoardFull"),
             Reply::NotPrepared => fault(alloc, "NotPrepared"),
             Reply::UnknownEpoch => fault(alloc, "UnknownEpoch"),
@@ -177,8 +214,14 @@ fn prepared_of<'a>(
     )
 }
 
-fn installed<'a>(alloc: Global, entry: &'a Entry, link: &'a Digest) -> Result<Printable, AllocError>
-    ensures { IfOk result (λ object. view object.value ≡ provider_installed_data entry.now link.now.0) }
+/// Returns the object of an entry that a command added to the chain.
+fn with_entry<'a>(
+    alloc: Global,
+    command: &'a str,
+    entry: &'a Entry,
+    link: &'a Digest,
+) -> Result<Printable, AllocError>
+    ensures { IfOk result (λ object. view object.value ≡ entry_data command.now entry.now link.now.0) }
 {
     object(
         alloc,
@@ -186,8 +229,33 @@ fn installed<'a>(alloc: Global, entry: &'a Entry, link: &'a Digest) -> Result<Pr
             Field("entry", Shown::Entry(entry)),
             Field("epoch", Shown::Number(entry.body.t)),
             Field("link", Shown::Digits(&link.0)),
-            Field("ok", Shown::Text("install")),
+            Field("ok", Shown::Text(command)),
             Field("root", Shown::Digits(&entry.body.root.0)),
+        ],
+    )
+}
+
+fn restoring(alloc: Global, names: usize) -> Result<Printable, AllocError>
+    ensures { IfOk result (λ object. view object.value ≡ restoring_data names) }
+{
+    object(
+        alloc,
+        &[
+            Field("names", Shown::Number(names as u64)),
+            Field("ok", Shown::Text("restoring")),
+        ],
+    )
+}
+
+fn bad_binding(alloc: Global, position: usize) -> Result<Printable, AllocError>
+    ensures { IfOk result (λ object. view object.value ≡ bad_binding_data position) }
+{
+    object(
+        alloc,
+        &[
+            Field("fault", Shown::Text("Member")),
+            Field("member", Shown::Text("bindings")),
+            Field("position", Shown::Number(position as u64)),
         ],
     )
 }

@@ -1,22 +1,24 @@
 //! The directory that a line opens, and the pending update.
 
-ghost use Rattle.std.specs.Prelude.{◌≡◌, [], length, None, Some, IfOk, OnOk, option_map};
+ghost use Rattle.std.specs.Prelude.{◌≡◌, ◌≤◌, [], length, None, Some, IfOk, OnOk, option_map};
 ghost use Rattle.coniks_chain.specs.Entries.{link_preimage};
 ghost use Rattle.coniks_directory.specs.Chain.{head_at};
 ghost use Rattle.coniks_proof.specs.Sha256.{sha256};
+ghost use Rattle.coniks_proof.specs.declared.values.TheConstants.{MAX_OPERATIONS};
 ghost use Rattle.coniks_shared.specs.Boards.{BoardEnd};
 ghost use Rattle.coniks_shared.specs.Lists.{last_of};
 ghost use Rattle.coniks_provider.specs.Answers.{installed, provider_outcome_of};
 ghost use Rattle.coniks_provider.specs.Limits.{most_provider_epochs};
 ghost use Rattle.coniks_provider.specs.Stores.{IsRefusable, IsServing, batch_line_of, provided_of, refused_as};
-ghost use Rattle.coniks_provider.specs.Turns.{install_on, latest_outcome, provider_lookup_with, nothing_yet, provider_number_refusal, prepare_on, provider_refusal};
+ghost use Rattle.coniks_provider.specs.Turns.{bindings_with, index_of_bytes, install_on, latest_outcome, nothing_yet, prepare_on, provider_lookup_with, provider_number_refusal, provider_refusal, serving};
 
 use crate::batch::BatchRead;
+use crate::page::page_object;
 use crate::reply::Reply;
 use crate::signature::GivenSignature;
 use coniks_chain::{Body, Entry, Signature};
 use coniks_directory::{
-    BatchFault, Directory, InstallFault, LookupAtFault, Prepared, SuppliedBatch,
+    BatchFault, BindingsFault, Directory, InstallFault, LookupAtFault, Prepared, SuppliedBatch,
     SuppliedBatchFault, SuppliedIndices,
 };
 use coniks_proof::{Index, Nonce, Sha256Hash};
@@ -43,6 +45,16 @@ fn batch_refusal(fault: SuppliedBatchFault) -> Result<Reply, AllocError>
         SuppliedBatchFault::OtherIndex { position } => Ok(Reply::OtherIndex(position)),
         SuppliedBatchFault::Batch(BatchFault::OutOfMemory) => Err(AllocError),
         SuppliedBatchFault::Batch(BatchFault::Workers | BatchFault::Depth) => unreachable!(),
+    }
+}
+
+/// Returns the index of these bytes, if there are any.
+fn index_of(bytes: Option<[u8; 32]>) -> Option<Index>
+    ensures { result ≡ option_map index_of_bytes bytes }
+{
+    match bytes {
+        Some(bytes) => Some(Index(bytes)),
+        None => None,
     }
 }
 
@@ -87,6 +99,17 @@ impl Service {
         }
     }
 
+    /// Returns a restored directory, in which no update is pending.
+    pub(crate) fn of(directory: Directory<Sha256Hash, SuppliedIndices>) -> Service
+        ensures directory { result.directory ≡ directory }
+        ensures pending { result.pending ≡ None }
+    {
+        Service {
+            directory,
+            pending: None,
+        }
+    }
+
     /// Prepares the update of a batch, in place of the pending one.
     pub(crate) fn prepare<T: Threads + Sync>(
         &mut self,
@@ -99,7 +122,7 @@ impl Service {
         ensures served { IsServing publisher.now self.new.directory self.new.pending }
         ensures reply { IfOk result (λ reply. provider_outcome_of reply ≡
             (prepare_on (provided_of self.old) (batch_line_of batch.now) (provider_refusal (provided_of self.old) (batch_line_of batch.now))).outcome) }
-        ensures state { OnOk result (Some (provided_of self.new) ≡
+        ensures state { OnOk result (serving (provided_of self.new) ≡
             (prepare_on (provided_of self.old) (batch_line_of batch.now) (provider_refusal (provided_of self.old) (batch_line_of batch.now))).state) }
     {
         let supplied = SuppliedBatch {
@@ -155,7 +178,7 @@ impl Service {
         ensures served { IsServing publisher.new self.new.directory self.new.pending }
         ensures reply { IfOk result (λ reply. provider_outcome_of reply ≡
             (install_on (provided_of self.old) signature (provided_of self.old).pending).outcome) }
-        ensures state { OnOk result (Some (provided_of self.new) ≡ (install_on (provided_of self.old) signature (provided_of self.old).pending).state) }
+        ensures state { OnOk result (serving (provided_of self.new) ≡ (install_on (provided_of self.old) signature (provided_of self.old).pending).state) }
     {
         let Some(Pending { update, body }) = self.pending.take() else {
             return Ok(Reply::NotPrepared);
@@ -180,7 +203,7 @@ impl Service {
         name: &str,
         index: [u8; 32],
     ) -> Result<Reply, AllocError>
-        ensures { IfOk result (λ reply. provider_outcome_of reply ≡ provider_lookup_with (Some (provided_of self.now)) epoch name.now index) }
+        ensures { IfOk result (λ reply. provider_outcome_of reply ≡ provider_lookup_with (serving (provided_of self.now)) epoch name.now index) }
     {
         let found = match self
             .directory
@@ -198,10 +221,31 @@ impl Service {
         Ok(Reply::LookedUp { name, found })
     }
 
+    /// Returns a page of at most `most` bindings of an epoch, those after an index or the first of all.
+    pub(crate) fn bindings(
+        &self,
+        alloc: Global,
+        epoch: u64,
+        after: Option<[u8; 32]>,
+        most: usize,
+    ) -> Result<Reply, AllocError>
+        requires { most ≤ MAX_OPERATIONS }
+        ensures { IfOk result (λ reply. provider_outcome_of reply ≡ bindings_with (serving (provided_of self.now)) epoch after most) }
+    {
+        let mut page = match self.directory.bindings(epoch, index_of(after), most + 1) {
+            Ok(found) => found,
+            Err(BindingsFault::UnknownEpoch) => return Ok(Reply::UnknownEpoch),
+            Err(BindingsFault::OutOfMemory) => return Err(AllocError),
+        };
+        let more = page.len() > most;
+        page.truncate(most);
+        Ok(Reply::Bindings(page_object(alloc, epoch, &page, more)?))
+    }
+
     /// Returns the state at the latest epoch.
     pub(crate) fn latest(&self, publisher: &Publisher) -> Reply
         requires { IsServing publisher.now self.now.directory self.now.pending }
-        ensures { provider_outcome_of result ≡ latest_outcome (Some (provided_of self.now)) }
+        ensures { provider_outcome_of result ≡ latest_outcome (serving (provided_of self.now)) }
     {
         Reply::Latest {
             epoch: self.directory.latest_epoch(),

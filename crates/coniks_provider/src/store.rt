@@ -1,14 +1,19 @@
-//! The directory of a provider, after a line has opened it, and the board for its heads.
+//! What the lines have opened or restore, and the board for the heads.
 
-ghost use Rattle.std.specs.Prelude.{◌≡◌, None, IfErr, IfOk, OnOk, length};
+ghost use Rattle.std.specs.Prelude.{◌≡◌, ◌≢◌, ◌≤◌, IfErr, IfOk, OnOk, false, length, true};
+ghost use Rattle.coniks_directory.specs.SuppliedBatches.{indexed};
+ghost use Rattle.coniks_proof.specs.declared.values.TheConstants.{MAX_OPERATIONS};
 ghost use Rattle.coniks_lines.specs.declared.fault.RunFault.TheVariants.{NoBoard};
 ghost use Rattle.coniks_provider.specs.Answers.{provider_outcome_of};
 ghost use Rattle.coniks_provider.specs.Stores.{batch_line_of};
-ghost use Rattle.coniks_provider.specs.Turns.{install_with, latest_outcome, provider_lookup_with, provider_open_with, prepare_with};
+ghost use Rattle.coniks_provider.specs.Turns.{bindings_with, install_with, latest_outcome, nothing, prepare_with, provider_lookup_with, provider_open_with, restore_with, restored_turn, restoring_with};
 
-use crate::batch::BatchRead;
+use crate::batch::{BatchRead, Operations};
+use crate::held::{Held, take_open, take_restore};
 use crate::reply::Reply;
+use crate::restoring::Restore;
 use crate::service::{BOARD_HEADS, Service};
+use coniks_chain::Entry;
 use coniks_lines::RunFault;
 use coniks_shared::{Board, Publisher};
 use coniks_tool::Parallelism;
@@ -16,13 +21,13 @@ use std::alloc::{AllocError, Global};
 use std::marker::Model;
 use std::thread::Threads;
 
-/// The directory, after a line has opened it, and the board for its heads. Contracts see it as the state of the run.
+/// What the lines have made, and the board for the heads. Contracts see it as the state of the run.
 #[derive(Drop)]
 pub(crate) struct Store {
     alloc: Global,
     board: Board,
     publisher: Publisher,
-    opened: Option<Service>,
+    held: Held,
 }
 
 impl Model for Store {
@@ -32,9 +37,9 @@ impl Model for Store {
 
     ghost use Rattle.coniks_provider.specs.Stores.{IsProvided, provider_state_of};
 
-    ghost view = { λ s. provider_state_of s.opened };
+    ghost view = { λ s. provider_state_of s.held };
 
-    ghost invariant = { λ s. IsProvided s.board s.publisher s.opened };
+    ghost invariant = { λ s. IsProvided s.board s.publisher s.held };
 }
 
 impl Store {
@@ -44,7 +49,7 @@ impl Store {
     ///
     /// `NoBoard` if the board cannot be allocated.
     pub(crate) fn new(alloc: Global) -> Result<Store, RunFault>
-        ensures ok { IfOk result (λ store. store ≡ None) }
+        ensures ok { IfOk result (λ store. store ≡ nothing) }
         ensures err { IfErr result (λ fault. fault ≡ NoBoard) }
     {
         let Ok((board, publisher)) = Board::new(alloc, BOARD_HEADS) else {
@@ -54,8 +59,19 @@ impl Store {
             alloc,
             board,
             publisher,
-            opened: None,
+            held: Held::Nothing,
         })
+    }
+
+    /// Returns whether nothing is open and no restore has begun.
+    fn is_free(&self) -> bool
+        ensures on { result ≡ true → self.now ≡ nothing }
+        ensures off { result ≡ false → self.now ≢ nothing }
+    {
+        match &self.held {
+            Held::Nothing => true,
+            Held::Restoring(_) | Held::Open(_) => false,
+        }
     }
 
     /// Opens a directory, once.
@@ -63,10 +79,10 @@ impl Store {
         ensures reply { provider_outcome_of result ≡ (provider_open_with self.old nonce policy).outcome }
         ensures state { self.new ≡ (provider_open_with self.old nonce policy).state }
     {
-        if self.opened.is_some() {
+        if !self.is_free() {
             return Reply::AlreadyOpen;
         }
-        self.opened = Some(Service::open(self.alloc, nonce, policy));
+        self.held = Held::Open(Service::open(self.alloc, nonce, policy));
         Reply::Opened
     }
 
@@ -80,11 +96,11 @@ impl Store {
         ensures reply { IfOk result (λ reply. provider_outcome_of reply ≡ (prepare_with self.old (batch_line_of batch.now)).outcome) }
         ensures state { OnOk result (self.new ≡ (prepare_with self.old (batch_line_of batch.now)).state) }
     {
-        let Some(mut service) = self.opened.take() else {
+        let Some(mut service) = take_open(&mut self.held) else {
             return Ok(Reply::NotOpen);
         };
         let reply = service.prepare(parallelism, batch, &self.publisher);
-        self.opened = Some(service);
+        self.held = Held::Open(service);
         reply
     }
 
@@ -93,11 +109,11 @@ impl Store {
         ensures reply { IfOk result (λ reply. provider_outcome_of reply ≡ (install_with self.old signature).outcome) }
         ensures state { OnOk result (self.new ≡ (install_with self.old signature).state) }
     {
-        let Some(mut service) = self.opened.take() else {
+        let Some(mut service) = take_open(&mut self.held) else {
             return Ok(Reply::NotOpen);
         };
         let reply = service.install(signature, &mut self.publisher, &self.board);
-        self.opened = Some(service);
+        self.held = Held::Open(service);
         reply
     }
 
@@ -110,9 +126,9 @@ impl Store {
     ) -> Result<Reply, AllocError>
         ensures { IfOk result (λ reply. provider_outcome_of reply ≡ provider_lookup_with self.now epoch name.now index) }
     {
-        match &self.opened {
-            Some(service) => service.look_up(self.alloc, epoch, name, index),
-            None => Ok(Reply::NotOpen),
+        match &self.held {
+            Held::Open(service) => service.look_up(self.alloc, epoch, name, index),
+            Held::Nothing | Held::Restoring(_) => Ok(Reply::NotOpen),
         }
     }
 
@@ -120,9 +136,74 @@ impl Store {
     pub(crate) fn latest(&self) -> Reply
         ensures { provider_outcome_of result ≡ latest_outcome self.now }
     {
-        match &self.opened {
-            Some(service) => service.latest(&self.publisher),
-            None => Reply::NotOpen,
+        match &self.held {
+            Held::Open(service) => service.latest(&self.publisher),
+            Held::Nothing | Held::Restoring(_) => Reply::NotOpen,
         }
+    }
+
+    /// Returns a page of the bindings of an epoch.
+    pub(crate) fn bindings(
+        &self,
+        epoch: u64,
+        after: Option<[u8; 32]>,
+        most: usize,
+    ) -> Result<Reply, AllocError>
+        requires { most ≤ MAX_OPERATIONS }
+        ensures { IfOk result (λ reply. provider_outcome_of reply ≡ bindings_with self.now epoch after most) }
+    {
+        match &self.held {
+            Held::Open(service) => service.bindings(self.alloc, epoch, after, most),
+            Held::Nothing | Held::Restoring(_) => Ok(Reply::NotOpen),
+        }
+    }
+
+    /// Begins to restore the directory of an entry, once.
+    pub(crate) fn restore(&mut self, entry: Entry) -> Result<Reply, AllocError>
+        ensures reply { IfOk result (λ reply. provider_outcome_of reply ≡ (restore_with self.old entry).outcome) }
+        ensures state { OnOk result (self.new ≡ (restore_with self.old entry).state) }
+    {
+        if !self.is_free() {
+            return Ok(Reply::AlreadyOpen);
+        }
+        match Restore::begin(self.alloc, entry)? {
+            Ok(restore) => {
+                self.held = Held::Restoring(restore);
+                Ok(Reply::Restore)
+            }
+            Err(refused) => Ok(refused),
+        }
+    }
+
+    /// Adds bindings that were read to the restore that has begun.
+    pub(crate) fn restore_more(&mut self, read: &Operations) -> Result<Reply, AllocError>
+        ensures reply { IfOk result (λ reply. provider_outcome_of reply ≡
+            (restoring_with self.old (indexed read.now.ops.items read.now.indices.items)).outcome) }
+        ensures state { OnOk result (self.new ≡ (restoring_with self.old (indexed read.now.ops.items read.now.indices.items)).state) }
+    {
+        let Some(mut restore) = take_restore(&mut self.held) else {
+            return Ok(Reply::NotRestoring);
+        };
+        let reply = restore.add(read);
+        self.held = Held::Restoring(restore);
+        reply
+    }
+
+    /// Opens the directory that is restored.
+    ///
+    /// If its root is not the entry's, nothing is open, and no restore has begun.
+    pub(crate) fn end_restore<T: Threads + Sync>(
+        &mut self,
+        parallelism: &Parallelism<'_, T>,
+    ) -> Result<Reply, AllocError>
+        ensures reply { IfOk result (λ reply. provider_outcome_of reply ≡ (restored_turn self.old).outcome) }
+        ensures state { OnOk result (self.new ≡ (restored_turn self.old).state) }
+    {
+        let Some(restore) = take_restore(&mut self.held) else {
+            return Ok(Reply::NotRestoring);
+        };
+        let (held, reply) = restore.finish(parallelism, &mut self.publisher, &self.board)?;
+        self.held = held;
+        Ok(reply)
     }
 }

@@ -78,6 +78,9 @@ member_name named.Root = codes "root"
 member_name named.Proof = codes "proof"
 member_name named.Entry = codes "entry"
 member_name named.Signature = codes "signature"
+member_name named.After = codes "after"
+member_name named.Most = codes "most"
+member_name named.Bindings = codes "bindings"
 
 -- the name of an operation's error
 abbrev pub fault_name : Fault → Octets

@@ -34,7 +34,7 @@ pub enum Refusal {
 const EXAMPLE: &str =
     "A service starts the program as a child process, computes the index of each name by its own verifiable
 random function, and signs each epoch's body by its own key. Each line is a JSON object, and gives one
-line: open, prepare, install, lookup, latest (docs/FORMATS.md).
+line: open, prepare, install, lookup, latest, bindings, restore, restoring, restored (docs/FORMATS.md).
 
 Example:
   ./provider < examples/provider.jsonl

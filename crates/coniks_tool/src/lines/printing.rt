@@ -24,6 +24,9 @@ pub enum Member {
     Proof,
     Entry,
     Signature,
+    After,
+    Most,
+    Bindings,
 }
 
 /// Returns the name of a member.
@@ -42,6 +45,9 @@ pub fn member_text(member: Member) -> &'static str
         Member::Proof => "proof",
         Member::Entry => "entry",
         Member::Signature => "signature",
+        Member::After => "after",
+        Member::Most => "most",
+        Member::Bindings => "bindings",
     }
 }
 

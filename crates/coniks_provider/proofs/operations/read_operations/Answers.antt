@@ -13,11 +13,11 @@ loop-place-preserved c =
     let op = c.in-Some.op in
     let index = c.in-Some.index in
     let x : Indexed = record { op = operation_of op; index = index.0 } in
-    let some : Some x ≡ indexed_in (view c.index-list-place.result) = rw c.in-Some.is at c.in_ok-op.ensures in
+    let some : Some x ≡ indexed_in c.args.kind (view c.index-list-place.result) = rw c.in-Some.is at c.in_ok-op.ensures in
     let pushed : c.push.new.self.items ≡ l.ops.items ++ op ∷ [] = grind (arith, common_steps) in
     let pushed_index : c.push-in-Some.new.self.items ≡ l.indices.items ++ index ∷ [] = grind (arith, common_steps) in
     record {
-      found = one_more c.args.list.now l.place c.index-list-place.result l.ops.items c.push.new.self.items l.indices.items
+      found = one_more c.args.kind c.args.list.now l.place c.index-list-place.result l.ops.items c.push.new.self.items l.indices.items
           c.push-in-Some.new.self.items op index c.loop-place-test.true c.index-list-place.is some pushed pushed_index
           l.invariant.paired l.invariant.found;
       paired =
