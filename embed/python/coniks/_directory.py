@@ -20,9 +20,10 @@ from .policy import Policy
 Result = TypeVar("Result")
 
 
-def drop(work: Worker, host: Host) -> None:
+def drop(work: Worker, compacting: Worker, host: Host) -> None:
     """Ends what a directory had that nobody closed."""
     work.stop()
+    compacting.stop()
     host.drop()
 
 
@@ -30,16 +31,19 @@ class Directory(Closing):
     """What `Provider` and `coniks.replica.Replica` share: a child that answers lookups, and a thread that changes the
     directory."""
 
-    def __init__(self, host: Host, index: Index, log: Log, check_indices: bool, clock: Optional[Policy]):
-        self._host, self._index, self._log, self._is_checking, self._clock = host, index, log, check_indices, clock
+    def __init__(self, host: Host, index: Index, log: Log, check_indices: bool, policy: Union[bytes, Policy]):
+        self._host, self._index, self._log, self._is_checking, self._policy = host, index, log, check_indices, policy
+        self._clock = clock_of(policy)
         # A closed directory begins no other call. What is under way then ends before the directory is over, or fails.
         self._is_closed = self._is_over = False
         self._work, self._owner = Worker(), os.getpid()
+        # Takes snapshots, beside the changes.
+        self._compacting = Worker()
         # Why the directory can't be changed before a restart. `_is_logging` is set while a line is appended.
         self._broken: Optional[Exception] = None
         self._is_logging = False
         # A directory that nobody closes ends with its last reference.
-        self._unused = weakref.finalize(self, drop, self._work, host)
+        self._unused = weakref.finalize(self, drop, self._work, self._compacting, host)
         self._unused.atexit = False
 
     def _check_open(self) -> None:
@@ -68,8 +72,31 @@ class Directory(Closing):
 
         return self._work.call(begun)
 
+    def _compact_by(self, work: Callable[[], Result]) -> Result:
+        """Makes a call in the thread that takes snapshots, one after another, while lookups and changes go on."""
+        self._check()
+        self._check_thread()
+
+        def begun() -> Result:
+            self._check_open()
+            return work()
+
+        return self._compacting.call(begun)
+
+    def _swap(self, new: Engine) -> None:
+        """Puts an engine that was restored from a snapshot in the place of this one, once it has replayed the same lines and has
+        the same. Lookups go on meanwhile."""
+        while new.position < self._host.known.position:
+            new.follow(self._host.known.position)
+        with self._host.changing:
+            engine = self._host.sound()
+            new.follow(engine.position)
+            new.check_same(engine)
+            old = self._host.swap(new)
+        self._host.leave(old)
+
     def _check_thread(self) -> None:
-        if self._work.is_this_thread():
+        if self._work.is_this_thread() or self._compacting.is_this_thread():
             raise ProviderError("the signer called the provider that waits for it: call it after commit returned")
 
     def _begin(
@@ -93,7 +120,7 @@ class Directory(Closing):
                         engine.check_indices(self._index_of, with_pending)
                     prepare(engine)
                 except BaseException:
-                    engine.child.stop(0)
+                    self._host.end(engine)
                     raise
                 self._host.exchange(engine)
             except (LogForked, NoDirectory, OtherIndex) as error:
@@ -220,7 +247,11 @@ class Directory(Closing):
         self._is_over = True
         while self._is_logging and not self._work.join(0.02):
             pass
+        self._compacting.stop()
         self._host.close()
+        # A snapshot that is being stored is stored, or refused, before the log can be closed.
+        while not self._compacting.join(0.02):
+            pass
 
 
 def check_writable(log: Log) -> None:

@@ -13,16 +13,19 @@ import threading
 import time
 from dataclasses import dataclass
 from hashlib import sha256
-from typing import Any, Iterable, Mapping, NamedTuple, Optional, Sequence, Tuple
+from itertools import islice
+from typing import Any, Callable, Iterable, Iterator, Mapping, NamedTuple, Optional, Sequence, Tuple
 
 from . import BODY_LENGTH, ENTRY_LENGTH, Head
-from ._lines import SIGNATURE_LENGTH, Epoch, Index, Latest, Pending, answer, digits, encoded, install_line, members_of, number
-from ._lines import with_member
+from ._lines import SIGNATURE_LENGTH, Epoch, Index, Latest, Pending, answer, digits, encoded, install_line, lookup_line
+from ._lines import grouped, latest_of, members_of, number, with_member
+from ._restoring import Restoring, link_of
+from ._snapshot_lines import OPENING, Point, lines_of, snapshot_in
 from .faults import Fault, LogBehind, LogFailed, LogForked, OtherIndex, ProgramFailed, ProviderError, ReplayDiffers
+from .faults import SnapshotDiffers, UnknownEpoch
 from .log import Log
 
 _GET_PIPE_SIZE = 1032  # fcntl.F_GETPIPE_SZ, from Python 3.10 on
-_LINK = b"\x53"  # what the preimage of a link begins with
 # In a log of this format a `prepare` line that follows another one without `install` abandons that update by name.
 _FORMAT = 2
 
@@ -62,10 +65,10 @@ class Child:
             self.is_sound = False
             raise
 
-    def receive(self, count: int) -> list[bytes]:
-        """Reads the next answers."""
+    def receive(self, count: int, times: int = 1) -> list[bytes]:
+        """Reads the next answers, each of which may take the timeout so many times."""
         try:
-            return [self._receive() for _ in range(count)]
+            return [self._receive(times) for _ in range(count)]
         except BaseException:
             self.is_sound = False
             raise
@@ -85,10 +88,10 @@ class Child:
             except OSError:
                 raise self._ended() from None
 
-    def _receive(self) -> bytes:
+    def _receive(self, times: int) -> bytes:
         end = self._held.find(b"\n", self._at)
         if end < 0:
-            until = time.monotonic() + (self._timeout or 0)
+            until = time.monotonic() + (self._timeout or 0) * times
             while end < 0:
                 self._wait(self._can_read, until)
                 more = os.read(self._out, 65536)
@@ -179,6 +182,7 @@ class Setting:
     policy: bytes
     nonce: Optional[bytes] = None
     vrf_public_key: Optional[bytes] = None
+    verify: Optional[Callable[[bytes, bytes], bool]] = None
 
 
 class Update(NamedTuple):
@@ -211,10 +215,15 @@ class Engine:
 
     def __init__(self, setting: Setting):
         """Starts a child. `replay` replays the log."""
-        self._setting, self.log, self.asking = setting, setting.log, threading.Lock()
+        self._setting, self.log, self.asking, self.verify = setting, setting.log, threading.Lock(), setting.verify
+        # The position of the snapshot that the replay begins with, 0 if there is none.
+        self.begin = 0
         self.position, self.latest = 0, Epoch(0, bytes(32), bytes(32), b"")
         self.size = Latest(0, bytes(32), 0, 0)
         self.chain: list[bytes] = []
+        # The epochs that the child has, with those of the latest entries of the chain, and what the `open` line said.
+        self.points: list[Point] = []
+        self._opening: Mapping[str, Any] = {}
         self.update: Optional[Update] = None
         self.unlogged: Optional[tuple[bytes, Epoch]] = None
         # The bodies of logged updates that others replaced, and a sample of the logged operations.
@@ -224,10 +233,11 @@ class Engine:
         self._is_strict = False
         self.child = Child(setting.words, setting.timeout)
 
-    def ask(self, line: bytes) -> Mapping[str, Any]:
+    def ask(self, line: bytes, times: int = 1) -> Mapping[str, Any]:
+        """What the child answers to a line. It may take the timeout so many times."""
         with self.asking:
             self.child.send([line, b"\n"])
-            [said] = self.child.receive(1)
+            [said] = self.child.receive(1, times)
         try:
             return answer(said)
         except ProgramFailed:
@@ -247,16 +257,27 @@ class Engine:
         line = encoded(members)
         self.ask(line)
         self.append(line)
+        self.compare_opening(members)
 
     def replay(self) -> None:
-        """Replays the log from its start."""
+        """Restores the snapshot of the log, if there is one, and replays the lines from its position on."""
         try:
-            for line in self.log.read(0):
+            if found := snapshot_in(self.log):
+                self.begin = found[0]
+                Restoring(self, self.begin).take_all(found[1])
+            for line in self.log.read(self.position):
                 self.take(line)
         except ProviderError:
             raise
         except Exception as error:
             raise LogFailed(f"the log can't be read: {type(error).__name__}. Repair it, and start again") from error
+
+    def follow(self, position: int) -> None:
+        """Replays the lines below a position that it hasn't replayed."""
+        for line in islice(self.log.read(self.position), max(0, position - self.position)):
+            self.take(line)
+        if self.position < position:
+            raise LogFailed(f"{self.log} lost lines: compare it with a backup, and restart")
 
     def take(self, line: bytes) -> None:
         """Replays the next line of the log, and compares the answer: of `prepare` the body, and of `install` the link."""
@@ -269,7 +290,7 @@ class Engine:
             raise ReplayDiffers(f"{what} is refused: {fault}. Look whether log and program are this directory's") from fault
         command = said.get("cmd")
         if command == "open":
-            self._compare_opening(said)
+            self.compare_opening(said)
         elif command == "prepare":
             if told.get("body") != said.get("body"):
                 raise ReplayDiffers(f"{what} has another body: look whether log and program are this directory's")
@@ -281,7 +302,7 @@ class Engine:
             if told.get("link") != said.get("link"):
                 raise ReplayDiffers(f"{what} has another link: look whether log and program are this directory's")
             epoch = self._installed(digits(said, "signature", SIGNATURE_LENGTH, LogFailed), told)
-            self._settle(epoch)
+            self._settle(epoch, self.position + 1)
         else:
             raise LogFailed(f"{what} is none of a provider: give the path of a log")
         self.position += 1
@@ -295,7 +316,8 @@ class Engine:
             wrong = "replaces a pending update that it doesn't abandon" if pending else "abandons an update that isn't pending"
             raise LogFailed(f"{what} {wrong}: look what wrote it, and restore the log without it")
 
-    def _compare_opening(self, said: Mapping[str, Any]) -> None:
+    def compare_opening(self, said: Mapping[str, Any]) -> None:
+        """Compares what an `open` line says with what the child was started with."""
         version = said.get("log")
         if version is not None and (type(version) is not int or version != _FORMAT):
             raise LogFailed("the log has a format that this version doesn't read: use the version that wrote it, or a later one")
@@ -309,6 +331,49 @@ class Engine:
         ]:
             if given is not None and digits(said, member, 32, LogFailed) != given:
                 raise LogFailed(f"the log's directory has another {what}: look whether log and keys belong together")
+        self._opening = {it: said[it] for it in OPENING if it in said}
+
+    def sample(self, bindings: Sequence[Any]) -> None:
+        """Takes some of these for `check_indices`."""
+        self._sample.add(bindings)
+
+    def restored(self, epoch: Epoch, size: Latest, point: Point, chain: list[bytes], replaced: list[bytes]) -> None:
+        """Notes that the child was restored at an epoch."""
+        self.position, self.latest, self.size = point.position, epoch, size
+        self.chain, self.points, self.replaced = chain, [point], replaced
+
+    def point_of(self, epoch: Optional[int]) -> Point:
+        """An epoch that the child has, the latest if none is given."""
+        found = next((it for it in reversed(self.points) if epoch in (None, it.epoch)), None)
+        if found is None:
+            raise UnknownEpoch(advice="a snapshot is of an installed epoch that is in memory")
+        return found
+
+    def snapshot(self, point: Point, ask: Callable[[bytes], Mapping[str, Any]]) -> Iterator[bytes]:
+        """The lines of the snapshot of an epoch."""
+        chain = self.chain[: len(self.chain) - len(self.points) + self.points.index(point) + 1]
+        replaced = [it for it in self.replaced if int.from_bytes(it[9:17], "big") < point.epoch]
+        return lines_of(ask, self._opening, point, chain, replaced, link_of(chain[-1]))
+
+    def check_same(self, other: Engine) -> None:
+        """Raises `SnapshotDiffers` if the child of this engine hasn't what that of another one has, which has replayed the same
+        lines: the latest entry, the names, the pending update, and the proofs of some names."""
+        mine, its = ((it.position, it.latest, it.size.names, it.replaced, it.update and it.update[:4]) for it in (self, other))
+        told = latest_of(self.ask(b'{"cmd":"latest"}'))
+        if mine != its or told != self.size:
+            raise SnapshotDiffers(_SECOND)
+        lines = [lookup_line(name, bytes.fromhex(index), self.latest.epoch) for name, index in self._sample.all()]
+        if self.answers(lines) != other.answers(lines):
+            raise SnapshotDiffers(_SECOND)
+
+    def answers(self, lines: Iterable[bytes]) -> list[bytes]:
+        """What the child prints for lines with their newlines."""
+        answers: list[bytes] = []
+        for group in grouped(lines, self.child.at_once):
+            with self.asking:
+                self.child.send(group)
+                answers += self.child.receive(len(group))
+        return answers
 
     def _pending(self, epoch: int, told: Mapping[str, Any]) -> Pending:
         """The update that the child has prepared. Its body is one of this epoch, after the latest one."""
@@ -368,7 +433,7 @@ class Engine:
         assert self.unlogged
         line, epoch = self.unlogged
         self.append(line)
-        self._settle(epoch)
+        self._settle(epoch, self.position)
         return epoch
 
     def append(self, line: bytes) -> None:
@@ -390,13 +455,14 @@ class Engine:
             raise ProgramFailed(f"the entry of epoch {epoch.epoch} isn't what was signed")
         return epoch
 
-    def _settle(self, epoch: Epoch) -> None:
-        """Notes that the pending update is installed, in the child and in the log."""
+    def _settle(self, epoch: Epoch, position: int) -> None:
+        """Notes that the pending update is installed, in the child and in the log below a position."""
         assert self.update
         self._sample.add(self.update.operations)
         self.chain.append(epoch.entry)
         self.size = Latest(epoch.epoch, epoch.link, self.size.names + self.update.names, self.size.nodes + self.update.nodes)
         self.latest, self.update, self.unlogged = epoch, None, None
+        self.points.append(Point(epoch.epoch, position, self.size.names))
 
     def follows(self, other: Engine) -> bool:
         """Whether this log has all that another engine has seen in its log: the entries, and the body that it may have had
@@ -416,7 +482,7 @@ class Engine:
             raise LogBehind(
                 f"the log ends at epoch {self.latest.epoch}, before the head of epoch {head.epoch}: restore its last lines"
             )
-        if sha256(_LINK + self._entry_at(head.epoch)).digest() != head.link:
+        if link_of(self._entry_at(head.epoch)) != head.link:
             raise LogForked(f"the log has another entry of epoch {head.epoch} than the head: look which log is the right one")
 
     def _entry_at(self, epoch: int) -> bytes:
@@ -470,6 +536,7 @@ class Engine:
         return [*map(place_of, [*operations[:1], *operations[-1:]])]
 
 
+_SECOND = "what a second child has restored isn't what the first one has: the program or the log was changed, so look for that"
 _OF_LOG = (
     "the key of the VRF or its code isn't that of this log. Start with the right one, "
     "or pass check_indices=False if the log itself has wrong indices"

@@ -12,12 +12,14 @@ from typing import Any, Iterable, Iterator, Optional, Sequence
 
 from . import BODY_LENGTH
 from ._engine import Engine, Record, Setting, two_bodies
-from ._lines import entries_of
+from ._snapshot_lines import entries_in, snapshot_in
 from ._threads import Worker
-from .faults import Closed, LogForked, NoDirectory, ProgramFailed, ProviderError
+from .faults import Closed, LinesDropped, LogForked, NoDirectory, ProgramFailed, ProviderError
 
 # The most starts of a child that ended, and the seconds in which they are counted.
 _STARTS, _SECONDS = 5, 60
+# How often a start begins anew because the snapshot was replaced meanwhile.
+_TRIES = 3
 # The bytes of a group of lookups, and how many groups are sent ahead.
 _GROUP, _AHEAD = 4096, 32
 _FORKED = (
@@ -53,9 +55,9 @@ class Host:
 
     def __init__(self, setting: Setting):
         self._setting, self.changing = setting, threading.Lock()
-        # The child of a replay isn't that of `engine` before it is done.
+        # The children of replays aren't that of `engine` before they are done.
         self.engine: Optional[Engine] = None
-        self._replaying: Optional[Engine] = None
+        self._begun: list[Engine] = []
         self.is_closed, self._is_forgetful = False, False
         self.evidence: Optional[Evidence] = None
         self._starts: deque[float] = deque(maxlen=_STARTS)
@@ -163,23 +165,51 @@ class Host:
     def started(self, may_create: bool = False) -> Engine:
         """Another engine, which has replayed the log. One that is missing or has no line raises `NoDirectory`, unless a directory
         may be made there."""
-        self._replaying = engine = Engine(self._setting)
-        try:
-            if self.is_closed:
-                raise Closed("the directory is closed")
+        for left in reversed(range(_TRIES)):
+            engine = self.begun()
             try:
-                engine.replay()
-            except NoDirectory:
-                if not may_create:
+                self._replay(engine, may_create)
+                return engine
+            except LinesDropped:
+                # Another process may have stored a snapshot meanwhile, and dropped the lines below it.
+                self.end(engine)
+                found = snapshot_in(self._setting.log)
+                if not left or not found or found[0] <= engine.begin:
                     raise
-            if engine.position == 0 and not may_create:
-                raise NoDirectory(
-                    f"there is no directory in {self._setting.log}: look whether it is the right one, or make one with create=True"
-                )
-        except BaseException:
-            engine.child.stop(0)
-            raise
+            except BaseException:
+                self.end(engine)
+                raise
+        raise AssertionError
+
+    def _replay(self, engine: Engine, may_create: bool) -> None:
+        try:
+            engine.replay()
+        except NoDirectory:
+            if not may_create:
+                raise
+        if engine.position == 0 and not may_create:
+            raise NoDirectory(
+                f"there is no directory in {self._setting.log}: look whether it is the right one, or make one with create=True"
+            )
+
+    def begun(self) -> Engine:
+        """Another engine, which has replayed nothing."""
+        engine = Engine(self._setting)
+        self._begun.append(engine)
+        if self.is_closed:
+            self.end(engine)
+            raise Closed("the directory is closed")
         return engine
+
+    def end(self, engine: Engine) -> None:
+        """Ends the child of an engine that isn't in use."""
+        engine.child.kill()
+        engine.child.stop(0)
+        self._forget(engine)
+
+    def _forget(self, engine: Engine) -> None:
+        with suppress(ValueError):
+            self._begun.remove(engine)
 
     def exchange(self, new: Engine) -> Engine:
         """Puts an engine in the place of this one, if its log has all that this one has seen. The caller holds `changing`."""
@@ -190,15 +220,35 @@ class Host:
             if old and not self._is_forgetful and not new.follows(old):
                 raise self.forked(LogForked(_FORKED), new)
         except BaseException:
-            new.child.stop(0)
+            self.end(new)
             raise
-        self.engine, self._is_forgetful = new, False
+        self._put(new)
         if old:
             # It may hang in an answer.
             old.child.kill()
             with old.asking:
                 old.child.stop(0)
         return new
+
+    def _put(self, new: Engine) -> None:
+        self.engine, self._is_forgetful = new, False
+        self._forget(new)
+
+    def swap(self, new: Engine) -> Engine:
+        """Puts an engine that has the same epochs, or forgot some, in the place of this one, and returns this one, which may be
+        answering lookups. The caller holds `changing`, and then calls `leave`."""
+        old = self.known
+        if self.is_closed:
+            raise Closed("the directory is closed")
+        self._put(new)
+        return old
+
+    @staticmethod
+    def leave(old: Engine) -> None:
+        """Ends the child of an engine that another one took the place of, after the lookups that it is answering."""
+        with old.asking:
+            old.child.kill()
+            old.child.stop(0)
 
     def forked(self, error: ProviderError, new: Optional[Engine] = None) -> ProviderError:
         """Keeps the evidence of an error, and returns it. Without another engine the log's entries are read from the log."""
@@ -231,7 +281,7 @@ class Host:
         """The log's entries, as far as they can be read."""
         found: list[bytes] = []
         with suppress(ProviderError):
-            for entry in entries_of(self._setting.log.read(0)):
+            for entry in entries_in(self._setting.log):
                 found.append(entry)
         return found
 
@@ -259,7 +309,7 @@ class Host:
         self.is_closed = True
         self._thread.stop()
         self._thread.join(0.2)
-        children = {it.child for it in (self.engine, self._replaying) if it}
+        children = {it.child for it in (self.engine, *self._begun) if it}
         for child in children:
             child.kill()
         self._thread.join(1)

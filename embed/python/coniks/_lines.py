@@ -10,8 +10,8 @@ from dataclasses import dataclass, field
 from typing import Any, Callable, Iterable, Iterator, Mapping, Optional, Sequence, Union
 
 from . import BODY_LENGTH, ENTRY_LENGTH, _bytes, _number, faults
+from ._files import Path
 from .faults import LogFailed, NotText, ProgramFailed, ProviderError
-from .log import Path
 
 SIGNATURE_LENGTH = 64
 

@@ -90,7 +90,8 @@ def state(wrong: list[Wrong]) -> str:
     return first_wrong(
         wrong,
         """, set_config('lock_timeout', '{lock}', false), (SELECT count(set_config(name, '0', false))
-        FROM pg_settings WHERE name IN ('statement_timeout', 'transaction_timeout', 'idle_session_timeout')),
+        FROM pg_settings WHERE name IN ('statement_timeout', 'transaction_timeout', 'idle_session_timeout',
+            'idle_in_transaction_session_timeout')),
         set_config('client_min_messages', 'warning', false), set_config('default_transaction_isolation', 'read committed', false)""",
     )
 

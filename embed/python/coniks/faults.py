@@ -20,6 +20,7 @@ __all__ = [
     "IndexClash",
     "Json",
     "KeyLength",
+    "LinesDropped",
     "LogBehind",
     "LogFailed",
     "LogForked",
@@ -30,8 +31,10 @@ __all__ = [
     "NameTwice",
     "NameUnknown",
     "NoDirectory",
+    "NotLater",
     "NotOpen",
     "NotPrepared",
+    "NotRestoring",
     "NotText",
     "OtherIndex",
     "Overtaken",
@@ -39,8 +42,11 @@ __all__ = [
     "ProviderError",
     "ReplayDiffers",
     "RestartNeeded",
+    "RootDiffers",
     "SignerFailed",
+    "SnapshotDiffers",
     "UnknownEpoch",
+    "Version",
 ]
 
 
@@ -136,14 +142,30 @@ class NotPrepared(Fault):
 
 
 class UnknownEpoch(Fault):
-    said = "there is no such epoch"
+    said = "there is no such epoch, or it is before the snapshot"
+
+
+class NotRestoring(Fault):
+    said = "no restore has begun"
+
+
+class NotLater(Fault):
+    said = "the entry's epoch isn't later than the one before it"
+
+
+class Version(Fault):
+    said = "the entry has neither version 1 nor 2"
+
+
+class RootDiffers(Fault):
+    said = "the root of the bindings isn't that of the entry"
 
 
 BY_NAME: dict[str, type[Fault]] = {
     it.__name__: it
     for it in [
         Json, Command, Member, NotOpen, AlreadyOpen, BatchTooLong, NameLength, KeyLength, NameTwice, NameTaken, NameUnknown,
-        OtherIndex, IndexClash, EpochNotLater, BoardFull, NotPrepared, UnknownEpoch,
+        OtherIndex, IndexClash, EpochNotLater, BoardFull, NotPrepared, UnknownEpoch, NotRestoring, NotLater, Version, RootDiffers,
     ]
 }  # fmt: skip
 
@@ -209,6 +231,10 @@ class LogRefused(LogFailed):
     """The log did not take a line, and it is certain that it will not. The next call may follow at once."""
 
 
+class LinesDropped(LogFailed):
+    """The log begins after the line that is asked for, because `drop_before` dropped the lines below its snapshot's position."""
+
+
 class NoDirectory(LogFailed):
     """The log is missing or empty, and a directory is made only if the caller asks for one."""
 
@@ -235,6 +261,11 @@ class LogBehind(LogForked):
 
 class ReplayDiffers(ProviderError):
     """The program answers a line of the log otherwise than it did when the line was appended."""
+
+
+class SnapshotDiffers(ProviderError):
+    """The snapshot isn't whole, isn't one of this directory, or was changed. Or what a second child restored from a new one isn't
+    what the first child has: then the first one goes on, and the snapshot that was stored before stays."""
 
 
 class RestartNeeded(ProviderError):

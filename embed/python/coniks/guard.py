@@ -34,8 +34,8 @@ from dataclasses import dataclass, replace
 from typing import Callable, Optional
 
 from . import BODY_LENGTH, ENTRY_LENGTH
+from ._files import Path, sync_folder
 from ._lines import SIGNATURE_LENGTH, sized
-from .log import Path, _sync_folder
 
 __all__ = ["BodyAbandoned", "BodyRefused", "BodySigned", "Guard", "GuardError", "RecordFailed"]
 
@@ -318,7 +318,7 @@ class Guard:
             file.flush()
             os.fsync(file.fileno())
         os.replace(new, self._path)
-        _sync_folder(self._path)
+        sync_folder(self._path)
 
     def _failed(self, what: str, error: OSError) -> RecordFailed:
         why = "it is a symbolic link, so name the file itself" if error.errno == errno.ELOOP else error.strerror

@@ -2,24 +2,37 @@
 
 from __future__ import annotations
 
-import fcntl
 import io
 import os
-import stat
-import time
+import re
+import weakref
 from contextlib import suppress
-from typing import Iterator, Optional, Protocol, TypeVar, Union
+from typing import Iterable, Iterator, NamedTuple, Optional, Protocol, TypeVar
 
-from .faults import DirectoryExists, LogFailed, LogRefused, NoDirectory, Overtaken
+from ._files import (
+    CHUNK,
+    Path,
+    Replacement,
+    check_kind,
+    chunks_of,
+    identity_at,
+    identity_of,
+    lock,
+    opened_at,
+    sync_folder,
+    write_at,
+)
+from ._snapshot_file import stored, write
+from ._threads import Worker
+from .faults import DirectoryExists, LinesDropped, LogFailed, LogRefused, NoDirectory, Overtaken, SnapshotDiffers
 
-__all__ = ["FileLog", "Log", "Path", "SharedLog"]
+__all__ = ["FileLog", "Log", "Path", "SharedLog", "SnapshotLog"]
 
-Path = Union[str, "os.PathLike[str]"]
 _Self = TypeVar("_Self", bound="Closing")
-_CHUNK = 1 << 20
-# How the first line of each log begins.
+# How the first line of each log begins, and the one before the lines of a log whose first lines were dropped.
 _HEAD = b'{"cmd":"open"'
-_LOCK_SECONDS = 1
+_FIRST = re.compile(rb'\{"first":([1-9][0-9]{0,19})\}\n')
+_LONGEST_FIRST = 32
 
 
 class Log(Protocol):
@@ -27,7 +40,7 @@ class Log(Protocol):
 
     A log may also have `check_writable()`, which raises `LogFailed` if an append could not succeed, as far as that can be told
     without one. A provider calls it before it starts to write. If a log has `is_new`, and it is true, a provider makes a
-    directory in it without being asked to.
+    directory in it without being asked to. If it has the calls of `SnapshotLog`, it may begin with a snapshot.
     """
 
     def append(self, position: int, line: bytes) -> None:
@@ -36,14 +49,34 @@ class Log(Protocol):
         exception it may be stored or not. A log that doesn't exist yet is made by an append at position 0."""
 
     def read(self, position: int) -> Iterator[bytes]:
-        """Returns the lines from a position on. Raises `NoDirectory` if the log doesn't exist."""
+        """Returns the lines from a position on. Raises `NoDirectory` if the log doesn't exist, and `LinesDropped` if it begins
+        after that position."""
+
+
+class SnapshotLog(Log, Protocol):
+    """A log that stores a snapshot, which has the effect of all lines below its position."""
+
+    def snapshot(self) -> Optional[tuple[int, Iterator[bytes]]]:
+        """Returns the position of the stored snapshot and its lines, or None if there is none. Raises `LogFailed` if the log ends
+        before the position, and `LinesDropped` if it begins after it. The lines raise `LinesDropped` if another snapshot takes
+        the place of this one while they are read."""
+
+    def compact(self, position: int, lines: Iterable[bytes]) -> None:
+        """Stores a snapshot in place of an older one. A failure of the machine at any moment leaves one of both whole. Raises
+        `Overtaken` if a snapshot of a later position is stored, `LogRefused` if it is certain that the older one stays, and
+        what the lines raise, which stores nothing. After another exception either is stored."""
+
+    def drop_before(self, position: int) -> None:
+        """Drops the lines below a position, at most that of the snapshot: back up the snapshot first. Positions go on. Raises
+        `LogRefused` without such a snapshot."""
 
 
 class SharedLog(Log, Protocol):
     """A log that several processes have open, as `coniks.postgres.PostgresLog`. A replica follows it."""
 
     def wait(self, position: int, seconds: float) -> int:
-        """Waits until the log has a line at this position, at most some seconds. Returns how many lines it has."""
+        """Waits until the log has a line at this position, at most some seconds. Returns how many lines it has, those counted
+        that were dropped."""
 
 
 class Closing:
@@ -59,14 +92,27 @@ class Closing:
         self.close()
 
 
-class FileLog(Closing):
-    """A log in a file, one line after another. One process has it open at a time.
+class _Opened(NamedTuple):
+    """A log's file: the position of its first line and where that begins, how many positions are taken, and where the last line
+    ends. It is one value, so that each reader has all of it or none."""
 
-    The file contains keys, and the openings that blind the commitments, so its mode is 0600. A file that others may read or
+    file: io.FileIO
+    identity: tuple[int, int]
+    first: int
+    start: int
+    lines: int
+    end: int
+
+
+class FileLog(Closing):
+    """A log in a file, one line after another, and its snapshot in `PATH.snapshot`. One process has it open at a time.
+
+    The files contain keys, and the openings that blind the commitments, so their mode is 0600. A file that others may read or
     write is refused, unless `mode` allows it. A missing file is a log that doesn't exist yet: reading it raises `NoDirectory`,
     and an append at position 0 makes it.
 
-    Each append checks that the file is still the one at its path and has the length that it was left with.
+    Each append checks that the file is still the one at its path and has the length that it was left with. A thread of the log's
+    own appends and drops lines, one call after another, and no signal interrupts it.
     """
 
     def __init__(self, path: Path, *, mode: int = 0o600):
@@ -75,127 +121,135 @@ class FileLog(Closing):
         self.is_new = False
         self._path, self._mode, self._owner = os.path.abspath(os.fsdecode(path)), mode, os.getpid()
         # What is at the end of the file is unknown from the first byte of an append to its end.
-        self._is_bad, self._is_closed, self._file = False, False, -1
-        self._opened: Optional[io.FileIO] = None
-        self._identity = (0, 0)
-        # The number of lines, and where they end: one value, so that an interrupt leaves both or none.
-        self._end = (0, 0)
+        self._is_bad, self._is_closed = False, False
+        self._opened: Optional[_Opened] = None
         with suppress(FileNotFoundError):
             self._open(os.O_RDWR)
+        self._work = Worker()
+        # A log that nobody closes ends with its last reference.
+        self._unused = weakref.finalize(self, self._work.stop)
+        self._unused.atexit = False
 
     @classmethod
     def create(cls, path: Path, *, mode: int = 0o600) -> FileLog:
-        """Makes the file, in which a provider then makes a directory. Raises `DirectoryExists` if it has lines."""
+        """Makes the file, in which a provider then makes a directory. Raises `DirectoryExists` if it has lines, or a snapshot."""
         log = cls(path, mode=mode)
-        if log._file < 0:
-            log._open(os.O_RDWR | os.O_CREAT)
-        if log._end != (0, 0):
+        try:
+            if log._opened is None:
+                log._check_no_snapshot()
+                log._open(os.O_RDWR | os.O_CREAT)
+            assert log._opened
+            if log._opened.end:
+                raise DirectoryExists(f"there is a directory in {log}: open it without create, or choose another path")
+            log._check_no_snapshot()
+        except BaseException:
             log.close()
-            raise DirectoryExists(f"there is a directory in {log}: open it without create, or choose another path")
+            raise
         log.is_new = True
         return log
 
     def __str__(self) -> str:
         return f"the file {self._path}"
 
+    def _check_no_snapshot(self) -> None:
+        if os.path.lexists(self._path + ".snapshot"):
+            raise DirectoryExists(
+                f"{self} is missing or empty, and there is a snapshot of a directory beside it: restore the log, or choose another path"
+            )
+
     def _open(self, flags: int) -> None:
-        flags |= os.O_CLOEXEC | os.O_NONBLOCK | os.O_NOCTTY
         try:
-            self._opened = io.FileIO(self._path, "r+", opener=lambda path, _: os.open(path, flags, 0o600))
-            self._file = self._opened.fileno()
+            while (found := self._opened_file(flags)) is None:
+                pass
         except FileNotFoundError:
             if flags & os.O_CREAT:
                 raise LogFailed(f"{self} can't be made: its folder is missing") from None
             raise
         except FileExistsError:
             raise Overtaken(f"another process has made {self} meanwhile: it writes to it, so close this log") from None
+        except BlockingIOError as error:
+            raise LogFailed(f"another process has {self} open: one provider writes to it at a time") from error
         except OSError as error:
             raise LogFailed(f"{self} can't be opened: {error.strerror}") from error
+        self._opened = found
+
+    def _opened_file(self, flags: int) -> Optional[_Opened]:
+        """The file at the path, or None if another one took its place while it was locked."""
+        opened = opened_at(self._path, flags)
         try:
-            self._check_kind()
-            self._lock()
-            self._end = self._mend()
-            _sync_folder(self._path)
-        except BaseException as error:
-            self.close()
-            if isinstance(error, BlockingIOError):
-                raise LogFailed(f"another process has {self} open: one provider writes to it at a time") from error
-            if isinstance(error, OSError):
-                raise LogFailed(f"{self} can't be opened: {error.strerror}") from error
+            file = opened.fileno()
+            check_kind(file, self._mode, str(self))
+            lock(file)
+            if identity_at(self._path) != identity_of(file):
+                opened.close()
+                return None
+            found = self._mended(opened)
+            sync_folder(self._path)
+        except BaseException:
+            opened.close()
             raise
+        return found
 
-    def _check_kind(self) -> None:
-        found = os.fstat(self._file)
-        if not stat.S_ISREG(found.st_mode):
-            raise LogFailed(f"{self} is no regular file: give the path of a log")
-        if stat.S_IMODE(found.st_mode) & ~self._mode:
-            rights = f"{stat.S_IMODE(found.st_mode):04o}"
-            raise LogFailed(f"{self} has keys in it and the rights {rights}: chmod 600, or pass mode=0o{rights}")
-        self._identity = (found.st_dev, found.st_ino)
-
-    def _lock(self) -> None:
-        """Takes the file for this process. One that was killed while it started a child may have it for some milliseconds more,
-        until the child has closed what it was born with."""
-        until = time.monotonic() + _LOCK_SECONDS
-        while True:
-            try:
-                return fcntl.flock(self._file, fcntl.LOCK_EX | fcntl.LOCK_NB)
-            except BlockingIOError:
-                if time.monotonic() > until:
-                    raise
-                time.sleep(0.01)
-
-    def _mend(self) -> tuple[int, int]:
-        """The number of whole lines and where they end. What follows is dropped, and the last whole line is on the disk."""
-        head = os.pread(self._file, len(_HEAD), 0)
-        if head != _HEAD[: len(head)]:
-            raise LogFailed(f"{self} is no log of a provider, and is left as it is: give the path of a log")
-        count, start, end, at = 0, 0, 0, 0
-        while chunk := os.pread(self._file, _CHUNK, at):
+    def _mended(self, opened: io.FileIO) -> _Opened:
+        """The file's whole lines. What follows them is dropped, and the last one is on the disk."""
+        file = opened.fileno()
+        first, begin = self._beginning(file)
+        count, start, end, at = first, begin, begin, begin
+        while chunk := os.pread(file, CHUNK, at):
             last = chunk.rfind(b"\n")
             if last >= 0:
                 before = chunk.rfind(b"\n", 0, last)
                 start, end = end if before < 0 else at + before + 1, at + last + 1
             count += chunk.count(b"\n")
             at += len(chunk)
-        line = os.pread(self._file, end - start, start)
+        line = os.pread(file, end - start, start)
         # No line has a zero byte. After a power failure a file has them in place of what wasn't written.
         if b"\0" in line:
             count, end, line = count - 1, start, b""
-        os.ftruncate(self._file, end)
+        os.ftruncate(file, end)
         # A process that was killed, or whose sync failed, may have left the last line in the page cache alone. It is written
         # again, because a page whose write failed counts as written.
-        self._write(line, end - len(line))
-        os.fsync(self._file)
-        return count, end
+        write_at(file, line, end - len(line))
+        os.fsync(file)
+        return _Opened(opened, identity_of(file), first, begin, count, end)
 
-    def _write(self, data: bytes, at: int) -> None:
-        while data:
-            size = os.pwrite(self._file, data, at)
-            data, at = data[size:], at + size
+    def _beginning(self, file: int) -> tuple[int, int]:
+        """The position of the first line, and where that begins."""
+        head = os.pread(file, _LONGEST_FIRST, 0)
+        if head[: len(_HEAD)] == _HEAD[: len(head)]:
+            return 0, 0
+        found = _FIRST.match(head)
+        if not found:
+            raise LogFailed(f"{self} is no log of a provider, and is left as it is: give the path of a log")
+        return int(found.group(1)), found.end()
 
     def append(self, position: int, line: bytes) -> None:
-        """Appends a line and syncs the file. After `LogRefused` the file is as before. After another error of the file, or an
-        interrupt, the log must be opened again."""
+        """Appends a line and syncs the file. After `LogRefused` the file is as before. After another error of the file the log
+        must be opened again. An interrupt ends only the wait: the line may be appended."""
         self._check_end()
         if b"\n" in line or b"\0" in line:
             raise ValueError("a line has no newline and no zero byte")
         if position == 0 and not line.startswith(_HEAD):
             raise ValueError("the first line opens a directory")
-        if self._file < 0 and position == 0:
+        self._work.call(lambda: self._append(position, line))
+
+    def _append(self, position: int, line: bytes) -> None:
+        self._check_end()
+        if self._opened is None and position == 0:
+            self._check_no_snapshot()
             self._open(os.O_RDWR | os.O_CREAT | os.O_EXCL)
-        count, end = self._end
+        count, end = (self._opened.lines, self._opened.end) if self._opened else (0, 0)
         if position < count:
             raise Overtaken(
                 f"{self} has {count} lines, so position {position} is taken: another provider writes to it, so close this one"
             )
-        if position > count:
+        if position > count or self._opened is None:
             raise ValueError(f"the log has {count} lines, so the next position isn't {position}")
         self._check_place(LogRefused, end)
-        self._is_bad = True
+        file, self._is_bad = self._opened.file.fileno(), True
         try:
-            self._write(line + b"\n", end)
-            os.fsync(self._file)
+            write_at(file, line + b"\n", end)
+            os.fsync(file)
         except BaseException as error:
             self._undo(end)
             if isinstance(error, OSError):
@@ -205,58 +259,142 @@ class FileLog(Closing):
             raise
         # Whoever opens the path now must find this line.
         self._check_place(LogFailed, end + len(line) + 1)
-        self._end = (position + 1, end + len(line) + 1)
+        self._opened = self._opened._replace(lines=position + 1, end=end + len(line) + 1)
         self._is_bad = False
 
     def check_writable(self) -> None:
         """Raises `LogFailed` if an append would be refused at once."""
         self._check_end()
-        if self._file >= 0:
-            self._check_place(LogRefused, self._end[1])
+        if self._opened:
+            self._check_place(LogRefused, self._opened.end)
 
     def _undo(self, end: int) -> None:
         """Drops a line that may be cut, or be in the page cache alone. If that fails, the log stays bad."""
+        assert self._opened
         try:
-            os.ftruncate(self._file, end)
-            os.fsync(self._file)
+            os.ftruncate(self._opened.file.fileno(), end)
+            os.fsync(self._opened.file.fileno())
         except OSError as error:
             raise LogFailed(f"what an append to {self} left can't be dropped: {error.strerror}. Open the log again") from error
         self._is_bad = False
 
     def _check_place(self, error: type[LogFailed], end: int) -> None:
         """Raises an error if the path has another file, or the file another length."""
-        try:
-            there = os.stat(self._path)
-        except OSError:
-            there = None
-        if there is None or (there.st_dev, there.st_ino) != self._identity:
+        assert self._opened
+        if identity_at(self._path) != self._opened.identity:
             raise error(f"{self} was moved or replaced while it was open: put it back, and start again")
-        if there.st_size != end:
+        if os.fstat(self._opened.file.fileno()).st_size != end:
             raise error(f"{self} was changed by another process: compare it with a backup, and open it again")
 
     def read(self, position: int) -> Iterator[bytes]:
         """Returns the lines from a position on, as they are at the call of it."""
         self._check()
-        if self._file < 0:
+        opened = self._opened
+        if opened is None:
             raise NoDirectory(f"{self} is missing: give the path of a log, or make a directory with create")
-        return self._lines(position, self._end[1])
+        self._check_first(position, opened)
+        return self._lines(position, opened)
 
-    def _lines(self, position: int, end: int) -> Iterator[bytes]:
-        at, number, parts = 0, 0, [b""]
-        while at < end:
-            try:
-                chunk = os.pread(self._file, min(_CHUNK, end - at), at)
-            except OSError as error:
-                raise LogFailed(f"{self} can't be read: {error.strerror}") from error
-            if not chunk:
-                raise LogFailed(f"{self} was cut by another process: compare it with a backup, and open it again")
-            at += len(chunk)
-            first, *lines = chunk.split(b"\n")
-            parts.append(first)
+    def _check_first(self, position: int, opened: _Opened) -> None:
+        if position < opened.first:
+            raise LinesDropped(
+                f"{self} begins at line {opened.first}, and line {position} was dropped: "
+                f"restore a snapshot whose position is at least {opened.first}"
+            )
+
+    def _lines(self, position: int, opened: _Opened) -> Iterator[bytes]:
+        number, parts = opened.first, [b""]
+        for chunk in chunks_of(opened.file.fileno(), opened.start, opened.end, str(self)):
+            head, *lines = chunk.split(b"\n")
+            parts.append(head)
             for line in lines:
                 if number >= position:
                     yield b"".join(parts)
                 number, parts = number + 1, [line]
+
+    def snapshot(self) -> Optional[tuple[int, Iterator[bytes]]]:
+        """Returns the position of the snapshot in `PATH.snapshot` and its lines, or None if there is none."""
+        self._check()
+        found = stored(self._path, self._mode)
+        if found is None:
+            return None
+        position, lines = found
+        opened = self._opened
+        count = opened.lines if opened else 0
+        if position > count:
+            raise LogFailed(
+                f"{self} ends before line {count}, and its snapshot has the position {position}: restore the log's last lines"
+            )
+        if opened:
+            self._check_first(position, opened)
+        return position, lines
+
+    def compact(self, position: int, lines: Iterable[bytes]) -> None:
+        """Stores a snapshot in `PATH.snapshot`. It is written to `PATH.snapshot.new`, synced and renamed, and the folder is
+        synced. After `LogFailed` a failure of the machine could bring back the older one."""
+        self._check_identity()
+        # One that was cut may be replaced.
+        with suppress(SnapshotDiffers):
+            if (before := self.snapshot()) and before[0] > position:
+                raise Overtaken(f"{self} has a snapshot of position {before[0]}, and {position} is before that: take a later epoch")
+        if self._opened is None or not self._opened.first <= position <= self._opened.lines:
+            raise ValueError(f"position {position} isn't one of the log")
+        write(self._path, lines, self._check_identity)
+
+    def _check_identity(self) -> None:
+        """Raises `LogRefused` if the path has another file."""
+        self._check_end()
+        if self._opened and identity_at(self._path) != self._opened.identity:
+            raise LogRefused(f"{self} was moved or replaced while it was open: put it back, and start again")
+
+    def drop_before(self, position: int) -> None:
+        """Drops the lines below a position, at most that of the snapshot. The file is replaced as a whole: the rest is written to
+        `PATH.new`, synced, locked and renamed, and the folder is synced. After `LogFailed` the log must be opened again.
+
+        Back up the snapshot first: without it a log that has dropped lines can't be started. An interrupt ends only the wait.
+        """
+        self._check_end()
+        found = self.snapshot()
+        if found is None:
+            raise LogRefused(f"{self} has no snapshot, so no line may go: call the provider's compact, and back the snapshot up")
+        if not 0 <= position <= found[0]:
+            raise LogRefused(
+                f"the snapshot of {self} has the position {found[0]}, so the lines from there on stay: "
+                f"call compact before you drop those below {position}"
+            )
+        for _ in found[1]:
+            # A snapshot that can't be read to its end raises an error here.
+            pass
+        self._work.call(lambda: self._drop(position))
+
+    def _drop(self, position: int) -> None:
+        """Puts a file that begins at a position in the place of this one, whose lock it has."""
+        self._check_end()
+        assert self._opened
+        opened = self._opened
+        if position <= opened.first:
+            return
+        self._check_place(LogRefused, opened.end)
+        start = opened.start + sum(len(it) + 1 for _, it in zip(range(position - opened.first), self._lines(0, opened)))
+        head = b'{"first":%d}\n' % position
+        replacement = Replacement(self._path, os.fstat(opened.file.fileno()).st_mode & 0o777)
+        try:
+            replacement.write(head)
+            for chunk in chunks_of(opened.file.fileno(), start, opened.end, str(self)):
+                replacement.write(chunk)
+            self._check_place(LogRefused, opened.end)
+            # Until the new file is known to be at the path after a failure of the machine, no line may be added to it.
+            self._is_bad = True
+            try:
+                file = replacement.put()
+            except LogRefused:
+                self._is_bad = False
+                raise
+        finally:
+            replacement.drop()
+        end = len(head) + opened.end - start
+        self._opened = _Opened(file, identity_of(file.fileno()), position, len(head), opened.lines, end)
+        self._is_bad = False
 
     def _check(self) -> None:
         if self._is_closed:
@@ -270,15 +408,10 @@ class FileLog(Closing):
             raise LogFailed(f"{self} may end with a line that an append was interrupted in: open it again")
 
     def close(self) -> None:
-        """Closes the file. Another process can open it then."""
+        """Closes the file, after an append that is under way. Another process can open it then."""
         self._is_closed = True
+        if os.getpid() == self._owner:
+            self._work.stop()
+            self._work.join(60)
         if self._opened:
-            self._opened.close()
-
-
-def _sync_folder(path: Path) -> None:
-    folder = os.open(os.path.dirname(os.path.realpath(path)), os.O_RDONLY | os.O_DIRECTORY | os.O_CLOEXEC)
-    try:
-        os.fsync(folder)
-    finally:
-        os.close(folder)
+            self._opened.file.close()

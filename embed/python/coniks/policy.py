@@ -109,3 +109,10 @@ class Policy:
         if epoch >= 1 << 64:
             raise ValueError("the last epoch number is 2^64 - 1: see whether the clock is right")
         return epoch
+
+    def is_promised(self, following: int, seconds: float) -> bool:
+        """Returns whether proofs of an older epoch are promised at a time in Unix seconds. `following` is the number of the epoch
+        that follows it in the chain. Without a clock they are promised for ever, unless they are kept for 0 seconds."""
+        if self.proofs_kept is None or self.epoch_start is None or self.epoch_period is None:
+            return self.proofs_kept != 0
+        return seconds < self.epoch_start + (following - 1) * self.epoch_period + self.proofs_kept

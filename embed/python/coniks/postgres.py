@@ -5,7 +5,7 @@
 
 Each line is a row of one table, whose primary key is the position. So PostgreSQL decides which of two writers gets a position.
 An append returns once its row is committed, and PostgreSQL must keep what it committed: a session is refused if its settings or
-the table let rows be lost. docs/CLUSTER.md has what else a service needs.
+the table let rows be lost. A second table, `TABLE_snapshot`, has the snapshot. docs/CLUSTER.md has what else a service needs.
 """
 
 from __future__ import annotations
@@ -13,15 +13,16 @@ from __future__ import annotations
 import secrets
 import time
 from contextlib import suppress
-from typing import Any, Callable, Iterator, Optional, TypeVar
+from typing import Any, Callable, Iterable, Iterator, Optional, TypeVar
 
 import psycopg
 from psycopg.errors import DuplicateObject, DuplicateTable, UndefinedTable, UniqueViolation
 
 from ._postgres_guard import PostgresGuard
+from ._postgres_snapshot import SnapshotTable
 from ._session import LOCKED, Failure, Pool, Session, reason
 from ._tables import BAD_NAME, CANCELLED, COLUMNS, IS_UNSAFE, Wrong, first_wrong, is_name, queries, refuse, state, unfit
-from .faults import DirectoryExists, LogFailed, LogRefused, NoDirectory, Overtaken
+from .faults import DirectoryExists, LinesDropped, LogFailed, LogRefused, NoDirectory, Overtaken
 from .log import Closing
 
 __all__ = ["PostgresGuard", "PostgresLog"]
@@ -68,6 +69,7 @@ _SQL = {
     "read": """SELECT position, line, token FROM (SELECT *, sum(octet_length(line)) OVER (ORDER BY position) AS size
         FROM {table} WHERE position >= %(position)s ORDER BY position LIMIT 32) AS page
         WHERE size - octet_length(line) < 4194304 ORDER BY position""",
+    "first": "SELECT min(position) FROM {table}",
     "count": "SELECT coalesce(max(position) + 1, 0) FROM {table}",
     "listen": "LISTEN {channel}",
     # Its commit waits until a synchronous standby has all rows seen before. One can be seen too early, if the session that
@@ -81,6 +83,7 @@ class PostgresLog(Closing):
 
     `conninfo` is libpq's connection string. `table` is `name` or `schema.name`. It also names the channel by which waiting
     replicas are notified, so use the same text everywhere. Opening makes no table: `create` does, or an append at position 0.
+    `TABLE_snapshot` is made with it, or by the first `compact`.
 
     Each call ends after `patience` seconds, and `wait` after as many more as it waits. An append tries to reach PostgreSQL again
     meanwhile. All calls can be used from several threads. An exception of a signal handler ends a call, and harms no later one.
@@ -95,7 +98,7 @@ class PostgresLog(Closing):
         self.is_new, self._table, self._patience = False, table, patience
         # The position and the token of the last row that was read or appended.
         self._seen = (-1, b"")
-        self._sql = queries(_SQL, table, patience)
+        self._sql, self._stored = queries(_SQL, table, patience), SnapshotTable(table, patience)
         self._pool = Pool(conninfo, table, self._check)
         # A replica waits in a session of its own, which listens.
         self._listening = Pool(conninfo, table, self._check, is_listening=True)
@@ -161,14 +164,18 @@ class PostgresLog(Closing):
         try:
             [(count,)] = self._rows(session, "count")
         except UndefinedTable:
-            return self._create(session)
+            self._create(session)
+            count = 0
         if count:
             raise DirectoryExists(f"{self} has lines: open it with PostgresLog, or name another table")
+        if self._stored.header(session):
+            raise DirectoryExists(f"{self} has no lines, and there is a snapshot of it: restore it, or name another table")
 
     def _create(self, session: Session) -> None:
         # Another process may create it at the same time. Which of these errors is raised depends on how far it is.
         with suppress(UniqueViolation, DuplicateTable, DuplicateObject):
             session.execute(self._sql["create"])
+        self._stored.create(session)
         self._check(session)
 
     def append(self, position: int, line: bytes) -> None:
@@ -251,12 +258,12 @@ class PostgresLog(Closing):
                 raise psycopg.OperationalError(CANCELLED)
 
     def read(self, position: int) -> Iterator[bytes]:
-        """Returns the lines from a position on. Raises `NoDirectory` if there is no table, and `LogFailed` if a line is missing
-        before a later one."""
+        """Returns the lines from a position on. Raises `NoDirectory` if there is no table, `LinesDropped` if the log begins after
+        that position, and another `LogFailed` if a line is missing before a later one."""
         while rows := self._do("read", self._pool, self._read, position):
             for number, line, token in rows:
                 if number != position:
-                    raise LogFailed(f"{self} lacks line {position} before line {number}: restore it from a standby or a backup")
+                    raise self._lacks(position, number)
                 self._note(number, token)
                 yield line
                 position += 1
@@ -265,6 +272,67 @@ class PostgresLog(Closing):
         if rows := self._rows(session, "read", {"position": position}):
             self._replicate(session)
         return rows
+
+    def _lacks(self, position: int, number: int) -> LogFailed:
+        """The error of a log that lacks a line before another one."""
+        if self._do("read", self._pool, self._rows, "first") == [(number,)]:
+            return LinesDropped(
+                f"{self} begins at line {number}, and line {position} was dropped or lost: "
+                f"restore a snapshot whose position is at least {number}, or the lines"
+            )
+        return LogFailed(f"{self} lacks line {position} before line {number}: restore it from a standby or a backup")
+
+    def snapshot(self) -> Optional[tuple[int, Iterator[bytes]]]:
+        """Returns the position of the stored snapshot and its lines, or None if there is none."""
+        found = self._do("read", self._pool, self._read_header)
+        if found is None:
+            return None
+        position, number, first, count = found
+        if position > count:
+            raise LogFailed(
+                f"{self} ends before line {count}, and its snapshot has the position {position}: "
+                "restore its last lines from a standby or a backup"
+            )
+        if position < first:
+            raise LinesDropped(
+                f"{self} begins at line {first}, and its snapshot has the position {position}: restore a later snapshot, or the lines"
+            )
+        return position, self._snapshot_lines(number)
+
+    def _read_header(self, session: Session) -> Optional[tuple[int, int, int, int]]:
+        if found := self._stored.stored(session):
+            self._replicate(session)
+        return found
+
+    def _snapshot_lines(self, number: int) -> Iterator[bytes]:
+        while rows := self._do("read", self._pool, self._stored.page, number):
+            for found, line in rows:
+                if found != number:
+                    raise LinesDropped(f"another snapshot of {self} took the place of the one that was read: read it again")
+                yield line
+                number += 1
+
+    def compact(self, position: int, lines: Iterable[bytes]) -> None:
+        """Stores a snapshot in one transaction. Raises `LogRefused` if it is certain that the older one stays, and `LogFailed` if
+        either may be stored."""
+        self._once("written", self._stored.store, position, lines)
+
+    def drop_before(self, position: int) -> None:
+        """Drops the lines below a position, at most that of the snapshot, but not the one just before it. Back up the database
+        first."""
+        self._once("written", self._stored.drop, position)
+
+    def _once(self, done: str, call: Callable[..., object], *arguments: Any) -> None:
+        """Makes a call that can't be repeated."""
+        try:
+            self._pool.run(time.monotonic() + self._patience, call, *arguments)
+            return
+        except Failure as error:
+            failure = error.with_traceback(None)
+        if failure.state == UndefinedTable.sqlstate:
+            raise NoDirectory(f"there is no {self}: check its name, or make a directory with PostgresLog.create")
+        kind = LogRefused if failure.is_certain else LogFailed
+        raise kind(f"{self} can't be {done}: {failure}")
 
     def wait(self, position: int, seconds: float) -> int:
         """Waits until the log has a line at this position, at most some seconds. Returns how many lines it has."""

@@ -49,15 +49,17 @@ from __future__ import annotations
 import time
 from typing import Callable, Iterable, Iterator, Optional, Sequence, TypeVar, Union
 
-from . import ENTRY_LENGTH, BODY_LENGTH, Head, faults
-from ._directory import Directory, check_writable, clock_of, digest_of
+from . import ENTRY_LENGTH, BODY_LENGTH, Head, _number, faults
+from ._directory import Directory, check_writable, digest_of
 from ._engine import Engine, Record, Setting
 from ._host import Evidence, Host
-from ._lines import SIGNATURE_LENGTH, Change, Epoch, Index, Latest, Lookup, Operation, Pending, Register, command, entries_of
-from ._lines import prepare_line, sized
+from ._lines import SIGNATURE_LENGTH, Change, Epoch, Index, Latest, Lookup, Operation, Pending, Register, command, prepare_line
+from ._lines import sized
+from ._restoring import Restoring
+from ._snapshot_lines import Point, entries_in
 from .faults import *
 from .guard import BodyAbandoned, BodyRefused, BodySigned
-from .log import FileLog, Log, Path, SharedLog
+from .log import FileLog, Log, Path, SharedLog, SnapshotLog
 from .policy import Policy
 
 __all__ = [
@@ -75,7 +77,7 @@ __all__ = [
     "entries",
 ]
 __all__ += faults.__all__
-__all__ += ["FileLog", "Log", "SharedLog"]
+__all__ += ["FileLog", "Log", "SharedLog", "SnapshotLog"]
 
 Sign = Callable[[bytes], bytes]
 Verify = Callable[[bytes, bytes], bool]
@@ -127,8 +129,8 @@ class Provider(Directory):
         sign_pending: bool = True,
     ):
         first = None if nonce is None else sized(nonce, 32, "the nonce")
-        setting = Setting(command(program, workers, depth), timeout, log, digest_of(policy), first, vrf_public_key)
-        super().__init__(Host(setting), index, log, check_indices, clock_of(policy))
+        setting = Setting(command(program, workers, depth), timeout, log, digest_of(policy), first, vrf_public_key, verify)
+        super().__init__(Host(setting), index, log, check_indices, policy)
         self._set_signer(sign, verify)
         try:
             self._change(lambda: self._start(lambda: self._first(create), sign_pending, head))
@@ -140,7 +142,7 @@ class Provider(Directory):
     def _over(cls, directory: Directory, sign: Sign, verify: Optional[Verify]) -> Provider:
         """A provider that goes on with the child of another directory."""
         provider = cls.__new__(cls)
-        Directory.__init__(provider, directory._host, directory._index, directory._log, directory._is_checking, directory._clock)
+        Directory.__init__(provider, directory._host, directory._index, directory._log, directory._is_checking, directory._policy)
         provider._set_signer(sign, verify)
         return provider
 
@@ -199,7 +201,7 @@ class Provider(Directory):
         """The engine of the first start, which alone may make a directory."""
         engine = self._host.started(create or getattr(self._log, "is_new", False))
         if create and engine.position:
-            engine.child.stop(0)
+            self._host.end(engine)
             raise DirectoryExists(f"there is a directory in {self._log}: start without create, or choose another log")
         return engine
 
@@ -389,6 +391,75 @@ class Provider(Directory):
         engine = self._host.engine
         return engine.update.pending if engine and engine.update else None
 
+    def compact(self, epoch: Optional[int] = None) -> int:
+        """Stores a snapshot in the log, and forgets the epochs before it: a second child is restored from it and takes this one's
+        place. Lookups and commits go on meanwhile. Returns the snapshot's position: after a backup of it, `log.drop_before` may
+        drop the lines below.
+
+        The snapshot is of the oldest epoch whose proofs the policy still promises, or of an older one, `epoch`. With the digest
+        of a policy alone it is of the latest epoch. Lookups at epochs before it raise `UnknownEpoch`; `chain`, `catch_up` and
+        `entries` have all entries as before.
+
+        Raises `ProviderError` if the policy promises what would be forgotten, `UnknownEpoch` for an epoch that isn't in memory,
+        and `SnapshotDiffers` if the second child hasn't what this one has: then this child stays, and so does the snapshot that
+        was stored before. So they do after another error, unless it is `LogFailed` or `LogRefused` and the log failed at the end:
+        the older epochs may be forgotten then. Call it again.
+        """
+        return self._compact_by(lambda: self._compact(epoch))
+
+    def _compact(self, epoch: Optional[int]) -> int:
+        self._ready()
+        if not hasattr(self._log, "compact"):
+            raise ProviderError(f"{self._log} stores no snapshots: add snapshot, compact and drop_before to it, or use FileLog")
+        with self._host.changing:
+            engine = self._host.sound()
+            point = self._chosen(engine, epoch)
+            lines = engine.snapshot(point, lambda line: self._host.known.ask(line))
+        new = self._host.begun()
+        try:
+            self._log.compact(point.position, self._restoring(new, point, lines))
+        finally:
+            if self._host.engine is not new:
+                self._host.end(new)
+        return point.position
+
+    def _restoring(self, new: Engine, point: Point, lines: Iterator[bytes]) -> Iterator[bytes]:
+        """Lines of a snapshot, each of which another engine takes first. Before the last line, which makes it whole, that engine
+        takes the place of this one: so no snapshot is stored from which a start would differ."""
+        restoring = Restoring(new, point.position)
+        for line in lines:
+            restoring.take(line)
+            if new.points:
+                self._swap(new)
+            yield line
+
+    def _chosen(self, engine: Engine, epoch: Optional[int]) -> Point:
+        """The epoch to take a snapshot of. No epoch after it is forgotten, so it is none after the oldest promised one."""
+        oldest = self._oldest_promised(engine)
+        if epoch is not None and epoch > oldest.epoch:
+            raise ProviderError(
+                f"the policy still promises proofs of epoch {oldest.epoch}, and a snapshot of epoch {epoch} would forget it: "
+                f"take epoch {oldest.epoch} or an older one"
+            )
+        return oldest if epoch is None else engine.point_of(_number(epoch, 64, "the epoch"))
+
+    def _oldest_promised(self, engine: Engine) -> Point:
+        policy = self._policy
+        if not isinstance(policy, Policy):
+            return engine.point_of(None)
+        if policy.proofs_kept is None:
+            raise ProviderError("the policy says proofs-kept forever, so no epoch may be forgotten: this directory stays in memory")
+        if policy.epoch_period is None and policy.proofs_kept:
+            raise ProviderError(
+                "the policy says for how long proofs are kept and has no clock, so nobody knows when that is over: "
+                "no epoch may be forgotten"
+            )
+        now, points = time.time(), engine.points
+        for point, following in zip(points, points[1:]):
+            if policy.is_promised(following.epoch, now):
+                return point
+        return engine.point_of(None)
+
     def restart(self, sign_pending: bool = True, *, head: Optional[Head] = None) -> None:
         """Starts another child, replays the log into it, and ends this one, which answers lookups until then. Signs and installs
         the pending update, as a start does. If `SignerFailed` is raised, the directory is usable and the update pending.
@@ -422,4 +493,4 @@ def recorded(sign: Sign) -> Record:
 
 def entries(log: Log) -> Iterator[bytes]:
     """The entries of all epochs that a log has, in their order, 209 bytes each: what an auditor takes."""
-    return entries_of(log.read(0))
+    return entries_in(log)

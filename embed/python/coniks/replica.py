@@ -16,11 +16,12 @@ from dataclasses import dataclass
 from typing import Optional, Sequence, Union
 
 from . import Head
-from ._directory import Directory, check_writable, clock_of, digest_of
+from ._directory import Directory, check_writable, digest_of
 from ._engine import Setting
 from ._host import Host
 from ._lines import Index, command
-from .faults import LogForked, OtherIndex, ReplayDiffers, SignerFailed
+from ._snapshot_lines import snapshot_in
+from .faults import LinesDropped, LogForked, OtherIndex, ProviderError, ReplayDiffers, SignerFailed
 from .log import Path, SharedLog
 from .policy import Policy
 from .provider import Provider, Sign, Verify, recorded
@@ -60,9 +61,10 @@ class Replica(Directory):
         timeout: Optional[float] = None,
         head: Optional[Head] = None,
         check_indices: bool = True,
+        verify: Optional[Verify] = None,
     ):
-        setting = Setting(command(program, workers, depth), timeout, log, digest_of(policy), None, vrf_public_key)
-        super().__init__(Host(setting), index, log, check_indices, clock_of(policy))
+        setting = Setting(command(program, workers, depth), timeout, log, digest_of(policy), None, vrf_public_key, verify)
+        super().__init__(Host(setting), index, log, check_indices, policy)
         self._shared, self._lines, self._since = log, 0, time.monotonic()
         self._error: Optional[Exception] = None
         self._promoted: Optional[Provider] = None
@@ -121,6 +123,9 @@ class Replica(Directory):
                         engine.take(line)
             if self._is_checking and engine.size != size:
                 engine.check_last_index(self._index_of)
+        except LinesDropped:
+            # The snapshot has their effect.
+            return self._restart(head)
         except OtherIndex as error:
             self._broken = error
             raise
@@ -130,6 +135,32 @@ class Replica(Directory):
         self._since = start
         if head:
             engine.check_head(head)
+
+    def compact(self) -> None:
+        """Forgets the epochs before the log's snapshot, which a `Provider` has stored: a second child starts from it and takes
+        this one's place. Lookups go on meanwhile. Lookups at epochs before it raise `UnknownEpoch` then.
+
+        Raises `ProviderError` if the log has no snapshot, and `SnapshotDiffers` if the second child hasn't what this one has:
+        then this child stays.
+        """
+        self._compact_by(self._compact)
+
+    def _compact(self) -> None:
+        self._ready()
+        found = snapshot_in(self._log)
+        if found is None:
+            raise ProviderError(f"{self._log} has no snapshot: call compact of the provider first")
+        if self._host.known.points and self._host.known.points[0].position >= found[0]:
+            return
+        new = self._host.started()
+        try:
+            # It may have replayed lines that this child hasn't.
+            if self._host.known.position < new.position:
+                self._work.call(lambda: self._follow(None))
+            self._swap(new)
+        finally:
+            if self._host.engine is not new:
+                self._host.end(new)
 
     def lag(self) -> Lag:
         """How far the replica is behind."""
@@ -176,6 +207,7 @@ class Replica(Directory):
             raise
         self._unused.detach()
         self._promoted, self._is_closed = provider, True
+        self._compacting.stop()
 
     def close(self, seconds: float = 5) -> None:
         """Ends the child, unless a provider has taken it over."""

@@ -30,7 +30,7 @@ from stand_ins import HAS_NACL, HERE, Ed25519, Salted, Scheme, Signer, Tell, app
 from steps import Stop
 from units import raises
 from coniks import guard as module
-from coniks import log
+from coniks import _files
 from coniks.guard import BodyRefused, Guard, GuardError, RecordFailed
 
 KINDS: dict[str, Callable[[], Scheme]] = {"salted": Salted, "ed25519": Ed25519}
@@ -84,7 +84,7 @@ class Disk:
         """While this is entered, the guard's call with this number fails."""
         self._left, self._is_after, self._error = number, is_after, error
         with ExitStack() as stack:
-            for owner, name in [(module, "os"), (log, "os"), (module, "fcntl")]:
+            for owner, name in [(module, "os"), (_files, "os"), (module, "fcntl")]:
                 stack.enter_context(mock.patch.object(owner, name, Calls(self, getattr(owner, name))))
             yield
 

@@ -97,8 +97,9 @@ def failing(stage: Stage, name: str, number: int) -> Iterator[None]:
     calls, real = [0], getattr(os, name)
 
     def call(*arguments: Any) -> Any:
-        calls[0] += arguments[0] == stage.file._file
-        if arguments[0] == stage.file._file and calls[0] == number:
+        is_of_file = stage.file._opened is not None and arguments[0] == stage.file._opened.file.fileno()
+        calls[0] += is_of_file
+        if is_of_file and calls[0] == number:
             if name == "pwrite":
                 real(arguments[0], arguments[1][: len(arguments[1]) // 2], arguments[2])
             raise OSError(errno.ENOSPC if name == "pwrite" else errno.EIO, "the disk is told to fail")

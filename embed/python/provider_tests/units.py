@@ -29,7 +29,7 @@ FAULTS: dict[str, dict[str, Any]] = {
     "Json": {}, "Command": {}, "Member": {"member": "ops", "position": 3}, "NotOpen": {}, "AlreadyOpen": {}, "BatchTooLong": {},
     "NameLength": {"position": 1}, "KeyLength": {"position": 0}, "NameTwice": {"position": 2}, "NameTaken": {"position": 0},
     "NameUnknown": {"position": 0}, "OtherIndex": {"position": 0}, "IndexClash": {"position": 1}, "EpochNotLater": {"latest": 7},
-    "BoardFull": {}, "NotPrepared": {}, "UnknownEpoch": {},
+    "BoardFull": {}, "NotPrepared": {}, "UnknownEpoch": {}, "NotRestoring": {}, "NotLater": {}, "Version": {}, "RootDiffers": {},
 }  # fmt: skip
 OPEN = '{"ok":"open"}'
 PREPARED = '{"body":"%s","epoch":1,"nodes":1,"ok":"prepare","root":"%s"}' % (
@@ -652,7 +652,7 @@ def try_abandoned(tell: Tell, program: str) -> None:
         before = threading.active_count()
         own = opened(program, log, Signer(room, Salted()), create=True)
         pid = own.pid or 0
-        tell("a provider that nobody closes: it has threads", threading.active_count() == before + 2)
+        tell("a provider that nobody closes: it has threads", threading.active_count() == before + 3)
         del own
         gc.collect()
         tell("a provider that nobody closes: its threads end", soon(lambda: threading.active_count() == before))
