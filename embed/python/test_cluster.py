@@ -33,12 +33,14 @@ def try_all(tally: Tally, program: str, faults: int = 9) -> None:
     import replicas
     import row_guards
     import runs
+    import shared_snapshots
     import stand_ins
 
     logs.try_logs(tally.tell, program)
     row_guards.try_guards(tally.tell)
     replicas.try_replicas(tally.tell, program)
     cluster_mistakes.try_mistakes(tally.tell, program)
+    shared_snapshots.try_snapshots(tally.tell, program)
     runs.try_faults(tally, program, faults)
     if not (stand_ins.HAS_NACL and stand_ins.has_library()):
         return tally.skip("the transcript of examples/cluster", "PyNaCl and embed/build")

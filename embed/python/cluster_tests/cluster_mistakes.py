@@ -230,7 +230,7 @@ def try_swapped(it: Cluster) -> None:
 
 def try_rights(it: Cluster) -> None:
     """A role without rights, and settings that change while the service runs."""
-    it.execute("CREATE ROLE reader LOGIN", "GRANT SELECT ON {table} TO reader")
+    it.execute("CREATE ROLE reader LOGIN", "GRANT SELECT ON {table}, {table}_snapshot TO reader")
     reading = it.database.conninfo.replace("user=postgres", "user=reader")
     it.refuses("a role without rights: a writer", LogRefused, lambda: it.writer(it.log(reading)))
     with Replica(it.log(reading), it.program, index, policy=POLICY) as replica:

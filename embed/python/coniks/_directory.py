@@ -79,7 +79,12 @@ class Directory(Closing):
 
         def begun() -> Result:
             self._check_open()
-            return work()
+            try:
+                return work()
+            except ProviderError as error:
+                if self._is_closed:
+                    raise Closed("the directory was closed before the snapshot was stored") from error
+                raise
 
         return self._compacting.call(begun)
 

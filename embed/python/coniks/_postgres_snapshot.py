@@ -9,7 +9,7 @@ from typing import Any, Iterable, Optional
 import psycopg
 from psycopg.errors import DuplicateObject, DuplicateTable, UniqueViolation
 
-from ._session import Failure, Session
+from ._session import Failure, Session, reason
 from ._snapshot_lines import position_of
 from ._tables import CANCELLED, COLUMNS, IS_UNSAFE, Wrong, first_wrong, queries, refuse, unfit
 from .faults import LogRefused, Overtaken
@@ -121,19 +121,31 @@ class SnapshotTable:
         self._check(session, "writable", _UNWRITABLE)
         self.create(session)
         self._check(session, "fit", _UNFIT)
+        failure = None
+        try:
+            session.execute(b"BEGIN")
+            self._replace(session, position, lines)
+        except psycopg.Error as error:
+            failure = Failure(reason(error), error.sqlstate or "")
+        # The session is closed then, and so nothing is committed. Not above, where the error of psycopg would be its context.
+        if failure:
+            raise failure
         session.warned.clear()
-        with session.transaction():
-            session.execute(self._sql["lock"])
-            self._check_later(session, position)
-            [(first,)] = self._rows(session, self._sql["next"])
-            for number, line in enumerate(lines, first):
-                session.until = time.monotonic() + self._patience
-                if not self._rows(session, self._sql["insert"], {"number": number, "line": line}):
-                    self._check(session, "fit", _UNFIT)
-            session.until = time.monotonic() + self._patience
-            session.execute(self._sql["forget"], {"number": first})
+        session.execute(b"COMMIT")
         if session.warned:
             raise psycopg.OperationalError(CANCELLED)
+
+    def _replace(self, session: Session, position: int, lines: Iterable[bytes]) -> None:
+        session.execute(self._sql["lock"])
+        self._check_later(session, position)
+        [(first,)] = self._rows(session, self._sql["next"])
+        for number, line in enumerate(lines, first):
+            session.until = time.monotonic() + self._patience
+            if not self._rows(session, self._sql["insert"], {"number": number, "line": line}):
+                self._check(session, "fit", _UNFIT)
+                raise Failure("its settings were changed meanwhile: call again")
+        session.until = time.monotonic() + self._patience
+        session.execute(self._sql["forget"], {"number": first})
 
     def _check_later(self, session: Session, position: int) -> None:
         """Raises `Overtaken` if a later snapshot is stored."""

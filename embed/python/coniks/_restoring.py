@@ -27,6 +27,10 @@ _AFTER: Mapping[Optional[str], set[str]] = {
 }
 
 
+class _Wrong(ProviderError):
+    """A line isn't as docs/FORMATS.md defines it."""
+
+
 def link_of(entry: bytes) -> bytes:
     """The link of an entry, which the next one contains."""
     return sha256(_LINK + entry).digest()
@@ -51,7 +55,13 @@ class Restoring:
 
     def take(self, line: bytes) -> None:
         """Takes the next line."""
-        said = members_of(line, SnapshotDiffers, f"a line of the snapshot of {self._engine.log}")
+        try:
+            self._take(line)
+        except _Wrong as error:
+            raise self._refused(f"has a line that can't be read: {error}") from None
+
+    def _take(self, line: bytes) -> None:
+        said = members_of(line, _Wrong, "it")
         kind = said["cmd"] if "cmd" in said else next((it for it in ("snapshot", "entries", "replaced") if it in said), None)
         if not isinstance(kind, str) or kind not in _AFTER[self._last]:
             raise self._refused("has a line that doesn't follow the one before it")
@@ -72,10 +82,10 @@ class Restoring:
                 f"the snapshot of {self._engine.log} has a format that this version doesn't read: "
                 "use the version that wrote it, or a later one"
             )
-        position, self._epochs, self._names = (number(said, it, SnapshotDiffers) for it in ("position", "epochs", "names"))
+        position, self._epochs, self._names = (number(said, it, _Wrong) for it in ("position", "epochs", "names"))
         if position != self._position or position < 2 * self._epochs + 1:
             raise self._refused("has a position that isn't the one of its epochs")
-        self._policy = digits(said, "policy", 32, SnapshotDiffers)
+        self._policy = digits(said, "policy", 32, _Wrong)
         self._engine.compare_opening({it: said[it] for it in OPENING if it in said})
 
     def _add_entries(self, said: Mapping[str, Any]) -> None:
@@ -93,7 +103,7 @@ class Restoring:
         found = said[member]
         if not isinstance(found, list) or not found:
             raise self._refused(f"has a line whose member {member} is no list")
-        return [digits({member: it}, member, size, SnapshotDiffers) for it in found]
+        return [digits({member: it}, member, size, _Wrong) for it in found]
 
     def _ask(self, kind: str, line: bytes, said: Mapping[str, Any]) -> None:
         """Has the child take a line that is one of its own."""

@@ -6,7 +6,7 @@ import io
 import os
 from typing import Callable, Iterable, Iterator, Optional
 
-from ._files import CHUNK, Replacement, check_kind, chunks_of, opened_at
+from ._files import Replacement, check_kind, chunks_of, opened_at
 from ._snapshot_lines import LAST, position_of, refused
 from .faults import LogFailed
 
@@ -50,15 +50,8 @@ def write(path: str, lines: Iterable[bytes], check: Callable[[], object]) -> Non
     """Stores the snapshot of the log at a path. `check` is called before it takes the place of an older one."""
     replacement = Replacement(path + ".snapshot", 0o600)
     try:
-        held: list[bytes] = []
-        size = 0
         for line in lines:
-            held += [line, b"\n"]
-            size += len(line)
-            if size >= CHUNK:
-                replacement.write(b"".join(held))
-                held, size = [], 0
-        replacement.write(b"".join(held))
+            replacement.write(line + b"\n")
         check()
         replacement.put().close()
     finally:

@@ -323,7 +323,7 @@ class FileLog(Closing):
         count = opened.lines if opened else 0
         if position > count:
             raise LogFailed(
-                f"{self} ends before line {count}, and its snapshot has the position {position}: restore the log's last lines"
+                f"{self} has {count} lines, and its snapshot has the position {position}: restore the log's last lines"
             )
         if opened:
             self._check_first(position, opened)

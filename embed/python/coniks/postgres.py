@@ -58,11 +58,13 @@ _SQL = {
     "rights": first_wrong(_UNWRITABLE),
     "create": """CREATE TABLE IF NOT EXISTS {table}
         (position bigint PRIMARY KEY CHECK (position >= 0), line bytea NOT NULL, token bytea NOT NULL)""",
-    # Without the row before, none is inserted: positions have no gap, and no line follows one that this process hasn't seen.
+    # Without the row before, none is inserted: positions have no gap, and no line follows one that this process hasn't seen. The
+    # first one is inserted only if there is no other, since rows may have been dropped.
     "append": f"""INSERT INTO {{table}} (position, line, token)
         SELECT %(position)s::bigint, %(line)b::bytea, %(token)b::bytea
-        WHERE (%(position)s::bigint = 0 OR EXISTS (SELECT FROM {{table}}
-            WHERE position = %(position)s::bigint - 1 AND token = coalesce(%(before)b::bytea, token)))
+        WHERE (CASE %(position)s::bigint WHEN 0 THEN NOT EXISTS (SELECT FROM {{table}} WHERE position > 0)
+            ELSE EXISTS (SELECT FROM {{table}}
+                WHERE position = %(position)s::bigint - 1 AND token = coalesce(%(before)b::bytea, token)) END)
         AND NOT ({IS_UNSAFE}) RETURNING pg_notify({{name}}, position::text)""",
     "is_mine": "SELECT token = %(token)b::bytea FROM {table} WHERE position = %(position)s::bigint",
     # At most 4 MiB, or one row.
@@ -239,6 +241,8 @@ class PostgresLog(Closing):
         if not rows:
             self._check(session)
             before = {"position": row["position"] - 1, "token": row["before"]}
+            if self._rows(session, "count")[0][0] > row["position"]:
+                raise Overtaken(f"another provider has gone on in {self}, and dropped line {row['position']}: open a replica")
             if row["before"] is not None and self._rows(session, "is_mine", before) == [(False,)]:
                 raise Overtaken(f"line {before['position']} of {self} isn't the one that this process has seen: restart")
             raise Failure("it has no line before that: read it again")
@@ -290,7 +294,7 @@ class PostgresLog(Closing):
         position, number, first, count = found
         if position > count:
             raise LogFailed(
-                f"{self} ends before line {count}, and its snapshot has the position {position}: "
+                f"{self} has {count} lines, and its snapshot has the position {position}: "
                 "restore its last lines from a standby or a backup"
             )
         if position < first:

@@ -90,7 +90,10 @@ class Stage:
         self.path, self.program, self.signer = Path(room) / "log", program, Signer(room, Salted())
         self.log = FileLog(self.path)
         self.own = opened(program, self.log, self.signer, guarded(self.signer), create=True)
-        self.epoch, self.there = 0, list[bytes]()
+        self.epoch, self.there, self.position = 0, list[bytes](), 0
+
+    def compact(self) -> None:
+        self.position = self.own.compact()
 
     def commit(self) -> None:
         self.epoch += 1
@@ -154,6 +157,9 @@ CALLS: dict[str, Callable[[Stage], object]] = {
     # The update is left by another thread, which isn't interrupted.
     "abandon": lambda stage: ends(stage.leave) and stage.own.abandon(),  # type: ignore[func-returns-value]
     "latest and chain": lambda stage: (stage.own.latest(), stage.own.chain()),
+    "compact": lambda stage: stage.own.compact(),
+    # The snapshot is taken by another thread, which isn't interrupted.
+    "drop_before": lambda stage: ends(stage.compact) and stage.log.drop_before(stage.position),  # type: ignore[func-returns-value]
 }
 
 

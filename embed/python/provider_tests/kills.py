@@ -1,6 +1,8 @@
-"""Kills a process that commits and looks up, its child or both, at random moments; then all that was acknowledged must be there.
+"""Kills a process that commits, looks up and takes snapshots, its children or all, at random moments; then all that was
+acknowledged must be there.
 
-`drive` is the process: it commits batches, some by a signer that fails, while a thread looks names up. It lists each epoch that
+`drive` is the process: it commits batches, some by a signer that fails, while one thread looks names up, and another one takes
+snapshots and drops the lines below them. It lists each epoch that
 `commit` returned, each entry that a lookup showed, and, by its signer, each body to sign.
 """
 
@@ -24,8 +26,8 @@ from honest import is_evidence
 from stand_ins import HAS_NACL, HERE, Ed25519, Salted, Scheme, Signer, Tell, append, audited, guarded, has_library, is_new, lines
 from stand_ins import opened, shown
 from coniks.guard import BodyAbandoned
-from coniks.provider import Change, Epoch, Fault, FileLog, Lookup, Operation, ProgramFailed, Provider, Register, SignerFailed
-from coniks.provider import entries
+from coniks.provider import Change, Epoch, Fault, FileLog, Lookup, Operation, ProgramFailed, Provider, Register, RestartNeeded
+from coniks.provider import SignerFailed, entries
 
 KINDS: dict[str, Callable[[], Scheme]] = {"salted": Salted, "ed25519": Ed25519}
 # After this number of kills a log ends and a new one begins, so that replays stay short.
@@ -79,6 +81,19 @@ def look(room: Path, provider: Provider, seed: int) -> None:
             append(room / "shown", found.entry.hex())
 
 
+def compact(provider: Provider, log: FileLog, seed: int) -> None:
+    """Takes snapshots, and drops the lines below some."""
+    chance = random.Random(seed)
+    while True:
+        time.sleep(chance.uniform(0, 0.05))
+        try:
+            position = provider.compact()
+            if chance.randrange(2):
+                log.drop_before(position - chance.randrange(3))
+        except (Fault, ProgramFailed, RestartNeeded):
+            pass
+
+
 def drive(folder: str, program: str, kind: str, seed: int) -> None:
     chance, room = random.Random(seed), Path(folder)
     signer = Signer(room, KINDS[kind]())
@@ -98,6 +113,7 @@ def drive(folder: str, program: str, kind: str, seed: int) -> None:
                 pass
         print("ready", flush=True)
         threading.Thread(target=look, args=(room, provider, seed), daemon=True).start()
+        threading.Thread(target=compact, args=(provider, log, seed), daemon=True).start()
         while True:
             try:
                 made = some_batch(chance, provider)
@@ -151,7 +167,9 @@ def check(tell: Tell, what: str, room: Path, program: str, kind: str, library: b
             f"{what}: each acknowledged epoch is in the log",
             all(by_epoch.get(epoch) == bytes.fromhex(entry) for epoch, entry, _ in acknowledged),
         )
-        for epoch, entry, keys in acknowledged[-20:]:
+        # The epochs before the snapshot are forgotten.
+        first = provider._host.known.points[0].epoch if provider.chain() else 0
+        for epoch, entry, keys in [it for it in acknowledged[-20:] if it[0] >= first]:
             found = provider.lookups(keys, epoch)
             right = [it for it in found if isinstance(it, Lookup) and it.entry.hex() == entry]
             said = {it.name: base64.b64encode(shown(it) or b"").decode() for it in right}
@@ -161,7 +179,9 @@ def check(tell: Tell, what: str, room: Path, program: str, kind: str, library: b
             all(it in by_epoch.values() for it in map(bytes.fromhex, lines(room / "shown"))),
         )
         tell(f"{what}: one body for each epoch", signer.is_asked_once(), signer.asked())
-        given_up = {bytes.fromhex(json.loads(it).get("abandons", "")) for it in log.read(0)}
+        position, stored = log.snapshot() or (0, ())
+        given_up = {bytes.fromhex(json.loads(it).get("abandons", "")) for it in log.read(position)}
+        given_up |= {bytes.fromhex(body) for it in stored for body in json.loads(it).get("replaced", ())}
         signed = {it for bodies in signer.asked().values() for it in bodies} - given_up
         tell(f"{what}: no two bodies are evidence", not any(is_evidence(*it) for it in combinations(signed, 2)))
         last = provider.chain()[-1] if provider.chain() else None

@@ -182,6 +182,8 @@ def is_new(log: provider.Log) -> bool:
         return next(iter(log.read(0)), None) is None
     except provider.NoDirectory:
         return True
+    except provider.LinesDropped:
+        return False
 
 
 def kill_child(own: provider.Directory) -> None:

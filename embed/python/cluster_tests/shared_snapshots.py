@@ -1,0 +1,310 @@
+"""Snapshots in a log that several machines share: the second table, replicas that start from it or lag behind it, and an operator's
+mistakes."""
+
+from __future__ import annotations
+
+import tempfile
+import threading
+from contextlib import suppress
+from pathlib import Path
+from typing import Iterable, Iterator
+from unittest import mock
+
+from cluster_mistakes import Cluster
+from database import Database, soon
+from log_refusals import says
+from stand_ins import POLICY, Tell, index, kill_child, shown
+from units import raises
+from coniks.postgres import PostgresLog
+from coniks.provider import Change, DirectoryExists, LinesDropped, LogFailed, LogRefused, Overtaken, ProviderError, Register
+from coniks.provider import UnknownEpoch, entries
+from coniks.replica import Replica
+
+
+def header(position: int) -> bytes:
+    return b'{"snapshot":1,"position":%d}' % position
+
+
+def breaks() -> Iterator[bytes]:
+    """Lines whose source fails."""
+    yield header(2)
+    raise TimeoutError("told to fail")
+
+
+def try_table(tell: Tell, database: Database) -> None:
+    """What is stored, replaced, refused and dropped."""
+    with PostgresLog.create(database.conninfo, "stored") as log, PostgresLog(database.conninfo, "stored") as other:
+        tell("table: none is stored", log.snapshot() is None)
+        for number in range(8):
+            log.append(number, b"%d" % number)
+        for position in (0, 3, 8, 20):
+            says(tell, f"table: {position} can't be dropped", LogRefused, lambda: log.drop_before(position), "compact")
+        log.compact(3, [header(3), *[b"old %d" % it for it in range(100)]])
+        position, lines = other.snapshot() or (0, iter(()))
+        tell("table: it is read", position == 3 and [*lines] == [header(3), *(b"old %d" % it for it in range(100))])
+        _, lines = other.snapshot() or (0, iter(()))
+        begun = [next(lines) for _ in range(5)]
+        raises(tell, "table: lines that fail", TimeoutError, lambda: log.compact(5, breaks()))
+        tell("table: the older one stays", (other.snapshot() or (0,))[0] == 3 and len(begun) == 5)
+        log.compact(5, [header(5), *[b"new %d" % it for it in range(100)]])
+        raises(tell, "table: it is replaced while it is read", LinesDropped, lambda: [*lines])
+        raises(tell, "table: a position that goes back", Overtaken, lambda: other.compact(4, [header(4)]))
+        raises(tell, "table: a position that isn't there", ValueError, lambda: log.compact(9, [header(9)]))
+        log.compact(5, [header(5), b"same"])
+        position, lines = other.snapshot() or (0, iter(()))
+        tell("table: the same position again", position == 5 and [*lines] == [header(5), b"same"])
+        for position in (-1, 6, 8):
+            says(tell, f"table: {position} stays", LogRefused, lambda: log.drop_before(position), "position 5", "compact")
+        tell("table: nothing is dropped", len([*other.read(0)]) == 8)
+        for position in (3, 2, 5, 5):
+            log.drop_before(position)
+        tell("table: the lines from there on", [*other.read(5)] == [b"5", b"6", b"7"] and other.wait(0, 0) == 8)
+        says(tell, "table: a dropped line", LinesDropped, lambda: [*other.read(2)], "at least 4")
+        log.append(8, b"8")
+        for position in (0, 1, 3, 4):
+            raises(tell, f"table: an append at {position}", Overtaken, lambda: other.append(position, b'{"cmd":"open"}'))
+        raises(tell, "table: a position that is taken", Overtaken, lambda: other.append(8, b"other"))
+        other.append(9, b"9")
+        log.compact(10, [header(10)])
+        log.drop_before(10)
+        tell("table: all lines", [*other.read(10)] == [] and other.wait(0, 0) == 10)
+        log.append(10, b"10")
+        database.execute("DELETE FROM stored WHERE position > 8")
+        says(tell, "table: a log that lost lines", LogFailed, log.snapshot, "position 10", "restore")
+        database.execute("DROP TABLE stored")
+        says(tell, "table: a log that is missing", LogFailed, log.snapshot, "restore")
+        raises(
+            tell, "table: a new log beside a snapshot", DirectoryExists, lambda: PostgresLog.create(database.conninfo, "stored")
+        )
+        database.execute("DROP TABLE IF EXISTS stored, stored_snapshot")
+
+
+def try_names(tell: Tell, database: Database) -> None:
+    database.execute("CREATE SCHEMA IF NOT EXISTS keys")
+    for name, is_well in [("a" * 54, True), ("a" * 55, False), (f"keys.{'b' * 54}", True), (f"keys.{'b' * 55}", False)]:
+        with PostgresLog.create(database.conninfo, name) as log:
+            log.append(0, b"line")
+            if is_well:
+                log.compact(1, [header(1)])
+                tell(f"names: {len(name)} characters", (log.snapshot() or (0,))[0] == 1)
+            else:
+                says(tell, f"names: {len(name)} characters", LogRefused, lambda: log.compact(1, [header(1)]), "too long")
+                tell(f"names: {len(name)} characters: none is stored", log.snapshot() is None)
+
+
+def try_rights(tell: Tell, database: Database) -> None:
+    """Each right that is missing is named, and the advice helps. A log of an older version has no second table."""
+    database.execute("CREATE ROLE store LOGIN;CREATE ROLE look LOGIN")
+    with PostgresLog.create(database.conninfo, "rights") as log:
+        log.append(0, b"line")
+        log.append(1, b"line")
+    database.execute("DROP TABLE rights_snapshot;GRANT SELECT, INSERT ON rights TO store;GRANT SELECT ON rights TO look")
+    storing, looking = (database.conninfo.replace("user=postgres", f"user={it}") for it in ("store", "look"))
+    with PostgresLog(storing, "rights") as log, PostgresLog(looking, "rights") as look:
+        tell("rights: an older log has none", log.snapshot() is None and look.snapshot() is None)
+        text = says(tell, "rights: to make the table", LogRefused, lambda: log.compact(1, [header(1)]), "GRANT CREATE ON SCHEMA")
+        database.execute(text[text.index("GRANT") :])
+        log.compact(1, [header(1)])
+        tell("rights: the owner's", (log.snapshot() or (0,))[0] == 1)
+        text = says(tell, "rights: to read it", LogFailed, look.snapshot, "GRANT SELECT ON rights_snapshot TO look")
+        database.execute(text[text.index("GRANT") :])
+        tell("rights: to read it: the advice helps", (look.snapshot() or (0,))[0] == 1)
+        says(tell, "rights: a reader can't store one", LogRefused, lambda: look.compact(1, [header(1)]), "rights_snapshot TO look")
+        text = says(tell, "rights: to drop lines", LogRefused, lambda: log.drop_before(1), "GRANT DELETE ON rights TO store")
+        database.execute(text[text.index("GRANT") :])
+        log.drop_before(1)
+        database.execute("ALTER TABLE rights_snapshot OWNER TO postgres;REVOKE ALL ON rights_snapshot FROM store")
+        text = says(tell, "rights: to store", LogRefused, lambda: log.compact(2, [header(2)]), "GRANT SELECT, INSERT, DELETE")
+        database.execute(text[text.index("GRANT") :])
+        log.compact(2, [header(2)])
+        tell("rights: to store: the advice helps", (look.snapshot() or (0,))[0] == 2)
+    for change, back in [
+        ("SET UNLOGGED", "SET LOGGED"),
+        ("ENABLE ROW LEVEL SECURITY", "DISABLE ROW LEVEL SECURITY"),
+        ("DROP CONSTRAINT rights_snapshot_pkey", "ADD PRIMARY KEY (number)"),
+        ("ADD more text", "DROP more"),
+    ]:
+        database.execute(f"ALTER TABLE rights_snapshot {change}")
+        with PostgresLog(database.conninfo, "rights") as log:
+            for what, call in [("read", log.snapshot), ("store", lambda: log.compact(2, [header(2)]))]:
+                says(tell, f"rights: {change}: {what}", (LogFailed if what == "read" else LogRefused), call, "rights_snapshot")
+        database.execute(f"ALTER TABLE rights_snapshot {back}")
+    database.execute("CREATE RULE none AS ON INSERT TO rights_snapshot DO INSTEAD NOTHING")
+    with PostgresLog(database.conninfo, "rights") as log:
+        says(tell, "rights: a rule", LogRefused, lambda: log.compact(2, [header(2)]), "rules")
+
+
+def grow(it: Cluster, epochs: Iterable[int]) -> None:
+    for epoch in epochs:
+        it.own.commit(epoch, [Register(f"user-{epoch}", b"key"), Change("alice", b"%d" % epoch)])
+
+
+def is_same(it: Cluster, replica: Replica, first: int) -> bool:
+    """Whether a replica has the latest epoch, the chain, and the same lookups from an epoch on."""
+    asked = [(name, epoch) for name in ("alice", "bob", "no") for epoch in range(first, it.own.latest().epoch + 1)]
+    is_there = soon(lambda: replica.latest().link == it.own.latest().link)
+    return is_there and replica.chain() == it.own.chain() and all(it.own.lookup(*of) == replica.lookup(*of) for of in asked)
+
+
+def try_follows(it: Cluster) -> None:
+    """Replicas follow the log over a snapshot, compact by themselves, and start from it."""
+    it.refuses("no snapshot: the replica", ProviderError, it.replica.compact)
+    grow(it, range(3, 8))
+    position = it.own.compact(5)
+    it.tell("a replica follows, and keeps its epochs", is_same(it, it.replica, 5) and it.replica.lookup("alice", 1).epoch == 1)
+    pid = it.replica.pid
+    it.replica.compact()
+    it.tell("a replica compacts", it.replica.pid != pid and is_same(it, it.replica, 5))
+    raises(it._told, "mistake: its first epochs are gone", UnknownEpoch, lambda: it.replica.lookup("alice", 4))
+    pid = it.replica.pid
+    it.replica.compact()
+    it.tell("a replica has nothing to forget", it.replica.pid == pid)
+    grow(it, [8])
+    it.own._log.drop_before(position)  # type: ignore[attr-defined]
+    late = it.follower(verify=it.signer.verify)
+    it.tell("a new replica starts from the snapshot", is_same(it, late, 5) and late.lag().error is None)
+    it.refuses("a new replica that takes no signature", ProviderError, lambda: it.follower(verify=lambda *_: False))
+    kill_child(late)
+    it.tell("its child is started again", is_same(it, late, 5))
+    grow(it, [9])
+    it.tell("both follow", is_same(it, late, 5) and is_same(it, it.replica, 5))
+    it.goes_on("followed")
+
+
+def try_lags(it: Cluster) -> None:
+    """A replica that hasn't read the lines that were dropped starts from the snapshot by itself."""
+    log = it.replica._log
+    with mock.patch.object(log, "read", side_effect=LogFailed("told to fail")):
+        grow(it, range(3, 6))
+        it.own._log.drop_before(it.own.compact())  # type: ignore[attr-defined]
+        grow(it, [6])
+        it.tell("the replica lags", it.replica.latest().epoch == 2 and shown(it.replica.lookup("alice")) == b"2")
+    it.replica.follow()
+    it.tell("a replica that lagged", is_same(it, it.replica, 5))
+    it.tell("a replica that lagged has no error", soon(lambda: it.replica.lag().error is None), it.replica.lag())
+    it.goes_on("lagged")
+
+
+def try_takes_over(it: Cluster) -> None:
+    """A standby is promoted while the writer compacts, and compacts; the overtaken writer can't go back."""
+    grow(it, range(3, 6))
+    old, gone = it.own, it.own.latest().epoch
+    new = it.enter_context(it.replica.promote(it.signer, verify=it.signer.verify))
+    made = new.commit(6, [Change("alice", b"6")])
+    position = new.compact()
+    it.refuses("an overtaken writer compacts", Overtaken, old.compact)
+    it.tell("an overtaken writer: its lookups go on", old.lookup("alice").epoch == gone and old.latest().epoch == gone)
+    new._log.drop_before(position)  # type: ignore[attr-defined]
+    it.refuses("an overtaken writer commits", Overtaken, lambda: old.commit(6, []))
+    it.tell("the new writer goes on", new.lookup("alice").entry == made.entry and new.commit(7, []).epoch == 7)
+    it.own = new
+    it.replica = it.follower()
+    it.tell("its replica", is_same(it, it.replica, 6))
+
+
+def try_overtaken(it: Cluster) -> None:
+    """A writer is overtaken in the middle of a compaction."""
+    grow(it, range(3, 6))
+    table, replica = it.own._log, it.replica
+
+    class Late:
+        """A log that is overtaken before the last line is stored."""
+
+        def __getattr__(self, name: str) -> object:
+            return getattr(table, name)
+
+        def compact(self, position: int, lines: Iterable[bytes]) -> None:
+            whole = list(lines)
+            it.own = it.enter_context(replica.promote(it.signer, verify=it.signer.verify))
+            it.own.commit(6, [])
+            it.own.compact()
+            table.compact(position, whole)  # type: ignore[attr-defined]
+
+    old, old._log = it.own, Late()  # type: ignore[assignment]
+    it.refuses("overtaken while it compacts", Overtaken, old.compact)
+    found = it.log().snapshot()
+    it.tell("the later snapshot stays", found and b'"epochs":6' in next(found[1]))
+    it.replica = it.follower()
+    it.tell("a replica starts from it", is_same(it, it.replica, 6))
+
+
+def try_absent(it: Cluster) -> None:
+    """PostgreSQL is stopped, killed or cut off while a snapshot is taken: the older one stays, and all goes on."""
+    grow(it, range(3, 6))
+    it.own.compact(3)
+    table = it.own._log
+
+    class Struck:
+        def __init__(self, strike: object) -> None:
+            self._strike = strike
+
+        def __getattr__(self, name: str) -> object:
+            return getattr(table, name)
+
+        def compact(self, position: int, lines: Iterable[bytes]) -> None:
+            def told() -> Iterator[bytes]:
+                for number, line in enumerate(lines):
+                    if number == 2:
+                        self._strike()  # type: ignore[operator]
+                    yield line
+
+            table.compact(position, told())  # type: ignore[attr-defined]
+
+    def nothing() -> None:
+        pass
+
+    cut = "SELECT pg_terminate_backend(pid) FROM pg_stat_activity WHERE application_name = '{table}'"
+    for how, strike, back in [
+        ("stopped", it.database.stop, it.database.go_on),
+        ("killed", it.database.kill, it.database.start),
+        ("cut off", lambda: it.execute(cut), nothing),
+    ]:
+        it.own._log = Struck(strike)  # type: ignore[assignment]
+        try:
+            it.refuses(f"{how} while a snapshot is stored", LogFailed, lambda: it.own.compact(4))
+            it.tell(f"{how}: lookups go on", it.own.lookup("alice").epoch == it.own.latest().epoch)
+        finally:
+            back()
+        it.own._log = table
+        found = it.log().snapshot()
+        it.tell(f"{how}: the older one stays", found and b'"epochs":3' in next(found[1]))
+        with suppress(ProviderError):
+            it.own.restart()
+        it.own.restart()
+        it.own.commit(it.own.latest().epoch + 1, [])
+        it.tell(f"{how}: the replica follows", is_same(it, it.replica, 4))
+    it.own.compact()
+    it.tell("then one is stored", (it.log().snapshot() or (0,))[0] > 0)
+    it.goes_on("absent")
+
+
+def try_restored(it: Cluster) -> None:
+    """Tables that are restored from different backups."""
+    grow(it, range(3, 6))
+    it.own.compact(3)
+    it.execute("CREATE TABLE older AS TABLE {table}_snapshot", "CREATE TABLE lines AS TABLE {table}")
+    it.own._log.drop_before(it.own.compact())  # type: ignore[attr-defined]
+    grow(it, [6])
+    it.execute("TRUNCATE {table}_snapshot", "INSERT INTO {table}_snapshot TABLE older")
+    it.refuses("an older snapshot, and dropped lines", LinesDropped, it.own.restart)
+    it.refuses("the same for a replica", LinesDropped, it.follower)
+    it.tell("lookups go on", it.own.lookup("alice").epoch == 6 and is_same(it, it.replica, 5))
+    it.execute("TRUNCATE {table}_snapshot")
+    it.refuses("no snapshot, and dropped lines", LinesDropped, it.own.restart)
+    it.execute("INSERT INTO {table}_snapshot TABLE older", "TRUNCATE {table}", "INSERT INTO {table} TABLE lines")
+    it.refuses("older ones of both, a restart", ProviderError, it.own.restart)
+    it.execute("DROP TABLE older, lines")
+
+
+def try_snapshots(tell: Tell, program: str) -> None:
+    with tempfile.TemporaryDirectory() as folder, Database(Path(folder)) as database:
+        for test in (try_table, try_names, try_rights):
+            test(tell, database)
+        for mistake in (try_follows, try_lags, try_takes_over, try_overtaken, try_absent, try_restored):
+            with Cluster(tell, program, database, f"snapshots_{mistake.__name__}") as cluster:
+                mistake(cluster)
+        with PostgresLog(database.conninfo, "snapshots_try_follows") as log:
+            tell("snapshots: the chain of a log whose lines were dropped", len([*entries(log)]) == 9)
+            with Replica(log, program, index, policy=POLICY) as replica:
+                tell("snapshots: a replica of it", replica.latest().epoch == 9)
+    tell("snapshots: the thread of each directory ends", soon(lambda: threading.active_count() == 1), threading.enumerate())
