@@ -6,6 +6,7 @@ import os
 import random
 import signal
 import tempfile
+import threading
 import time
 from collections import Counter
 from concurrent.futures import ThreadPoolExecutor, wait
@@ -20,6 +21,7 @@ from coniks.postgres import PostgresLog
 from coniks.provider import (
     Change,
     Closed,
+    Directory,
     Epoch,
     EpochNotLater,
     EpochSpent,
@@ -39,7 +41,7 @@ from stand_ins import small_disk
 from tally import Tally
 
 FAULTS = ["kill writer", "pause writer", "kill database", "cut connections", "start writers", "fill disk"]
-FAULTS += ["interrupt members", "kill children", "stop database"]
+FAULTS += ["interrupt members", "kill children", "stop database", "drop lines"]
 PACKAGE = str(HERE.parent / "coniks") + os.sep
 # The number of faults on one cluster. A new cluster then replaces it, so that replays stay short.
 FAULTS_OF_ROOM = 20
@@ -97,6 +99,39 @@ class Trapped(PostgresLog):
         self.trap[0] -= 1
         if self.trap[0] == 0:
             os.kill(os.getpid(), self.trap[1])
+
+
+# The threads of this process that take snapshots.
+COMPACTING: list[threading.Thread] = []
+
+
+def compact_beside(own: Directory) -> None:
+    """Has a snapshot taken, or taken over, by another thread of a member's process, while that answers calls."""
+
+    def compacts() -> None:
+        with suppress(ProviderError):
+            own.compact()  # type: ignore[attr-defined]
+
+    thread = threading.Thread(target=compacts, daemon=True)
+    thread.start()
+    COMPACTING.append(thread)
+
+
+def oldest(own: Directory) -> int:
+    """The oldest epoch that a member has in memory, once no snapshot is being taken."""
+    while COMPACTING:
+        COMPACTING.pop().join()
+    return own._host.known.points[0].epoch
+
+
+def place(latest: Optional[Latest]) -> object:
+    """What is the same at all members, whatever they have forgotten."""
+    return latest and (latest.epoch, latest.link, latest.names)
+
+
+# A member calls them as the other methods.
+setattr(Directory, "compact_beside", compact_beside)
+setattr(Directory, "oldest", oldest)
 
 
 class Member(Node):
@@ -193,6 +228,8 @@ class Cluster(ExitStack):
             while self._is_loaded:
                 if member.is_writer:
                     self._commit(member, chance, f"user-{seed}-{(number := number + 1)}")
+                if chance.randrange(30) == 0:
+                    member.tried("compact_beside")
                 found = member.tried("lookup", chance.choice(["no name", f"user-{seed}-{number}-0", *self.names]))
                 if isinstance(found, Lookup) and self.shown.setdefault((found.name, found.epoch), found) != found:
                     self.wrong.append(f"two answers: {found.line!r}")
@@ -262,6 +299,14 @@ class Cluster(ExitStack):
         time.sleep(self.chance.uniform(0.2, 1.5))
         self.database.go_on()
 
+    def drop_lines(self) -> None:
+        """Lines that a snapshot has the effect of are dropped, while members may lag behind them."""
+        with PostgresLog(self.database.conninfo) as log:
+            for _ in range(self.chance.randrange(1, 5)):
+                if found := log.snapshot():
+                    log.drop_before(found[0] - self.chance.choice([0, 0, 1, 2]))
+                time.sleep(self.chance.uniform(0, 0.2))
+
     def fill_disk(self) -> None:
         ballast = self.database.folder / "ballast"
         with suppress(OSError):
@@ -275,13 +320,23 @@ class Cluster(ExitStack):
         """Each promise, and whether it is kept, once each member knows who commits and has replayed all."""
         if not any([it.commits() for it in self.members]):
             self.members[0].surely("lead")
-        soon(lambda: len({it.surely("latest") for it in self.members}) == 1)
+        for it in self.members:
+            it.surely("oldest")
+        soon(lambda: len({place(it.surely("latest")) for it in self.members}) == 1)
         with PostgresLog(self.database.conninfo) as log:
-            chain, logged = list(entries(log)), b"\n".join(log.read(0))
+            position, stored = log.snapshot() or (0, ())
+            chain, logged = list(entries(log)), b"\n".join([*stored, *log.read(position)])
         record = guarded(self.signer)
-        recent = {(it.name, epoch.epoch): it.key for epoch, made in self.acknowledged[-10:] for it in made}
-        asked = [*recent, *self.chance.sample(sorted(self.shown), min(len(self.shown), 30))]
-        answers = [[it.surely("chain"), it.surely("latest"), *(it.surely("lookup", *of) for of in asked)] for it in self.members]
+        # The epochs before a snapshot are forgotten.
+        first = max(int(it.surely("oldest")) for it in self.members)
+        self.told["epochs forgotten at a check"] += sum(int.from_bytes(it[1:9], "big") < first for it in chain)
+        kept = [(epoch, made) for epoch, made in self.acknowledged[-10:] if epoch.epoch >= first]
+        recent = {(it.name, epoch.epoch): it.key for epoch, made in kept for it in made}
+        shown_ = sorted(it for it in self.shown if it[1] >= first)
+        asked = [*recent, *self.chance.sample(shown_, min(len(shown_), 30))]
+        answers = [
+            [it.surely("chain"), place(it.surely("latest")), *(it.surely("lookup", *of) for of in asked)] for it in self.members
+        ]
         found = answers[0][2:]
         yield "each acknowledged epoch is in the log", {epoch.entry for epoch, _ in self.acknowledged} <= {*chain}
         yield "each acknowledged key is shown", [shown(it) for it in found[: len(recent)]] == [*recent.values()]

@@ -73,9 +73,7 @@ def try_table(tell: Tell, database: Database) -> None:
         says(tell, "table: a log that lost lines", LogFailed, log.snapshot, "position 10", "restore")
         database.execute("DROP TABLE stored")
         says(tell, "table: a log that is missing", LogFailed, log.snapshot, "restore")
-        raises(
-            tell, "table: a new log beside a snapshot", DirectoryExists, lambda: PostgresLog.create(database.conninfo, "stored")
-        )
+        raises(tell, "table: a new log beside a snapshot", DirectoryExists, lambda: PostgresLog.create(database.conninfo, "stored"))
         database.execute("DROP TABLE IF EXISTS stored, stored_snapshot")
 
 

@@ -226,7 +226,7 @@ class FileLog(Closing):
     def append(self, position: int, line: bytes) -> None:
         """Appends a line and syncs the file. After `LogRefused` the file is as before. After another error of the file the log
         must be opened again. An interrupt ends only the wait: the line may be appended."""
-        self._check_end()
+        self._check()
         if b"\n" in line or b"\0" in line:
             raise ValueError("a line has no newline and no zero byte")
         if position == 0 and not line.startswith(_HEAD):
@@ -264,6 +264,10 @@ class FileLog(Closing):
 
     def check_writable(self) -> None:
         """Raises `LogFailed` if an append would be refused at once."""
+        self._check()
+        self._work.call(self._check_writable)
+
+    def _check_writable(self) -> None:
         self._check_end()
         if self._opened:
             self._check_place(LogRefused, self._opened.end)
@@ -322,9 +326,7 @@ class FileLog(Closing):
         opened = self._opened
         count = opened.lines if opened else 0
         if position > count:
-            raise LogFailed(
-                f"{self} has {count} lines, and its snapshot has the position {position}: restore the log's last lines"
-            )
+            raise LogFailed(f"{self} has {count} lines, and its snapshot has the position {position}: restore the log's last lines")
         if opened:
             self._check_first(position, opened)
         return position, lines
@@ -332,17 +334,21 @@ class FileLog(Closing):
     def compact(self, position: int, lines: Iterable[bytes]) -> None:
         """Stores a snapshot in `PATH.snapshot`. It is written to `PATH.snapshot.new`, synced and renamed, and the folder is
         synced. After `LogFailed` a failure of the machine could bring back the older one."""
-        self._check_identity()
+        self._check_still()
         # One that was cut may be replaced.
         with suppress(SnapshotDiffers):
             if (before := self.snapshot()) and before[0] > position:
                 raise Overtaken(f"{self} has a snapshot of position {before[0]}, and {position} is before that: take a later epoch")
         if self._opened is None or not self._opened.first <= position <= self._opened.lines:
             raise ValueError(f"position {position} isn't one of the log")
-        write(self._path, lines, self._check_identity)
+        write(self._path, lines, self._check_still)
+
+    def _check_still(self) -> None:
+        """Raises `LogRefused` if the path has another file."""
+        self._check()
+        self._work.call(self._check_identity)
 
     def _check_identity(self) -> None:
-        """Raises `LogRefused` if the path has another file."""
         self._check_end()
         if self._opened and identity_at(self._path) != self._opened.identity:
             raise LogRefused(f"{self} was moved or replaced while it was open: put it back, and start again")

@@ -76,11 +76,17 @@ class Injected:
 
 
 def ends(call: Callable[[], object]) -> bool:
-    """Whether a call ends in time, in a thread of its own."""
-    thread = threading.Thread(target=call, daemon=True)
+    """Whether a call returns in time, in a thread of its own."""
+    has_returned: list[bool] = []
+
+    def calls() -> None:
+        call()
+        has_returned.append(True)
+
+    thread = threading.Thread(target=calls, daemon=True)
     thread.start()
     thread.join(SECONDS)
-    return not thread.is_alive()
+    return bool(has_returned)
 
 
 class Stage:
@@ -107,7 +113,7 @@ class Stage:
             self.own.commit(self.epoch, [Register(f"given-up-{self.epoch}", b"key")])
 
     def goes_on(self) -> bool:
-        """Whether the next calls end, and show what was acknowledged."""
+        """Whether the next calls return, and show what was acknowledged."""
         return ends(self.commit) and ends(self._look) and {*self.there} <= {*self.own.chain()}
 
     def _look(self) -> None:

@@ -153,7 +153,9 @@ def try_same(tell: Tell, program: str) -> None:
                 tell(f"{what}, {how}: the latest", found.names == latest.names and found.link == latest.link)
                 for epoch in [epoch for epoch in epochs if epoch < at]:
                     raises(tell, f"{what}, {how}: epoch {epoch} is gone", UnknownEpoch, lambda: it.own.lookup("user-1-0", epoch))
-                    raises(tell, f"{what}, {how}: so is its history", UnknownEpoch, lambda: it.own.history("user-1-0", b"", epoch, 13))
+                    raises(
+                        tell, f"{what}, {how}: so is its history", UnknownEpoch, lambda: it.own.history("user-1-0", b"", epoch, 13)
+                    )
                 tell(f"{what}, {how}: a history from there", len(it.own.history("user-1-0", b"", at, 13)) > 0)
         it.own.commit(14, [Change("user-1-0", b"last")], bytes(32))
         tell("same: the next epoch", shown(it.own.lookup("user-1-0")) == b"last" and it.own.chain()[:-1] == chain)
@@ -203,11 +205,18 @@ def try_promises(tell: Tell, program: str) -> None:
             with mock.patch("time.time", lambda: START + 4 * PERIOD + late):
                 later = next((epoch for epoch in (5, 6) if epoch > first), None)
                 if later:
-                    raises(tell, f"promises: {late} s after epoch 5 began, epoch {later}", ProviderError, lambda: it.own.compact(later))
+                    raises(
+                        tell, f"promises: {late} s after epoch 5 began, epoch {later}", ProviderError, lambda: it.own.compact(later)
+                    )
                 it.own.compact()
             tell(f"promises: {late} s after epoch 5 began, the first is {first}", it.own.lookup("user-1", first).epoch == first)
             before = {2: 1, 5: 2, 6: 5}[first]
-            raises(tell, f"promises: {late} s after epoch 5 began, {before} is gone", UnknownEpoch, lambda: it.own.lookup("user-1", before))
+            raises(
+                tell,
+                f"promises: {late} s after epoch 5 began, {before} is gone",
+                UnknownEpoch,
+                lambda: it.own.lookup("user-1", before),
+            )
 
 
 def try_pending(tell: Tell, program: str) -> None:
@@ -287,7 +296,12 @@ def altered(lines: Sequence[bytes]) -> Iterator[tuple[str, Sequence[bytes]]]:
         yield f"without line {number}", [*lines[:number], *lines[number + 1 :]]
         yield f"with line {number} twice", [*lines[: number + 1], *lines[number:]]
     for number in range(len(lines) - 1):
-        yield f"lines {number} and {number + 1} exchanged", [*lines[:number], lines[number + 1], lines[number], *lines[number + 2 :]]
+        yield f"lines {number} and {number + 1} exchanged", [
+            *lines[:number],
+            lines[number + 1],
+            lines[number],
+            *lines[number + 2 :],
+        ]
     yield "a line that goes on", [*lines, b'{"cmd":"latest"}']
     yield "a line of a log", [*lines[:-1], b'{"cmd":"prepare","epoch":99,"ops":[]}', last]
     yield "an open line", [b'{"cmd":"open","nonce":"%064d","policy":"%064d"}' % (0, 0), *lines]
@@ -416,7 +430,9 @@ def try_older(tell: Tell, program: str) -> None:
         it.path.write_bytes(whole)
         shutil.copy(other.snapshot, it.snapshot)
         it.log = FileLog(it.path)
-        refused(tell, "older: that of another directory", (provider.ReplayDiffers, SnapshotDiffers, ProgramFailed, LogFailed), it.start)
+        refused(
+            tell, "older: that of another directory", (provider.ReplayDiffers, SnapshotDiffers, ProgramFailed, LogFailed), it.start
+        )
         it.snapshot.write_bytes(newer)
         tell("older: what belongs together", it.again().latest().epoch == 5)
         raises(tell, "older: a log that is compacted at an older position", Overtaken, lambda: it.log.compact(5, []))
@@ -489,7 +505,10 @@ def try_drops(tell: Tell, program: str) -> None:
         for number in (3, 3, 2, position, position):
             it.log.drop_before(number)
             begin = max(number, 3)
-            tell(f"drops: {number}: the file", it.path.read_bytes() == b'{"first":%d}\n' % begin + b"".join(whole.splitlines(True)[begin:]))
+            tell(
+                f"drops: {number}: the file",
+                it.path.read_bytes() == b'{"first":%d}\n' % begin + b"".join(whole.splitlines(True)[begin:]),
+            )
             tell(f"drops: {number}: the rights", (it.path.stat().st_mode & 0o777) == 0o600)
             tell(f"drops: {number}: the lines", [*it.log.read(position)] == whole.splitlines()[position:])
             raises(tell, f"drops: {number}: an earlier line", LinesDropped, lambda: it.log.read(begin - 1))
@@ -509,7 +528,9 @@ def try_drops(tell: Tell, program: str) -> None:
         raised = raises(tell, "drops: the snapshot is lost", LinesDropped, it.start)
         tell("drops: the snapshot is lost: it says which one to restore", f"at least {position}" in str(raised), raised)
         raises(tell, "drops: a new directory over the rest", LinesDropped, lambda: it.start(create=True))
-        raises(tell, "drops: the rest is no new log", DirectoryExists, lambda: FileLog.create(it.path)) if it.log.close() is None else None
+        raises(
+            tell, "drops: the rest is no new log", DirectoryExists, lambda: FileLog.create(it.path)
+        ) if it.log.close() is None else None
         it.snapshot.write_bytes(backup)
         it.snapshot.chmod(0o600)
         tell("drops: the snapshot is put back", len(it.again().chain()) == 5)
@@ -567,7 +588,10 @@ def try_lies(tell: Tell, program: str) -> None:
             (it.room / "first").rename(it.snapshot)
             before, pid, there = it.snapshot.read_bytes(), own.pid, seen(own, [1, 2])
             raises(tell, f"lies: {mode}", error, lambda: own.compact(2))
-            tell(f"lies: {mode}: the snapshot stays", it.snapshot.read_bytes() == before and not (it.room / "log.snapshot.new").exists())
+            tell(
+                f"lies: {mode}: the snapshot stays",
+                it.snapshot.read_bytes() == before and not (it.room / "log.snapshot.new").exists(),
+            )
             tell(f"lies: {mode}: the child stays", own.pid == pid and seen(own, [1, 2]) == there)
             own.commit(3, [])
             it.program = program
