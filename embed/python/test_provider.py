@@ -1,7 +1,7 @@
 #!/usr/bin/env python3
 """Tries coniks.provider over the program `provider`: its errors, a commit that stops at each step, an operator's mistakes,
-snapshots, interrupts at each bytecode, a full disk, honest runs whose key must sign one chain, and kills. Before that it tries coniks.guard
-and coniks.policy, which need no program.
+snapshots, interrupts at each bytecode, a full disk, honest runs whose key must sign one chain, and kills. Before that it tries
+coniks.guard and coniks.policy, which need no program.
 
     embed/python/test_provider.py                        over crates/provider/out/provider
     embed/python/test_provider.py PROVIDER KILLS HONEST  over another program, killed KILLS times instead of 10, a guard of 20, and
@@ -32,6 +32,7 @@ import mistakes
 import one_chain
 import policies
 import records
+import snapshot_files
 import snapshots
 import speed
 import stand_ins
@@ -63,7 +64,8 @@ def main(words: Sequence[str]) -> int:
         mistakes.try_mistakes(tally.tell, str(program))
         for test in (one_chain.try_one_chain, records.try_records, formats.try_formats, clocks.try_clocks):
             test(tally.tell, str(program))
-        snapshots.try_snapshots(tally.tell, tally.skip, str(program))
+        snapshots.try_snapshots(tally.tell, str(program))
+        snapshot_files.try_files(tally.tell, tally.skip, str(program))
         interrupts.try_interrupts(tally.tell, str(program))
         honest.try_honest(tally.tell, str(program), int(words[2]) if len(words) > 2 else 150)
         kills.try_kills(tally.tell, str(program), int(words[1]) if len(words) > 1 else 10)

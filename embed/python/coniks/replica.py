@@ -200,6 +200,7 @@ class Replica(Directory):
             # It must not end the child that the replica goes on with.
             provider._unused.detach()
             provider._work.stop()
+            provider._compacting.stop()
             self._broken = provider._broken
             if not isinstance(error, SignerFailed):
                 # What the child has installed may not be what the log will have.

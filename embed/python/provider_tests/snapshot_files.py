@@ -1,0 +1,399 @@
+"""The files of a snapshot and of a log whose lines were dropped: which are refused, and what is left on a full disk."""
+
+from __future__ import annotations
+
+import json
+import os
+import shutil
+import tempfile
+from hashlib import sha256
+from pathlib import Path
+from typing import Any, Callable, Iterator, Sequence
+
+from snapshots import Stage, fill, refused, seen, staged
+from stand_ins import HERE, POLICY, Salted, Signer, Tell, index, opened, shown, small_disk
+from units import raises
+from coniks import Head, provider
+from coniks.provider import Change, DirectoryExists, FileLog, LinesDropped, LogBehind, LogFailed, LogRefused, Overtaken
+from coniks.provider import ProgramFailed, Provider, Register, SnapshotDiffers, entries
+
+
+def altered(lines: Sequence[bytes]) -> Iterator[tuple[str, Sequence[bytes]]]:
+    """Snapshots that differ from a genuine one."""
+    header, entered, restore, *pages, last = lines
+    said, chain, page = json.loads(header), json.loads(entered)["entries"], json.loads(pages[0])["bindings"]
+    text: Callable[[Any], bytes] = lambda it: json.dumps(it, separators=(",", ":")).encode()
+
+    def headed(**more: Any) -> list[bytes]:
+        return [text({**said, **more}), *lines[1:]]
+
+    def chained(*listed: str, count: int = 0) -> list[bytes]:
+        whole = [text({**said, "epochs": count or len(listed)}), text({"entries": listed})]
+        return [*whole, text({"cmd": "restore", "entry": listed[-1] if listed else chain[-1]}), *pages, last]
+
+    def bound(*listed: Any) -> list[bytes]:
+        return [text({**said, "names": len(listed)}), *lines[1:3], text({"cmd": "restoring", "bindings": listed}), *pages[1:], last]
+
+    def flipped(digits: str, at: int) -> str:
+        return digits[:at] + ("0" if digits[at] != "0" else "1") + digits[at + 1 :]
+
+    yield "nothing", []
+    yield "an empty line alone", [b""]
+    yield "the header alone", [header]
+    yield "without its last line", lines[:-1]
+    yield "a last line that is cut", [*lines[:-1], last[:-1]]
+    for number in range(len(lines)):
+        yield f"without line {number}", [*lines[:number], *lines[number + 1 :]]
+        yield f"with line {number} twice", [*lines[: number + 1], *lines[number:]]
+    for number in range(len(lines) - 1):
+        yield f"lines {number} and {number + 1} exchanged", [
+            *lines[:number],
+            lines[number + 1],
+            lines[number],
+            *lines[number + 2 :],
+        ]
+    yield "a line that goes on", [*lines, b'{"cmd":"latest"}']
+    yield "a line of a log", [*lines[:-1], b'{"cmd":"prepare","epoch":99,"ops":[]}', last]
+    yield "an open line", [b'{"cmd":"open","nonce":"%064d","policy":"%064d"}' % (0, 0), *lines]
+    for junk in [b"", b"[]", b"null", b"{", b"\xff", b"\0", b"[" * 100000, b'{"cmd":7}', b'{"cmd":null}', b'{"entries":[]}', b"7"]:
+        yield f"junk, {junk[:9]!r}", [*lines[:3], junk, *lines[3:]]
+        yield f"junk in front, {junk[:9]!r}", [junk, *lines]
+    for member in ("snapshot", "position", "epochs", "names"):
+        for value in (None, "1", -1, 1.0, True, [], 2**70, said[member] + 1, said[member] - 1):
+            if value != said[member] or type(value) is not int:
+                yield f"{member} {value!r}", headed(**{member: value})
+    yield "another policy", headed(policy="00" * 32)
+    yield "another log", headed(log=3)
+    for entries_ in [7, "aa", [], [7], ["aa"], [None], [chain[0] + "0"], ["zz" * 209]]:
+        yield f"entries {entries_!r}"[:40], [header, text({"entries": entries_}), *lines[2:]]
+    yield "no entry", chained(count=1)
+    yield "without the first entry", chained(*chain[1:])
+    yield "without an entry", chained(*chain[:1], *chain[2:])
+    yield "without the last entry", chained(*chain[:-1])
+    yield "two entries exchanged", chained(*chain[:-2], chain[-1], chain[-2])
+    for at in (1, 17, 33, 40, 100, 180, 270, 400):
+        yield f"an entry with another digit, {at}", chained(flipped(chain[0], at), *chain[1:])
+    for at in (1, 17, 33, 40, 100, 270):
+        yield f"a last entry with another digit, {at}", chained(*chain[:-1], flipped(chain[-1], at))
+    yield "another entry to restore", [header, entered, text({"cmd": "restore", "entry": chain[0]}), *pages, last]
+    yield "an entry to restore that isn't one", [header, entered, text({"cmd": "restore", "entry": 7}), *pages, last]
+    yield "a binding less", bound(*page[1:])
+    yield "a binding twice", bound(*page, page[0])
+    yield "a binding more", bound(*page, {"index": "00" * 32, "key": "aw==", "name": "more", "opening": "00" * 32})
+    for member, value in [("key", "b3RoZXI="), ("name", "other"), ("index", "ab" * 32), ("opening", "ab" * 32)]:
+        yield f"a binding with another {member}", bound({**page[0], member: value}, *page[1:])
+        yield f"a binding without {member}", bound({it: page[0][it] for it in page[0] if it != member}, *page[1:])
+    yield "bindings that are none", [*lines[:3], b'{"cmd":"restoring","bindings":7}', *lines[4:]]
+    yield "another link", [*lines[:-1], b'{"cmd":"restored","link":"%064d"}' % 0]
+    yield "a link of junk", [*lines[:-1], b'{"cmd":"restored","link":"x"}']
+
+
+def try_altered(tell: Tell, program: str) -> None:
+    """Each altered snapshot is refused, and the log alone still makes the directory."""
+    with staged(program) as it:
+        fill(it.own, [1, 2, 3, 4], 2)
+        it.own.compact(3)
+        genuine, chain, asked = it.lines(), it.own.chain(), it.signer.file.read_bytes()
+        it.close()
+        count = 0
+        for what, lines in altered(genuine):
+            it.write(lines)
+            it.log = FileLog(it.path)
+            refused(tell, f"altered: {what}", (SnapshotDiffers, LogFailed, provider.ReplayDiffers), it.start)
+            it.log.close()
+            count += 1
+        tell("altered: many were tried", count > 100, count)
+        tell("altered: the signer isn't asked", it.signer.file.read_bytes() == asked)
+        it.write(genuine)
+        tell("altered: the genuine one", it.again().chain() == chain)
+        it.write(genuine[:-1])
+        raises(tell, "altered: a restart", SnapshotDiffers, it.own.restart)
+        tell("altered: lookups go on", it.own.lookup("user-1-0").epoch == 4 and it.own.commit(5, []).epoch == 5)
+        it.own.compact()
+        tell("altered: another one takes its place", it.again().latest().epoch == 5)
+        it.snapshot.unlink()
+        tell("altered: without it the log has all", len(it.again().chain()) == 5 and it.own.lookup("user-1-0", 1).epoch == 1)
+
+
+def try_signature(tell: Tell, program: str) -> None:
+    """A snapshot whose entry isn't signed is refused, also if a link of it is the one that the lines have."""
+    with staged(program) as it:
+        fill(it.own, [1, 2])
+        it.own.compact()
+        *lines, _ = it.lines()
+        entry = it.own.chain()[-1]
+        other = entry[:145] + bytes(64)
+        it.close()
+        text = b"\n".join(lines).replace(entry.hex().encode(), other.hex().encode())
+        link = sha256(b"\x53" + other).hexdigest().encode()
+        it.write([*text.split(b"\n"), b'{"cmd":"restored","link":"' + link + b'"}'])
+        it.log = FileLog(it.path)
+        calls: list[tuple[bytes, bytes]] = []
+
+        def verify(body: bytes, signature: bytes) -> bool:
+            calls.append((body, signature))
+            return it.signer.verify(body, signature)
+
+        raises(tell, "signature: a wrong one", SnapshotDiffers, lambda: it.start(verify=verify))
+        tell("signature: it was verified", calls == [(other[:145], other[145:])])
+        for said in (1, None, "yes"):
+            raises(tell, f"signature: verified as {said!r}", SnapshotDiffers, lambda: it.start(verify=lambda *_: said))
+        raises(tell, "signature: one that fails to be verified", LogFailed, lambda: it.start(verify=lambda *_: 1 // 0))
+        # The signer has signed another entry.
+        raises(tell, "signature: nobody verifies it, and the record has another", provider.LogForked, lambda: it.start(verify=None))
+
+
+def try_older(tell: Tell, program: str) -> None:
+    """Older genuine snapshots, shorter logs, and those of other directories."""
+    with staged(program) as it, staged(program) as other:
+        fill(other.own, [1, 2, 3])
+        other.own.compact()
+        other.close()
+        fill(it.own, [1, 2, 3])
+        it.own.compact(2)
+        older = it.room / "older"
+        shutil.copy(it.snapshot, older)
+        fill(it.own, [4, 5])
+        it.own.compact(4)
+        head, whole = Head(5, it.own.latest().link), it.path.read_bytes()
+        newer = it.snapshot.read_bytes()
+        shutil.copy(older, it.snapshot)
+        tell("older: an older snapshot, and all lines", it.again().latest().epoch == 5 and it.own.lookup("user-1-0", 2).epoch == 2)
+        it.close()
+        lines = whole.splitlines(True)
+        it.path.write_bytes(b"".join(lines[:10]))
+        tell("older: a log that lost the last line, which is made again", it.again().latest().link == head.link)
+        it.close()
+        for count, what in [(9, "an epoch"), (5, "all epochs after it")]:
+            it.path.write_bytes(b"".join(lines[:count]))
+            it.log = FileLog(it.path)
+            raises(tell, f"older: an older snapshot, and a log that lost {what}", LogBehind, it.start)
+            raises(tell, f"older: it, and a head, {what}", LogBehind, lambda: opened(program, it.log, it.signer, head=head))
+            it.log.close()
+        it.snapshot.write_bytes(newer)
+        for count in (8, 5, 1):
+            it.path.write_bytes(b"".join(lines[:count]))
+            it.log = FileLog(it.path)
+            raised = raises(tell, f"older: a log of {count} lines, which ends before its snapshot", LogFailed, it.start)
+            tell(f"older: a log of {count} lines: it says what to restore", "restore" in str(raised), raised)
+            it.log.close()
+        it.path.write_bytes(whole)
+        shutil.copy(other.snapshot, it.snapshot)
+        it.log = FileLog(it.path)
+        refused(
+            tell, "older: that of another directory", (provider.ReplayDiffers, SnapshotDiffers, ProgramFailed, LogFailed), it.start
+        )
+        it.snapshot.write_bytes(newer)
+        tell("older: what belongs together", it.again().latest().epoch == 5)
+        raises(tell, "older: a log that is compacted at an older position", Overtaken, lambda: it.log.compact(5, []))
+        tell("older: the newer snapshot stays", it.snapshot.read_bytes() == newer)
+
+
+def try_kinds(tell: Tell, program: str) -> None:
+    """The file's rights and kind, and what is left of another process."""
+    with staged(program) as it:
+        fill(it.own, [1, 2])
+        new = it.room / "log.snapshot.new"
+        for what, mode in [("a rest", 0o600), ("a rest that others read", 0o666)]:
+            new.write_bytes(b"x" * 9999)
+            new.chmod(mode)
+            it.own.compact()
+            tell(f"files: {what}", not new.exists() and (it.snapshot.stat().st_mode & 0o777) == 0o600)
+        new.symlink_to(it.path)
+        raises(tell, "files: a link in place of the new one", LogRefused, it.own.compact)
+        new.unlink()
+        new.mkdir()
+        raises(tell, "files: a folder in place of the new one", LogRefused, it.own.compact)
+        new.rmdir()
+        it.snapshot.chmod(0o640)
+        raised = raises(tell, "files: a snapshot that others read", LogFailed, it.own.restart)
+        tell("files: it says how to change it", "chmod 600" in str(raised), raised)
+        it.snapshot.unlink()
+        it.snapshot.mkdir()
+        raises(tell, "files: a folder in place of the snapshot", LogFailed, it.own.restart)
+        it.snapshot.rmdir()
+        os.mkfifo(it.snapshot, 0o600)
+        raises(tell, "files: a pipe in place of the snapshot", LogFailed, it.own.restart)
+        it.snapshot.unlink()
+        tell("files: all is right again", it.own.compact() == 5)
+
+
+def try_calls(tell: Tell, program: str) -> None:
+    """Calls of a log at a wrong time, or beside other files."""
+    with staged(program) as it:
+        fill(it.own, [1, 2])
+        it.own.compact()
+        for position, error in [(-1, Overtaken), (0, Overtaken), (6, ValueError), (99, ValueError)]:
+            raises(tell, f"calls: a snapshot at {position}", error, lambda: it.log.compact(position, [b"{}"]))
+        moved = it.path.rename(it.room / "moved")
+        raises(tell, "calls: a log that was moved", LogRefused, it.own.compact)
+        moved.rename(it.path)
+        tell("calls: it is put back", it.own.compact() == 5)
+        it.close()
+        for what, call in [("compact", lambda: it.log.compact(5, [])), ("drop_before", lambda: it.log.drop_before(0))]:
+            raises(tell, f"calls: {what} of a closed log", LogFailed, call)
+        raises(tell, "calls: snapshot of a closed log", LogFailed, it.log.snapshot)
+        whole = it.path.read_bytes()
+        it.path.unlink()
+        raises(tell, "calls: a new log beside a snapshot", DirectoryExists, lambda: FileLog.create(it.path))
+        it.log = FileLog(it.path)
+        raises(tell, "calls: a new directory beside a snapshot", LogFailed, lambda: it.start(create=True))
+        raises(tell, "calls: a first line beside a snapshot", DirectoryExists, lambda: it.log.append(0, b'{"cmd":"open"}'))
+        tell("calls: nothing is made", not it.path.exists())
+        it.log.close()
+        it.path.write_bytes(whole)
+        it.path.chmod(0o600)
+        tell("calls: all is put back", it.again().latest().epoch == 2)
+
+
+def try_drops(tell: Tell, program: str) -> None:
+    """What is left of a file, and what a start makes of it."""
+    with staged(program) as it:
+        fill(it.own, [1, 2, 3, 4])
+        for position in (0, 1, 9):
+            raised = raises(tell, f"drops: {position}, without a snapshot", LogRefused, lambda: it.log.drop_before(position))
+            tell(f"drops: {position}: it says what to do", "compact" in str(raised), raised)
+        position, chain, before = it.own.compact(3), it.own.chain(), seen(it.own, [3, 4])
+        whole = it.path.read_bytes()
+        for above in (position + 1, 9, 10, -1):
+            raises(tell, f"drops: {above}, which isn't below the snapshot", LogRefused, lambda: it.log.drop_before(above))
+        tell("drops: nothing is dropped", it.path.read_bytes() == whole)
+        for number in (3, 3, 2, position, position):
+            it.log.drop_before(number)
+            begin = max(number, 3)
+            left = b'{"first":%d}\n' % begin + b"".join(whole.splitlines(True)[begin:])
+            tell(f"drops: {number}: the file", it.path.read_bytes() == left and (it.path.stat().st_mode & 0o777) == 0o600)
+            tell(f"drops: {number}: the lines", [*it.log.read(position)] == whole.splitlines()[position:])
+            raises(tell, f"drops: {number}: an earlier line", LinesDropped, lambda: it.log.read(begin - 1))
+            raises(tell, f"drops: {number}: the file is locked", LogFailed, lambda: FileLog(it.path))
+        it.own.commit(5, [Register("after", b"key")])
+        calls: list[tuple[str, Callable[[], object]]] = [("as it is", str), ("restart", it.own.restart), ("start", it.again)]
+        for how, call in calls:
+            call()
+            tell(f"drops: {how}: the chain", it.own.chain()[:4] == chain and [*entries(it.log)] == it.own.chain())
+            tell(f"drops: {how}: lookups", seen(it.own, [3, 4]) == before and shown(it.own.lookup("after")) == b"key")
+
+
+def try_backups(tell: Tell, program: str) -> None:
+    """A snapshot that is lost after lines were dropped, and backups that are put back."""
+    with staged(program) as it:
+        fill(it.own, [1, 2, 3, 4])
+        position = it.own.compact(3)
+        it.log.drop_before(position)
+        it.own.commit(5, [])
+        it.close()
+        backup, log = it.snapshot.read_bytes(), it.path.read_bytes()
+        it.snapshot.unlink()
+        it.log = FileLog(it.path)
+        raised = raises(tell, "backups: the snapshot is lost", LinesDropped, it.start)
+        tell("backups: it says which one to restore", f"at least {position}" in str(raised), raised)
+        raises(tell, "backups: a new directory over the rest", LinesDropped, lambda: it.start(create=True))
+        it.log.close()
+        raises(tell, "backups: the rest is no new log", DirectoryExists, lambda: FileLog.create(it.path))
+        it.snapshot.write_bytes(backup)
+        it.snapshot.chmod(0o600)
+        tell("backups: the snapshot is put back", len(it.again().chain()) == 5)
+        it.own.compact()
+        it.log.drop_before(11)
+        tell("backups: all lines are dropped", it.path.read_bytes() == b'{"first":11}\n')
+        it.own.commit(6, [])
+        it.close()
+        it.snapshot.write_bytes(backup)
+        it.log = FileLog(it.path)
+        raises(tell, "backups: an older snapshot", LinesDropped, it.start)
+        it.log.close()
+        it.path.write_bytes(log)
+        it.log = FileLog(it.path)
+        raises(tell, "backups: an older snapshot and an older log: the guard knows", LogBehind, it.start)
+
+
+def try_beginnings(tell: Tell) -> None:
+    """First lines of a file that say where it begins."""
+    with tempfile.TemporaryDirectory() as room:
+        path = Path(room) / "log"
+        for text, first in [(b'{"first":1}\n', 1), (b'{"first":18446744073709551615}\n', 2**64 - 1), (b'{"first":7}\nab\nc', 7)]:
+            path.write_bytes(text)
+            path.chmod(0o600)
+            with FileLog(path) as log:
+                tell(f"beginnings: {text!r}", [*log.read(first)] == text.split(b"\n")[1:-1])
+                raises(tell, f"beginnings: {text!r}: a line before", LinesDropped, lambda: log.read(first - 1))
+        for text in [b'{"first":0}\n', b'{"first":01}\n', b'{"first":1}', b'{"first": 1}\n', b'{"first":-1}\n', b'{"first":1.0}\n',
+                     b'{"first":100000000000000000000000}\n', b'{"first":1}\r\n', b' {"first":1}\n', b'{"first":"1"}\n']:  # fmt: skip
+            path.write_bytes(text)
+            raises(tell, f"beginnings: {text!r}", LogFailed, lambda: FileLog(path))
+            tell(f"beginnings: {text!r}: it is left", path.read_bytes() == text)
+
+
+def try_full_disk(tell: Tell, skip: Callable[[str, str], None], program: str) -> None:
+    """A disk that gets full while a snapshot is stored, or the rest of a log."""
+    with small_disk("256k") as disk:
+        if not os.path.ismount(disk):
+            return skip("snapshots on a full disk", "the right to mount a tmpfs")
+        it = Stage(disk, program)
+        try:
+            fill(it.own, [1, 2], 120)
+            it.own.compact(1)
+            before, pid = it.snapshot.read_bytes(), it.own.pid
+            ballast = disk / "ballast"
+            room = os.statvfs(disk)
+            ballast.write_bytes(bytes(room.f_bavail * room.f_frsize - 2 * 4096))
+            raised = raises(tell, "full disk: compact", LogRefused, it.own.compact)
+            tell("full disk: it says what to repair", "No space" in str(raised), raised)
+            tell("full disk: the older one stays", it.snapshot.read_bytes() == before and not (disk / "log.snapshot.new").exists())
+            tell("full disk: the child stays", it.own.pid == pid and it.own.lookup("user-1-0", 1).epoch == 1)
+            it.own.commit(3, [Change("user-1-0", b"small")])
+            whole = it.path.read_bytes()
+            raises(tell, "full disk: drop_before", LogRefused, lambda: it.log.drop_before(3))
+            tell("full disk: the log stays", it.path.read_bytes() == whole and not (disk / "log.new").exists())
+            it.own.commit(4, [Change("user-1-0", b"small too")])
+            ballast.unlink()
+            tell("full disk: then there is room", it.own.compact() == 9)
+            it.log.drop_before(9)
+            tell("full disk: and a start", it.again().latest().epoch == 4)
+        finally:
+            it.close()
+
+
+def try_old_logs(tell: Tell, program: str) -> None:
+    """A log of the first format stays one. Its header has no `log`."""
+    with tempfile.TemporaryDirectory() as room:
+        path = Path(room) / "log"
+        shutil.copy(HERE / "first_format.jsonl", path)
+        path.chmod(0o600)
+        signer = Signer(room, Salted())
+        policy = bytes.fromhex(json.loads(path.read_bytes().splitlines()[0])["policy"])
+        more: dict[str, Any] = {"policy": policy, "verify": None, "check_indices": False, "sign_pending": False}
+        with FileLog(path) as log, opened(program, log, signer, **more) as own:
+            chain, pending = own.chain(), own.pending
+            own.compact()
+            header = json.loads((path.with_name("log.snapshot")).read_bytes().splitlines()[0])
+            tell("old logs: the header has no log", "log" not in header and header["epochs"] == len(chain), header)
+            own.restart(sign_pending=False)
+            tell("old logs: a start", own.chain() == chain and own.pending == pending)
+
+
+def try_openings(tell: Tell, program: str) -> None:
+    """What a start compares with the `open` line, it compares with the snapshot too."""
+    with staged(program, vrf_public_key=bytes(32), nonce=bytes([5]) * 32) as it:
+        fill(it.own, [1, 2, 3])
+        it.log.drop_before(it.own.compact())
+        wrong_: dict[str, Any] = {"nonce": bytes(32), "vrf_public_key": bytes([1]) * 32, "policy": bytes(32)}
+        for what, value in wrong_.items():
+            it.close()
+            it.log = FileLog(it.path)
+            raises(tell, f"openings: another {what}", LogFailed, lambda: it.start(**{what: value}))
+        tell("openings: the right ones", it.again().latest().epoch == 3)
+        it.close()
+        it.log = FileLog(it.path)
+        settings: dict[str, Any] = {"policy": POLICY, "verify": it.signer.verify, "nonce": bytes([5]) * 32}
+        other: Callable[[str], bytes] = lambda name: sha256(name.encode()).digest()
+        raises(tell, "openings: another VRF", provider.OtherIndex, lambda: Provider(program, other, it.signer, it.log, **settings))
+        with Provider(program, index, it.signer, it.log, **settings) as own:
+            tell("openings: the right VRF", own.latest().epoch == 3)
+
+
+def try_files(tell: Tell, skip: Callable[[str, str], None], program: str) -> None:
+    try_beginnings(tell)
+    for test in (try_altered, try_signature, try_older, try_kinds, try_calls, try_drops, try_backups, try_old_logs, try_openings):
+        test(tell, program)
+    try_full_disk(tell, skip, program)
