@@ -247,8 +247,10 @@ class Host:
     def leave(old: Engine) -> None:
         """Ends the child of an engine that another one took the place of, after the lookups that it is answering."""
         with old.asking:
-            old.child.kill()
-            old.child.stop(0)
+            # Lookups that wait for it go to the other one, and not until this one's memory is gone.
+            old.child.is_sound = False
+        old.child.kill()
+        old.child.stop(0)
 
     def forked(self, error: ProviderError, new: Optional[Engine] = None) -> ProviderError:
         """Keeps the evidence of an error, and returns it. Without another engine the log's entries are read from the log."""

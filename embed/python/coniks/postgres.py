@@ -241,7 +241,8 @@ class PostgresLog(Closing):
         if not rows:
             self._check(session)
             before = {"position": row["position"] - 1, "token": row["before"]}
-            if self._rows(session, "count")[0][0] > row["position"]:
+            first = self._rows(session, "first")[0][0]
+            if first is not None and first >= row["position"]:
                 raise Overtaken(f"another provider has gone on in {self}, and dropped line {row['position']}: open a replica")
             if row["before"] is not None and self._rows(session, "is_mine", before) == [(False,)]:
                 raise Overtaken(f"line {before['position']} of {self} isn't the one that this process has seen: restart")
