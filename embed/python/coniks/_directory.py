@@ -18,6 +18,8 @@ from .log import Closing, Log
 from .policy import Policy
 
 Result = TypeVar("Result")
+# How often another child reads on before changes wait for it.
+_ROUNDS = 3
 
 
 def drop(work: Worker, compacting: Worker, host: Host) -> None:
@@ -91,7 +93,7 @@ class Directory(Closing):
     def _swap(self, new: Engine) -> None:
         """Puts an engine that was restored from a snapshot in the place of this one, once it has replayed the same lines and has
         the same. Lookups go on meanwhile."""
-        while new.position < self._host.known.position:
+        for _ in range(_ROUNDS):
             new.follow(self._host.known.position)
         with self._host.changing:
             engine = self._host.sound()

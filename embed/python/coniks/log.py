@@ -6,7 +6,9 @@ import io
 import os
 import re
 import weakref
+from bisect import bisect_right
 from contextlib import suppress
+from itertools import islice
 from typing import Iterable, Iterator, NamedTuple, Optional, Protocol, TypeVar
 
 from ._files import (
@@ -93,15 +95,30 @@ class Closing:
 
 
 class _Opened(NamedTuple):
-    """A log's file: the position of its first line and where that begins, how many positions are taken, and where the last line
-    ends. It is one value, so that each reader has all of it or none."""
+    """A log's file: how many positions are taken, and where the last line ends. It is one value, so that each reader has all of it
+    or none. `marks` are positions of some lines and where these begin, the first one and about one in each mebibyte."""
 
     file: io.FileIO
     identity: tuple[int, int]
-    first: int
-    start: int
     lines: int
     end: int
+    marks: list[tuple[int, int]]
+
+    @property
+    def first(self) -> int:
+        """The position of the first line."""
+        return self.marks[0][0]
+
+    def before(self, position: int) -> tuple[int, int]:
+        """The mark at a position, or the last one before it."""
+        return self.marks[max(0, bisect_right(self.marks, (position, self.end)) - 1)]
+
+    def extended(self, size: int) -> _Opened:
+        """What it is after a line of this size."""
+        lines, end = self.lines + 1, self.end + size
+        if end - self.marks[-1][1] >= CHUNK:
+            self.marks.append((lines, end))
+        return self._replace(lines=lines, end=end)
 
 
 class FileLog(Closing):
@@ -193,8 +210,9 @@ class FileLog(Closing):
     def _mended(self, opened: io.FileIO) -> _Opened:
         """The file's whole lines. What follows them is dropped, and the last one is on the disk."""
         file = opened.fileno()
-        first, begin = self._beginning(file)
-        count, start, end, at = first, begin, begin, begin
+        marks = [self._beginning(file)]
+        [(count, end)] = marks
+        start = at = end
         while chunk := os.pread(file, CHUNK, at):
             last = chunk.rfind(b"\n")
             if last >= 0:
@@ -202,16 +220,18 @@ class FileLog(Closing):
                 start, end = end if before < 0 else at + before + 1, at + last + 1
             count += chunk.count(b"\n")
             at += len(chunk)
+            marks.append((count, end))
         line = os.pread(file, end - start, start)
         # No line has a zero byte. After a power failure a file has them in place of what wasn't written.
         if b"\0" in line:
             count, end, line = count - 1, start, b""
+            marks = [it for it in marks if it <= (count, end)]
         os.ftruncate(file, end)
         # A process that was killed, or whose sync failed, may have left the last line in the page cache alone. It is written
         # again, because a page whose write failed counts as written.
         write_at(file, line, end - len(line))
         os.fsync(file)
-        return _Opened(opened, identity_of(file), first, begin, count, end)
+        return _Opened(opened, identity_of(file), count, end, marks)
 
     def _beginning(self, file: int) -> tuple[int, int]:
         """The position of the first line, and where that begins."""
@@ -259,7 +279,7 @@ class FileLog(Closing):
             raise
         # Whoever opens the path now must find this line.
         self._check_place(LogFailed, end + len(line) + 1)
-        self._opened = self._opened._replace(lines=position + 1, end=end + len(line) + 1)
+        self._opened = self._opened.extended(len(line) + 1)
         self._is_bad = False
 
     def check_writable(self) -> None:
@@ -307,8 +327,9 @@ class FileLog(Closing):
             )
 
     def _lines(self, position: int, opened: _Opened) -> Iterator[bytes]:
-        number, parts = opened.first, [b""]
-        for chunk in chunks_of(opened.file.fileno(), opened.start, opened.end, str(self)):
+        number, start = opened.before(position)
+        parts = [b""]
+        for chunk in chunks_of(opened.file.fileno(), start, opened.end, str(self)):
             head, *lines = chunk.split(b"\n")
             parts.append(head)
             for line in lines:
@@ -381,7 +402,8 @@ class FileLog(Closing):
         if position <= opened.first:
             return
         self._check_place(LogRefused, opened.end)
-        start = opened.start + sum(len(it) + 1 for _, it in zip(range(position - opened.first), self._lines(0, opened)))
+        mark, start = opened.before(position)
+        start += sum(len(it) + 1 for it in islice(self._lines(mark, opened), position - mark))
         head = b'{"first":%d}\n' % position
         replacement = Replacement(self._path, os.fstat(opened.file.fileno()).st_mode & 0o777)
         try:
@@ -398,8 +420,9 @@ class FileLog(Closing):
                 raise
         finally:
             replacement.drop()
-        end = len(head) + opened.end - start
-        self._opened = _Opened(file, identity_of(file.fileno()), position, len(head), opened.lines, end)
+        moved = len(head) - start
+        marks = [(position, len(head)), *((number, at + moved) for number, at in opened.marks if number > position)]
+        self._opened = _Opened(file, identity_of(file.fileno()), opened.lines, opened.end + moved, marks)
         self._is_bad = False
 
     def _check(self) -> None:

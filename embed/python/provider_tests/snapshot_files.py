@@ -392,8 +392,33 @@ def try_openings(tell: Tell, program: str) -> None:
             tell("openings: the right VRF", own.latest().epoch == 3)
 
 
+def try_places(tell: Tell) -> None:
+    """Lines of a file of some mebibytes are read from each position, after each way to open it, and after lines were dropped."""
+    sizes = [17, 400_000, 1, 3_000_000, 1_048_576, 90, 1_048_575, 5, 2_000_000, 30, 700_000]
+    whole = [b'{"cmd":"open"' + b"%d" % number + b"x" * size for number, size in enumerate(sizes)]
+    with tempfile.TemporaryDirectory() as room:
+        path = Path(room) / "log"
+        log = FileLog.create(path)
+        for number, line in enumerate(whole):
+            log.append(number, line)
+        for first in (0, 1, 4, 5, 10):
+            if first:
+                log.compact(first, [b'{"snapshot":1,"position":%d}' % first, b'{"cmd":"restored","link":"%064d"}' % 0])
+                log.drop_before(first)
+            for how in ("as it is", "opened again"):
+                if how == "opened again":
+                    log.close()
+                    log = FileLog(path)
+                is_read = all([*log.read(at)] == whole[at:] for at in range(first, len(whole) + 1))
+                tell(f"places: from {first} on, {how}", is_read)
+            whole.append(b"more %d" % first * 100_000)
+            log.append(len(whole) - 1, whole[-1])
+        log.close()
+
+
 def try_files(tell: Tell, skip: Callable[[str, str], None], program: str) -> None:
     try_beginnings(tell)
+    try_places(tell)
     for test in (try_altered, try_signature, try_older, try_kinds, try_calls, try_drops, try_backups, try_old_logs, try_openings):
         test(tell, program)
     try_full_disk(tell, skip, program)
