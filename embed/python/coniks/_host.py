@@ -6,9 +6,9 @@ import threading
 import time
 from collections import deque
 from contextlib import suppress
-from dataclasses import dataclass
+from dataclasses import dataclass, replace
 from queue import Empty, SimpleQueue
-from typing import Any, Iterable, Iterator, Optional, Sequence
+from typing import Any, Callable, Iterable, Iterator, Optional, Sequence
 
 from . import BODY_LENGTH
 from ._engine import Engine, Record, Setting, two_bodies
@@ -18,6 +18,8 @@ from .faults import Closed, LinesDropped, LogForked, NoDirectory, ProgramFailed,
 
 # The most starts of a child that ended, and the seconds in which they are counted.
 _STARTS, _SECONDS = 5, 60
+Verify = Callable[[bytes, bytes], bool]
+
 # How often a start begins anew because the snapshot was replaced meanwhile.
 _TRIES = 3
 # The bytes of a group of lookups, and how many groups are sent ahead.
@@ -64,6 +66,10 @@ class Host:
         # Groups of lookups that wait for the thread, each with where its answers go.
         self._asked: SimpleQueue[Any] = SimpleQueue()
         self._thread = Worker(self._look_after)
+
+    def verify_by(self, verify: Optional[Verify]) -> None:
+        """Has the signatures of snapshots verified by another function from now on."""
+        self._setting = replace(self._setting, verify=verify or self._setting.verify)
 
     @property
     def known(self) -> Engine:

@@ -9,7 +9,7 @@ raises `NoDirectory` otherwise.
 
 `index(name)` returns the 32 bytes at which a name is stored, as the output of a verifiable random function (VRF). It returns
 the same bytes for a name each time. `sign(body)` returns the signature, 64 bytes, of the 145 bytes of a signed tree root
-(STR). `sign` must not call `commit`, `retry`, `abandon`, `restart` or `close`. Both are also called in a thread of the
+(STR). `sign` must not call `commit`, `retry`, `abandon`, `restart`, `compact` or `close`. Both are also called in a thread of the
 provider's own. `coniks.guard.Guard` is a `sign` that keeps a record. From it a provider takes three more calls, if they are
 there: `signed()` and `asked()` return the last entry that was signed, and the body that was asked for and isn't signed, or None;
 `abandon(body)` refuses a body for ever.
@@ -20,6 +20,10 @@ beside those of docs/FORMATS.md, and `abandons`, the body of the update that the
 `link`. The `open` line has `log`, the format, 2, and may have `vrf`, the SHA-256 of the VRF's public key. The program ignores
 these; a replay is compared with them. A log without `log` goes on as it is: in it a `prepare` line may replace an update without
 `abandons`.
+
+`compact` stores a snapshot of one epoch beside the log and forgets the epochs before it. A start then restores the snapshot, and
+replays the lines after it. Each entry of the snapshot must follow the one before it, and its bindings must have the root of the
+last one, whose signature `verify` must accept.
 
 What holds, if the log keeps each line whose `append` returned:
 
@@ -95,16 +99,16 @@ class Provider(Directory):
     `nonce` that of the first epoch: 32 random bytes if it is None. `vrf_public_key` is the public key of the VRF, whose SHA-256
     the log keeps. These are in the log from the first start on; later starts raise `LogFailed` if one is given that isn't the log's.
 
-    `verify(body, signature)` returns whether a signature is valid, and is called before one is installed: the program verifies
-    none. `workers` and `depth` are the program's options. `timeout` is how many seconds the program may take for one answer;
-    without it there is no limit.
+    `verify(body, signature)` returns whether a signature is valid, and is called before one is installed, and for the entry of a
+    snapshot: the program verifies none. `workers` and `depth` are the program's options. `timeout` is how many seconds the program may take for one answer;
+    without it there is no limit. A snapshot may take it for each 4,096 names.
 
     `head` is one that an auditor, a client or a replica saw. A log that ends before it raises `LogBehind`, one with another entry
     `LogForked`: pass it after a log was restored. A log that lacks what the signer's record has raises the same errors, whose
     `entries` are two entries that overlap, if there are two. A record that can't be read raises `SignerFailed`.
 
-    Starting replays the log, and asks for the indices of the first, the last and 64 random operations again: another one raises
-    `OtherIndex`, unless `check_indices` is False. Then the pending update is signed and installed, if there is one. If the
+    Starting restores the snapshot, if the log has one, and replays the lines after it. It asks for the indices of the first, the
+    last and 64 random bindings and operations again: another one raises `OtherIndex`, unless `check_indices` is False. Then the pending update is signed and installed, if there is one. If the
     signer fails, `SignerFailed` is raised. With `sign_pending=False` that update stays pending, and so does one that the signer
     has abandoned.
     """
@@ -144,6 +148,7 @@ class Provider(Directory):
         provider = cls.__new__(cls)
         Directory.__init__(provider, directory._host, directory._index, directory._log, directory._is_checking, directory._policy)
         provider._set_signer(sign, verify)
+        provider._host.verify_by(verify)
         return provider
 
     def _set_signer(self, sign: Sign, verify: Optional[Verify]) -> None:

@@ -4,7 +4,7 @@
         found = replica.lookup("alice")
 
 A replica has a child of its own, replays each line that the log gets, and compares the child's answer with the logged one. It
-asks no signer and appends nothing. Its lookups show an epoch some time after the provider's `commit` returned: `lag` returns how
+asks no signer and appends nothing. It starts from the log's snapshot, if there is one. Its lookups show an epoch some time after the provider's `commit` returned: `lag` returns how
 far it is behind, and `follow` brings it to where the log is. `promote` makes a provider of it. docs/CLUSTER.md has when to call it.
 """
 
@@ -42,10 +42,11 @@ class Lag:
 class Replica(Directory):
     """A directory that follows a log. Starting replays the log; then a thread follows it.
 
-    The arguments are those of `Provider` without the signer. If the child's answer isn't the logged one, or the log lost lines,
-    the replica stays at the epoch that it has: lookups go on, `lag().error` is the cause, `evidence` has both chains, and
-    `follow` and `promote` raise `RestartNeeded` until `restart` returns. If the log can't be read, or has a line that no provider
-    writes, the replica follows again once it can.
+    The arguments are those of `Provider` without the signer. `verify` is called for the entry of a snapshot. If the child's answer
+    isn't the logged one, or the log lost lines, the replica stays at the epoch that it has: lookups go on, `lag().error` is the
+    cause, `evidence` has both chains, and `follow` and `promote` raise `RestartNeeded` until `restart` returns. If the log can't be
+    read, or has a line that no provider writes, the replica follows again once it can. If the lines that it needs were dropped, it
+    starts again from the snapshot by itself.
     """
 
     def __init__(

@@ -1,5 +1,5 @@
 """Kills a process that commits, looks up and takes snapshots, its children or all, at random moments; then all that was
-acknowledged must be there.
+acknowledged must be there. The log is on a small disk, which is full at some moments.
 
 `drive` is the process: it commits batches, some by a signer that fails, while one thread looks names up, and another one takes
 snapshots and drops the lines below them. It lists each epoch that
@@ -18,16 +18,17 @@ import sys
 import tempfile
 import threading
 import time
+from contextlib import suppress
 from itertools import combinations
 from pathlib import Path
 from typing import Callable, Sequence
 
 from honest import is_evidence
 from stand_ins import HAS_NACL, HERE, Ed25519, Salted, Scheme, Signer, Tell, append, audited, guarded, has_library, is_new, lines
-from stand_ins import opened, shown
+from stand_ins import opened, shown, small_disk
 from coniks.guard import BodyAbandoned
-from coniks.provider import Change, Epoch, Fault, FileLog, Lookup, Operation, ProgramFailed, Provider, Register, RestartNeeded
-from coniks.provider import SignerFailed, entries
+from coniks.provider import Change, Epoch, Fault, FileLog, LogRefused, Lookup, Operation, ProgramFailed, Provider, Register
+from coniks.provider import RestartNeeded, SignerFailed, entries
 
 KINDS: dict[str, Callable[[], Scheme]] = {"salted": Salted, "ed25519": Ed25519}
 # After this number of kills a log ends and a new one begins, so that replays stay short.
@@ -81,20 +82,27 @@ def look(room: Path, provider: Provider, seed: int) -> None:
             append(room / "shown", found.entry.hex())
 
 
-def compact(provider: Provider, log: FileLog, seed: int) -> None:
-    """Takes snapshots, and drops the lines below some."""
+def compact(disk: Path, provider: Provider, log: FileLog, seed: int) -> None:
+    """Takes snapshots, and drops the lines below some. A small disk is full for some of that time."""
     chance = random.Random(seed)
     while True:
         time.sleep(chance.uniform(0, 0.05))
+        ballast = disk / "ballast"
+        if disk.is_mount() and chance.randrange(3) == 0:
+            with suppress(OSError):
+                room = os.statvfs(disk)
+                ballast.write_bytes(bytes(max(0, (room.f_bavail - chance.randrange(8)) * room.f_frsize)))
         try:
             position = provider.compact()
             if chance.randrange(2):
                 log.drop_before(position - chance.randrange(3))
-        except (Fault, ProgramFailed, RestartNeeded):
+        except (Fault, ProgramFailed, RestartNeeded, LogRefused):
             pass
+        with suppress(FileNotFoundError):
+            ballast.unlink()
 
 
-def drive(folder: str, program: str, kind: str, seed: int) -> None:
+def drive(folder: str, disk: str, program: str, kind: str, seed: int) -> None:
     chance, room = random.Random(seed), Path(folder)
     signer = Signer(room, KINDS[kind]())
 
@@ -103,17 +111,17 @@ def drive(folder: str, program: str, kind: str, seed: int) -> None:
         signer.fails = chance.randrange(5) == 0
 
     signer.before = before
-    with FileLog(room / "log") as log:
+    with FileLog(Path(disk) / "log") as log:
         while True:
             try:
                 # A process that was killed may have made the directory or not.
                 provider = opened(program, log, signer, guarded(signer), create=is_new(log))
                 break
-            except (SignerFailed, ProgramFailed):
+            except (SignerFailed, ProgramFailed, LogRefused):
                 pass
         print("ready", flush=True)
         threading.Thread(target=look, args=(room, provider, seed), daemon=True).start()
-        threading.Thread(target=compact, args=(provider, log, seed), daemon=True).start()
+        threading.Thread(target=compact, args=(Path(disk), provider, log, seed), daemon=True).start()
         while True:
             try:
                 made = some_batch(chance, provider)
@@ -122,7 +130,7 @@ def drive(folder: str, program: str, kind: str, seed: int) -> None:
                 epoch = commit(chance, provider, spent + chance.randrange(1, 3), made)
                 keys = {it.name: base64.b64encode(it.key).decode() for it in made}
                 append(room / "acknowledged", json.dumps([epoch.epoch, epoch.entry.hex(), keys]))
-            except ProgramFailed:
+            except (ProgramFailed, LogRefused):
                 go_on(chance, provider)
 
 
@@ -135,7 +143,7 @@ def go_on(chance: random.Random, provider: Provider) -> None:
             if provider.pending:
                 provider.retry()
             return
-        except ProgramFailed:
+        except (ProgramFailed, LogRefused):
             pass
         except SignerFailed as error:
             if isinstance(error.__cause__, BodyAbandoned):
@@ -156,11 +164,12 @@ def kill(process: int) -> None:
         pass
 
 
-def check(tell: Tell, what: str, room: Path, program: str, kind: str, library: bool) -> tuple[int, int]:
+def check(tell: Tell, what: str, room: Path, disk: Path, program: str, kind: str, library: bool) -> tuple[int, int]:
     """Starts once more, and compares the directory with the lists."""
     signer = Signer(room, KINDS[kind]())
     guard = guarded(signer)
-    with FileLog(room / "log") as log, opened(program, log, signer, guard, create=is_new(log)) as provider:
+    (disk / "ballast").unlink(missing_ok=True)
+    with FileLog(disk / "log") as log, opened(program, log, signer, guard, create=is_new(log)) as provider:
         by_epoch = {int.from_bytes(it[1:9], "big"): it for it in entries(log)}
         acknowledged = [json.loads(it) for it in lines(room / "acknowledged")]
         tell(
@@ -204,9 +213,9 @@ def is_abandoned(provider: Provider) -> bool:
         return isinstance(error.__cause__, BodyAbandoned)
 
 
-def one_kill(chance: random.Random, room: Path, program: str, kind: str) -> tuple[str, bool]:
+def one_kill(chance: random.Random, room: Path, disk: Path, program: str, kind: str) -> tuple[str, bool]:
     """Starts the process, and kills it or its child, and then it: some time after its start, or after it has replayed the log."""
-    words = [sys.executable, str(HERE / "kills.py"), str(room), program, kind, str(chance.randrange(1 << 30))]
+    words = [sys.executable, str(HERE / "kills.py"), str(room), str(disk), program, kind, str(chance.randrange(1 << 30))]
     with open(room / "said", "ab") as said, subprocess.Popen(words, stdout=subprocess.PIPE, stderr=said) as process:
         assert process.stdout
         if chance.randrange(3):
@@ -230,13 +239,13 @@ def try_kills(tell: Tell, program: str, count: int, seed: int = 20261126) -> Non
     acknowledged = seen = 0
     for done in range(0, count, KILLS_OF_ROOM):
         kind = "ed25519" if HAS_NACL and done // KILLS_OF_ROOM % 2 else "salted"
-        with tempfile.TemporaryDirectory() as room:
+        with tempfile.TemporaryDirectory() as room, small_disk("1m") as disk:
             for number in range(done, min(count, done + KILLS_OF_ROOM)):
-                turn, was_killed = one_kill(chance, Path(room), program, kind)
+                turn, was_killed = one_kill(chance, Path(room), disk, program, kind)
                 what = f"kill {number} ({turn}, {kind})"
                 tell(f"{what}: it ran until it was killed", was_killed, (Path(room) / "said").read_text()[-2000:])
                 counts[turn] = counts.get(turn, 0) + 1
-                there = check(tell, what, Path(room), program, kind, library)
+                there = check(tell, what, Path(room), disk, program, kind, library)
             acknowledged, seen = acknowledged + there[0], seen + there[1]
     told = ", ".join(f"{it} {counts[it]}" for it in sorted(counts))
     tell("kills: epochs were acknowledged and shown", acknowledged and seen)
@@ -244,4 +253,4 @@ def try_kills(tell: Tell, program: str, count: int, seed: int = 20261126) -> Non
 
 
 if __name__ == "__main__":
-    drive(sys.argv[1], sys.argv[2], sys.argv[3], int(sys.argv[4]))
+    drive(*sys.argv[1:5], int(sys.argv[5]))
