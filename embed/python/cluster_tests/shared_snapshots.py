@@ -17,7 +17,7 @@ from stand_ins import POLICY, Tell, index, kill_child, shown
 from units import raises
 from coniks.postgres import PostgresLog
 from coniks.provider import Change, DirectoryExists, LinesDropped, LogFailed, LogRefused, Overtaken, ProviderError, Register
-from coniks.provider import UnknownEpoch, entries
+from coniks.provider import SnapshotDiffers, UnknownEpoch, entries
 from coniks.replica import Replica
 
 
@@ -190,6 +190,9 @@ def try_takes_over(it: Cluster) -> None:
     new = it.enter_context(it.replica.promote(it.signer, verify=it.signer.verify))
     made = new.commit(6, [Change("alice", b"6")])
     position = new.compact()
+    with mock.patch.object(it.signer, "verify", return_value=False):
+        again = it.enter_context(it.follower().promote(it.signer, verify=it.signer.verify))
+        it.refuses("a promotion's verifier is that of later starts", SnapshotDiffers, again.restart)
     it.refuses("an overtaken writer compacts", Overtaken, old.compact)
     it.tell("an overtaken writer: its lookups go on", old.lookup("alice").epoch == gone and old.latest().epoch == gone)
     new._log.drop_before(position)  # type: ignore[attr-defined]

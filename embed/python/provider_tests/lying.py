@@ -5,6 +5,7 @@ from __future__ import annotations
 import json
 import subprocess
 import sys
+import time
 from typing import Any, Callable
 
 Answer = dict[str, Any]
@@ -61,6 +62,12 @@ def salts(answer: Answer) -> None:
         answer["nonce"] = "00" * 32
 
 
+def waits(answer: Answer) -> None:
+    """A restore that takes a second."""
+    if answer.get("ok") == "restored":
+        time.sleep(1)
+
+
 def knows_none(answer: Answer) -> None:
     """A program that has no line of a restore."""
     if answer.get("ok") == "restore":
@@ -76,6 +83,7 @@ MODES: dict[str, Callable[[], Callable[[Answer], None]]] = {
     "links": lambda: links,
     "counts": lambda: AfterRestored(counts),
     "salts": lambda: AfterRestored(salts),
+    "slow": lambda: waits,
     "knows none": lambda: knows_none,
 }
 

@@ -15,8 +15,8 @@ from unittest import mock
 from stand_ins import HERE, POLICY, Salted, Signer, Tell, audited, guarded, kill_child, opened, shown
 from units import raises
 from coniks import provider
-from coniks.provider import Change, FileLog, Policy, ProgramFailed, Provider, ProviderError, Register, SignerFailed
-from coniks.provider import SnapshotDiffers, UnknownEpoch, entries
+from coniks.provider import Change, FileLog, LinesDropped, LogRefused, Policy, ProgramFailed, Provider, ProviderError, Register
+from coniks.provider import SignerFailed, SnapshotDiffers, UnknownEpoch, entries
 
 # The clock of a policy whose proofs are kept.
 START, PERIOD = 1767225600, 3600
@@ -391,6 +391,75 @@ def try_ends(tell: Tell, program: str) -> None:
             tell("ends: it says what to add", "FileLog" in str(raised), raised)
 
 
+class Stale:
+    """A log whose `snapshot` returns another one at its first call, as if it were replaced then."""
+
+    def __init__(self, log: FileLog, position: int, lines: Sequence[bytes]) -> None:
+        self._log, self._first = log, [(position, iter(lines))]
+
+    def __getattr__(self, name: str) -> Any:
+        return getattr(self._log, name)
+
+    def snapshot(self) -> Any:
+        return self._first.pop() if self._first else self._log.snapshot()
+
+
+def try_stale(tell: Tell, program: str) -> None:
+    """Another process stores a snapshot, and drops lines, while a start reads the older one."""
+    with staged(program) as it:
+        fill(it.own, [1, 2, 3, 4])
+        position = it.own.compact(2)
+        lines = it.lines()
+        for count in range(1, len(lines)):
+            log = Stale(it.log, position, lines[:count])
+            refused(tell, f"stale: a snapshot of {count} lines", SnapshotDiffers, lambda: opened(program, log, it.signer))
+        it.log.drop_before(it.own.compact(4))
+        with opened(program, Stale(it.log, position, lines), it.signer) as own:
+            tell("stale: the newer one is read", own.chain() == it.own.chain() and own.lookup("user-1-0", 4).epoch == 4)
+
+        def ends() -> Iterator[bytes]:
+            yield from lines[:3]
+            raise LinesDropped("another snapshot took its place")
+
+        with opened(program, Stale(it.log, position, ends()), it.signer) as own:  # type: ignore[arg-type]
+            tell("stale: one that ends while it is read", own.chain() == it.own.chain())
+        with mock.patch.object(it.log, "read", side_effect=LinesDropped("told to fail")):
+            raises(tell, "stale: no newer one", LinesDropped, it.own.restart)
+
+
+def try_slow(tell: Tell, program: str) -> None:
+    """The program may take its timeout for each 4,096 names that it restores."""
+    with staged(program) as it:
+        for epoch in (1, 2):
+            it.own.commit(epoch, [Register(f"user-{epoch}-{number}", b"key") for number in range(2100)])
+        it.own.compact()
+        it.program = [sys.executable, str(HERE / "lying.py"), "slow", program]
+        it.close()
+        it.log = FileLog(it.path)
+        tell("slow: a start", it.start(timeout=0.7).latest().names == 4200)
+        it.close()
+        it.log = FileLog(it.path)
+        raises(tell, "slow: too slow", ProgramFailed, lambda: it.start(timeout=0.45))
+
+
+def try_refused_lines(tell: Tell, program: str) -> None:
+    """The log refuses the line of an epoch that the child has installed, and then a snapshot is taken."""
+    with staged(program) as it:
+        fill(it.own, [1, 2])
+        real = it.log.append
+
+        def refuses(position: int, line: bytes) -> None:
+            if b'"install"' in line:
+                raise LogRefused("told to refuse: go on")
+            real(position, line)
+
+        with mock.patch.object(it.log, "append", refuses):
+            raises(tell, "refused lines: a commit", LogRefused, lambda: it.own.commit(3, [Register("late", b"key")]))
+            tell("refused lines: a snapshot", it.own.compact() == 5 and it.own.latest().epoch == 2 and it.own.pending)
+        tell("refused lines: the same body", it.own.retry().epoch == 3 and it.signer.is_asked_once())
+        tell("refused lines: a start", it.again().chain() == it.own.chain() and shown(it.own.lookup("late")) == b"key")
+
+
 class Bare:
     """A log in memory that stores no snapshots."""
 
@@ -405,5 +474,16 @@ class Bare:
 
 
 def try_snapshots(tell: Tell, program: str) -> None:
-    for test in (try_same, try_epochs, try_promises, try_pending, try_lies, try_meanwhile, try_ends):
+    for test in (
+        try_same,
+        try_epochs,
+        try_promises,
+        try_pending,
+        try_lies,
+        try_meanwhile,
+        try_ends,
+        try_stale,
+        try_slow,
+        try_refused_lines,
+    ):
         test(tell, program)
