@@ -253,4 +253,4 @@ def try_kills(tell: Tell, program: str, count: int, seed: int = 20261126) -> Non
 
 
 if __name__ == "__main__":
-    drive(*sys.argv[1:5], int(sys.argv[5]))
+    drive(sys.argv[1], sys.argv[2], sys.argv[3], sys.argv[4], int(sys.argv[5]))
