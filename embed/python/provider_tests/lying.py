@@ -56,6 +56,24 @@ def counts(answer: Answer) -> None:
         answer["names"] += 1
 
 
+class CountsLater:
+    """Alters the number of names, but not in the first answer."""
+
+    def __init__(self) -> None:
+        self._count = 0
+
+    def __call__(self, answer: Answer) -> None:
+        if answer.get("ok") == "latest":
+            self._count += 1
+            answer["names"] += self._count > 1
+
+
+def builds(answer: Answer) -> None:
+    """Updates with another number of nodes."""
+    if answer.get("ok") == "prepare":
+        answer["nodes"] += 1
+
+
 def salts(answer: Answer) -> None:
     """Lookups with another nonce."""
     if answer.get("ok") == "lookup":
@@ -82,6 +100,8 @@ MODES: dict[str, Callable[[], Callable[[Answer], None]]] = {
     "never ends": lambda: never_ends,
     "links": lambda: links,
     "counts": lambda: AfterRestored(counts),
+    "counts later": lambda: AfterRestored(CountsLater()),
+    "builds": lambda: AfterRestored(builds),
     "salts": lambda: AfterRestored(salts),
     "slow": lambda: waits,
     "knows none": lambda: knows_none,

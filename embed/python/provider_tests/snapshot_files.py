@@ -76,6 +76,8 @@ def altered(lines: Sequence[bytes]) -> Iterator[tuple[str, Sequence[bytes]]]:
     for at in (1, 17, 33, 40, 100, 270):
         yield f"a last entry with another digit, {at}", chained(*chain[:-1], flipped(chain[-1], at))
     yield "another entry to restore", [header, entered, text({"cmd": "restore", "entry": chain[0]}), *pages, last]
+    signed = text({"cmd": "restore", "entry": flipped(chain[-1], 400)})
+    yield "an entry to restore with another signature", [header, entered, signed, *pages, last]
     yield "an entry to restore that isn't one", [header, entered, text({"cmd": "restore", "entry": 7}), *pages, last]
     yield "a binding less", bound(*page[1:])
     yield "a binding twice", bound(*page, page[0])
@@ -99,7 +101,9 @@ def try_altered(tell: Tell, program: str) -> None:
         for what, lines in altered(genuine):
             it.write(lines)
             it.log = FileLog(it.path)
-            refused(tell, f"altered: {what}", (SnapshotDiffers, LogFailed, provider.ReplayDiffers), it.start)
+            # The lines of a log from a position on that is too early would be refused too.
+            kinds = (SnapshotDiffers,) if what == "position 6" else (SnapshotDiffers, LogFailed, provider.ReplayDiffers)
+            refused(tell, f"altered: {what}", kinds, it.start)
             it.log.close()
             count += 1
         tell("altered: many were tried", count > 100, count)
@@ -141,6 +145,57 @@ def try_signature(tell: Tell, program: str) -> None:
         raises(tell, "signature: one that fails to be verified", LogFailed, lambda: it.start(verify=lambda *_: 1 // 0))
         # The signer has signed another entry.
         raises(tell, "signature: nobody verifies it, and the record has another", provider.LogForked, lambda: it.start(verify=None))
+
+
+def linked(chain: Sequence[bytes]) -> list[bytes]:
+    """Entries with the previous links that they would have in one chain."""
+    found: list[bytes] = []
+    for it in chain:
+        link = sha256(b"\x53" + found[-1]).digest() if found else bytes(32)
+        found.append(it[:49] + link + it[81:])
+    return found
+
+
+def try_chains(tell: Tell, program: str) -> None:
+    """Chains that are linked, and aren't good: nobody verifies the last entry's signature here, and its root is right."""
+    with staged(program) as it:
+        for epoch in (1, 3, 4):
+            it.own.commit(epoch, [Register(f"user-{epoch}", b"key")])
+        it.own.compact()
+        lines, chain = it.lines(), it.own.chain()
+        it.own.close()
+        settings: dict[str, Any] = {"verify": None, "check_indices": False}
+
+        def start(*altered: bytes) -> None:
+            chained = linked(altered)
+            hexed = [entry.hex() for entry in chained]
+            header = lines[0].replace(b'"epochs":3', b'"epochs":%d' % len(hexed))
+            restore = json.dumps({"cmd": "restore", "entry": hexed[-1]}).encode()
+            last = b'{"cmd":"restored","link":"%s"}' % sha256(b"\x53" + chained[-1]).hexdigest().encode()
+            it.write([header, json.dumps({"entries": hexed}).encode(), restore, *lines[3:-1], last])
+            opened(program, it.log, it.signer, **settings).close()
+
+        def put(number: int, at: int, value: bytes) -> list[bytes]:
+            """The chain with other bytes at a place of an entry."""
+            entry = chain[number]
+            return [*chain[:number], entry[:at] + value + entry[at + len(value) :], *chain[number + 1 :]]
+
+        start(*chain)
+        tell("chains: the genuine one", True)
+        for what, altered_ in [
+            ("another nonce under version 1", put(1, 81, bytes(32))),
+            ("another policy", put(1, 113, bytes(32))),
+            ("version 0", put(0, 0, b"\0")),
+            ("version 3", put(1, 0, b"\3")),
+            ("a version that goes back", put(0, 0, b"\2")),
+            ("an epoch that isn't later", put(1, 1, (1).to_bytes(8, "big"))),
+            ("epoch 0", put(0, 1, bytes(8))),
+            ("an epoch before the first one", put(0, 9, (1).to_bytes(8, "big"))),
+            ("another epoch before", put(1, 9, (2).to_bytes(8, "big"))),
+            ("without the first one", chain[1:]),
+            ("without the second one", [chain[0], chain[2]]),
+        ]:
+            refused(tell, f"chains: {what}", SnapshotDiffers, lambda: start(*altered_))
 
 
 def try_older(tell: Tell, program: str) -> None:
@@ -419,6 +474,8 @@ def try_places(tell: Tell) -> None:
 def try_files(tell: Tell, skip: Callable[[str, str], None], program: str) -> None:
     try_beginnings(tell)
     try_places(tell)
-    for test in (try_altered, try_signature, try_older, try_kinds, try_calls, try_drops, try_backups, try_old_logs, try_openings):
+    for test in (try_altered, try_signature, try_chains, try_older, try_kinds, try_calls):
+        test(tell, program)
+    for test in (try_drops, try_backups, try_old_logs, try_openings):
         test(tell, program)
     try_full_disk(tell, skip, program)

@@ -158,6 +158,20 @@ def try_same(tell: Tell, program: str) -> None:
         tell("same: the chain is audited", audited(entries(it.log), it.signer.keys, False))
 
 
+def try_pages(tell: Tell, program: str) -> None:
+    """Bindings of many pages, small and large ones."""
+    with staged(program) as it:
+        for epoch in range(1, 4):
+            it.own.commit(epoch, [Register(f"user-{epoch}-{number}", b"key") for number in range(900)])
+        it.own.commit(4, [Register(f"large-{number}", bytes([number]) * 16384) for number in range(40)])
+        before, chain = it.own.lookups([f"user-1-{number}" for number in range(900)]), it.own.chain()
+        it.own.compact()
+        said, sizes = wrong(it.lines(), chain, 2740, 9), [len(line) for line in it.lines()]
+        tell("pages: the lines are as defined", not said, said)
+        tell("pages: they are of some size", len(sizes) > 10 and max(sizes) < 1 << 20, sizes)
+        tell("pages: the lookups", it.again().lookups([f"user-1-{number}" for number in range(900)]) == before)
+
+
 def try_epochs(tell: Tell, program: str) -> None:
     """Which epochs can be taken."""
     with staged(program) as it:
@@ -234,6 +248,9 @@ def try_pending(tell: Tell, program: str) -> None:
         it.own.compact()
         raises(tell, "pending: an abandoned one stays so", SignerFailed, it.own.retry)
         it.own.commit(5, [Register("instead", b"key")])
+        it.own.compact(3)
+        tell("pending: a body that is replaced later isn't in it", not any(b'"replaced"' in line for line in it.lines()))
+        tell("pending: a start from there", it.again().latest().epoch == 5 and it.own._host.known.replaced == [gone.body])
         it.own.compact()
         replaced = [json.loads(line)["replaced"] for line in it.lines() if b'"replaced"' in line]
         tell("pending: the snapshot has the replaced body", replaced == [[gone.body.hex()]], replaced)
@@ -273,6 +290,8 @@ def try_lies(tell: Tell, program: str) -> None:
         ("never ends", ProgramFailed),
         ("links", ProgramFailed),
         ("counts", ProgramFailed),
+        ("counts later", SnapshotDiffers),
+        ("builds", SnapshotDiffers),
         ("salts", SnapshotDiffers),
         ("knows none", ProgramFailed),
     ]:
@@ -283,6 +302,7 @@ def try_lies(tell: Tell, program: str) -> None:
             it.program = [sys.executable, str(HERE / "lying.py"), mode, program]
             own = it.again()
             (it.room / "first").rename(it.snapshot)
+            fails(it)
             before, pid, there = it.snapshot.read_bytes(), own.pid, seen(own, [1, 2])
             raises(tell, f"lies: {mode}", error, lambda: own.compact(2))
             tell(
@@ -290,9 +310,9 @@ def try_lies(tell: Tell, program: str) -> None:
                 it.snapshot.read_bytes() == before and not (it.room / "log.snapshot.new").exists(),
             )
             tell(f"lies: {mode}: the child stays", own.pid == pid and seen(own, [1, 2]) == there)
-            own.commit(3, [])
+            own.retry()
             it.program = program
-            tell(f"lies: {mode}: a start takes the older one", it.again().latest().epoch == 3)
+            tell(f"lies: {mode}: a start takes the older one", it.again().latest().epoch == 9)
 
 
 class Delayed:
@@ -474,16 +494,7 @@ class Bare:
 
 
 def try_snapshots(tell: Tell, program: str) -> None:
-    for test in (
-        try_same,
-        try_epochs,
-        try_promises,
-        try_pending,
-        try_lies,
-        try_meanwhile,
-        try_ends,
-        try_stale,
-        try_slow,
-        try_refused_lines,
-    ):
+    for test in (try_same, try_pages, try_epochs, try_promises, try_pending, try_lies, try_meanwhile, try_ends):
+        test(tell, program)
+    for test in (try_stale, try_slow, try_refused_lines):
         test(tell, program)
