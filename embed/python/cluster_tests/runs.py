@@ -34,9 +34,23 @@ from coniks.provider import (
 )
 from coniks.provider import Overtaken, ProgramFailed, ProviderError, Register, RestartNeeded, SignerFailed, entries
 from database import Database, soon
-from kills import children_of, kill
+from kills import kill
 from node import SPAWN, Node
-from stand_ins import HAS_NACL, HERE, Ed25519, Salted, Scheme, Signer, audited, guarded, has_library, lines, opened, shown
+from stand_ins import (
+    HAS_NACL,
+    HERE,
+    Ed25519,
+    Salted,
+    Scheme,
+    Signer,
+    audited,
+    children_of,
+    guarded,
+    has_library,
+    lines,
+    opened,
+    shown,
+)
 from stand_ins import small_disk
 from tally import Tally
 

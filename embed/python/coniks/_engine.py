@@ -59,6 +59,8 @@ class Child:
 
     def send(self, lines: Iterable[bytes]) -> None:
         """Writes lines with their newlines. Each gets an answer."""
+        if not self.is_sound:
+            raise ProgramFailed("the program isn't asked after an error, or once another one took its place: ask again")
         try:
             self._send(b"".join(lines))
         except BaseException:
@@ -274,8 +276,9 @@ class Engine:
 
     def follow(self, position: int) -> None:
         """Replays the lines below a position that it hasn't replayed."""
-        for line in islice(self.log.read(self.position), max(0, position - self.position)):
-            self.take(line)
+        if self.position < position:
+            for line in islice(self.log.read(self.position), position - self.position):
+                self.take(line)
         if self.position < position:
             raise LogFailed(f"{self.log} lost lines: compare it with a backup, and restart")
 

@@ -228,7 +228,8 @@ class Host:
         except BaseException:
             self.end(new)
             raise
-        self._put(new)
+        self.engine, self._is_forgetful = new, False
+        self._forget(new)
         if old:
             # It may hang in an answer.
             old.child.kill()
@@ -236,17 +237,14 @@ class Host:
                 old.child.stop(0)
         return new
 
-    def _put(self, new: Engine) -> None:
-        self.engine, self._is_forgetful = new, False
-        self._forget(new)
-
     def swap(self, new: Engine) -> Engine:
         """Puts an engine that has the same epochs, or forgot some, in the place of this one, and returns this one, which may be
         answering lookups. The caller holds `changing`, and then calls `leave`."""
         old = self.known
         if self.is_closed:
             raise Closed("the directory is closed")
-        self._put(new)
+        self.engine = new
+        self._forget(new)
         return old
 
     @staticmethod

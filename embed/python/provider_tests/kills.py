@@ -24,8 +24,8 @@ from pathlib import Path
 from typing import Callable, Sequence
 
 from honest import is_evidence
-from stand_ins import HAS_NACL, HERE, Ed25519, Salted, Scheme, Signer, Tell, append, audited, guarded, has_library, is_new, lines
-from stand_ins import opened, shown, small_disk
+from stand_ins import HAS_NACL, HERE, Ed25519, Salted, Scheme, Signer, Tell, append, audited, children_of, guarded, has_library
+from stand_ins import is_new, lines, opened, shown, small_disk
 from coniks.guard import BodyAbandoned
 from coniks.provider import Change, Epoch, Fault, FileLog, LogRefused, Lookup, Operation, ProgramFailed, Provider, Register
 from coniks.provider import RestartNeeded, SignerFailed, entries
@@ -148,13 +148,6 @@ def go_on(chance: random.Random, provider: Provider) -> None:
         except SignerFailed as error:
             if isinstance(error.__cause__, BodyAbandoned):
                 return
-
-
-def children_of(process: int) -> list[int]:
-    try:
-        return [int(it) for it in Path(f"/proc/{process}/task/{process}/children").read_text().split()]
-    except OSError:
-        return []
 
 
 def kill(process: int) -> None:

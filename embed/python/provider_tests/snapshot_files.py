@@ -9,6 +9,7 @@ import tempfile
 from hashlib import sha256
 from pathlib import Path
 from typing import Any, Callable, Iterator, Sequence
+from unittest import mock
 
 from snapshots import Stage, fill, refused, seen, staged
 from stand_ins import HERE, POLICY, Salted, Signer, Tell, index, opened, shown, small_disk
@@ -254,8 +255,12 @@ def try_kinds(tell: Tell, program: str) -> None:
             new.chmod(mode)
             it.own.compact()
             tell(f"files: {what}", not new.exists() and (it.snapshot.stat().st_mode & 0o777) == 0o600)
-        new.symlink_to(it.path)
+            it.own.restart()
+        other = it.room / "other"
+        other.write_text("kept")
+        new.symlink_to(other)
         raises(tell, "files: a link in place of the new one", LogRefused, it.own.compact)
+        tell("files: what it links to is kept", other.read_text() == "kept")
         new.unlink()
         new.mkdir()
         raises(tell, "files: a folder in place of the new one", LogRefused, it.own.compact)
@@ -447,6 +452,48 @@ def try_openings(tell: Tell, program: str) -> None:
             tell("openings: the right VRF", own.latest().epoch == 3)
 
 
+def try_synced(tell: Tell, program: str) -> None:
+    """What is written is on the disk before it takes the place of something, and the folder before the call returns."""
+    with staged(program) as it:
+        fill(it.own, [1, 2])
+        done: list[str] = []
+        real_sync, real_rename = os.fsync, os.rename
+
+        def sync(place: int) -> None:
+            done.append("sync " + os.path.basename(os.readlink(f"/proc/self/fd/{place}")))
+            real_sync(place)
+
+        def rename(old: str, new: str) -> None:
+            done.append("rename " + os.path.basename(old))
+            real_rename(old, new)
+
+        with mock.patch.object(os, "fsync", sync), mock.patch.object(os, "rename", rename):
+            position = it.own.compact()
+            stored, done[:] = [*done], []
+            it.log.drop_before(position)
+        folder = f"sync {it.room.name}"
+        tell("synced: a snapshot", stored == ["sync log.snapshot.new", "rename log.snapshot.new", folder], stored)
+        tell("synced: a log", done == ["sync log.new", "rename log.new", folder], done)
+        for what, number, error in [("before the file is renamed", 1, LogRefused), ("after", 2, LogFailed)]:
+            count = 0
+
+            def fails(place: int) -> None:
+                nonlocal count
+                count += 1
+                if count == number:
+                    raise OSError(5, "told to fail")
+                real_sync(place)
+
+            it.own.commit(2 + number, [])
+            with mock.patch.object(os, "fsync", fails):
+                raises(tell, f"synced: a sync of a snapshot that fails, {what}", error, it.own.compact)
+            before, count = it.own.compact(), 0
+            with mock.patch.object(os, "fsync", fails):
+                raises(tell, f"synced: a sync of a log that fails, {what}", error, lambda: it.log.drop_before(before))
+        raises(tell, "synced: the log must be opened again", LogFailed, lambda: it.own.commit(5, []))
+        tell("synced: it is whole", len(it.again().chain()) == 4 and it.own.commit(5, []).epoch == 5)
+
+
 def try_places(tell: Tell) -> None:
     """Lines of a file of some mebibytes are read from each position, after each way to open it, and after lines were dropped."""
     sizes = [17, 400_000, 1, 3_000_000, 1_048_576, 90, 1_048_575, 5, 2_000_000, 30, 700_000]
@@ -476,6 +523,6 @@ def try_files(tell: Tell, skip: Callable[[str, str], None], program: str) -> Non
     try_places(tell)
     for test in (try_altered, try_signature, try_chains, try_older, try_kinds, try_calls):
         test(tell, program)
-    for test in (try_drops, try_backups, try_old_logs, try_openings):
+    for test in (try_synced, try_drops, try_backups, try_old_logs, try_openings):
         test(tell, program)
     try_full_disk(tell, skip, program)

@@ -3,6 +3,7 @@
 from __future__ import annotations
 
 import json
+import os
 import sys
 import tempfile
 import threading
@@ -12,10 +13,21 @@ from pathlib import Path
 from typing import Any, Callable, Iterator, Optional, Sequence, Union
 from unittest import mock
 
-from stand_ins import HERE, POLICY, Salted, Signer, Tell, audited, guarded, kill_child, opened, shown
+from stand_ins import HERE, POLICY, Salted, Signer, Tell, audited, children_of, guarded, kill_child, opened, shown
 from units import raises
 from coniks import provider
-from coniks.provider import Change, FileLog, LinesDropped, LogRefused, Policy, ProgramFailed, Provider, ProviderError, Register
+from coniks.provider import (
+    Change,
+    FileLog,
+    LinesDropped,
+    LogFailed,
+    LogRefused,
+    Policy,
+    ProgramFailed,
+    Provider,
+    ProviderError,
+    Register,
+)
 from coniks.provider import SignerFailed, SnapshotDiffers, UnknownEpoch, entries
 
 # The clock of a policy whose proofs are kept.
@@ -304,7 +316,9 @@ def try_lies(tell: Tell, program: str) -> None:
             (it.room / "first").rename(it.snapshot)
             fails(it)
             before, pid, there = it.snapshot.read_bytes(), own.pid, seen(own, [1, 2])
+            children = children_of(os.getpid())
             raises(tell, f"lies: {mode}", error, lambda: own.compact(2))
+            tell(f"lies: {mode}: the second child has ended", children_of(os.getpid()) == children)
             tell(
                 f"lies: {mode}: the snapshot stays",
                 it.snapshot.read_bytes() == before and not (it.room / "log.snapshot.new").exists(),
@@ -398,9 +412,15 @@ def try_ends(tell: Tell, program: str) -> None:
         for thread in threads:
             thread.join()
         tell("ends: five at once", it.own.compact() == 5 and it.again().latest().epoch == 2)
-        pid = it.own.pid or 0
+        pid, first = it.own.pid or 0, it.own._host.known
         it.own.compact()
+        raises(tell, "ends: the first child isn't asked again", ProgramFailed, lambda: first.ask(b'{"cmd":"latest"}'))
         tell("ends: the first child has ended", not Path(f"/proc/{pid}").exists() and it.own.pid != pid)
+        with mock.patch.object(it.log, "append", side_effect=LogFailed("told to fail")):
+            raises(tell, "ends: a log that fails", LogFailed, lambda: it.own.commit(3, []))
+        raises(tell, "ends: a directory that needs a restart", provider.RestartNeeded, it.own.compact)
+        it.own.restart()
+        it.own.compact()
         it.own.close()
         raises(tell, "ends: a closed directory", provider.Closed, it.own.compact)
     with tempfile.TemporaryDirectory() as room:

@@ -193,6 +193,13 @@ def kill_child(own: provider.Directory) -> None:
     soon(lambda: own.pid != pid or has_ended(pid))
 
 
+def children_of(process: int) -> list[int]:
+    try:
+        return [int(it) for it in Path(f"/proc/{process}/task/{process}/children").read_text().split()]
+    except OSError:
+        return []
+
+
 def has_ended(pid: int) -> bool:
     try:
         return Path(f"/proc/{pid}/stat").read_text().split()[2] == "Z"
