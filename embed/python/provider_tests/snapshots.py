@@ -316,9 +316,9 @@ def try_lies(tell: Tell, program: str) -> None:
             (it.room / "first").rename(it.snapshot)
             fails(it)
             before, pid, there = it.snapshot.read_bytes(), own.pid, seen(own, [1, 2])
-            children = children_of(os.getpid())
+            children = {*children_of(os.getpid())}
             raises(tell, f"lies: {mode}", error, lambda: own.compact(2))
-            tell(f"lies: {mode}: the second child has ended", children_of(os.getpid()) == children)
+            tell(f"lies: {mode}: the second child has ended", {*children_of(os.getpid())} == children)
             tell(
                 f"lies: {mode}: the snapshot stays",
                 it.snapshot.read_bytes() == before and not (it.room / "log.snapshot.new").exists(),

@@ -11,7 +11,7 @@ import subprocess
 import sys
 import tempfile
 import time
-from contextlib import contextmanager
+from contextlib import contextmanager, suppress
 from pathlib import Path
 from typing import Any, Callable, Iterable, Iterator, Optional, Protocol, Union
 
@@ -194,10 +194,13 @@ def kill_child(own: provider.Directory) -> None:
 
 
 def children_of(process: int) -> list[int]:
-    try:
-        return [int(it) for it in Path(f"/proc/{process}/task/{process}/children").read_text().split()]
-    except OSError:
-        return []
+    """The processes that the threads of a process started."""
+    found: list[int] = []
+    for task in Path(f"/proc/{process}/task").glob("*/children"):
+        # A thread may have ended.
+        with suppress(OSError):
+            found += map(int, task.read_text().split())
+    return found
 
 
 def has_ended(pid: int) -> bool:
