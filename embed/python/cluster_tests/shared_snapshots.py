@@ -48,6 +48,12 @@ def try_table(tell: Tell, database: Database) -> None:
         tell("table: the older one stays", (other.snapshot() or (0,))[0] == 3 and len(begun) == 5)
         log.compact(5, [header(5), *[b"new %d" % it for it in range(100)]])
         raises(tell, "table: it is replaced while it is read", LinesDropped, lambda: [*lines])
+        # A reader that has read all lines, and doesn't know it yet.
+        log.compact(5, [header(5), *[b"%d" % it for it in range(31)]])
+        _, lines = other.snapshot() or (0, iter(()))
+        begun = [next(lines) for _ in range(32)]
+        log.compact(5, [header(5), b"other"])
+        raises(tell, "table: it is replaced at the end", LinesDropped, lambda: [*lines])
         raises(tell, "table: a position that goes back", Overtaken, lambda: other.compact(4, [header(4)]))
         raises(tell, "table: a position that isn't there", ValueError, lambda: log.compact(9, [header(9)]))
         log.compact(5, [header(5), b"same"])

@@ -18,6 +18,8 @@ from .log import Closing, Log
 from .policy import Policy
 
 Result = TypeVar("Result")
+# How long a snapshot may take to be stored after the directory was closed.
+_STORE_SECONDS = 60
 # How often another child reads on before changes wait for it.
 _ROUNDS = 3
 
@@ -257,8 +259,7 @@ class Directory(Closing):
         self._compacting.stop()
         self._host.close()
         # A snapshot that is being stored is stored, or refused, before the log can be closed.
-        while not self._compacting.join(0.02):
-            pass
+        self._compacting.join(_STORE_SECONDS)
 
 
 def check_writable(log: Log) -> None:

@@ -5,11 +5,12 @@ from __future__ import annotations
 import io
 import os
 import re
+import threading
 import weakref
 from bisect import bisect_right
 from contextlib import suppress
 from itertools import islice
-from typing import Iterable, Iterator, NamedTuple, Optional, Protocol, TypeVar
+from typing import Callable, Iterable, Iterator, NamedTuple, Optional, Protocol, TypeVar
 
 from ._files import (
     CHUNK,
@@ -26,7 +27,7 @@ from ._files import (
 )
 from ._snapshot_file import stored, write
 from ._threads import Worker
-from .faults import DirectoryExists, LinesDropped, LogFailed, LogRefused, NoDirectory, Overtaken, SnapshotDiffers
+from .faults import Closed, DirectoryExists, LinesDropped, LogFailed, LogRefused, NoDirectory, Overtaken, SnapshotDiffers
 
 __all__ = ["FileLog", "Log", "Path", "SharedLog", "SnapshotLog"]
 
@@ -128,8 +129,8 @@ class FileLog(Closing):
     write is refused, unless `mode` allows it. A missing file is a log that doesn't exist yet: reading it raises `NoDirectory`,
     and an append at position 0 makes it.
 
-    Each append checks that the file is still the one at its path and has the length that it was left with. A thread of the log's
-    own appends and drops lines, one call after another, and no signal interrupts it.
+    Each append checks that the file is still the one at its path and has the length that it was left with. What changes the file is
+    called in a thread that no signal interrupts: the caller's, or one of the log's own if the caller's is the main thread.
     """
 
     def __init__(self, path: Path, *, mode: int = 0o600):
@@ -142,7 +143,8 @@ class FileLog(Closing):
         self._opened: Optional[_Opened] = None
         with suppress(FileNotFoundError):
             self._open(os.O_RDWR)
-        self._work = Worker()
+        # Held while the file is changed, never by the main thread.
+        self._work, self._changing = Worker(), threading.Lock()
         # A log that nobody closes ends with its last reference.
         self._unused = weakref.finalize(self, self._work.stop)
         self._unused.atexit = False
@@ -243,6 +245,18 @@ class FileLog(Closing):
             raise LogFailed(f"{self} is no log of a provider, and is left as it is: give the path of a log")
         return int(found.group(1)), found.end()
 
+    def _change(self, call: Callable[[], None]) -> None:
+        """Makes a call while no other one changes the file."""
+
+        def changes() -> None:
+            with self._changing:
+                call()
+
+        if threading.current_thread() is threading.main_thread():
+            self._work.call(changes)
+        else:
+            changes()
+
     def append(self, position: int, line: bytes) -> None:
         """Appends a line and syncs the file. After `LogRefused` the file is as before. After another error of the file the log
         must be opened again. An interrupt ends only the wait: the line may be appended."""
@@ -251,7 +265,7 @@ class FileLog(Closing):
             raise ValueError("a line has no newline and no zero byte")
         if position == 0 and not line.startswith(_HEAD):
             raise ValueError("the first line opens a directory")
-        self._work.call(lambda: self._append(position, line))
+        self._change(lambda: self._append(position, line))
 
     def _append(self, position: int, line: bytes) -> None:
         self._check_end()
@@ -285,7 +299,7 @@ class FileLog(Closing):
     def check_writable(self) -> None:
         """Raises `LogFailed` if an append would be refused at once."""
         self._check()
-        self._work.call(self._check_writable)
+        self._change(self._check_writable)
 
     def _check_writable(self) -> None:
         self._check_end()
@@ -367,7 +381,7 @@ class FileLog(Closing):
     def _check_still(self) -> None:
         """Raises `LogRefused` if the path has another file."""
         self._check()
-        self._work.call(self._check_identity)
+        self._change(self._check_identity)
 
     def _check_identity(self) -> None:
         self._check_end()
@@ -380,7 +394,7 @@ class FileLog(Closing):
 
         Back up the snapshot first: without it a log that has dropped lines can't be started. An interrupt ends only the wait.
         """
-        self._check_end()
+        self._check()
         found = self.snapshot()
         if found is None:
             raise LogRefused(f"{self} has no snapshot, so no line may go: call the provider's compact, and back the snapshot up")
@@ -392,7 +406,7 @@ class FileLog(Closing):
         for _ in found[1]:
             # A snapshot that can't be read to its end raises an error here.
             pass
-        self._work.call(lambda: self._drop(position))
+        self._change(lambda: self._drop(position))
 
     def _drop(self, position: int) -> None:
         """Puts a file that begins at a position in the place of this one, whose lock it has."""
@@ -440,7 +454,13 @@ class FileLog(Closing):
         """Closes the file, after an append that is under way. Another process can open it then."""
         self._is_closed = True
         if os.getpid() == self._owner:
+            # Another call of close may have ended the thread.
+            with suppress(Closed):
+                self._change(self._close)
             self._work.stop()
-            self._work.join(60)
+        else:
+            self._close()
+
+    def _close(self) -> None:
         if self._opened:
             self._opened.file.close()
