@@ -51,7 +51,7 @@ def serve(pipe: Any, make_log: MakeLog, program: str, keys: Any, is_writer: bool
                 if not opened and is_writer:
                     settings = {"policy": keys.policy, "nonce": keys.nonce, "verify": keys.verify}
                     opened = Provider(program, keys.index, keys.signer(), log, **settings)
-                opened = opened or replica(log, program, keys.index, policy=keys.policy)
+                opened = opened or replica(log, program, keys.index, policy=keys.policy, verify=keys.verify)
                 if call != "lead":
                     answer = getattr(opened, call)(*arguments)
                 elif isinstance(opened, Replica):
