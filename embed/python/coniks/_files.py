@@ -90,7 +90,8 @@ class Replacement:
     """A file that is written beside another one, `PATH.new`, and then takes its place. What a process left there that was killed
     is overwritten. Only one process or thread at a time has it: the others get `LogRefused`."""
 
-    def __init__(self, path: str, mode: int):
+    def __init__(self, path: str, mode: int, log: str):
+        """Makes the file, with these rights and the owner of a log."""
         self._path, self._new, self._size = path, path + ".new", 0
         self._file: Optional[io.FileIO] = None
         try:
@@ -98,6 +99,9 @@ class Replacement:
             fcntl.flock(self._file, fcntl.LOCK_EX | fcntl.LOCK_NB)
             if identity_at(self._new) != identity_of(self._file.fileno()):
                 raise BlockingIOError
+            owner, mine = os.stat(log), os.fstat(self._file.fileno())
+            if (owner.st_uid, owner.st_gid) != (mine.st_uid, mine.st_gid):
+                os.fchown(self._file.fileno(), owner.st_uid, owner.st_gid)
             os.fchmod(self._file.fileno(), mode)
             os.ftruncate(self._file.fileno(), 0)
         except BlockingIOError as error:

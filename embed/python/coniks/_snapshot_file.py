@@ -48,7 +48,7 @@ def _lines(opened: io.FileIO, size: int, place: str) -> Iterator[bytes]:
 
 def write(path: str, lines: Iterable[bytes], check: Callable[[], object]) -> None:
     """Stores the snapshot of the log at a path. `check` is called before it takes the place of an older one."""
-    replacement = Replacement(path + ".snapshot", 0o600)
+    replacement = Replacement(path + ".snapshot", 0o600, path)
     try:
         for line in lines:
             replacement.write(line + b"\n")

@@ -390,7 +390,8 @@ class FileLog(Closing):
 
     def drop_before(self, position: int) -> None:
         """Drops the lines below a position, at most that of the snapshot. The file is replaced as a whole: the rest is written to
-        `PATH.new`, synced, locked and renamed, and the folder is synced. After `LogFailed` the log must be opened again.
+        `PATH.new`, synced, locked and renamed, and the folder is synced. Appends wait meanwhile. After `LogFailed` the log must be
+        opened again.
 
         Back up the snapshot first: without it a log that has dropped lines can't be started. An interrupt ends only the wait.
         """
@@ -419,7 +420,7 @@ class FileLog(Closing):
         mark, start = opened.before(position)
         start += sum(len(it) + 1 for it in islice(self._lines(mark, opened), position - mark))
         head = b'{"first":%d}\n' % position
-        replacement = Replacement(self._path, os.fstat(opened.file.fileno()).st_mode & 0o777)
+        replacement = Replacement(self._path, os.fstat(opened.file.fileno()).st_mode & 0o777, self._path)
         try:
             replacement.write(head)
             for chunk in chunks_of(opened.file.fileno(), start, opened.end, str(self)):

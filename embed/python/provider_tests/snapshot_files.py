@@ -265,6 +265,11 @@ def try_kinds(tell: Tell, program: str) -> None:
         new.mkdir()
         raises(tell, "files: a folder in place of the new one", LogRefused, it.own.compact)
         new.rmdir()
+        if os.geteuid() == 0:
+            os.chown(it.path, 4321, 4322)
+            it.log.drop_before(it.own.compact() - 1)
+            owners = {(found.st_uid, found.st_gid) for found in (it.path.stat(), it.snapshot.stat())}
+            tell("files: the owner stays", owners == {(4321, 4322)}, owners)
         it.snapshot.chmod(0o640)
         raised = raises(tell, "files: a snapshot that others read", LogFailed, it.own.restart)
         tell("files: it says how to change it", "chmod 600" in str(raised), raised)
