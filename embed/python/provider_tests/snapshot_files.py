@@ -19,76 +19,104 @@ from coniks.provider import Change, DirectoryExists, FileLog, LinesDropped, LogB
 from coniks.provider import ProgramFailed, Provider, Register, SnapshotDiffers, entries
 
 
-def altered(lines: Sequence[bytes]) -> Iterator[tuple[str, Sequence[bytes]]]:
-    """Snapshots that differ from a genuine one."""
-    header, entered, restore, *pages, last = lines
-    said, chain, page = json.loads(header), json.loads(entered)["entries"], json.loads(pages[0])["bindings"]
-    text: Callable[[Any], bytes] = lambda it: json.dumps(it, separators=(",", ":")).encode()
+Altered = Iterator[tuple[str, Sequence[bytes]]]
 
-    def headed(**more: Any) -> list[bytes]:
-        return [text({**said, **more}), *lines[1:]]
 
-    def chained(*listed: str, count: int = 0) -> list[bytes]:
-        whole = [text({**said, "epochs": count or len(listed)}), text({"entries": listed})]
-        return [*whole, text({"cmd": "restore", "entry": listed[-1] if listed else chain[-1]}), *pages, last]
+def encoded(members: object) -> bytes:
+    return json.dumps(members, separators=(",", ":")).encode()
 
-    def bound(*listed: Any) -> list[bytes]:
-        return [text({**said, "names": len(listed)}), *lines[1:3], text({"cmd": "restoring", "bindings": listed}), *pages[1:], last]
 
-    def flipped(digits: str, at: int) -> str:
-        return digits[:at] + ("0" if digits[at] != "0" else "1") + digits[at + 1 :]
+def flipped(digits: str, at: int) -> str:
+    """Digits with another one in one place."""
+    return digits[:at] + ("0" if digits[at] != "0" else "1") + digits[at + 1 :]
 
-    yield "nothing", []
-    yield "an empty line alone", [b""]
-    yield "the header alone", [header]
-    yield "without its last line", lines[:-1]
-    yield "a last line that is cut", [*lines[:-1], last[:-1]]
-    for number in range(len(lines)):
-        yield f"without line {number}", [*lines[:number], *lines[number + 1 :]]
-        yield f"with line {number} twice", [*lines[: number + 1], *lines[number:]]
-    for number in range(len(lines) - 1):
-        yield f"lines {number} and {number + 1} exchanged", [
-            *lines[:number],
-            lines[number + 1],
-            lines[number],
-            *lines[number + 2 :],
-        ]
-    yield "a line that goes on", [*lines, b'{"cmd":"latest"}']
-    yield "a line of a log", [*lines[:-1], b'{"cmd":"prepare","epoch":99,"ops":[]}', last]
-    yield "an open line", [b'{"cmd":"open","nonce":"%064d","policy":"%064d"}' % (0, 0), *lines]
-    for junk in [b"", b"[]", b"null", b"{", b"\xff", b"\0", b"[" * 100000, b'{"cmd":7}', b'{"cmd":null}', b'{"entries":[]}', b"7"]:
-        yield f"junk, {junk[:9]!r}", [*lines[:3], junk, *lines[3:]]
-        yield f"junk in front, {junk[:9]!r}", [junk, *lines]
-    for member in ("snapshot", "position", "epochs", "names"):
-        for value in (None, "1", -1, 1.0, True, [], 2**70, said[member] + 1, said[member] - 1):
-            if value != said[member] or type(value) is not int:
-                yield f"{member} {value!r}", headed(**{member: value})
-    yield "another policy", headed(policy="00" * 32)
-    yield "another log", headed(log=3)
-    for entries_ in [7, "aa", [], [7], ["aa"], [None], [chain[0] + "0"], ["zz" * 209]]:
-        yield f"entries {entries_!r}"[:40], [header, text({"entries": entries_}), *lines[2:]]
-    yield "no entry", chained(count=1)
-    yield "without the first entry", chained(*chain[1:])
-    yield "without an entry", chained(*chain[:1], *chain[2:])
-    yield "without the last entry", chained(*chain[:-1])
-    yield "two entries exchanged", chained(*chain[:-2], chain[-1], chain[-2])
-    for at in (1, 17, 33, 40, 100, 180, 270, 400):
-        yield f"an entry with another digit, {at}", chained(flipped(chain[0], at), *chain[1:])
-    for at in (1, 17, 33, 40, 100, 270):
-        yield f"a last entry with another digit, {at}", chained(*chain[:-1], flipped(chain[-1], at))
-    yield "another entry to restore", [header, entered, text({"cmd": "restore", "entry": chain[0]}), *pages, last]
-    signed = text({"cmd": "restore", "entry": flipped(chain[-1], 400)})
-    yield "an entry to restore with another signature", [header, entered, signed, *pages, last]
-    yield "an entry to restore that isn't one", [header, entered, text({"cmd": "restore", "entry": 7}), *pages, last]
-    yield "a binding less", bound(*page[1:])
-    yield "a binding twice", bound(*page, page[0])
-    yield "a binding more", bound(*page, {"index": "00" * 32, "key": "aw==", "name": "more", "opening": "00" * 32})
-    for member, value in [("key", "b3RoZXI="), ("name", "other"), ("index", "ab" * 32), ("opening", "ab" * 32)]:
-        yield f"a binding with another {member}", bound({**page[0], member: value}, *page[1:])
-        yield f"a binding without {member}", bound({it: page[0][it] for it in page[0] if it != member}, *page[1:])
-    yield "bindings that are none", [*lines[:3], b'{"cmd":"restoring","bindings":7}', *lines[4:]]
-    yield "another link", [*lines[:-1], b'{"cmd":"restored","link":"%064d"}' % 0]
-    yield "a link of junk", [*lines[:-1], b'{"cmd":"restored","link":"x"}']
+
+class Genuine:
+    """The lines of a snapshot of one page, and snapshots that differ from it."""
+
+    def __init__(self, lines: Sequence[bytes]) -> None:
+        self.lines = [*lines]
+        self.header, self.entered, _, self.page, self.last = lines
+        self.said, self.chain = json.loads(self.header), json.loads(self.entered)["entries"]
+        self.bindings = json.loads(self.page)["bindings"]
+
+    def headed(self, **more: Any) -> list[bytes]:
+        return [encoded({**self.said, **more}), *self.lines[1:]]
+
+    def chained(self, *listed: str, count: int = 0, restored: object = None) -> list[bytes]:
+        restore = restored or (listed[-1] if listed else self.chain[-1])
+        header = encoded({**self.said, "epochs": count or len(listed)})
+        return [header, encoded({"entries": listed}), encoded({"cmd": "restore", "entry": restore}), self.page, self.last]
+
+    def bound(self, *listed: Any) -> list[bytes]:
+        page = encoded({"cmd": "restoring", "bindings": listed})
+        return [encoded({**self.said, "names": len(listed)}), *self.lines[1:3], page, self.last]
+
+    def in_lines(self) -> Altered:
+        lines, last = self.lines, self.last
+        yield "nothing", []
+        yield "an empty line alone", [b""]
+        yield "the header alone", [self.header]
+        yield "without its last line", lines[:-1]
+        yield "a last line that is cut", [*lines[:-1], last[:-1]]
+        for at in range(len(lines)):
+            yield f"without line {at}", [*lines[:at], *lines[at + 1 :]]
+            yield f"with line {at} twice", [*lines[: at + 1], *lines[at:]]
+        for at in range(len(lines) - 1):
+            yield f"lines {at} and {at + 1} exchanged", [*lines[:at], lines[at + 1], lines[at], *lines[at + 2 :]]
+        yield "a line that goes on", [*lines, b'{"cmd":"latest"}']
+        yield "a line of a log", [*lines[:-1], b'{"cmd":"prepare","epoch":99,"ops":[]}', last]
+        yield "an open line", [b'{"cmd":"open","nonce":"%064d","policy":"%064d"}' % (0, 0), *lines]
+        for junk in [
+            b"",
+            b"[]",
+            b"null",
+            b"{",
+            b"\xff",
+            b"\0",
+            b"[" * 100000,
+            b'{"cmd":7}',
+            b'{"cmd":null}',
+            b'{"entries":[]}',
+            b"7",
+        ]:
+            yield f"junk, {junk[:9]!r}", [*lines[:3], junk, *lines[3:]]
+            yield f"junk in front, {junk[:9]!r}", [junk, *lines]
+        yield "another link", [*lines[:-1], b'{"cmd":"restored","link":"%064d"}' % 0]
+        yield "a link of junk", [*lines[:-1], b'{"cmd":"restored","link":"x"}']
+
+    def in_the_chain(self) -> Altered:
+        said, chain = self.said, self.chain
+        for member in ("snapshot", "position", "epochs", "names"):
+            for value in (None, "1", -1, 1.0, True, [], 2**70, said[member] + 1, said[member] - 1):
+                if value != said[member] or type(value) is not int:
+                    yield f"{member} {value!r}", self.headed(**{member: value})
+        yield "another policy", self.headed(policy="00" * 32)
+        yield "another log", self.headed(log=3)
+        for listed in [7, "aa", [], [7], ["aa"], [None], [chain[0] + "0"], ["zz" * 209]]:
+            yield f"entries {listed!r}"[:40], [self.header, encoded({"entries": listed}), *self.lines[2:]]
+        yield "no entry", self.chained(count=1)
+        yield "without the first entry", self.chained(*chain[1:])
+        yield "without an entry", self.chained(*chain[:1], *chain[2:])
+        yield "without the last entry", self.chained(*chain[:-1])
+        yield "two entries exchanged", self.chained(*chain[:-2], chain[-1], chain[-2])
+        for at in (1, 17, 33, 40, 100, 180, 270, 400):
+            yield f"an entry with another digit, {at}", self.chained(flipped(chain[0], at), *chain[1:])
+        for at in (1, 17, 33, 40, 100, 270):
+            yield f"a last entry with another digit, {at}", self.chained(*chain[:-1], flipped(chain[-1], at))
+        for what, restored in [("of another epoch", chain[0]), ("signed otherwise", flipped(chain[-1], 400)), ("of junk", 7)]:
+            yield f"an entry to restore {what}", self.chained(*chain, restored=restored)
+
+    def in_bindings(self) -> Altered:
+        first, *others = self.bindings
+        yield "a binding less", self.bound(*others)
+        yield "a binding twice", self.bound(first, *others, first)
+        more = {"index": "00" * 32, "key": "aw==", "name": "more", "opening": "00" * 32}
+        yield "a binding more", self.bound(first, *others, more)
+        for member, value in [("key", "b3RoZXI="), ("name", "other"), ("index", "ab" * 32), ("opening", "ab" * 32)]:
+            yield f"a binding with another {member}", self.bound({**first, member: value}, *others)
+            yield f"a binding without {member}", self.bound({it: first[it] for it in first if it != member}, *others)
+        yield "bindings that are none", [*self.lines[:3], b'{"cmd":"restoring","bindings":7}', self.last]
 
 
 def try_altered(tell: Tell, program: str) -> None:
@@ -98,8 +126,8 @@ def try_altered(tell: Tell, program: str) -> None:
         it.own.compact(3)
         genuine, chain, asked = it.lines(), it.own.chain(), it.signer.file.read_bytes()
         it.close()
-        count = 0
-        for what, lines in altered(genuine):
+        count, of = 0, Genuine(genuine)
+        for what, lines in [*of.in_lines(), *of.in_the_chain(), *of.in_bindings()]:
             it.write(lines)
             it.log = FileLog(it.path)
             # The lines of a log from a position on that is too early would be refused too.
