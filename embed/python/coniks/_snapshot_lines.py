@@ -5,7 +5,8 @@ from __future__ import annotations
 import json
 from typing import TYPE_CHECKING, Any, Callable, Iterator, Mapping, NamedTuple, Optional, Sequence
 
-from ._lines import encoded, entries_of, members_of, number
+from . import ENTRY_LENGTH
+from ._lines import digits, encoded, entries_of, members_of, number
 from .faults import LogFailed, ProgramFailed, SnapshotDiffers
 
 if TYPE_CHECKING:
@@ -64,7 +65,9 @@ def entries_in(log: Log) -> Iterator[bytes]:
             said = members_of(line, LogFailed, f"a line of the snapshot of {log}")
             if said.get("cmd"):
                 break
-            yield from map(bytes.fromhex, said.get("entries", ()))
+            listed = said.get("entries")
+            for entry in listed if isinstance(listed, list) else ():
+                yield digits({"entries": entry}, "entries", ENTRY_LENGTH, LogFailed)
     yield from entries_of(log.read(position))
 
 
@@ -87,8 +90,7 @@ def lines_of(
     yield from grouped("entries", chain)
     yield from grouped("replaced", replaced)
     yield encoded({"cmd": "restore", "entry": chain[-1].hex()})
-    for page in pages(ask, point.epoch):
-        yield page
+    yield from pages(ask, point.epoch)
     yield LAST + link.hex().encode() + b'"}'
 
 
@@ -103,4 +105,5 @@ def pages(ask: Callable[[bytes], Mapping[str, Any]], epoch: int) -> Iterator[byt
         if bindings:
             line = encoded({"cmd": "restoring", "bindings": bindings})
             yield line
-            after, most = {"after": bindings[-1]["index"]}, max(1, min(_MOST, len(bindings) * _PAGE // len(line)))
+            after = {"after": digits(bindings[-1], "index", 32).hex()}
+            most = max(1, min(_MOST, len(bindings) * _PAGE // len(line)))

@@ -441,12 +441,15 @@ class Provider(Directory):
     def _chosen(self, engine: Engine, epoch: Optional[int]) -> Point:
         """The epoch to take a snapshot of. No epoch after it is forgotten, so it is none after the oldest promised one."""
         oldest = self._oldest_promised(engine)
-        if epoch is not None and epoch > oldest.epoch:
+        if epoch is None:
+            return oldest
+        point = engine.point_of(_number(epoch, 64, "the epoch"))
+        if point.epoch > oldest.epoch:
             raise ProviderError(
                 f"the policy still promises proofs of epoch {oldest.epoch}, and a snapshot of epoch {epoch} would forget it: "
                 f"take epoch {oldest.epoch} or an older one"
             )
-        return oldest if epoch is None else engine.point_of(_number(epoch, 64, "the epoch"))
+        return point
 
     def _oldest_promised(self, engine: Engine) -> Point:
         policy = self._policy

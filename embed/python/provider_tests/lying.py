@@ -28,6 +28,12 @@ def rebinds(answer: Answer) -> None:
         answer["bindings"][0]["key"] = "b3RoZXI="
 
 
+def babbles(answer: Answer) -> None:
+    """A page of something else."""
+    if answer.get("ok") == "bindings":
+        answer.update(bindings=[7], more=True)
+
+
 def never_ends(answer: Answer) -> None:
     if answer.get("ok") == "bindings":
         answer.update(bindings=[], more=True)
@@ -97,6 +103,7 @@ MODES: dict[str, Callable[[], Callable[[Answer], None]]] = {
     "lacks": lambda: lacks,
     "repeats": lambda: repeats,
     "rebinds": lambda: rebinds,
+    "babbles": lambda: babbles,
     "never ends": lambda: never_ends,
     "links": lambda: links,
     "counts": lambda: AfterRestored(counts),

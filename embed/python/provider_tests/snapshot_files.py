@@ -136,6 +136,10 @@ def try_altered(tell: Tell, program: str) -> None:
             it.log.close()
             count += 1
         tell("altered: many were tried", count > 100, count)
+        it.write([line.replace(chain[0].hex().encode(), b"no digits") for line in genuine])
+        it.log = FileLog(it.path)
+        raises(tell, "altered: entries for an auditor", LogFailed, lambda: [*entries(it.log)])
+        it.log.close()
         tell("altered: the signer isn't asked", it.signer.file.read_bytes() == asked)
         it.write(genuine)
         tell("altered: the genuine one", it.again().chain() == chain)

@@ -192,7 +192,7 @@ def try_epochs(tell: Tell, program: str) -> None:
         tell("epochs: one without names", it.own.compact() == 3 and it.again().latest().names == 0)
         fill(it.own, [5, 6])
         it.own.compact(5)
-        for epoch, error in [(3, UnknownEpoch), (4, UnknownEpoch), (7, ProviderError), (-1, ValueError), ("5", TypeError)]:
+        for epoch, error in [(3, UnknownEpoch), (4, UnknownEpoch), (7, UnknownEpoch), (-1, ValueError), ("5", TypeError)]:
             raises(tell, f"epochs: {epoch!r}", error, lambda: it.own.compact(epoch))  # type: ignore[arg-type]
         tell("epochs: the snapshot stays", b'"position":5' in it.lines()[0] and it.own.latest().epoch == 6)
 
@@ -299,6 +299,7 @@ def try_lies(tell: Tell, program: str) -> None:
         ("lacks", SnapshotDiffers),
         ("repeats", SnapshotDiffers),
         ("rebinds", SnapshotDiffers),
+        ("babbles", SnapshotDiffers),
         ("never ends", ProgramFailed),
         ("links", ProgramFailed),
         ("counts", ProgramFailed),
