@@ -16,8 +16,8 @@ from log_refusals import says
 from stand_ins import POLICY, Tell, index, kill_child, shown
 from units import raises
 from coniks.postgres import PostgresLog
-from coniks.provider import Change, DirectoryExists, LinesDropped, LogFailed, LogRefused, Overtaken, ProviderError, Register
-from coniks.provider import SnapshotDiffers, UnknownEpoch, entries
+from coniks.provider import Change, DirectoryExists, LinesDropped, LogFailed, LogForked, LogRefused, Overtaken, ProviderError
+from coniks.provider import Register, RestartNeeded, SnapshotDiffers, UnknownEpoch, entries
 from coniks.replica import Replica
 
 
@@ -299,7 +299,11 @@ def try_restored(it: Cluster) -> None:
     it.execute("TRUNCATE {table}_snapshot")
     it.refuses("no snapshot, and dropped lines", LinesDropped, it.own.restart)
     it.execute("INSERT INTO {table}_snapshot TABLE older", "TRUNCATE {table}", "INSERT INTO {table} TABLE lines")
-    it.refuses("older ones of both, a restart", ProviderError, it.own.restart)
+    it.refuses("older ones of both, a restart", LogForked, it.own.restart)
+    known, seen = it.own.chain(), it.own.evidence()
+    it.tell("older ones of both: the evidence", seen and [seen.known, seen.found] == [known, known[:5]] and len(known) == 6)
+    it.tell("older ones of both: lookups go on", it.own.lookup("alice").epoch == 6)
+    it.refuses("older ones of both, compact", RestartNeeded, it.own.compact)
     it.execute("DROP TABLE older, lines")
 
 
