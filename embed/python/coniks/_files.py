@@ -2,6 +2,7 @@
 
 from __future__ import annotations
 
+import errno
 import fcntl
 import io
 import os
@@ -130,6 +131,8 @@ class Replacement:
         assert self._file
         try:
             os.fsync(self._file.fileno())
+            if identity_at(self._new) != identity_of(self._file.fileno()):
+                raise FileNotFoundError(errno.ENOENT, "it was moved or removed")
             os.rename(self._new, self._path)
         except OSError as error:
             raise LogRefused(

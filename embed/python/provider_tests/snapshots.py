@@ -379,6 +379,27 @@ def try_meanwhile(tell: Tell, program: str) -> None:
                 tell(f"{what}: a start", it.again(sign_pending=False).chain() == chain and it.own.pending == pending)
 
 
+def try_removed(tell: Tell, program: str) -> None:
+    """The new snapshot is removed, or another file is put there, while it is written."""
+    with staged(program) as it:
+        fill(it.own, [1, 2])
+        it.own.compact()
+        before, new = it.snapshot.read_bytes(), it.room / "log.snapshot.new"
+
+        def exchange() -> None:
+            new.unlink()
+            new.write_bytes(b"other")
+
+        calls: list[tuple[str, Callable[[], object]]] = [("removed", new.unlink), ("exchanged", exchange)]
+        for what, call in calls:
+            it.own.commit(it.own.latest().epoch + 1, [])
+            it.own._log = Delayed(it.log, 2, call)
+            raises(tell, f"removed: the new one is {what}", LogRefused, it.own.compact)
+            tell(f"removed: the older one stays, {what}", it.snapshot.read_bytes() == before)
+        it.own._log = it.log
+        tell("removed: then one is stored", it.own.compact() == 9 and it.again().latest().epoch == 4)
+
+
 def fails(it: Stage) -> None:
     it.signer.fails = 1
     try:
@@ -517,5 +538,5 @@ class Bare:
 def try_snapshots(tell: Tell, program: str) -> None:
     for test in (try_same, try_pages, try_epochs, try_promises, try_pending, try_lies, try_meanwhile, try_ends):
         test(tell, program)
-    for test in (try_stale, try_slow, try_refused_lines):
+    for test in (try_removed, try_stale, try_slow, try_refused_lines):
         test(tell, program)
