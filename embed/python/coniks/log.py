@@ -173,7 +173,7 @@ class FileLog(Closing):
     def _check_no_snapshot(self) -> None:
         if os.path.lexists(self._path + ".snapshot"):
             raise DirectoryExists(
-                f"{self} is missing or empty, and there is a snapshot of a directory beside it: restore the log, or choose another path"
+                f"{self} has no line, and there is a snapshot of a directory beside it: restore the log, or choose another path"
             )
 
     def _open(self, flags: int) -> None:

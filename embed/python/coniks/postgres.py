@@ -300,7 +300,8 @@ class PostgresLog(Closing):
             )
         if position < first:
             raise LinesDropped(
-                f"{self} begins at line {first}, and its snapshot has the position {position}: restore a later snapshot, or the lines"
+                f"{self} begins at line {first}, and its snapshot has the position {position}: "
+                "restore a later snapshot, or the lines"
             )
         return position, self._snapshot_lines(number)
 

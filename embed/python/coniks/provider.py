@@ -100,17 +100,17 @@ class Provider(Directory):
     the log keeps. These are in the log from the first start on; later starts raise `LogFailed` if one is given that isn't the log's.
 
     `verify(body, signature)` returns whether a signature is valid, and is called before one is installed, and for the entry of a
-    snapshot: the program verifies none. `workers` and `depth` are the program's options. `timeout` is how many seconds the program may take for one answer;
-    without it there is no limit. A snapshot may take it for each 4,096 names.
+    snapshot: the program verifies none. `workers` and `depth` are the program's options. `timeout` is how many seconds the
+    program may take for one answer; without it there is no limit. A snapshot may take it for each 4,096 names.
 
     `head` is one that an auditor, a client or a replica saw. A log that ends before it raises `LogBehind`, one with another entry
     `LogForked`: pass it after a log was restored. A log that lacks what the signer's record has raises the same errors, whose
     `entries` are two entries that overlap, if there are two. A record that can't be read raises `SignerFailed`.
 
-    Starting restores the snapshot, if the log has one, and replays the lines after it. It asks for the indices of the first, the
-    last and 64 random bindings and operations again: another one raises `OtherIndex`, unless `check_indices` is False. Then the pending update is signed and installed, if there is one. If the
-    signer fails, `SignerFailed` is raised. With `sign_pending=False` that update stays pending, and so does one that the signer
-    has abandoned.
+    Starting restores the snapshot, if the log has one, and replays the lines after it. It asks for the indices of the first, the last
+    and 64 random bindings and operations again: another one raises `OtherIndex`, unless `check_indices` is False. Then the
+    pending update is signed and installed, if there is one. If the signer fails, `SignerFailed` is raised. With
+    `sign_pending=False` that update stays pending, and so does one that the signer has abandoned.
     """
 
     def __init__(

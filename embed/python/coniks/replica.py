@@ -4,8 +4,9 @@
         found = replica.lookup("alice")
 
 A replica has a child of its own, replays each line that the log gets, and compares the child's answer with the logged one. It
-asks no signer and appends nothing. It starts from the log's snapshot, if there is one. Its lookups show an epoch some time after the provider's `commit` returned: `lag` returns how
-far it is behind, and `follow` brings it to where the log is. `promote` makes a provider of it. docs/CLUSTER.md has when to call it.
+asks no signer and appends nothing. It starts from the log's snapshot, if there is one. Its lookups show an epoch some time after
+the provider's `commit` returned: `lag` returns how far it is behind, and `follow` brings it to where the log is. `promote` makes
+a provider of it. docs/CLUSTER.md has when to call it.
 """
 
 from __future__ import annotations

@@ -414,8 +414,9 @@ def try_beginnings(tell: Tell) -> None:
             with FileLog(path) as log:
                 tell(f"beginnings: {text!r}", [*log.read(first)] == text.split(b"\n")[1:-1])
                 raises(tell, f"beginnings: {text!r}: a line before", LinesDropped, lambda: log.read(first - 1))
-        for text in [b'{"first":0}\n', b'{"first":01}\n', b'{"first":1}', b'{"first": 1}\n', b'{"first":-1}\n', b'{"first":1.0}\n',
-                     b'{"first":100000000000000000000000}\n', b'{"first":1}\r\n', b' {"first":1}\n', b'{"first":"1"}\n']:  # fmt: skip
+        wrong = [b'{"first":0}\n', b'{"first":01}\n', b'{"first":1}', b'{"first": 1}\n', b'{"first":-1}\n', b'{"first":1.0}\n']
+        wrong += [b'{"first":100000000000000000000000}\n', b'{"first":1}\r\n', b' {"first":1}\n', b'{"first":"1"}\n']
+        for text in wrong:
             path.write_bytes(text)
             raises(tell, f"beginnings: {text!r}", LogFailed, lambda: FileLog(path))
             tell(f"beginnings: {text!r}: it is left", path.read_bytes() == text)
