@@ -4,4 +4,3 @@ mod CountLemmas
 mod ServiceLemmas
 mod RestoringLemmas
 mod PageLemmas
-mod HeldLemmas

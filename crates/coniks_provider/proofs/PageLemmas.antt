@@ -1,5 +1,5 @@
 -- Pages of bindings.
-use Rattle.std.proofs.Common.{◌≡◌, ℕ, ◌+◌, List, [], ◌∷◌, length, map, take, Bool, false, refl, sym, ap, ap₂, ◌∙◌, Option, Some, None}
+use Rattle.std.proofs.Common.{◌≡◌, ℕ, ◌+◌, List, [], ◌∷◌, length, map, take, Bool, false, refl, sym, ap, ap₂, ◌∙◌, Option, Some}
 use Rattle.std.specs.Prelude.{nat_lt, option_map}
 use Rattle.std.proofs.lemmas.List.{length-map, take-map}
 use Rattle.serde_json.specs.View.{items_of}
@@ -9,7 +9,7 @@ use Rattle.coniks_directory.specs.History.{Shown, shown_at}
 use Rattle.coniks_directory.specs.Supplied.{supplied_index}
 use Rattle.coniks_directory.specs.declared.bindings.IndexedBinding.{IndexedBinding as Binding}
 use Rattle.coniks_proof.specs.Sha256.{sha256}
-use Rattle.coniks_provider.specs.Answers.{binding_data, listed, page_data, unknown_epoch}
+use Rattle.coniks_provider.specs.Answers.{binding_data, listed, page_data}
 use Rattle.coniks_provider.specs.Turns.{ProviderDirectory, bindings_with, index_of_bytes, page_of_found, serving}
 
 -- no printed binding contains a float
@@ -21,9 +21,6 @@ pub page_plain : (epoch : ℕ) (bs : List IndexedBinding) (more : Bool) → has_
 page_plain epoch bs more = rw (no_floats bs) refl
 
 module _ (o : ProviderDirectory) (epoch : ℕ) (after : Option (List ℕ)) (most : ℕ) where
-  pub unlisted : shown_at o.history epoch ≡ None → unknown_epoch ≡ bindings_with (serving o) epoch after most
-  unlisted none = rw none refl
-
   pub listed_is : (shown : Shown) (found : List Binding) → shown_at o.history epoch ≡ Some shown
       → map indexed_binding found ≡ bindings_page sha256 (supplied_index o.indices) shown.registry (option_map index_of_bytes after) (most + 1)
       → listed (page_data epoch (map indexed_binding (take most found)) (nat_lt most (length found))) ≡ bindings_with (serving o) epoch after most

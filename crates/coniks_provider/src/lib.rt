@@ -1,8 +1,9 @@
 //! The engine of `provider`: a directory whose indices and signatures come from outside, driven by lines.
 //!
 //! A service computes the index of each name with its own verifiable random function (VRF, RFC 9381). It signs each
-//! epoch's body with its own key. `run_provider` answers lines over memory as the program `provider` answers standard
-//! input:
+//! epoch's body with its own key. A directory is opened, or restored from its latest entry and the bindings at that
+//! epoch, which a service reads in pages. `run_provider` answers lines over memory as the program `provider` answers
+//! standard input:
 //!
 //! ```rust
 //! let mut reader = MemoryIn::new(Vec::from_slice(alloc, LINES)?);
