@@ -50,6 +50,7 @@ type child struct {
 
 type question struct {
 	line  []byte
+	times int // how many times the timeout its answer may take
 	reply chan reply
 }
 
@@ -109,10 +110,13 @@ func startChild(program []string, timeout time.Duration) (*child, error) {
 }
 
 // send has lines written one after another, and returns a question for each.
-func (it *child) send(lines ...[]byte) []*question {
+func (it *child) send(lines ...[]byte) []*question { return it.sendFor(1, lines...) }
+
+// sendFor is send for lines each of whose answers may take so many times the timeout.
+func (it *child) sendFor(times int, lines ...[]byte) []*question {
 	questions := make([]*question, len(lines))
 	for at, line := range lines {
-		questions[at] = &question{line, make(chan reply, 1)}
+		questions[at] = &question{line, times, make(chan reply, 1)}
 	}
 	it.mutex.Lock()
 	defer it.mutex.Unlock()
@@ -193,13 +197,14 @@ func (it *child) next() []byte {
 		return nil
 	}
 	var lines bytes.Buffer
-	if len(it.asked) == 0 {
-		it.setAlarm()
-	}
+	isFirst := len(it.asked) == 0
 	for len(it.unsent) > 0 && (lines.Len() == 0 || lines.Len()+len(it.unsent[0].line) < batchBytes) {
 		lines.Write(it.unsent[0].line)
 		lines.WriteByte('\n')
 		it.asked, it.unsent = append(it.asked, it.unsent[0]), it.unsent[1:]
+	}
+	if isFirst {
+		it.setAlarm()
 	}
 	return lines.Bytes()
 }
@@ -251,9 +256,10 @@ func (it *child) hand(line []byte) bool {
 
 // setAlarm sets when the first awaited answer is late. The caller has the mutex.
 func (it *child) setAlarm() {
-	if it.alarm != nil {
-		it.until = time.Now().Add(it.timeout)
-		it.alarm.Reset(it.timeout)
+	if it.alarm != nil && len(it.asked) > 0 {
+		limit := it.timeout * time.Duration(it.asked[0].times)
+		it.until = time.Now().Add(limit)
+		it.alarm.Reset(limit)
 	}
 }
 

@@ -18,11 +18,12 @@ const (
 
 const checkReplay = "check that log and program are this directory's"
 
-// update is a pending update, with its line as the log has it and, if it was replayed and its indices weren't compared, its
-// operations.
+// update is a pending update, with its line as the log has it, how many names it registers and, if it was replayed and its indices
+// weren't compared, its operations.
 type update struct {
 	pending    Pending
 	line       []byte
+	names      uint64
 	operations []indexed
 }
 
@@ -44,6 +45,7 @@ type view struct {
 	latest Epoch
 	size   Latest
 	chain  [][]byte // is only appended to
+	points []point  // the epochs that the child has, those of the last entries of the chain; is only appended to
 	update *update
 }
 
@@ -55,7 +57,7 @@ type engine struct {
 	settings *Settings
 	child    *child
 	position int    // how many lines the log has
-	opening  []byte // the log's first line
+	opening  string // what the log's first line says
 	isStrict bool   // the log says of each update that is replaced that it was abandoned
 	unlogged *unlogged
 	replaced [][]byte // the bodies of logged updates that others replaced
@@ -77,22 +79,48 @@ func (it *engine) setUpdate(update *update) {
 	it.seen.update = update
 }
 
-// settle notes that the log has the pending update's epoch.
-func (it *engine) settle(epoch Epoch, size Latest) {
+// prepared notes that the log has the line of an update, which is the pending one then.
+func (it *engine) prepared(update *update) {
+	if before := it.seen.update; before != nil {
+		it.replaced = append(it.replaced, before.pending.Body)
+	}
+	it.setUpdate(update)
+}
+
+// settle notes that the log has the pending update's epoch, in lines below a position.
+func (it *engine) settle(epoch Epoch, size Latest, position int) {
 	it.mutex.Lock()
 	defer it.mutex.Unlock()
+	names := it.seen.update.names
+	if count := len(it.seen.points); count > 0 {
+		names += it.seen.points[count-1].names
+	}
+	it.seen.points = append(it.seen.points, point{epoch.Epoch, position, names, uint64(len(it.replaced))})
 	it.seen.latest, it.seen.size, it.seen.update = epoch, size, nil
 	it.seen.chain = append(it.seen.chain, epoch.Entry)
 	it.unlogged = nil
 }
 
-// replay replays the log from its start, in which mustBeNew allows no line.
+// restored notes that the child was restored at an epoch.
+func (it *engine) restored(epoch Epoch, point point, chain, replaced [][]byte) {
+	it.mutex.Lock()
+	defer it.mutex.Unlock()
+	it.position, it.replaced = point.position, replaced
+	it.seen.latest, it.seen.chain, it.seen.points = epoch, chain, append(it.seen.points, point)
+}
+
+// replay restores the snapshot of the log, if there is one, and replays the lines from its position on. If it must be new, the log
+// must have no line.
 func (it *engine) replay(ctx context.Context, mustBeNew bool) error {
-	replayer := &replayer{engine: it, ctx: ctx}
-	err := it.read(func(line []byte) error {
+	if stored := snapshotOf(it.settings.Log); stored != nil {
+		if err := it.restore(ctx, stored, mustBeNew); err != nil {
+			return err
+		}
+	}
+	replayer := &replayer{engine: it, ctx: ctx, count: it.position}
+	err := it.read(it.position, func(line []byte) error {
 		if mustBeNew {
-			return failed(ErrDirectoryExists, "there is a directory in %s: start without Create, or check that it is the right log",
-				nameOf(it.settings.Log))
+			return it.exists()
 		}
 		return replayer.send(append([]byte(nil), line...))
 	})
@@ -100,6 +128,35 @@ func (it *engine) replay(ctx context.Context, mustBeNew bool) error {
 		return err
 	}
 	return replayer.takeTo(0, 0)
+}
+
+func (it *engine) exists() error {
+	return failed(ErrDirectoryExists, "there is a directory in %s: start without Create, or check that it is the right log",
+		nameOf(it.settings.Log))
+}
+
+// restore has the child restored from the snapshot of a log, if there is one.
+func (it *engine) restore(ctx context.Context, log SnapshotLog, mustBeNew bool) error {
+	restorer := &restorer{engine: it, ctx: ctx}
+	position := 0
+	err := it.reading(func(each func(line []byte) error) (err error) {
+		position, err = log.Snapshot(each)
+		return err
+	}, func(line []byte) error {
+		if mustBeNew {
+			return it.exists()
+		}
+		return restorer.take(line)
+	})
+	switch {
+	case err != nil || position == 0:
+		return err
+	case !restorer.isDone():
+		return restorer.differs("is cut")
+	case position != restorer.position:
+		return restorer.differs("has another position than the log says")
+	}
+	return nil
 }
 
 // replayer sends a log's lines to the child, some of them before it takes the answers to earlier ones.
@@ -145,11 +202,17 @@ func (it *replayer) takeTo(size, lines int) error {
 	return nil
 }
 
-// read calls each with the lines of the log. An error of the log is ErrLogFailed.
-func (it *engine) read(each func(line []byte) error) error {
+// read calls each with the lines of the log from a position on. An error of the log is ErrLogFailed.
+func (it *engine) read(position int, each func(line []byte) error) error {
+	return it.reading(func(each func(line []byte) error) error { return it.settings.Log.Read(position, each) }, each)
+}
+
+// reading makes a call that reads lines of the log, and calls each with them until its first error, which is returned before an error
+// of the log. That is ErrLogFailed or ErrSnapshotDiffers.
+func (it *engine) reading(read func(each func(line []byte) error) error, each func(line []byte) error) error {
 	var stopped error
 	err := guarded(func() error {
-		return it.settings.Log.Read(0, func(line []byte) error {
+		return read(func(line []byte) error {
 			if stopped == nil {
 				stopped = each(line)
 			}
@@ -158,6 +221,9 @@ func (it *engine) read(each func(line []byte) error) error {
 	})
 	if stopped != nil {
 		return stopped
+	}
+	if errors.Is(err, ErrSnapshotDiffers) {
+		return err
 	}
 	return logError(err, "the log can't be read, repair it and start again")
 }
@@ -185,14 +251,20 @@ func (it *engine) take(said *logged, told []byte) error {
 	}
 	switch said.command {
 	case "open":
-		it.opening, it.isStrict, err = said.line, said.format != nil, it.compareOpening(said)
+		err = it.begin(said)
 	case "prepare":
 		err = it.takePrepare(said, answer)
 	case "install":
 		err = it.takeInstall(said, answer)
 	}
-	it.position++
+	it.advance()
 	return err
+}
+
+// begin takes what a line `open` says, or the header of a snapshot.
+func (it *engine) begin(said *logged) error {
+	it.opening, it.isStrict = openingOf(said), said.format != nil
+	return it.compareOpening(said)
 }
 
 func (it *engine) compareOpening(said *logged) error {
@@ -225,10 +297,8 @@ func (it *engine) takePrepare(said *logged, answer *answer) error {
 	if err != nil {
 		return err
 	}
-	if before := it.seen.update; before != nil {
-		it.replaced = append(it.replaced, before.pending.Body)
-	}
-	it.setUpdate(&update{pending, said.line, operationsOf(said)})
+	operations := operationsOf(said)
+	it.prepared(&update{pending, said.line, registered(operations), operations})
 	return nil
 }
 
@@ -258,7 +328,7 @@ func (it *engine) takeInstall(said *logged, answer *answer) error {
 		return err
 	}
 	it.sample.add(it.seen.update.operations)
-	it.settle(epoch, Latest{})
+	it.settle(epoch, Latest{}, it.position+1)
 	return nil
 }
 
@@ -332,13 +402,19 @@ func (it *engine) open(ctx context.Context) error {
 	if err == nil {
 		err = it.append(line)
 	}
-	it.opening = line
+	if err != nil {
+		return err
+	}
+	said, err := loggedOf(line, "the first line of the log")
+	if err == nil {
+		err = it.begin(said)
+	}
 	return err
 }
 
 // prepare has the child prepare an update, which the log doesn't have yet. Its line abandons the pending one, if there is one:
 // the caller knows that the signer has. The *Fault of a refused line changes nothing.
-func (it *engine) prepare(ctx context.Context, epoch uint64, line []byte) (*update, error) {
+func (it *engine) prepare(ctx context.Context, epoch uint64, line []byte, names uint64) (*update, error) {
 	told, err := it.child.ask(ctx, line, "prepare")
 	if err != nil {
 		return nil, err
@@ -351,7 +427,7 @@ func (it *engine) prepare(ctx context.Context, epoch uint64, line []byte) (*upda
 	if before := it.seen.update; before != nil {
 		whole = with(whole, "abandons", before.pending.Body)
 	}
-	return &update{pending: pending, line: whole}, nil
+	return &update{pending: pending, line: whole, names: names}, nil
 }
 
 // withdraw makes the log's update pending in the child again, after the log has refused another one.
@@ -407,15 +483,29 @@ func (it *engine) append(line []byte) error {
 	if err != nil {
 		return logError(err, "the log can't be written, so the line may be stored or not; repair it, then call Restart")
 	}
-	it.position++
+	it.advance()
 	return nil
+}
+
+// advance notes that the log has one more line.
+func (it *engine) advance() {
+	it.mutex.Lock()
+	defer it.mutex.Unlock()
+	it.position++
+}
+
+// end returns how many lines the log is known to have, also to those who don't hold the steps.
+func (it *engine) end() int {
+	it.mutex.Lock()
+	defer it.mutex.Unlock()
+	return it.position
 }
 
 // follows reports whether this log has all that another engine has seen in its log: the first line, the entries, and the body
 // that it may have had signed.
 func (it *engine) follows(other *engine) bool {
 	mine, theirs := it.seen, other.seen
-	if len(mine.chain) < len(theirs.chain) || !bytes.Equal(it.opening, other.opening) {
+	if len(mine.chain) < len(theirs.chain) || it.opening != other.opening {
 		return false
 	}
 	for at, entry := range theirs.chain {
@@ -435,7 +525,7 @@ func (it *engine) checkHead(head Head) error {
 		return failed(ErrLogBehind, "the log ends at epoch %d, before the head of epoch %d: restore its last lines", latest, head.Epoch)
 	}
 	for _, entry := range it.seen.chain {
-		if binary.BigEndian.Uint64(entry[1:9]) == head.Epoch && sha256.Sum256(append([]byte{linkTag}, entry...)) == head.Link {
+		if binary.BigEndian.Uint64(entry[1:9]) == head.Epoch && linkOf(entry) == head.Link {
 			return nil
 		}
 	}

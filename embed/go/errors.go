@@ -20,7 +20,10 @@ var (
 	ErrNoDirectory error = logKind("the log is missing or empty")
 	// ErrDirectoryExists: a directory is to be made, but the log already has lines.
 	ErrDirectoryExists error = logKind("the log has a directory already")
-	// ErrOvertaken: the log has a line at this position already, which another provider appended.
+	// ErrLinesDropped: the log begins after the line that is asked for, because DropBefore dropped the lines below its snapshot's
+	// position.
+	ErrLinesDropped error = logKind("the log begins after the line that is asked for")
+	// ErrOvertaken: the log has a line at this position already, which another provider appended, or a snapshot of a later position.
 	ErrOvertaken error = logKind("the log has a line at this position already")
 	// ErrLogForked: the log lacks lines that this process has seen in it, or has others in their place, or lacks what the signer's
 	// record has. Provider.Evidence returns what it has seen and what the log has.
@@ -30,6 +33,11 @@ var (
 	ErrLogBehind error = behind("the log ends before what it is to have")
 	// ErrReplayDiffers: the program answers a line of the log otherwise than it did when the line was appended.
 	ErrReplayDiffers = errors.New("the program answers a line of the log otherwise than when it was appended")
+	// ErrSnapshotDiffers: the snapshot isn't whole, isn't one of this directory, or was changed. Or what a second child restored from
+	// a new one isn't what the first child has: then the first one goes on, and the snapshot that was stored before stays.
+	ErrSnapshotDiffers = errors.New("the snapshot isn't whole, isn't one of this directory, or was changed")
+	// ErrProofsPromised: the policy promises proofs of an epoch that a snapshot would forget.
+	ErrProofsPromised = errors.New("the policy promises proofs of an epoch that the snapshot would forget")
 	// ErrSignerFailed: Sign returned an error, which is the cause, or no valid signature; or the signer failed to abandon a body.
 	// The update stays pending.
 	ErrSignerFailed = errors.New("the signer failed, and the update stays pending")
@@ -119,6 +127,10 @@ const (
 	BoardFull     FaultName = "BoardFull"
 	NotPrepared   FaultName = "NotPrepared"
 	UnknownEpoch  FaultName = "UnknownEpoch"
+	NotRestoring  FaultName = "NotRestoring"
+	NotLater      FaultName = "NotLater"
+	EntryVersion  FaultName = "Version"
+	RootDiffers   FaultName = "RootDiffers"
 )
 
 func (it FaultName) Error() string { return string(it) }
@@ -140,7 +152,11 @@ var faultTexts = map[FaultName]string{
 	EpochNotLater: "the epoch isn't later than the latest one",
 	BoardFull:     "the directory has 65,536 epochs",
 	NotPrepared:   "no update is pending",
-	UnknownEpoch:  "there is no such epoch",
+	UnknownEpoch:  "there is no such epoch, or it is before the snapshot",
+	NotRestoring:  "no restore has begun",
+	NotLater:      "the entry's epoch isn't later than the one before it",
+	EntryVersion:  "the entry has neither version 1 nor 2",
+	RootDiffers:   "the root of the bindings isn't that of the entry",
 }
 
 // Fault is the error of a line that the program refuses. Nothing is changed. Position is that of the operation at fault,

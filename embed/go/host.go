@@ -14,6 +14,9 @@ const (
 	startsTime = time.Minute
 )
 
+// mostReplays is how often a start begins anew because the snapshot was replaced meanwhile.
+const mostReplays = 3
+
 // pauses are how long a start waits after 0, 1, 2, 3, and 4 or more failed ones.
 var pauses = []time.Duration{0, 100 * time.Millisecond, time.Second, 5 * time.Second, 10 * time.Second}
 
@@ -39,23 +42,39 @@ type host struct {
 
 	// steps is held while the child and the log may differ: by who changes the directory, but not while the signer is asked, and
 	// while another child replays the log. Lookups don't need it.
-	steps sync.Mutex
+	steps gate
 
 	mutex       sync.Mutex
 	children    sync.WaitGroup
 	isClosed    bool
 	engine      *engine
-	replaying   *child
-	changed     chan none // closed when something of this changes
-	down        error     // why no child answers and none is being started
-	broken      error     // why nothing can be added before a restart
+	begun       map[*child]none // those that aren't the engine's
+	changed     chan none       // closed when something of this changes
+	down        error           // why no child answers and none is being started
+	broken      error           // why nothing can be added before a restart
 	evidence    *Evidence
 	isForgetful bool
 	starts      []time.Time
 }
 
+// gate is a mutex that can be waited for with a context.
+type gate chan none
+
+func (it gate) Lock()   { it <- none{} }
+func (it gate) Unlock() { <-it }
+
+// lock locks it, or returns ctx.Err() once the context is done.
+func (it gate) lock(ctx context.Context) error {
+	select {
+	case it <- none{}:
+		return nil
+	case <-ctx.Done():
+		return ctx.Err()
+	}
+}
+
 func newHost(settings *Settings) *host {
-	it := &host{settings: settings, changed: make(chan none)}
+	it := &host{settings: settings, steps: make(gate, 1), begun: map[*child]none{}, changed: make(chan none)}
 	it.life, it.end = context.WithCancel(context.Background())
 	return it
 }
@@ -108,21 +127,24 @@ func (it *host) ready(ctx context.Context) (*engine, error) {
 // step makes a call between whose begin and end the child and the log may differ.
 func (it *host) step(ctx context.Context, call func(*engine) error) error {
 	for {
-		if err := it.needed(); err != nil {
+		// An append that is under way has the steps, and is waited for.
+		if err := it.needed(); err != nil && !errors.Is(err, errHalfway) {
 			return err
 		}
 		engine, err := it.ready(ctx)
 		if err != nil {
 			return err
 		}
-		if isDone, err := it.stepOf(engine, call); isDone {
+		if isDone, err := it.stepOf(ctx, engine, call); isDone {
 			return it.orClosed(err)
 		}
 	}
 }
 
-func (it *host) stepOf(engine *engine, call func(*engine) error) (bool, error) {
-	it.steps.Lock()
+func (it *host) stepOf(ctx context.Context, engine *engine, call func(*engine) error) (bool, error) {
+	if err := it.steps.lock(ctx); err != nil {
+		return true, err
+	}
 	defer it.steps.Unlock()
 	if it.current() != engine || !engine.child.isUsable() {
 		return false, nil
@@ -185,8 +207,44 @@ func (it *host) orClosed(err error) error {
 	return err
 }
 
-// build returns another engine, which has replayed the log. The caller has the steps.
+// ask asks the child that there is. One that ends meanwhile is asked once more.
+func (it *host) ask(ctx context.Context, line []byte, command string) (*answer, error) {
+	for tries := 0; ; {
+		engine, err := it.ready(ctx)
+		if err != nil {
+			return nil, err
+		}
+		told, err := engine.child.ask(ctx, line, command)
+		if errors.Is(err, ErrProgramFailed) {
+			tries++
+		}
+		if tries > 1 || !errors.Is(err, ErrProgramFailed) && !errors.Is(err, errReplaced) {
+			return told, err
+		}
+	}
+}
+
+// build returns another engine, which has replayed the log. It begins anew if a snapshot takes the place of the one that it began with,
+// and the lines below are dropped. The caller has the steps.
 func (it *host) build(mayCreate, mustBeNew bool) (*engine, error) {
+	for tries := 1; ; tries++ {
+		engine, err := it.begin()
+		if err != nil {
+			return nil, err
+		}
+		err = it.replay(engine, mayCreate, mustBeNew)
+		if err == nil {
+			return engine, nil
+		}
+		it.discard(engine)
+		if !errors.Is(err, ErrLinesDropped) || tries == mostReplays {
+			return nil, it.orClosed(err)
+		}
+	}
+}
+
+// begin returns another engine, which has replayed nothing.
+func (it *host) begin() (*engine, error) {
 	child, err := startChild(it.settings.Program, it.settings.Timeout)
 	if err != nil {
 		return nil, err
@@ -194,7 +252,7 @@ func (it *host) build(mayCreate, mustBeNew bool) (*engine, error) {
 	isClosed := false
 	it.set(func() {
 		if isClosed = it.isClosed; !isClosed {
-			it.replaying = child
+			it.begun[child] = none{}
 			it.children.Add(1)
 			go func() { <-child.ended; it.children.Done() }()
 		}
@@ -203,8 +261,11 @@ func (it *host) build(mayCreate, mustBeNew bool) (*engine, error) {
 		child.stop(0)
 		return nil, ErrClosed
 	}
-	engine := &engine{settings: it.settings, child: child}
-	err = engine.replay(it.life, mustBeNew)
+	return &engine{settings: it.settings, child: child}, nil
+}
+
+func (it *host) replay(engine *engine, mayCreate, mustBeNew bool) error {
+	err := engine.replay(it.life, mustBeNew)
 	if errors.Is(err, ErrNoDirectory) && mayCreate {
 		err = nil
 	} else if err == nil && engine.position == 0 && !mayCreate {
@@ -214,17 +275,13 @@ func (it *host) build(mayCreate, mustBeNew bool) (*engine, error) {
 	if err == nil && engine.position > 0 {
 		err = engine.measure(it.life)
 	}
-	if err != nil {
-		it.discard(engine)
-		return nil, it.orClosed(err)
-	}
-	return engine, nil
+	return err
 }
 
 // discard ends the child of an engine that isn't used.
 func (it *host) discard(engine *engine) {
 	engine.child.stop(0)
-	it.set(func() { it.replaying = nil })
+	it.set(func() { delete(it.begun, engine.child) })
 }
 
 // exchange puts an engine in the place of this one. The caller has the steps.
@@ -236,11 +293,12 @@ func (it *host) exchange(engine *engine, more func()) error {
 			err = ErrClosed
 			return
 		}
-		it.engine, it.replaying, it.down = engine, nil, nil
+		it.engine, it.down = engine, nil
+		delete(it.begun, engine.child)
 		more()
 	})
 	if err != nil {
-		engine.child.stop(0)
+		it.discard(engine)
 		return err
 	}
 	if old != nil {
@@ -514,8 +572,8 @@ func (it *host) close() {
 		if it.engine != nil {
 			children = append(children, it.engine.child)
 		}
-		if it.replaying != nil {
-			it.replaying.fail(ErrClosed)
+		for child := range it.begun {
+			child.fail(ErrClosed)
 		}
 	})
 	it.end()

@@ -95,7 +95,8 @@ type answer struct {
 	Ok, Name                              string
 	Epoch, Names, Nodes                   uint64
 	Body, Root, Link, Entry, Index, Nonce digits
-	Proof                                 json.RawMessage
+	Proof, Bindings                       json.RawMessage
+	More                                  bool
 	Fault                                 FaultName
 	Position                              *int
 	Latest                                *uint64
@@ -160,11 +161,14 @@ func loggedOf(line []byte, what string) (*logged, error) {
 	return it, nil
 }
 
-// Entries calls each with the entries of all epochs that a log has, in their order: what an auditor takes.
+// Entries calls each with the entries of all epochs that a log and its snapshot have, in their order: what an auditor takes.
 func Entries(log Log, each func(entry []byte) error) error {
+	position, err := snapshotEntries(log, each)
+	if err != nil {
+		return err
+	}
 	var body []byte
-	position := 0
-	return log.Read(0, func(line []byte) error {
+	return log.Read(position, func(line []byte) error {
 		said, err := loggedOf(line, fmt.Sprintf("line %d of the log", position))
 		if err != nil {
 			return err

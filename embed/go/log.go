@@ -9,6 +9,8 @@ import (
 	"io/fs"
 	"os"
 	"path/filepath"
+	"regexp"
+	"strconv"
 	"sync"
 	"syscall"
 	"time"
@@ -16,17 +18,35 @@ import (
 
 // Log stores a provider's lines. Lines have no newline and are counted from 0.
 //
-// A provider makes one call at a time. A log may have more methods. String names it in errors. CheckWritable returns an error if an Append could not succeed, as far
-// as that can be told without one; a provider calls it before it starts to write. If IsNew returns true, a provider makes a
-// directory in it without Create.
+// A provider makes one call at a time, beside a call of Compact. A log may have more methods. String names it in errors.
+// CheckWritable returns an error if an Append could not succeed, as far as that can be told without one; a provider calls it before
+// it starts to write. If IsNew returns true, a provider makes a directory in it without Create. If it has the calls of SnapshotLog,
+// it may begin with a snapshot.
 type Log interface {
 	// Append stores a line so that it outlives the machine's failure, and then returns nil. It returns an error that is
 	// ErrOvertaken if the log has a line at this position, and ErrLogRefused if it is certain that the line is not stored and
 	// will not be. After another error it may be stored or not. A log that doesn't exist yet is made by an Append at position 0.
 	Append(position int, line []byte) error
 	// Read calls each with the lines from a position on, and returns its first error. It returns an error that is
-	// ErrNoDirectory if the log doesn't exist.
+	// ErrNoDirectory if the log doesn't exist, and ErrLinesDropped if it begins after that position.
 	Read(position int, each func(line []byte) error) error
+}
+
+// SnapshotLog is a log that stores a snapshot, which has the effect of all lines below its position.
+type SnapshotLog interface {
+	Log
+	// Snapshot calls each with the lines of the stored snapshot, and returns its position, 0 if there is none. A nil each reads no
+	// line. It returns the first error of each, with the position. It returns an error that is ErrLogFailed if the log ends before
+	// the position, ErrLinesDropped if it begins after it, and ErrSnapshotDiffers if the snapshot isn't whole.
+	Snapshot(each func(line []byte) error) (position int, err error)
+	// Compact stores a snapshot in place of an older one: the lines that its argument calls store with. A failure of the machine at
+	// any moment leaves one of both whole. It returns an error that is ErrOvertaken if a snapshot of a later position is stored, and
+	// ErrLogRefused if it is certain that the older one stays. It returns an error of lines, and then it stores nothing. After
+	// another error either is stored. While lines runs, Append and Read are called.
+	Compact(position int, lines func(store func(line []byte) error) error) error
+	// DropBefore drops the lines below a position, at most that of the snapshot: back up the snapshot first. Positions go on. It
+	// returns an error that is ErrLogRefused without such a snapshot.
+	DropBefore(position int) error
 }
 
 // nameOf names a log in errors.
@@ -37,10 +57,10 @@ func nameOf(log Log) string {
 	return "the log"
 }
 
-// FileLog is a log in a file, one line after another. One process has it open at a time. All calls can be used from several
-// goroutines.
+// FileLog is a log in a file, one line after another, and its snapshot in PATH.snapshot. One process has it open at a time. All
+// calls can be used from several goroutines.
 //
-// The file contains keys, and the openings that blind the commitments, so its mode is 0600. A file that others may read or write
+// The files contain keys, and the openings that blind the commitments, so their mode is 0600. A file that others may read or write
 // is refused, unless OpenFileLogMode allows it. A missing file is a log that doesn't exist yet: Read returns ErrNoDirectory, and
 // an Append at position 0 makes the file.
 //
@@ -51,8 +71,11 @@ type FileLog struct {
 	isNew bool
 
 	mutex    sync.Mutex
-	file     disk // nil while the file is missing
-	count    int
+	file     disk            // nil while the file is missing
+	readers  *sync.WaitGroup // those who read the file
+	first    int             // the position of the first line
+	start    int64           // where it begins
+	count    int             // how many positions are taken
 	end      int64
 	isMade   bool // this log made the file, so that it may open it again
 	isBad    bool // what follows the lines is unknown, from the first byte of an append to its end
@@ -71,6 +94,12 @@ type disk interface {
 
 // logHead is how the first line of each log begins.
 const logHead = `{"cmd":"open"`
+
+// droppedHead is what a log begins with whose first lines were dropped: the position of the line after it.
+var droppedHead = regexp.MustCompile(`^\{"first":([1-9][0-9]{0,18})\}\n`)
+
+// longestHead is more than the bytes of both.
+const longestHead = 32
 
 const lockTime = time.Second
 
@@ -95,18 +124,24 @@ func OpenFileLogMode(path string, mode os.FileMode) (*FileLog, error) {
 }
 
 // CreateFileLog makes the file, in which a provider then makes a directory. It takes an empty file too. It returns
-// ErrDirectoryExists if the file has lines.
+// ErrDirectoryExists if the file has lines, or a snapshot.
 func CreateFileLog(path string) (*FileLog, error) {
 	it, err := OpenFileLog(path)
-	if err == nil && it.file == nil {
-		err = it.open(os.O_CREATE)
-	}
 	if err != nil {
 		return nil, err
 	}
-	if it.count > 0 {
+	if it.count == 0 {
+		err = it.checkNoSnapshot()
+	}
+	if err == nil && it.file == nil {
+		err = it.open(os.O_CREATE)
+	}
+	if err == nil && it.count > 0 {
+		err = failed(ErrDirectoryExists, "there is a directory in %s: call OpenFileLog, or choose another path", it)
+	}
+	if err != nil {
 		it.Close()
-		return nil, failed(ErrDirectoryExists, "there is a directory in %s: call OpenFileLog, or choose another path", it)
+		return nil, err
 	}
 	it.isNew = true
 	return it, nil
@@ -124,43 +159,46 @@ func (it *FileLog) IsNew() bool {
 
 // open opens the file with more flags. The error of a missing file is fs.ErrNotExist.
 func (it *FileLog) open(flags int) error {
-	file, err := os.OpenFile(it.path, os.O_RDWR|syscall.O_NONBLOCK|syscall.O_NOCTTY|flags, 0o600)
-	if errors.Is(err, fs.ErrExist) {
-		return failed(errMade, "another process has made %s, or it is a link to nothing: close this log, and find out who writes to it",
-			it)
-	}
-	if err != nil {
-		return failed(ErrLogFailed, "%s can't be opened, check its path: %w", it, err)
-	}
-	it.isMade = it.isMade || flags&os.O_EXCL != 0
-	if err := it.begin(file); err != nil {
+	for {
+		file, err := os.OpenFile(it.path, os.O_RDWR|syscall.O_NONBLOCK|syscall.O_NOCTTY|flags, 0o600)
+		if errors.Is(err, fs.ErrExist) {
+			return failed(errMade, "another process has made %s, or it is a link to nothing: close this log, and find out who writes "+
+				"to it", it)
+		}
+		if err != nil {
+			return failed(ErrLogFailed, "%s can't be opened, check its path: %w", it, err)
+		}
+		it.isMade = it.isMade || flags&os.O_EXCL != 0
+		isThere, err := it.begin(file)
+		if isThere && err == nil {
+			it.file, it.readers = file, &sync.WaitGroup{}
+			return nil
+		}
 		file.Close()
-		return logError(err, fmt.Sprintf("%s can't be opened", it))
+		if err != nil {
+			return logError(err, fmt.Sprintf("%s can't be opened", it))
+		}
 	}
-	it.file = file
-	return nil
 }
 
-// begin locks a file, and reads how far it goes.
-func (it *FileLog) begin(file *os.File) error {
-	found, err := file.Stat()
-	switch {
-	case err != nil:
-		return err
-	case !found.Mode().IsRegular():
-		return failed(ErrLogFailed, "%s is no regular file: give the path of a log", it)
-	case found.Mode().Perm()&^it.mode != 0:
-		return failed(ErrLogFailed, "%s has keys in it and the mode %04o: chmod 600, or call OpenFileLogMode", it, found.Mode().Perm())
+// begin locks a file, and reads how far it goes. It returns false if another file took its place meanwhile.
+func (it *FileLog) begin(file *os.File) (isThere bool, err error) {
+	if err := checkPrivate(file, it.mode, it.String()); err != nil {
+		return false, err
 	}
 	if err := lock(file); errors.Is(err, syscall.EWOULDBLOCK) {
-		return failed(ErrLogFailed, "another process has %s open: one provider writes to it at a time", it)
+		return false, failed(ErrLogFailed, "another process has %s open: one provider writes to it at a time", it)
 	} else if err != nil {
-		return err
+		return false, err
+	}
+	mine, err := file.Stat()
+	if err != nil || !leadsTo(it.path, mine) {
+		return false, err
 	}
 	if err := it.mend(file); err != nil {
-		return err
+		return false, err
 	}
-	return syncFolder(it.path)
+	return true, syncFolder(it.path)
 }
 
 // lock takes the file for this process. One that was killed while it started a child may have it for some milliseconds more.
@@ -177,15 +215,11 @@ func lock(file *os.File) error {
 
 // mend counts the whole lines and drops what follows. The last whole line is on the disk afterwards.
 func (it *FileLog) mend(file *os.File) error {
-	head := make([]byte, len(logHead))
-	size, err := file.ReadAt(head, 0)
-	if err != nil && err != io.EOF {
+	first, begin, err := it.beginning(file)
+	if err != nil {
 		return err
 	}
-	if string(head[:size]) != logHead[:size] {
-		return failed(ErrLogFailed, "%s is no log of a provider, and is left as it is: give the path of a log", it)
-	}
-	count, start, end, err := wholeLines(file)
+	count, start, end, err := wholeLines(file, begin)
 	if err != nil {
 		return err
 	}
@@ -205,14 +239,34 @@ func (it *FileLog) mend(file *os.File) error {
 	if _, err := file.WriteAt(last, end-int64(len(last))); err != nil {
 		return err
 	}
-	it.count, it.end = count, end
+	it.first, it.start, it.count, it.end = first, begin, first+count, end
 	return file.Sync()
 }
 
-// wholeLines returns how many lines of a file end with a newline, and where the last one starts and ends.
-func wholeLines(file *os.File) (count int, start, end int64, err error) {
+// beginning returns the position of a file's first line, and where that begins.
+func (it *FileLog) beginning(file *os.File) (first int, begin int64, err error) {
+	head := make([]byte, longestHead)
+	size, err := file.ReadAt(head, 0)
+	if err != nil && err != io.EOF {
+		return 0, 0, err
+	}
+	head = head[:size]
+	if bytes.HasPrefix(head, []byte(logHead)) || bytes.HasPrefix([]byte(logHead), head) {
+		return 0, 0, nil
+	}
+	if found := droppedHead.FindSubmatch(head); found != nil {
+		if first, err = strconv.Atoi(string(found[1])); err == nil {
+			return first, int64(len(found[0])), nil
+		}
+	}
+	return 0, 0, failed(ErrLogFailed, "%s is no log of a provider, and is left as it is: give the path of a log", it)
+}
+
+// wholeLines returns how many lines of a file end with a newline, from a place on, and where the last one starts and ends.
+func wholeLines(file *os.File, begin int64) (count int, start, end int64, err error) {
 	chunk := make([]byte, 1<<20)
-	for at := int64(0); err != io.EOF; {
+	start, end = begin, begin
+	for at := begin; err != io.EOF; {
 		var size int
 		if size, err = file.ReadAt(chunk, at); err != nil && err != io.EOF {
 			return 0, 0, 0, err
@@ -287,6 +341,9 @@ func (it *FileLog) Append(position int, line []byte) error {
 
 // make makes the missing file. The caller has the mutex.
 func (it *FileLog) make() error {
+	if err := it.checkNoSnapshot(); err != nil {
+		return err
+	}
 	flags := os.O_CREATE | os.O_EXCL
 	if it.isMade {
 		flags = os.O_CREATE
@@ -339,7 +396,7 @@ func (it *FileLog) checkPlace(kind error, end int64) error {
 	if err != nil {
 		return failed(kind, "the state of %s is unknown, so open it again: %w", it, err)
 	}
-	if there, err := os.Stat(it.path); err != nil || !os.SameFile(mine, there) {
+	if !leadsTo(it.path, mine) {
 		return failed(kind, "%s was moved or replaced while it was open: put it back, or open the log again", it)
 	}
 	if mine.Size() != end {
@@ -351,16 +408,22 @@ func (it *FileLog) checkPlace(kind error, end int64) error {
 // Read calls each with the lines from a position on, as they are at the call of it.
 func (it *FileLog) Read(position int, each func(line []byte) error) error {
 	it.mutex.Lock()
-	file, count, end, err := it.file, it.count, it.end, it.check()
+	file, readers, first, start, count, end, err := it.file, it.readers, it.first, it.start, it.count, it.end, it.check()
+	if err == nil && file != nil {
+		readers.Add(1)
+		defer readers.Done()
+	}
 	it.mutex.Unlock()
-	if err != nil {
+	switch {
+	case err != nil:
 		return err
-	}
-	if file == nil {
+	case file == nil:
 		return failed(ErrNoDirectory, "%s is missing: give the path of a log, or make a directory by Create", it)
+	case position < first:
+		return it.dropped(position, first)
 	}
-	reader := bufio.NewReaderSize(io.NewSectionReader(file, 0, end), 1<<20)
-	for number := 0; number < count; number++ {
+	reader := bufio.NewReaderSize(io.NewSectionReader(file, start, end-start), 1<<20)
+	for number := first; number < count; number++ {
 		line, err := reader.ReadBytes('\n')
 		if err == io.EOF {
 			return failed(ErrLogFailed, "%s was cut by another process: compare it with a backup, and open the log again", it)

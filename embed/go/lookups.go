@@ -18,6 +18,7 @@ type lookups struct {
 	ctx      context.Context
 	epoch    uint64
 	isGiven  bool
+	isLatest bool // a lookup that is asked once more takes the latest epoch then
 }
 
 // lookup is a name whose proof is asked for. Err is the name's own error, for which nothing is asked.
@@ -36,7 +37,7 @@ func (it *Provider) Lookup(ctx context.Context, name string, epoch uint64) (Foun
 		return Found{}, err
 	}
 	return wait(ctx, it.closed, func(*func()) (Found, error) {
-		all := &lookups{it, ctx, epoch, epoch != 0}
+		all := &lookups{it, ctx, epoch, epoch != 0, epoch == 0}
 		one, err := all.begin(name)
 		if err != nil {
 			return Found{}, err
@@ -57,7 +58,7 @@ func (it *Provider) Lookups(ctx context.Context, names []string, epoch uint64) (
 	}
 	names = append([]string(nil), names...)
 	return wait(ctx, it.closed, func(*func()) ([]LookupResult, error) {
-		all := &lookups{it, ctx, epoch, epoch != 0}
+		all := &lookups{it, ctx, epoch, epoch != 0, false}
 		results := make([]LookupResult, 0, len(names))
 		err := pipelined(len(names), func(at int) (*lookup, error) { return all.begin(names[at]) }, func(one *lookup) error {
 			found, err := one.end()
@@ -143,6 +144,9 @@ func (it *lookup) end() (found Found, err error) {
 		}
 		if err == nil || tries > 1 || !errors.Is(err, ErrProgramFailed) && !errors.Is(err, errReplaced) {
 			return found, err
+		}
+		if it.of.isLatest {
+			it.of.isGiven = false
 		}
 		if err = it.ask(); err != nil {
 			return found, err

@@ -145,8 +145,11 @@ type Provider struct {
 	abandoned []byte        // a body that the signer refuses for ever, for whoever changes the directory
 	signer    atomic.Uint64 // the goroutine that waits for the signer or for indices, 0 if none does
 	once      sync.Once
-	closing   chan none // closed once Shutdown was called
-	closed    chan none // closed once it has ended the child
+	// compacting has an element while a snapshot is taken, by the goroutine compactor.
+	compacting chan none
+	compactor  atomic.Uint64
+	closing    chan none // closed once Shutdown was called
+	closed     chan none // closed once it has ended the child
 }
 
 // StartProvider starts the child and replays the log. Then it makes a directory if the log has none and Create is set, or the
@@ -171,7 +174,7 @@ func StartProvider(ctx context.Context, settings Settings) (*Provider, error) {
 	}
 	it := &Provider{
 		settings: &settings, host: newHost(&settings), now: time.Now,
-		changing: make(chan none, 1), closing: make(chan none), closed: make(chan none),
+		changing: make(chan none, 1), compacting: make(chan none, 1), closing: make(chan none), closed: make(chan none),
 	}
 	_, err = wait(ctx, it.closed, func(last *func()) (none, error) {
 		it.changing <- none{}
@@ -267,7 +270,12 @@ func (it *Provider) CommitWith(ctx context.Context, epoch uint64, operations []O
 		copied := *nonce
 		nonce = &copied
 	}
-	indices := make([][32]byte, len(operations))
+	indices, names := make([][32]byte, len(operations)), uint64(0)
+	for at := range operations {
+		if operations[at].Op == "register" {
+			names++
+		}
+	}
 	ask := func() (err error) {
 		for at := 0; at < len(operations) && err == nil; at++ {
 			if err = ctx.Err(); err == nil {
@@ -280,7 +288,7 @@ func (it *Provider) CommitWith(ctx context.Context, epoch uint64, operations []O
 		line := prepareLine(epoch, operations, indices, nonce)
 		body, err := it.makeWay(ctx, epoch, line, options)
 		if err == nil && body == nil {
-			body, err = it.prepare(ctx, epoch, line)
+			body, err = it.prepare(ctx, epoch, line, names)
 		}
 		if err != nil {
 			return Epoch{}, err
@@ -348,13 +356,13 @@ func (it *Provider) EpochNow() (uint64, error) {
 
 // prepare makes the update of a line the pending one, in the child and in the log, and returns its body. It replaces an
 // abandoned update alone: another child may have replayed what another provider appended.
-func (it *Provider) prepare(ctx context.Context, epoch uint64, line []byte) (body []byte, err error) {
+func (it *Provider) prepare(ctx context.Context, epoch uint64, line []byte, names uint64) (body []byte, err error) {
 	err = it.host.step(ctx, func(engine *engine) error {
 		if before := engine.view().update; before != nil && (!it.hasAbandoned(before) || epoch <= before.pending.Epoch) {
 			return failed(ErrProgramFailed, "the program was started again meanwhile, and an update is pending: check Pending, and "+
 				"commit again")
 		}
-		update, err := engine.prepare(it.host.life, epoch, line)
+		update, err := engine.prepare(it.host.life, epoch, line, names)
 		if err != nil {
 			return err
 		}
@@ -362,7 +370,7 @@ func (it *Provider) prepare(ctx context.Context, epoch uint64, line []byte) (bod
 			engine.withdraw(it.host.life)
 			return err
 		}
-		engine.setUpdate(update)
+		engine.prepared(update)
 		body = update.pending.Body
 		return nil
 	})
@@ -421,7 +429,7 @@ func (it *Provider) logInstalled(engine *engine) (Epoch, error) {
 	if err := it.host.append(func() error { return engine.append(made.line) }); err != nil {
 		return Epoch{}, err
 	}
-	engine.settle(made.epoch, made.size)
+	engine.settle(made.epoch, made.size, engine.position)
 	return made.epoch, nil
 }
 
@@ -562,8 +570,8 @@ func (it *Provider) DiscardEvidence(link [32]byte) error {
 }
 
 // Shutdown ends the child, after the change that is under way. It waits for that until the context is done, and then returns
-// ctx.Err(): an update that is signed later isn't installed but stays pending. Other calls return ErrClosed from then on. The
-// log stays open, since the caller opened it.
+// ctx.Err(): an update that is signed later isn't installed but stays pending. Other calls return ErrClosed from then on, and so does
+// a Compact that is under way, unless its snapshot is stored. The log stays open, since the caller opened it.
 func (it *Provider) Shutdown(ctx context.Context) (err error) {
 	if it.isSigner() {
 		return errSigner
@@ -591,6 +599,16 @@ func (it *Provider) Shutdown(ctx context.Context) (err error) {
 		}
 	}
 	it.host.close()
+	// A snapshot that is being stored is stored, or refused, before the log can be closed.
+	select {
+	case it.compacting <- none{}:
+	default:
+		select {
+		case it.compacting <- none{}:
+		case <-ctx.Done():
+			err = ctx.Err()
+		}
+	}
 	close(it.closed)
 	return err
 }
@@ -710,8 +728,11 @@ func (it *Provider) asSigner(call func() error) error {
 	return call()
 }
 
-// isSigner reports whether this goroutine is the one that waits for the signer. It would wait for itself.
-func (it *Provider) isSigner() bool { return it.signer.Load() == goroutine() }
+// isSigner reports whether this goroutine is the one that waits for the signer, or takes a snapshot. It would wait for itself.
+func (it *Provider) isSigner() bool {
+	mine := goroutine()
+	return it.signer.Load() == mine || it.compactor.Load() == mine
+}
 
 // goroutine returns the number of this goroutine, which the runtime tells in a stack trace alone.
 func goroutine() uint64 {

@@ -57,7 +57,7 @@ func (it *Provider) History(ctx context.Context, name string, vrfProof []byte, f
 		}
 		epochs, before := it.epochs(first, last), proofParts{}
 		begin := func(at int) (*lookup, error) {
-			one := &lookup{of: &lookups{it, ctx, epochs[at], true}, name: name, index: index}
+			one := &lookup{of: &lookups{it, ctx, epochs[at], true, false}, name: name, index: index}
 			return one, one.ask()
 		}
 		err = pipelined(len(epochs), begin, func(one *lookup) error {

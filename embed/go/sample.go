@@ -10,8 +10,9 @@ import (
 
 const sampleSize = 64
 
-// indexed is an operation as a line has it, without its key.
+// indexed is an operation or a binding as a line has it, without its key. A binding has no Op.
 type indexed struct {
+	Op    string `json:"op"`
 	Name  string `json:"name"`
 	Index digits `json:"index"`
 }
@@ -44,14 +45,28 @@ func (it *sample) add(operations []indexed) {
 	}
 }
 
+// all returns the operations that are kept.
+func (it *sample) all() []indexed {
+	if it.first == nil {
+		return nil
+	}
+	return append([]indexed{*it.first, *it.last}, it.kept...)
+}
+
+// lookupLines returns lines that look the names up at an epoch.
+func (it *sample) lookupLines(epoch uint64) (lines [][]byte) {
+	for _, operation := range it.all() {
+		if index := [32]byte{}; take(&index, operation.Index) {
+			lines = append(lines, lookupLine(operation.Name, index, epoch))
+		}
+	}
+	return lines
+}
+
 // check asks for the indices of the operations again, each name once. Another index than the logged one is OtherIndex.
 func (it *sample) check(ctx context.Context, index func(name string) ([32]byte, error), advice string) error {
 	asked := map[string]bool{}
-	operations := it.kept
-	if it.first != nil {
-		operations = append([]indexed{*it.first, *it.last}, operations...)
-	}
-	for _, operation := range operations {
+	for _, operation := range it.all() {
 		if asked[operation.Name] {
 			continue
 		}
@@ -71,9 +86,26 @@ func (it *sample) check(ctx context.Context, index func(name string) ([32]byte, 
 }
 
 // operationsOf returns the operations of a line; none if it lacks them, which the program refuses.
-func operationsOf(said *logged) (operations []indexed) {
-	if json.Unmarshal(said.operations, &operations) != nil {
+func operationsOf(said *logged) []indexed {
+	operations, err := indexedOf(said.operations)
+	if err != nil {
 		return nil
 	}
 	return operations
+}
+
+// indexedOf reads a list of operations or bindings.
+func indexedOf(text json.RawMessage) (listed []indexed, err error) {
+	err = json.Unmarshal(text, &listed)
+	return listed, err
+}
+
+// registered returns how many names operations register.
+func registered(operations []indexed) (count uint64) {
+	for at := range operations {
+		if operations[at].Op == "register" {
+			count++
+		}
+	}
+	return count
 }

@@ -334,7 +334,7 @@ func TestSample(t *testing.T) {
 			var operations []indexed
 			for number := first; number < first+10; number++ {
 				index, _ := indexOf(fmt.Sprint(number))
-				operations = append(operations, indexed{fmt.Sprint(number), index[:]})
+				operations = append(operations, indexed{"", fmt.Sprint(number), index[:]})
 			}
 			all.add(operations)
 			all.add(nil)
@@ -365,7 +365,7 @@ func TestSample(t *testing.T) {
 	ended, end := context.WithCancel(background)
 	end()
 	all := sample{}
-	all.add([]indexed{{"alice", nil}})
+	all.add([]indexed{{"", "alice", nil}})
 	if err := all.check(ended, indexOf, "advice"); !errors.Is(err, context.Canceled) {
 		t.Error(err)
 	}

@@ -429,15 +429,15 @@ func TestUpdateOfAnotherProviderIsNotReplaced(t *testing.T) {
 	_, err := it.provider.Commit(background, 2, nil, nil)
 	it.wants(err, ErrSignerFailed)
 	text, line := it.text(), prepareLine(3, nil, nil, nil)
-	_, err = it.provider.prepare(background, 3, line)
+	_, err = it.provider.prepare(background, 3, line, 0)
 	it.wants(err, ErrProgramFailed)
 	it.giveUpUnasked()
-	_, err = it.provider.prepare(background, 2, prepareLine(2, nil, nil, nil))
+	_, err = it.provider.prepare(background, 2, prepareLine(2, nil, nil, nil), 0)
 	it.wants(err, ErrProgramFailed)
 	if it.text() != text || it.provider.Pending().Epoch != 2 {
 		t.Error("a pending update was replaced")
 	}
-	body, err := it.provider.prepare(background, 3, line)
+	body, err := it.provider.prepare(background, 3, line, 0)
 	it.good(err)
 	// The commit that has prepared this update doesn't take another one for it.
 	_, err = it.provider.settle(it.provider.Chain(0)[0][:bodyLength])

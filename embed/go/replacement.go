@@ -1,0 +1,106 @@
+package coniks
+
+import (
+	"bufio"
+	"os"
+	"syscall"
+)
+
+// replacement is a file that is written beside another one, at PATH.new, and then takes its place. What a process left there that
+// was killed is overwritten. One process and one goroutine at a time has it.
+type replacement struct {
+	path string // of the other file
+	file *os.File
+	out  *bufio.Writer
+}
+
+// newReplacement makes PATH.new with this mode, and locks it. Its errors are ErrLogRefused.
+func newReplacement(path string, mode os.FileMode) (*replacement, error) {
+	it := &replacement{path: path}
+	file, err := os.OpenFile(it.new(), os.O_RDWR|os.O_CREATE|syscall.O_NOFOLLOW|syscall.O_NONBLOCK|syscall.O_NOCTTY, 0o600)
+	if err != nil {
+		return nil, it.refused("can't be made", err)
+	}
+	isMine, err := takesLock(it.new(), file)
+	if err == nil && !isMine {
+		file.Close()
+		return nil, failed(ErrLogRefused, "another call is writing %s: call again after it", it.new())
+	}
+	if err == nil {
+		err = file.Chmod(mode)
+	}
+	if err == nil {
+		err = file.Truncate(0)
+	}
+	if err != nil {
+		file.Close()
+		return nil, it.refused("can't be made", err)
+	}
+	it.file, it.out = file, bufio.NewWriterSize(file, 1<<16)
+	return it, nil
+}
+
+func (it *replacement) new() string { return it.path + ".new" }
+
+func (it *replacement) refused(what string, err error) error {
+	return failed(ErrLogRefused, "%s %s, and nothing is changed; repair that, and try again: %w", it.new(), what, err)
+}
+
+// Write appends bytes. After an error the file can't be put.
+func (it *replacement) Write(data []byte) (int, error) {
+	size, err := it.out.Write(data)
+	if err != nil {
+		err = it.refused("can't be written", err)
+	}
+	return size, err
+}
+
+// put puts the file in the place of the other one, and returns it. It returns ErrLogRefused if the file isn't there, and an error that is
+// ErrLogFailed alone if a failure of the machine could bring back the other one.
+func (it *replacement) put() (*os.File, error) {
+	err := it.out.Flush()
+	if err == nil {
+		err = it.file.Sync()
+	}
+	if err == nil {
+		err = os.Rename(it.new(), it.path)
+	}
+	if err != nil {
+		return nil, it.refused("can't be stored", err)
+	}
+	file := it.file
+	it.file = nil
+	if err := syncFolder(it.path); err != nil {
+		file.Close()
+		return nil, failed(ErrLogFailed, "the folder of %s can't be synced; repair that, and open the log again: %w", it.path, err)
+	}
+	return file, nil
+}
+
+// drop removes the file, unless it was put.
+func (it *replacement) drop() {
+	if it.file != nil {
+		os.Remove(it.new())
+		it.file.Close()
+	}
+}
+
+// checkPrivate returns an error if a file isn't regular, or has permission bits beyond a mode.
+func checkPrivate(file *os.File, mode os.FileMode, what string) error {
+	found, err := file.Stat()
+	switch {
+	case err != nil:
+		return err
+	case !found.Mode().IsRegular():
+		return failed(ErrLogFailed, "%s is no regular file: give the path of a log", what)
+	case found.Mode().Perm()&^mode != 0:
+		return failed(ErrLogFailed, "%s has keys in it and the mode %04o: chmod 600, or call OpenFileLogMode", what, found.Mode().Perm())
+	}
+	return nil
+}
+
+// leadsTo reports whether a path leads to a file.
+func leadsTo(path string, mine os.FileInfo) bool {
+	there, err := os.Stat(path)
+	return err == nil && os.SameFile(mine, there)
+}

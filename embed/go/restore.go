@@ -1,0 +1,234 @@
+package coniks
+
+import (
+	"bytes"
+	"context"
+	"encoding/json"
+	"errors"
+	"fmt"
+	"unicode/utf8"
+)
+
+// followers has the kinds of lines that may follow a kind of line of a snapshot.
+var followers = map[string][]string{
+	"":          {"snapshot"},
+	"snapshot":  {"entries"},
+	"entries":   {"entries", "replaced", "restore"},
+	"replaced":  {"replaced", "restore"},
+	"restore":   {"restoring", "restored"},
+	"restoring": {"restoring", "restored"},
+}
+
+// restoreBatch is for how many names at a time the program may take its timeout to build the tree.
+const restoreBatch = 4096
+
+// restorer takes the lines of a snapshot, one after another, has a child restored from them, and compares them with each other and
+// with what the child prints. The engine is restored once it has taken the last line.
+type restorer struct {
+	engine *engine
+	ctx    context.Context
+	last   string // the kind of the last line
+
+	position               int
+	epochs, names, counted uint64
+	policy                 []byte
+	chain, replaced        [][]byte
+}
+
+// isDone reports whether the engine is restored.
+func (it *restorer) isDone() bool { return it.last == "restored" }
+
+func (it *restorer) differs(what string) error { return differs(nameOf(it.engine.settings.Log), what) }
+
+// take takes the next line.
+func (it *restorer) take(line []byte) error {
+	var members map[string]json.RawMessage
+	if err := json.Unmarshal(line, &members); err != nil || !utf8.Valid(line) {
+		return it.differs("has a line that is no JSON object")
+	}
+	kind, isNext := kindOf(members), false
+	for _, follower := range followers[it.last] {
+		isNext = isNext || kind == follower
+	}
+	if !isNext {
+		return it.differs("has a line that doesn't follow the one before it")
+	}
+	var err error
+	switch kind {
+	case "snapshot":
+		err = it.begin(line, members)
+	case "entries":
+		err = it.addEntries(members[kind])
+	case "replaced":
+		err = it.addReplaced(members[kind])
+	case "restore":
+		if err = it.checkEntry(members["entry"]); err == nil {
+			_, err = it.ask(kind, line)
+		}
+	case "restoring":
+		err = it.addBindings(line, members["bindings"])
+	case "restored":
+		err = it.finish(line, members["link"])
+	}
+	it.last = kind
+	return err
+}
+
+// kindOf returns the command of a line, or the member that a line without one has.
+func kindOf(members map[string]json.RawMessage) (kind string) {
+	if text, is := members["cmd"]; is {
+		if json.Unmarshal(text, &kind) != nil || kind == "snapshot" || kind == "entries" || kind == "replaced" {
+			return ""
+		}
+		return kind
+	}
+	for _, kind := range []string{"snapshot", "entries", "replaced"} {
+		if _, is := members[kind]; is {
+			return kind
+		}
+	}
+	return ""
+}
+
+func (it *restorer) begin(line []byte, members map[string]json.RawMessage) error {
+	if string(members["snapshot"]) != fmt.Sprint(snapshotFormat) {
+		return failed(ErrSnapshotDiffers, "the snapshot of %s has a format that this version doesn't read: use the version that wrote "+
+			"it, or a later one", nameOf(it.engine.settings.Log))
+	}
+	for name, number := range map[string]any{"position": &it.position, "epochs": &it.epochs, "names": &it.names} {
+		if isNull(members[name]) || json.Unmarshal(members[name], number) != nil {
+			return it.differs("has a header whose member " + name + " is wrong")
+		}
+	}
+	if it.position < 0 || it.epochs > uint64(it.position) || uint64(it.position) < 2*it.epochs+1 {
+		return it.differs("has a position that isn't the one of its epochs")
+	}
+	said, err := loggedOf(line, "the header of the snapshot")
+	if err != nil {
+		return err
+	}
+	if len(said.nonce) != 32 || len(said.policy) != 32 || said.vrf != nil && len(said.vrf) != 32 {
+		return it.differs("has a header whose nonce, policy or vrf has another length")
+	}
+	it.policy = said.policy
+	return it.engine.begin(said)
+}
+
+func (it *restorer) addEntries(text json.RawMessage) error {
+	entries, err := valuesOf(text, entryLength)
+	if err != nil {
+		return it.differs("has a line whose member entries is no list of entries")
+	}
+	for _, entry := range entries {
+		var before []byte
+		if count := len(it.chain); count > 0 {
+			before = it.chain[count-1]
+		}
+		if !continues(entry, before) || !bytes.Equal(entry[113:bodyLength], it.policy) {
+			return it.differs(fmt.Sprintf("has an entry that doesn't follow the one before it, number %d", len(it.chain)))
+		}
+		it.chain = append(it.chain, entry)
+	}
+	return nil
+}
+
+func (it *restorer) addReplaced(text json.RawMessage) error {
+	bodies, err := valuesOf(text, bodyLength)
+	if err != nil {
+		return it.differs("has a line whose member replaced is no list of bodies")
+	}
+	it.replaced = append(it.replaced, bodies...)
+	return nil
+}
+
+// checkEntry checks the entry to restore, and its signature.
+func (it *restorer) checkEntry(text json.RawMessage) error {
+	var entry digits
+	last := it.chain[len(it.chain)-1]
+	if json.Unmarshal(text, &entry) != nil || !bytes.Equal(entry, last) || uint64(len(it.chain)) != it.epochs {
+		return it.differs("doesn't restore its last entry, or has another number of entries than its header")
+	}
+	verify, isValid := it.engine.settings.Verify, true
+	if verify == nil {
+		return nil
+	}
+	err := guarded(func() error {
+		isValid = verify(append([]byte(nil), last[:bodyLength]...), append([]byte(nil), last[bodyLength:]...))
+		return nil
+	})
+	if err != nil {
+		return failed(ErrLogFailed, "the signature of the snapshot's entry can't be verified, repair Verify: %w", err)
+	}
+	if !isValid {
+		return it.differs("has an entry whose signature isn't valid")
+	}
+	return nil
+}
+
+// ask has the child take a line that is one of its own.
+func (it *restorer) ask(kind string, line []byte) (*answer, error) {
+	times := 1
+	if kind == "restored" {
+		// The tree is built for all names at once.
+		times += int(it.counted / restoreBatch)
+	}
+	told, err := it.engine.child.sendFor(times, line)[0].wait(it.ctx)
+	if err != nil {
+		return nil, err
+	}
+	read, err := answerOf(told, kind)
+	if fault := (*Fault)(nil); errors.As(err, &fault) {
+		if fault.Name == Command {
+			return nil, failed(ErrProgramFailed, "the program knows no snapshots: use the one of this version: %w", err)
+		}
+		return nil, failed(ErrSnapshotDiffers, "the snapshot of %s has a line that the program refuses, %s; restore it from a backup, or "+
+			"remove it if the log still has all its lines: %w", nameOf(it.engine.settings.Log), kind, err)
+	}
+	if err != nil {
+		it.engine.child.fail(err)
+	}
+	return read, err
+}
+
+func (it *restorer) addBindings(line []byte, text json.RawMessage) error {
+	told, err := it.ask("restoring", line)
+	if err != nil {
+		return err
+	}
+	bindings, err := indexedOf(text)
+	if err != nil {
+		return it.differs("has a line whose member bindings is no list of bindings")
+	}
+	it.engine.sample.add(bindings)
+	if it.counted += uint64(len(bindings)); told.Names != it.counted {
+		return it.engine.distrust("the program counts other names than it was given")
+	}
+	return nil
+}
+
+// finish compares the epoch that the child has restored with the entry and the header, and notes it.
+func (it *restorer) finish(line []byte, text json.RawMessage) error {
+	told, err := it.ask("restored", line)
+	if err != nil {
+		return err
+	}
+	entry := it.chain[len(it.chain)-1]
+	epoch := Epoch{Epoch: epochOf(entry), Link: linkOf(entry), Entry: entry}
+	copy(epoch.Root[:], entry[17:49])
+	if told.Epoch != epoch.Epoch || !bytes.Equal(told.Root, epoch.Root[:]) || !bytes.Equal(told.Link, epoch.Link[:]) ||
+		!bytes.Equal(told.Entry, entry) {
+		return it.engine.distrust("the program has restored another entry than it was given")
+	}
+	var link digits
+	if json.Unmarshal(text, &link) != nil || !bytes.Equal(link, epoch.Link[:]) || it.counted != it.names {
+		return it.differs("has another link, or another number of names than its header")
+	}
+	it.engine.restored(epoch, point{epoch.Epoch, it.position, it.names, uint64(len(it.replaced))}, it.chain, it.replaced)
+	if err := it.engine.measure(it.ctx); err != nil {
+		return err
+	}
+	if names := it.engine.seen.size.Names; names != it.names {
+		return it.engine.distrust("the program has other names than it has restored")
+	}
+	return nil
+}
