@@ -1,7 +1,6 @@
 package coniks
 
 import (
-	"bufio"
 	"os"
 	"syscall"
 )
@@ -11,7 +10,6 @@ import (
 type replacement struct {
 	path string // of the other file
 	file *os.File
-	out  *bufio.Writer
 }
 
 // newReplacement makes PATH.new with this mode, and locks it. Its errors are ErrLogRefused.
@@ -36,7 +34,7 @@ func newReplacement(path string, mode os.FileMode) (*replacement, error) {
 		file.Close()
 		return nil, it.refused("can't be made", err)
 	}
-	it.file, it.out = file, bufio.NewWriterSize(file, 1<<16)
+	it.file = file
 	return it, nil
 }
 
@@ -46,9 +44,9 @@ func (it *replacement) refused(what string, err error) error {
 	return failed(ErrLogRefused, "%s %s, and nothing is changed; repair that, and try again: %w", it.new(), what, err)
 }
 
-// Write appends bytes. After an error the file can't be put.
+// Write appends bytes. After an error the file must be dropped.
 func (it *replacement) Write(data []byte) (int, error) {
-	size, err := it.out.Write(data)
+	size, err := it.file.Write(data)
 	if err != nil {
 		err = it.refused("can't be written", err)
 	}
@@ -58,10 +56,7 @@ func (it *replacement) Write(data []byte) (int, error) {
 // put puts the file in the place of the other one, and returns it. It returns ErrLogRefused if the file isn't there, and an error that is
 // ErrLogFailed alone if a failure of the machine could bring back the other one.
 func (it *replacement) put() (*os.File, error) {
-	err := it.out.Flush()
-	if err == nil {
-		err = it.file.Sync()
-	}
+	err := it.file.Sync()
 	if err == nil {
 		err = os.Rename(it.new(), it.path)
 	}

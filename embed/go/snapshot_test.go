@@ -27,7 +27,8 @@ func (it *room) fill(epochs ...uint64) {
 		}
 		if number > 0 {
 			operations = append(operations, Change(fmt.Sprintf("user-%d-0", epochs[number-1]), []byte(fmt.Sprint("key of ", epoch))))
-		} else {
+		}
+		if epoch == 1 {
 			operations = append(operations, Register(odd, make([]byte, 99)))
 		}
 		var nonce *[32]byte

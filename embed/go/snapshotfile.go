@@ -150,13 +150,19 @@ func (it *FileLog) Compact(position int, lines func(store func(line []byte) erro
 		return err
 	}
 	defer made.drop()
+	var stopped error
 	err = lines(func(line []byte) error {
 		if bytes.IndexByte(line, '\n') >= 0 || bytes.IndexByte(line, 0) >= 0 {
 			return failed(ErrLogRefused, "a line has no newline and no zero byte: nothing is stored")
 		}
-		_, err := made.Write(append(line[:len(line):len(line)], '\n'))
-		return err
+		if stopped == nil {
+			_, stopped = made.Write(append(line[:len(line):len(line)], '\n'))
+		}
+		return stopped
 	})
+	if err == nil {
+		err = stopped
+	}
 	if err == nil {
 		err = it.checkStill(position)
 	}
@@ -214,16 +220,16 @@ func (it *FileLog) drop(position int) error {
 	if err := it.checkEnd(); err != nil || position <= it.first {
 		return err
 	}
-	path, err := filepath.EvalSymlinks(it.path)
-	if err == nil {
-		err = it.checkPlace(ErrLogRefused, it.end)
-	}
-	if err != nil {
-		return logError(err, fmt.Sprintf("%s can't be found, put it back", it))
+	if err := it.checkPlace(ErrLogRefused, it.end); err != nil {
+		return err
 	}
 	mine, err := it.file.Stat()
+	path := ""
+	if err == nil {
+		path, err = filepath.EvalSymlinks(it.path)
+	}
 	if err != nil {
-		return logError(err, fmt.Sprintf("the state of %s is unknown, so open it again", it))
+		return failed(ErrLogRefused, "the place of %s is unknown, so open it again: %w", it, err)
 	}
 	made, err := newReplacement(path, mine.Mode().Perm())
 	if err != nil {
