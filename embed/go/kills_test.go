@@ -2,6 +2,7 @@ package coniks
 
 import (
 	"bufio"
+	"bytes"
 	"context"
 	"crypto/ed25519"
 	"encoding/hex"
@@ -10,13 +11,17 @@ import (
 	"math/rand"
 	"os"
 	"os/exec"
+	"path/filepath"
+	"strconv"
 	"strings"
+	"syscall"
 	"testing"
 	"time"
 )
 
-// committer commits epochs over a log until it is killed, with a guard and a signer that fails now and then. It lists the entry
-// of each signature that the provider got in a file, and prints each entry that Commit returned.
+// committer commits epochs over a log until it is killed, with a guard and a signer that fails now and then, while other goroutines
+// look names up, take snapshots and drop the lines below them. It lists the entry of each signature that the provider got in a file,
+// and prints each entry that Commit returned or a lookup showed.
 func committer(path, list string, program []string) int {
 	rand.Seed(time.Now().UnixNano())
 	key := ed25519.NewKeyFromSeed(make([]byte, 32))
@@ -47,10 +52,45 @@ func committer(path, list string, program []string) int {
 	until := time.Now().Add(patience)
 	for ; errors.Is(err, ErrSignerFailed) && time.Now().Before(until); provider, err = StartProvider(background, settings) {
 	}
-	for err == nil && time.Now().Before(until) {
-		err = commitTurn(provider)
+	if err != nil {
+		return failure(err)
 	}
-	return failure(err)
+	ended := make(chan error)
+	for _, turn := range []func() error{
+		func() error { return commitTurn(provider) }, func() error { return lookUpTurn(provider) }, func() error { return compactTurn(provider, log) },
+	} {
+		go func(turn func() error) {
+			var err error
+			for err == nil && time.Now().Before(until) {
+				if err = turn(); errors.Is(err, ErrProgramFailed) {
+					// Its child was killed, and another one is being started.
+					time.Sleep(time.Millisecond)
+					err = nil
+				}
+			}
+			ended <- err
+		}(turn)
+	}
+	return failure(<-ended)
+}
+
+// lookUpTurn looks a name up, and prints the entry that is shown.
+func lookUpTurn(provider *Provider) error {
+	found, err := provider.Lookup(background, fmt.Sprintf("user-%d", rand.Intn(40)), 0)
+	if err == nil {
+		fmt.Printf("%x\n", found.Entry)
+	}
+	time.Sleep(time.Duration(rand.Intn(1000)) * time.Microsecond)
+	return err
+}
+
+// compactTurn takes a snapshot, and drops lines below it.
+func compactTurn(provider *Provider, log *FileLog) error {
+	position, err := provider.Compact(background)
+	if err == nil && rand.Intn(2) == 0 {
+		err = log.DropBefore(position - rand.Intn(3))
+	}
+	return err
 }
 
 // commitTurn commits an epoch. An update whose signer fails is asked for again, or given up.
@@ -93,17 +133,41 @@ func (it *room) commitAndKill(list string, returned map[uint64][]byte) {
 	out, err := process.StdoutPipe()
 	it.good(err)
 	it.good(process.Start())
+	isFirst := true
 	for lines := bufio.NewScanner(out); lines.Scan(); {
 		entry, err := hex.DecodeString(lines.Text())
 		if err != nil || len(entry) != entryLength {
 			break
 		}
-		returned[number(entry)] = entry
-		if rand.Intn(6) == 0 {
-			time.AfterFunc(time.Duration(rand.Intn(10000))*time.Microsecond, func() { process.Process.Kill() })
+		if before := returned[number(entry)]; before != nil && !bytes.Equal(before, entry) {
+			it.t.Errorf("epoch %d was shown with two entries", number(entry))
 		}
+		returned[number(entry)] = entry
+		if isFirst {
+			time.AfterFunc(time.Duration(rand.Intn(300000))*time.Microsecond, func() { process.Process.Kill() })
+			if rand.Intn(3) == 0 {
+				time.AfterFunc(time.Duration(rand.Intn(100000))*time.Microsecond, func() { killChildren(process.Process.Pid) })
+			}
+		}
+		isFirst = false
 	}
 	process.Wait()
+	if status, is := process.ProcessState.Sys().(syscall.WaitStatus); !is || !status.Signaled() || ctx.Err() != nil || isFirst {
+		it.t.Fatalf("the process returned nothing, or wasn't killed: %v", process.ProcessState)
+	}
+}
+
+// killChildren kills the children that a process has at the moment.
+func killChildren(pid int) {
+	lists, _ := filepath.Glob(fmt.Sprintf("/proc/%d/task/*/children", pid))
+	for _, list := range lists {
+		text, _ := os.ReadFile(list)
+		for _, child := range strings.Fields(string(text)) {
+			if number, err := strconv.Atoi(child); err == nil {
+				syscall.Kill(number, syscall.SIGKILL)
+			}
+		}
+	}
 }
 
 // A process that is killed at random moments loses no epoch that it returned, and the signatures that it got form one chain.
@@ -112,20 +176,23 @@ func TestKills(t *testing.T) {
 	it.commit(1)
 	it.close()
 	list, returned := it.path+"-given", map[uint64][]byte{}
-	for range [10]int{} {
-		before := len(returned)
-		if it.commitAndKill(list, returned); len(returned) == before {
-			t.Fatal("a process has returned no epoch")
-		}
+	snapshots := map[string]bool{}
+	for kill, count := 0, kills(); kill < count; kill++ {
+		it.commitAndKill(list, returned)
+		text, _ := os.ReadFile(it.path + ".snapshot")
+		header, _, _ := strings.Cut(string(text), "\n")
+		snapshots[header] = true
 	}
+	text := it.text() + strings.Join(it.snapshotLines(), "\n")
 	it.reopen()
 	epochs := it.hasAll(returned)
-	if len(returned) < 10 || !strings.Contains(it.text(), `"abandons"`) {
-		t.Error("idle:", len(returned))
+	if len(returned) < 10 || len(snapshots) < 5 || !strings.Contains(text, `"abandons"`) && !strings.Contains(text, `"replaced"`) {
+		t.Error("idle:", len(returned), len(snapshots))
 	}
-	text, err := os.ReadFile(list)
+	t.Logf("%d entries returned or shown, %d snapshots seen, %d epochs", len(returned), len(snapshots), len(epochs))
+	given, err := os.ReadFile(list)
 	it.good(err)
-	for _, line := range strings.Fields(string(text)) {
+	for _, line := range strings.Fields(string(given)) {
 		it.given[string(decoded(t, line))] = true
 	}
 	chain := map[string]bool{}

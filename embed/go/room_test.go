@@ -67,8 +67,8 @@ func standIn(file string, program []string) int {
 		}
 		text, _ := os.ReadFile(file)
 		words := strings.SplitN(string(text), " ", 3)
-		if len(words) > 1 && strings.Contains(line, words[0]) {
-			os.Remove(file)
+		// Of several stand-ins the one that removes the file does it.
+		if len(words) > 1 && strings.Contains(line, words[0]) && os.Remove(file) == nil {
 			switch words[1] {
 			case "hang":
 				time.Sleep(patience)
