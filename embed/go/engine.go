@@ -146,7 +146,7 @@ func (it *engine) restore(ctx context.Context, log SnapshotLog, mustBeNew bool) 
 		if mustBeNew {
 			return it.exists()
 		}
-		return restorer.take(line)
+		return restorer.take(append([]byte(nil), line...))
 	})
 	switch {
 	case err != nil || position == 0:

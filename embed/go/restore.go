@@ -33,6 +33,16 @@ type restorer struct {
 	epochs, names, counted uint64
 	policy                 []byte
 	chain, replaced        [][]byte
+
+	sent []sentBindings // lines whose answers aren't taken yet
+	size int            // how many bytes these have
+}
+
+// sentBindings is a line of bindings: how many bytes it has, and how many bindings there are with it.
+type sentBindings struct {
+	question *question
+	size     int
+	names    uint64
 }
 
 // isDone reports whether the engine is restored.
@@ -54,20 +64,24 @@ func (it *restorer) take(line []byte) error {
 		return it.differs("has a line that doesn't follow the one before it")
 	}
 	var err error
-	switch kind {
-	case "snapshot":
+	if kind != "restoring" {
+		err = it.takeTo(0, 0)
+	}
+	switch {
+	case err != nil:
+	case kind == "snapshot":
 		err = it.begin(line, members)
-	case "entries":
+	case kind == "entries":
 		err = it.addEntries(members[kind])
-	case "replaced":
+	case kind == "replaced":
 		err = it.addReplaced(members[kind])
-	case "restore":
+	case kind == "restore":
 		if err = it.checkEntry(members["entry"]); err == nil {
-			_, err = it.ask(kind, line)
+			_, err = it.answer(kind, it.engine.child.send(line)[0])
 		}
-	case "restoring":
+	case kind == "restoring":
 		err = it.addBindings(line, members["bindings"])
-	case "restored":
+	case kind == "restored":
 		err = it.finish(line, members["link"])
 	}
 	it.last = kind
@@ -165,14 +179,9 @@ func (it *restorer) checkEntry(text json.RawMessage) error {
 	return nil
 }
 
-// ask has the child take a line that is one of its own.
-func (it *restorer) ask(kind string, line []byte) (*answer, error) {
-	times := 1
-	if kind == "restored" {
-		// The tree is built for all names at once.
-		times += int(it.counted / restoreBatch)
-	}
-	told, err := it.engine.child.sendFor(times, line)[0].wait(it.ctx)
+// answer returns the child's answer to a line that is one of its own.
+func (it *restorer) answer(kind string, question *question) (*answer, error) {
+	told, err := question.wait(it.ctx)
 	if err != nil {
 		return nil, err
 	}
@@ -190,25 +199,39 @@ func (it *restorer) ask(kind string, line []byte) (*answer, error) {
 	return read, err
 }
 
+// addBindings sends bindings to the child, before it takes the answers to earlier ones.
 func (it *restorer) addBindings(line []byte, text json.RawMessage) error {
-	told, err := it.ask("restoring", line)
-	if err != nil {
-		return err
-	}
 	bindings, err := indexedOf(text)
 	if err != nil {
 		return it.differs("has a line whose member bindings is no list of bindings")
 	}
 	it.engine.sample.add(bindings)
-	if it.counted += uint64(len(bindings)); told.Names != it.counted {
-		return it.engine.distrust("the program counts other names than it was given")
+	it.counted, it.size = it.counted+uint64(len(bindings)), it.size+len(line)
+	it.sent = append(it.sent, sentBindings{it.engine.child.send(line)[0], len(line), it.counted})
+	return it.takeTo(replayBytes, replayLines)
+}
+
+// takeTo takes answers until at most so many bytes of lines, and so many lines, are without one.
+func (it *restorer) takeTo(size, lines int) error {
+	for len(it.sent) > lines || it.size > size && len(it.sent) > 0 {
+		first := it.sent[0]
+		it.sent, it.size = it.sent[1:], it.size-first.size
+		told, err := it.answer("restoring", first.question)
+		if err != nil {
+			return err
+		}
+		if told.Names != first.names {
+			return it.engine.distrust("the program counts other names than it was given")
+		}
 	}
 	return nil
 }
 
 // finish compares the epoch that the child has restored with the entry and the header, and notes it.
 func (it *restorer) finish(line []byte, text json.RawMessage) error {
-	told, err := it.ask("restored", line)
+	// The tree is built for all names at once.
+	times := 1 + int(it.counted/restoreBatch)
+	told, err := it.answer("restored", it.engine.child.sendFor(times, line)[0])
 	if err != nil {
 		return err
 	}
