@@ -149,7 +149,7 @@ func (it *engine) restore(ctx context.Context, log SnapshotLog, mustBeNew bool) 
 		return restorer.take(append([]byte(nil), line...))
 	})
 	switch {
-	case err != nil || position == 0:
+	case err != nil || position == 0 && restorer.last == "":
 		return err
 	case !restorer.isDone():
 		return restorer.differs("is cut")

@@ -63,8 +63,13 @@ type gate chan none
 func (it gate) Lock()   { it <- none{} }
 func (it gate) Unlock() { <-it }
 
-// lock locks it, or returns ctx.Err() once the context is done.
+// lock locks it, or returns ctx.Err() if the context is done before.
 func (it gate) lock(ctx context.Context) error {
+	select {
+	case it <- none{}:
+		return nil
+	default:
+	}
 	select {
 	case it <- none{}:
 		return nil

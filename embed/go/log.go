@@ -421,6 +421,8 @@ func (it *FileLog) Read(position int, each func(line []byte) error) error {
 		return failed(ErrNoDirectory, "%s is missing: give the path of a log, or make a directory by Create", it)
 	case position < first:
 		return it.dropped(position, first)
+	case position >= count:
+		return nil
 	}
 	reader := bufio.NewReaderSize(io.NewSectionReader(file, start, end-start), 1<<20)
 	for number := first; number < count; number++ {

@@ -36,7 +36,7 @@ func positionOf(header []byte, place any) (int, error) {
 	position := -1
 	err := json.Unmarshal(header, &members)
 	if err != nil || isNull(members["snapshot"]) || isNull(members["position"]) ||
-		json.Unmarshal(members["position"], &position) != nil || position < 0 {
+		json.Unmarshal(members["position"], &position) != nil || position < 1 {
 		return 0, differs(place, "doesn't begin with its header")
 	}
 	return position, nil
