@@ -6,6 +6,9 @@ import (
 	"errors"
 )
 
+// swapRounds is how often another child reads on before changes wait for it.
+const swapRounds = 3
+
 // Compact stores a snapshot in the log, and forgets the epochs before it: a second child is restored from the snapshot and takes this
 // one's place. Lookups and commits go on meanwhile. It returns the snapshot's position: after a backup of the snapshot, DropBefore of
 // the log may drop the lines below.
@@ -130,7 +133,7 @@ func (it *host) restoring(ctx context.Context, second *engine, made *snapshot, s
 // swap puts an engine that was restored from a snapshot in the place of this one, once it has replayed the same lines and has the same.
 // Lookups go on meanwhile.
 func (it *host) swap(ctx context.Context, second *engine) error {
-	for second.position < it.current().end() {
+	for round := 0; round < swapRounds; round++ {
 		if err := second.follow(ctx, it.current().end()); err != nil {
 			return err
 		}

@@ -77,9 +77,16 @@ type FileLog struct {
 	start    int64           // where it begins
 	count    int             // how many positions are taken
 	end      int64
+	read     mark // where the last reading has ended
 	isMade   bool // this log made the file, so that it may open it again
 	isBad    bool // what follows the lines is unknown, from the first byte of an append to its end
 	isClosed bool
+}
+
+// mark is the position of a line, and where that begins.
+type mark struct {
+	position int
+	at       int64
 }
 
 // disk is what a log needs of its file.
@@ -408,7 +415,11 @@ func (it *FileLog) checkPlace(kind error, end int64) error {
 // Read calls each with the lines from a position on, as they are at the call of it.
 func (it *FileLog) Read(position int, each func(line []byte) error) error {
 	it.mutex.Lock()
-	file, readers, first, start, count, end, err := it.file, it.readers, it.first, it.start, it.count, it.end, it.check()
+	file, readers, first, count, end, err := it.file, it.readers, it.first, it.count, it.end, it.check()
+	begin := mark{first, it.start}
+	if it.read.position > first && it.read.position <= position {
+		begin = it.read
+	}
 	if err == nil && file != nil {
 		readers.Add(1)
 		defer readers.Done()
@@ -421,11 +432,9 @@ func (it *FileLog) Read(position int, each func(line []byte) error) error {
 		return failed(ErrNoDirectory, "%s is missing: give the path of a log, or make a directory by Create", it)
 	case position < first:
 		return it.dropped(position, first)
-	case position >= count:
-		return nil
 	}
-	reader := bufio.NewReaderSize(io.NewSectionReader(file, start, end-start), 1<<20)
-	for number := first; number < count; number++ {
+	reader := bufio.NewReaderSize(io.NewSectionReader(file, begin.at, end-begin.at), 1<<20)
+	for number := begin.position; number < count; number++ {
 		line, err := reader.ReadBytes('\n')
 		if err == io.EOF {
 			return failed(ErrLogFailed, "%s was cut by another process: compare it with a backup, and open the log again", it)
@@ -438,6 +447,11 @@ func (it *FileLog) Read(position int, each func(line []byte) error) error {
 				return err
 			}
 		}
+	}
+	it.mutex.Lock()
+	defer it.mutex.Unlock()
+	if it.readers == readers {
+		it.read = mark{count, end}
 	}
 	return nil
 }

@@ -48,7 +48,7 @@ func TestMain(m *testing.M) {
 }
 
 // standIn passes lines to the program and back, until a file tells it otherwise for the next line that has a word in it: `WORD
-// hang`, `WORD die`, `WORD print TEXT`. The file is removed then.
+// hang`, `WORD die`, `WORD wait SECONDS`, `WORD print TEXT`. The file is removed then.
 func standIn(file string, program []string) int {
 	child := exec.Command(program[0], program[1:]...)
 	child.Stderr = os.Stderr
@@ -75,7 +75,10 @@ func standIn(file string, program []string) int {
 				return 1
 			case "die":
 				return 7
-			default:
+			case "wait":
+				seconds, _ := strconv.Atoi(words[2])
+				time.Sleep(time.Duration(seconds) * time.Second)
+			case "print":
 				fmt.Println(words[2])
 				continue
 			}
@@ -443,7 +446,7 @@ func (it *room) rewrite(text string) {
 	it.good(os.WriteFile(it.path, []byte(text), 0o600))
 	it.log.FileLog.mutex.Lock()
 	defer it.log.FileLog.mutex.Unlock()
-	it.log.count, it.log.end = strings.Count(text, "\n"), int64(len(text))
+	it.log.count, it.log.end, it.log.read = strings.Count(text, "\n"), int64(len(text)), mark{}
 }
 
 // lines are the file's lines, each with its newline.

@@ -239,8 +239,11 @@ func (it *engine) snapshot(of point) *snapshot {
 	return &snapshot{it.opening, of, seen.chain[:count:count], it.replaced[:of.replaced:of.replaced]}
 }
 
-// follow replays the lines of the log that the child hasn't, below a position, or all if it is negative.
+// follow replays the lines of the log below a position that the child hasn't.
 func (it *engine) follow(ctx context.Context, until int) error {
+	if it.position >= until {
+		return nil
+	}
 	replayer := &replayer{engine: it, ctx: ctx, count: it.position}
 	err := it.read(it.position, func(line []byte) error {
 		if replayer.count == until {

@@ -697,3 +697,129 @@ func (it failingSnapshots) Compact(int, func(store func(line []byte) error) erro
 	return it.fail()
 }
 func (it failingSnapshots) Snapshot(func(line []byte) error) (int, error) { return 0, it.fail() }
+
+// Pages of the longest names and keys, of which the program prints the most bytes, and more entries than a line has.
+func TestPagesOfASnapshot(t *testing.T) {
+	it := newDirectory(t)
+	var operations []Operation
+	for number := 0; number < 2*pageSize+1; number++ {
+		name := fmt.Sprint(number) + strings.Repeat("\x01", 255)
+		operations = append(operations, Register(name[:255], bytes.Repeat([]byte{byte(number)}, 16384)))
+	}
+	it.commit(1, operations...)
+	it.compact(0)
+	lines := it.snapshotLines()
+	for _, line := range lines {
+		if len(line) >= answerBytes {
+			t.Error(len(line))
+		}
+	}
+	if len(lines) != 7 || len(lines[3]) < answerBytes/2 {
+		t.Error(len(lines), len(lines[3]))
+	}
+	it.reopen()
+	for _, number := range []int{0, pageSize, 2 * pageSize} {
+		found, err := it.provider.Lookup(background, operations[number].Name, 1)
+		if err != nil || !bytes.Contains(found.Line, []byte(`"kind":"here"`)) {
+			t.Error(number, err)
+		}
+	}
+	var entries [][]byte
+	for number := 0; number < 2*groupSize+1; number++ {
+		entries = append(entries, []byte{byte(number >> 8), byte(number)})
+	}
+	var found [][]byte
+	sizes := ""
+	it.good(eachGroup("entries", entries, func(line []byte) error {
+		var members map[string]json.RawMessage
+		it.good(json.Unmarshal(line, &members))
+		values, err := valuesOf(members["entries"], 2)
+		found, sizes = append(found, values...), fmt.Sprint(sizes, len(values), " ")
+		return err
+	}))
+	if fmt.Sprint(found) != fmt.Sprint(entries) || sizes != "1000 1000 1 " {
+		t.Error(sizes)
+	}
+}
+
+// staleLog calls a function after its snapshot was read for the first time.
+type staleLog struct {
+	*hookedLog
+	then func()
+}
+
+func (it *staleLog) Snapshot(each func(line []byte) error) (int, error) {
+	position, err := it.hookedLog.Snapshot(each)
+	if then := it.then; each != nil && then != nil {
+		it.then = nil
+		then()
+	}
+	return position, err
+}
+
+// Another snapshot takes the place of the one that a restart reads, and the lines below are dropped.
+func TestSnapshotThatIsReplacedDuringARestart(t *testing.T) {
+	it := newDirectory(t)
+	it.fill(1, 2, 3, 4)
+	it.compact(2)
+	older := it.snapshotLines()
+	it.compact(4)
+	newer := it.snapshotLines()
+	it.rewriteSnapshot(older)
+	it.provider.settings.Log = &staleLog{it.log, func() {
+		it.rewriteSnapshot(newer)
+		it.good(it.log.DropBefore(9))
+	}}
+	it.good(it.provider.Restart(background))
+	_, err := it.provider.Lookup(background, "user-1-0", 3)
+	it.wants(err, UnknownEpoch)
+	it.check(1, 2, 3, 4)
+	// A log that begins after its snapshot stays so.
+	it.rewriteSnapshot(older)
+	it.wants(it.provider.Restart(background), ErrLinesDropped)
+	it.commit(5)
+	// One that ends while it is read is cut.
+	for count := range newer {
+		it.provider.settings.Log = cutSnapshots{it.log, newer[:count]}
+		it.wants(it.provider.Restart(background), ErrSnapshotDiffers)
+	}
+	it.provider.settings.Log = cutSnapshots{it.log, newer}
+	it.good(it.provider.Restart(background))
+	it.rewriteSnapshot(newer)
+	it.reopen()
+	it.check(1, 2, 3, 4, 5)
+}
+
+// cutSnapshots is a log whose snapshot has these lines.
+type cutSnapshots struct {
+	*hookedLog
+	lines []string
+}
+
+func (it cutSnapshots) Snapshot(each func(line []byte) error) (int, error) {
+	for _, line := range it.lines {
+		if err := each([]byte(line)); err != nil {
+			return 9, err
+		}
+	}
+	return 9, nil
+}
+
+// The program may take its timeout for each 4,096 names that it restores.
+func TestSlowRestore(t *testing.T) {
+	t.Parallel()
+	it := newStandInDirectory(t)
+	for epoch := uint64(1); epoch < 3; epoch++ {
+		var operations []Operation
+		for number := 0; number < 2100; number++ {
+			operations = append(operations, Register(fmt.Sprint("user-", epoch, "-", number), []byte("key")))
+		}
+		it.commit(epoch, operations...)
+	}
+	it.compact(0)
+	for timeout, wanted := range map[time.Duration]error{2 * time.Second: nil, 1200 * time.Millisecond: ErrProgramFailed} {
+		it.settings.Timeout = timeout
+		it.tell(`"restored" wait 3`)
+		it.wants(it.opened(), wanted)
+	}
+}

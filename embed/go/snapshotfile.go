@@ -255,7 +255,7 @@ func (it *FileLog) drop(position int) error {
 		readers.Wait()
 		old.Close()
 	}()
-	it.file, it.readers, it.first, it.start, it.end, it.isBad = file, &sync.WaitGroup{}, position, start, end, false
+	it.file, it.readers, it.first, it.start, it.end, it.read, it.isBad = file, &sync.WaitGroup{}, position, start, end, mark{}, false
 	return nil
 }
 
