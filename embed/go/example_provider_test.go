@@ -32,9 +32,10 @@ func ExampleStartProvider() {
 	good(err)
 	sign := func(body []byte) ([]byte, error) { return ed25519.Sign(private, body), nil }
 	verify := func(body, signature []byte) bool { return ed25519.Verify(public, body, signature) }
-	// Clients and auditors get this text. Set VRFKey too.
+	// Clients and auditors get this text. Set VRFKey too. Without ProofsKept no epoch may ever be forgotten.
+	kept := uint64(90 * 24 * 3600)
 	policy := coniks.Policy{
-		Origin: "keys.example.com/directory", SigningKey: *(*[32]byte)(public), EpochStart: 1767225600, EpochPeriod: 3600,
+		Origin: "keys.example.com/directory", SigningKey: *(*[32]byte)(public), EpochStart: 1767225600, EpochPeriod: 3600, ProofsKept: &kept,
 	}
 	ctx, key := context.Background(), []byte("key of alice")
 
@@ -57,6 +58,18 @@ func ExampleStartProvider() {
 	good(err)
 
 	fmt.Println(len(reply))
+}
+
+// Forgets the epochs whose proofs the policy no longer promises: each month, for example.
+func ExampleProvider_Compact() {
+	var file *coniks.FileLog       // of coniks.OpenFileLog
+	var directory *coniks.Provider // of coniks.StartProvider, over this log
+	var backUp func(files ...string) error
+
+	position, err := directory.Compact(context.Background())
+	good(err)
+	good(backUp("names.log.snapshot", "names.log")) // the snapshot first
+	good(file.DropBefore(position))                 // if the lines below need not stay
 }
 
 // A guard signs one first body of a directory, and no second one.

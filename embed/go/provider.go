@@ -25,7 +25,7 @@ const lookupsAtOnce = 512
 //
 // Index, Sign and Signer are called in goroutines of the provider. They have no context, since a commit goes on after its
 // caller has gone: give them a time limit of their own. A panic in them is returned as their error. They must not call Commit,
-// Retry, Abandon, Restart, Shutdown or Close.
+// Retry, Abandon, Restart, Compact, Shutdown or Close.
 type Settings struct {
 	Program []string                            // the program `provider` with its arguments
 	Index   func(name string) ([32]byte, error) // the index of a name, the same each time
@@ -36,8 +36,9 @@ type Settings struct {
 	Log     Log                               // isn't closed by the provider
 	Policy  [32]byte                          // the policy digest in each entry
 	Nonce   *[32]byte                         // that of the first epoch, random if nil
-	Verify  func(body, signature []byte) bool // if not nil, called before a signature is installed: the program verifies none
-	Timeout time.Duration                     // how long the program may take for one answer, without limit if 0
+	// Verify, if not nil, is called before a signature is installed, and for the entry of a snapshot: the program verifies none.
+	Verify  func(body, signature []byte) bool
+	Timeout time.Duration // how long the program may take for one answer, and for each 4,096 names of a snapshot; no limit if 0
 	// Document, if not nil, is the policy whose digest is in each entry, so that Policy needn't be set. If it has a clock, Commit
 	// refuses each epoch number but EpochNow.
 	Document *Policy
@@ -133,10 +134,14 @@ func (it *Settings) index(name string) (index [32]byte, err error) {
 // minute. Lookups wait for it, at most Timeout. A Commit that waits for its answer returns ErrProgramFailed; the update is
 // pending if Pending returns it.
 //
+// Compact stores a snapshot of one epoch beside the log, and forgets the epochs before it. A start then restores the snapshot, and
+// replays the lines after it.
+//
 // Reply, CatchUp and History return what a service sends to clients.
 //
 // A call whose context is done returns ctx.Err(). A Commit, Retry, Abandon or Restart that has begun goes on to its end without
-// its caller: Latest and Pending show what became of it. All calls can be used from several goroutines.
+// its caller: Latest and Pending show what became of it. A Compact ends, and changes nothing. All calls can be used from several
+// goroutines.
 type Provider struct {
 	settings  *Settings
 	host      *host
@@ -152,7 +157,9 @@ type Provider struct {
 	closed     chan none // closed once it has ended the child
 }
 
-// StartProvider starts the child and replays the log. Then it makes a directory if the log has none and Create is set, or the
+// StartProvider starts the child, restores the snapshot if the log has one, and replays the lines after it. Each entry of the snapshot
+// must follow the one before it, the bindings must have the root of the last one, and Verify must accept its signature; else it is
+// ErrSnapshotDiffers. A log that begins after the snapshot's position is ErrLinesDropped. Then StartProvider makes a directory if the log has none and Create is set, or the
 // log is new; else a log that is missing or has no line is ErrNoDirectory, and one with lines is ErrDirectoryExists if Create
 // is set.
 //
@@ -160,7 +167,7 @@ type Provider struct {
 // ErrLogForked. The *ProviderError has two entries that overlap, if there are two. A record that can't be read is
 // ErrRecordFailed.
 //
-// The indices of the first, the last and 64 random operations of the log are asked again: another one is the fault OtherIndex,
+// The indices of the first, the last and 64 random bindings and operations of the log are asked again: another one is the fault OtherIndex,
 // since the VRF isn't that of this directory. Then the pending update is signed and installed, if there is one. If the signer
 // fails, ErrSignerFailed is returned and no provider. An update that the signer has abandoned stays pending. A start whose
 // context is done may have made the directory.
