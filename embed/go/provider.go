@@ -32,10 +32,10 @@ type Settings struct {
 	Sign    func(body []byte) ([]byte, error)   // the signature, 64 bytes, of a body
 	// Signer, in the place of Sign, is a signer with a record of what it signed, as a *Guard. Each start compares the log with the
 	// record, and Abandon is possible.
-	Signer  Signer
-	Log     Log                               // isn't closed by the provider
-	Policy  [32]byte                          // the policy digest in each entry
-	Nonce   *[32]byte                         // that of the first epoch, random if nil
+	Signer Signer
+	Log    Log       // isn't closed by the provider
+	Policy [32]byte  // the policy digest in each entry
+	Nonce  *[32]byte // that of the first epoch, random if nil
 	// Verify, if not nil, is called before a signature is installed, and for the entry of a snapshot: the program verifies none.
 	Verify  func(body, signature []byte) bool
 	Timeout time.Duration // how long the program may take for one answer, and for each 4,096 names of a snapshot; no limit if 0
