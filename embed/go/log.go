@@ -69,6 +69,7 @@ type FileLog struct {
 	path  string
 	mode  os.FileMode
 	isNew bool
+	steps replacing
 
 	mutex    sync.Mutex
 	file     disk            // nil while the file is missing
@@ -123,7 +124,7 @@ func OpenFileLogMode(path string, mode os.FileMode) (*FileLog, error) {
 	if err != nil {
 		return nil, failed(ErrLogFailed, "the path of the log isn't known, check the working directory: %w", err)
 	}
-	it := &FileLog{path: absolute, mode: mode}
+	it := &FileLog{path: absolute, mode: mode, steps: diskFiles{}}
 	if err := it.open(0); err != nil && !errors.Is(err, fs.ErrNotExist) {
 		return nil, err
 	}

@@ -232,6 +232,8 @@ func (diskFiles) write(path string, data []byte) error {
 	return err
 }
 
+func (diskFiles) sync(file *os.File) error { return file.Sync() }
+
 func (diskFiles) rename(from, to string) error { return os.Rename(from, to) }
 
 func (diskFiles) syncFolder(path string) error {

@@ -8,13 +8,21 @@ import (
 // replacement is a file that is written beside another one, at PATH.new, and then takes its place. What a process left there that
 // was killed is overwritten. One process and one goroutine at a time has it.
 type replacement struct {
-	path string // of the other file
-	file *os.File
+	path  string // of the other file
+	file  *os.File
+	steps replacing
+}
+
+// replacing are the steps that put a file in the place of another one.
+type replacing interface {
+	sync(file *os.File) error
+	rename(from, to string) error
+	syncFolder(path string) error
 }
 
 // newReplacement makes PATH.new with this mode, and locks it. Its errors are ErrLogRefused.
-func newReplacement(path string, mode os.FileMode) (*replacement, error) {
-	it := &replacement{path: path}
+func newReplacement(path string, mode os.FileMode, steps replacing) (*replacement, error) {
+	it := &replacement{path: path, steps: steps}
 	file, err := os.OpenFile(it.new(), os.O_RDWR|os.O_CREATE|syscall.O_NOFOLLOW|syscall.O_NONBLOCK|syscall.O_NOCTTY, 0o600)
 	if err != nil {
 		return nil, it.refused("can't be made", err)
@@ -56,16 +64,16 @@ func (it *replacement) Write(data []byte) (int, error) {
 // put puts the file in the place of the other one, and returns it. It returns ErrLogRefused if the file isn't there, and an error that is
 // ErrLogFailed alone if a failure of the machine could bring back the other one.
 func (it *replacement) put() (*os.File, error) {
-	err := it.file.Sync()
+	err := it.steps.sync(it.file)
 	if err == nil {
-		err = os.Rename(it.new(), it.path)
+		err = it.steps.rename(it.new(), it.path)
 	}
 	if err != nil {
 		return nil, it.refused("can't be stored", err)
 	}
 	file := it.file
 	it.file = nil
-	if err := syncFolder(it.path); err != nil {
+	if err := it.steps.syncFolder(it.path); err != nil {
 		file.Close()
 		return nil, failed(ErrLogFailed, "the folder of %s can't be synced; repair that, and open the log again: %w", it.path, err)
 	}

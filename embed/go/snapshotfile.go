@@ -145,7 +145,7 @@ func (it *FileLog) Compact(position int, lines func(store func(line []byte) erro
 	if err := it.checkStill(position); err != nil {
 		return err
 	}
-	made, err := newReplacement(it.snapshotPath(), 0o600)
+	made, err := newReplacement(it.snapshotPath(), 0o600, it.steps)
 	if err != nil {
 		return err
 	}
@@ -231,7 +231,7 @@ func (it *FileLog) drop(position int) error {
 	if err != nil {
 		return failed(ErrLogRefused, "the place of %s is unknown, so open it again: %w", it, err)
 	}
-	made, err := newReplacement(path, mine.Mode().Perm())
+	made, err := newReplacement(path, mine.Mode().Perm(), it.steps)
 	if err != nil {
 		return err
 	}

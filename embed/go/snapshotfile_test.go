@@ -575,6 +575,87 @@ func TestFullDiskAtASnapshot(t *testing.T) {
 	it.check(1, 2, 3, 4)
 }
 
+// countedSteps makes the steps of a replacement, counts them, and fails in place of one.
+type countedSteps struct {
+	diskFiles
+	made []string
+	at   int
+}
+
+func (it *countedSteps) step(name string, step func() error) error {
+	if it.made = append(it.made, name); len(it.made) == it.at {
+		return errDisk
+	}
+	return step()
+}
+
+func (it *countedSteps) sync(file *os.File) error {
+	return it.step("sync", func() error { return it.diskFiles.sync(file) })
+}
+
+func (it *countedSteps) rename(from, to string) error {
+	return it.step("rename "+filepath.Base(to), func() error { return it.diskFiles.rename(from, to) })
+}
+
+func (it *countedSteps) syncFolder(path string) error {
+	return it.step("folder", func() error { return it.diskFiles.syncFolder(path) })
+}
+
+// A new file is on the disk before it takes the place of the old one, and then the folder. After an error the old one is there, or it
+// is unknown which one is.
+func TestStepsThatReplaceAFile(t *testing.T) {
+	for at := 0; at < 4; at++ {
+		it := newDirectory(t)
+		it.fill(1, 2, 3)
+		it.compact(2)
+		before, whole := it.snapshotLines(), it.text()
+		steps := &countedSteps{at: at}
+		it.log.steps = steps
+		_, err := it.provider.Compact(background)
+		if made := fmt.Sprint(steps.made); at == 0 && made != "[sync rename log.snapshot folder]" {
+			t.Error(made)
+		}
+		isOlder := fmt.Sprint(it.snapshotLines()) == fmt.Sprint(before)
+		switch {
+		case at == 0:
+			it.good(err)
+		case !errors.Is(err, ErrLogFailed) || errors.Is(err, ErrLogRefused) != (at < 3) || isOlder != (at < 3):
+			t.Error(at, err, isOlder)
+		}
+		if _, err := os.Stat(it.path + ".snapshot.new"); err == nil {
+			t.Error(at, "a file is left")
+		}
+		it.commit(4)
+		it.compact(3)
+		*steps = countedSteps{at: at}
+		whole = it.text()
+		err = it.log.DropBefore(7)
+		if made := fmt.Sprint(steps.made); at == 0 && made != "[sync rename log folder]" {
+			t.Error(made)
+		}
+		_, other := os.Stat(it.path + ".new")
+		switch {
+		case other == nil:
+			t.Error(at, "a file is left")
+		case at == 0:
+			it.good(err)
+		case at < 3:
+			it.wants(err, ErrLogRefused)
+			hasText(t, it.path, whole)
+		default:
+			// Nothing is added before the log is opened again.
+			it.wants(err, ErrLogFailed)
+			wants(t, it.log.CheckWritable(), ErrLogFailed)
+			_, err = it.provider.Commit(background, 5, nil, nil)
+			it.wants(err, ErrLogFailed)
+			it.reopen()
+		}
+		it.commit(6)
+		it.reopen()
+		it.check(1, 2, 3, 4, 6)
+	}
+}
+
 // A log of the first format stays one: its header has no log.
 func TestSnapshotOfAnOldLog(t *testing.T) {
 	text, err := os.ReadFile(oldLog)
