@@ -129,7 +129,7 @@ const (
 	UnknownEpoch  FaultName = "UnknownEpoch"
 	NotRestoring  FaultName = "NotRestoring"
 	NotLater      FaultName = "NotLater"
-	EntryVersion  FaultName = "Version"
+	EntryVersion  FaultName = "Version" // Version is the library's
 	RootDiffers   FaultName = "RootDiffers"
 )
 

@@ -90,7 +90,7 @@ func hasText(t *testing.T, path, wanted string) {
 }
 
 func TestKindsOfErrors(t *testing.T) {
-	for _, kind := range []error{ErrLogRefused, ErrNoDirectory, ErrDirectoryExists, ErrOvertaken} {
+	for _, kind := range []error{ErrLogRefused, ErrNoDirectory, ErrDirectoryExists, ErrLinesDropped, ErrOvertaken} {
 		for _, err := range []error{kind, failed(kind, "cause"), fmt.Errorf("more: %w", failed(kind, "cause")), logError(kind, "")} {
 			if !errors.Is(err, kind) || !errors.Is(err, ErrLogFailed) || errors.Is(err, ErrLogForked) || errors.Is(err, ErrClosed) {
 				t.Error(err)

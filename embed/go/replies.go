@@ -37,8 +37,9 @@ func (it *Provider) CatchUp(epoch uint64) []byte {
 }
 
 // History returns the proofs of a name at each epoch from number first to last, for the client that watches it. What two proofs in a
-// row have in common is sent once. Numbers without an epoch are left out, so that a history of none of them has no step. It returns
-// the errors of Lookup, and another one for a VRF proof of more than 65,535 bytes.
+// row have in common is sent once. Numbers without an epoch are left out, so that a history of none of them has no step. An epoch before
+// the snapshot is UnknownEpoch, so no history lacks one. It returns the errors of Lookup, and another one for a VRF proof of more than
+// 65,535 bytes.
 func (it *Provider) History(ctx context.Context, name string, vrfProof []byte, first, last uint64) ([]byte, error) {
 	if err := it.isOpen(); err != nil {
 		return nil, err
