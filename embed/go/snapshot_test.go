@@ -626,6 +626,38 @@ func TestSnapshotThatIsCutShort(t *testing.T) {
 	it.check(1, 2)
 }
 
+// Shutdown ends a snapshot while it waits for the signer.
+func TestSnapshotBesideASlowSigner(t *testing.T) {
+	it := newDirectory(t)
+	it.fill(1, 2)
+	asked, goOn := make(chan none), make(chan none)
+	it.holding(func() { close(asked); <-goOn })
+	made := make(chan error)
+	go func() {
+		_, err := it.provider.Commit(background, 3, nil, nil)
+		made <- err
+	}()
+	<-asked
+	closed := make(chan error)
+	it.provider.settings.Log = &delayedLog{it.log, 2, func() {
+		go func() { closed <- it.provider.Shutdown(background) }()
+		<-it.provider.closing
+	}}
+	_, err := it.provider.Compact(background)
+	it.wants(err, ErrClosed)
+	select {
+	case err := <-closed:
+		t.Error("Shutdown hasn't waited for the signer:", err)
+	default:
+	}
+	close(goOn)
+	it.good(<-made)
+	it.good(<-closed)
+	it.holding(nil)
+	it.reopen()
+	it.check(1, 2, 3)
+}
+
 // One call at a time takes a snapshot, and the first child ends.
 func TestSeveralSnapshotsAtOnce(t *testing.T) {
 	it := newDirectory(t)
