@@ -110,11 +110,22 @@ func asLogError(err error) error {
 	return logError(err, "the snapshot can't be stored, repair the log and call Compact again")
 }
 
+// knowing returns the error of a program that knows no line of a snapshot as ErrProgramFailed.
+func knowing(err error) error {
+	if errors.Is(err, Command) {
+		return failed(ErrProgramFailed, "the program knows no snapshots: use the one of this version: %w", err)
+	}
+	return err
+}
+
 // restoring calls store with the lines of a snapshot, each of which another engine takes first. Before the last line, which makes the
 // snapshot whole, that engine takes the place of this one: so no snapshot is stored from which a start would differ.
 func (it *host) restoring(ctx context.Context, second *engine, made *snapshot, store func(line []byte) error) error {
 	restorer := &restorer{engine: second, ctx: ctx}
-	ask := func(line []byte) (*answer, error) { return it.ask(ctx, line, "bindings") }
+	ask := func(line []byte) (*answer, error) {
+		told, err := it.ask(ctx, line, "bindings")
+		return told, knowing(err)
+	}
 	return made.each(ask, func(line []byte) error {
 		if err := ctx.Err(); err != nil {
 			return err
@@ -194,6 +205,10 @@ var errSecond = failed(ErrSnapshotDiffers, "what a second child has restored isn
 // chosen returns the epoch to take a snapshot of, the oldest promised one if none is given. No epoch after it is forgotten, so it is
 // none after the oldest promised one.
 func (it *Provider) chosen(seen view, epoch uint64) (point, error) {
+	found, err := seen.pointOf(epoch)
+	if err != nil {
+		return point{}, err
+	}
 	oldest, err := it.oldestPromised(seen)
 	if err != nil || epoch == 0 {
 		return oldest, err
@@ -202,7 +217,7 @@ func (it *Provider) chosen(seen view, epoch uint64) (point, error) {
 		return point{}, failed(ErrProofsPromised, "the policy still promises proofs of epoch %d, and a snapshot of epoch %d would forget "+
 			"it: take epoch %d or an older one", oldest.epoch, epoch, oldest.epoch)
 	}
-	return seen.pointOf(epoch)
+	return found, nil
 }
 
 // oldestPromised returns the oldest epoch in memory whose proofs the policy promises. The latest one is always promised.

@@ -1,6 +1,7 @@
 package coniks
 
 import (
+	"io/fs"
 	"os"
 	"syscall"
 )
@@ -20,8 +21,8 @@ type replacing interface {
 	syncFolder(path string) error
 }
 
-// newReplacement makes PATH.new with this mode, and locks it. Its errors are ErrLogRefused.
-func newReplacement(path string, mode os.FileMode, steps replacing) (*replacement, error) {
+// newReplacement makes PATH.new with this mode and the owner of a log, and locks it. Its errors are ErrLogRefused.
+func newReplacement(path string, mode os.FileMode, log os.FileInfo, steps replacing) (*replacement, error) {
 	it := &replacement{path: path, steps: steps}
 	file, err := os.OpenFile(it.new(), os.O_RDWR|os.O_CREATE|syscall.O_NOFOLLOW|syscall.O_NONBLOCK|syscall.O_NOCTTY, 0o600)
 	if err != nil {
@@ -31,6 +32,9 @@ func newReplacement(path string, mode os.FileMode, steps replacing) (*replacemen
 	if err == nil && !isMine {
 		file.Close()
 		return nil, failed(ErrLogRefused, "another call is writing %s: call again after it", it.new())
+	}
+	if err == nil {
+		err = giveTo(file, log)
 	}
 	if err == nil {
 		err = file.Chmod(mode)
@@ -44,6 +48,20 @@ func newReplacement(path string, mode os.FileMode, steps replacing) (*replacemen
 	}
 	it.file = file
 	return it, nil
+}
+
+// giveTo gives a file the owner of another one, so that whoever opens that can open this one too.
+func giveTo(file *os.File, other os.FileInfo) error {
+	found, err := file.Stat()
+	if err != nil {
+		return err
+	}
+	mine, isMine := found.Sys().(*syscall.Stat_t)
+	its, isIts := other.Sys().(*syscall.Stat_t)
+	if !isMine || !isIts || mine.Uid == its.Uid && mine.Gid == its.Gid {
+		return nil
+	}
+	return file.Chown(int(its.Uid), int(its.Gid))
 }
 
 func (it *replacement) new() string { return it.path + ".new" }
@@ -65,6 +83,9 @@ func (it *replacement) Write(data []byte) (int, error) {
 // ErrLogFailed alone if a failure of the machine could bring back the other one.
 func (it *replacement) put() (*os.File, error) {
 	err := it.steps.sync(it.file)
+	if err == nil && !isAt(it.new(), it.file) {
+		err = fs.ErrNotExist
+	}
 	if err == nil {
 		err = it.steps.rename(it.new(), it.path)
 	}
@@ -82,10 +103,13 @@ func (it *replacement) put() (*os.File, error) {
 
 // drop removes the file, unless it was put.
 func (it *replacement) drop() {
-	if it.file != nil {
-		os.Remove(it.new())
-		it.file.Close()
+	if it.file == nil {
+		return
 	}
+	if isAt(it.new(), it.file) {
+		os.Remove(it.new())
+	}
+	it.file.Close()
 }
 
 // checkPrivate returns an error if a file isn't regular, or has permission bits beyond a mode.

@@ -186,10 +186,10 @@ func (it *restorer) answer(kind string, question *question) (*answer, error) {
 		return nil, err
 	}
 	read, err := answerOf(told, kind)
+	if errors.Is(err, Command) {
+		return nil, knowing(err)
+	}
 	if fault := (*Fault)(nil); errors.As(err, &fault) {
-		if fault.Name == Command {
-			return nil, failed(ErrProgramFailed, "the program knows no snapshots: use the one of this version: %w", err)
-		}
 		return nil, failed(ErrSnapshotDiffers, "the snapshot of %s has a line that the program refuses, %s; restore it from a backup, or "+
 			"remove it if the log still has all its lines: %w", nameOf(it.engine.settings.Log), kind, err)
 	}

@@ -171,11 +171,12 @@ func eachPage(epoch uint64, ask func(line []byte) (*answer, error), store func(l
 			return err
 		}
 		bindings, err := indexedOf(told.Bindings)
-		if err != nil || told.Epoch != epoch || told.More && len(bindings) == 0 {
+		count := len(bindings)
+		if err != nil || told.Epoch != epoch || told.More && count == 0 || count > 0 && len(bindings[count-1].Index) != 32 {
 			return failed(ErrProgramFailed, "the program printed no page of bindings: check that it is the program provider")
 		}
-		if hasMore = told.More; len(bindings) > 0 {
-			after = bindings[len(bindings)-1].Index
+		if hasMore = told.More; count > 0 {
+			after = bindings[count-1].Index
 			if err := store(bytes.Join([][]byte{[]byte(`{"cmd":"restoring","bindings":`), told.Bindings, []byte("}")}, nil)); err != nil {
 				return err
 			}

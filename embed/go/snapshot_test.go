@@ -206,7 +206,7 @@ func TestEpochsOfASnapshot(t *testing.T) {
 	it.fill(5, 6)
 	it.compact(5)
 	lines := it.snapshotLines()
-	for epoch, wanted := range map[uint64]error{3: UnknownEpoch, 4: UnknownEpoch, 7: ErrProofsPromised, 1 << 63: ErrProofsPromised} {
+	for epoch, wanted := range map[uint64]error{3: UnknownEpoch, 4: UnknownEpoch, 7: UnknownEpoch, 1 << 63: UnknownEpoch} {
 		_, err := it.provider.CompactAt(background, epoch)
 		it.wants(err, wanted)
 	}
@@ -396,8 +396,8 @@ func TestProgramThatLies(t *testing.T) {
 	page := func(bindings string, more bool) string {
 		return fmt.Sprintf(`"bindings" print {"bindings":[%s],"epoch":2,"more":%v,"ok":"bindings"}`, bindings, more)
 	}
-	one := `{"index":"` + strings.Repeat("00", 32) + `","key":"aw==","name":"other","opening":"` + strings.Repeat("00", 32) + `"}`
 	zeros := strings.Repeat("00", 32)
+	one := `{"index":"` + zeros + `","key":"aw==","name":"other","opening":"` + zeros + `"}`
 	for what, lie := range map[string]struct {
 		told   string
 		wanted error
@@ -408,6 +408,8 @@ func TestProgramThatLies(t *testing.T) {
 		"never ends":             {page("", true), ErrProgramFailed},
 		"another epoch":          {strings.Replace(page("", false), `"epoch":2`, `"epoch":1`, 1), ErrProgramFailed},
 		"bindings that are none": {page("7", false), ErrProgramFailed},
+		"a short index":          {page(strings.Replace(one, zeros, "00", 1), true), ErrProgramFailed},
+		"knows no bindings":      {`"bindings" print {"fault":"Command"}`, ErrProgramFailed},
 		"knows no restore":       {`"restore" print {"fault":"Command"}`, ErrProgramFailed},
 		"refuses a restore":      {`"restore" print {"fault":"Version"}`, ErrSnapshotDiffers},
 		"counts other names":     {`"restoring" print {"names":7,"ok":"restoring"}`, ErrProgramFailed},
@@ -431,6 +433,7 @@ func TestProgramThatLies(t *testing.T) {
 		if _, err := os.Stat(it.path + ".snapshot.new"); err == nil {
 			t.Error(what, "a file is left")
 		}
+		it.isAlone()
 		if it.seen(1, 2) != before || it.provider.Pid() != pid {
 			t.Error(what, "another child")
 		}
@@ -439,6 +442,17 @@ func TestProgramThatLies(t *testing.T) {
 		it.compact(2)
 		it.reopen()
 		it.check(1, 2, 3)
+	}
+}
+
+// isAlone checks that no other child than the one that answers lookups is left.
+func (it *room) isAlone() {
+	it.t.Helper()
+	host := it.provider.host
+	host.mutex.Lock()
+	defer host.mutex.Unlock()
+	if len(host.begun) > 0 {
+		it.t.Error("a second child is left")
 	}
 }
 
@@ -592,6 +606,7 @@ func TestSnapshotThatIsCutShort(t *testing.T) {
 			if _, err := os.Stat(it.path + ".snapshot"); err == nil || it.provider.Pid() != pid || it.seen(1, 2) != before {
 				t.Error(number, "a cancelled call has changed something")
 			}
+			it.isAlone()
 		} else if err != nil || it.provider.Pid() == pid {
 			t.Error(err)
 		}

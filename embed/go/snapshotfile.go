@@ -142,10 +142,11 @@ func (it *FileLog) Compact(position int, lines func(store func(line []byte) erro
 	if before > position {
 		return failed(ErrOvertaken, "%s has a snapshot of position %d, and %d is before that: take a later epoch", it, before, position)
 	}
-	if err := it.checkStill(position); err != nil {
+	log, err := it.checkStill(position)
+	if err != nil {
 		return err
 	}
-	made, err := newReplacement(it.snapshotPath(), 0o600, it.steps)
+	made, err := newReplacement(it.snapshotPath(), 0o600, log, it.steps)
 	if err != nil {
 		return err
 	}
@@ -164,7 +165,7 @@ func (it *FileLog) Compact(position int, lines func(store func(line []byte) erro
 		err = stopped
 	}
 	if err == nil {
-		err = it.checkStill(position)
+		_, err = it.checkStill(position)
 	}
 	if err != nil {
 		return err
@@ -176,25 +177,26 @@ func (it *FileLog) Compact(position int, lines func(store func(line []byte) erro
 	return err
 }
 
-// checkStill returns ErrLogRefused if the path has another file, or the log hasn't this position.
-func (it *FileLog) checkStill(position int) error {
+// checkStill returns what the file is. It returns ErrLogRefused if the path has another file, or the log hasn't this position.
+func (it *FileLog) checkStill(position int) (os.FileInfo, error) {
 	it.mutex.Lock()
 	defer it.mutex.Unlock()
 	if err := it.checkEnd(); err != nil {
-		return err
+		return nil, err
 	}
 	if it.file == nil || position < it.first || position > it.count {
-		return failed(ErrLogRefused, "%s has the positions from %d to %d, so none of a snapshot is %d: nothing is stored", it, it.first,
+		return nil, failed(ErrLogRefused, "%s has the positions from %d to %d, so none of a snapshot is %d: nothing is stored", it, it.first,
 			it.count, position)
 	}
-	if mine, err := it.file.Stat(); err != nil || !leadsTo(it.path, mine) {
-		return failed(ErrLogRefused, "%s was moved or replaced while it was open: put it back, or open the log again", it)
+	mine, err := it.file.Stat()
+	if err != nil || !leadsTo(it.path, mine) {
+		return nil, failed(ErrLogRefused, "%s was moved or replaced while it was open: put it back, or open the log again", it)
 	}
-	return nil
+	return mine, nil
 }
 
 // DropBefore drops the lines below a position, at most that of the snapshot. The file is replaced as a whole: the rest is written to
-// PATH.new, synced, locked and renamed, and the folder is synced. After an error that is ErrLogFailed alone the log must be opened
+// PATH.new, synced, locked and renamed, and the folder is synced. Appends wait meanwhile. After an error that is ErrLogFailed alone the log must be opened
 // again.
 //
 // Back up the snapshot first: without it a log that has dropped lines can't be started.
@@ -231,7 +233,7 @@ func (it *FileLog) drop(position int) error {
 	if err != nil {
 		return failed(ErrLogRefused, "the place of %s is unknown, so open it again: %w", it, err)
 	}
-	made, err := newReplacement(path, mine.Mode().Perm(), it.steps)
+	made, err := newReplacement(path, mine.Mode().Perm(), mine, it.steps)
 	if err != nil {
 		return err
 	}

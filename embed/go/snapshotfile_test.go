@@ -323,6 +323,15 @@ func TestFilesOfASnapshot(t *testing.T) {
 		}
 		os.Remove(left)
 	}
+	// A file that is moved while it is written isn't the one that is stored.
+	it.provider.settings.Log = &delayedLog{it.log, 3, func() { it.good(os.Rename(left, left+"-")) }}
+	_, err := it.provider.Compact(background)
+	it.wants(err, ErrLogRefused)
+	it.provider.settings.Log = it.log
+	it.good(os.Remove(left + "-"))
+	if fmt.Sprint(it.snapshotLines()) != fmt.Sprint(genuine) {
+		t.Error("another snapshot")
+	}
 	locked, err := lockFile(left, 0)
 	it.good(err)
 	_, err = it.provider.Compact(background)
@@ -370,6 +379,23 @@ func TestFilesOfASnapshot(t *testing.T) {
 	_, err = log.Snapshot(nil)
 	for _, err := range []error{err, log.Compact(5, one), log.DropBefore(5)} {
 		it.wants(err, ErrLogFailed)
+	}
+}
+
+// Files that take the place of others keep the owner of the log, also if another user drops lines.
+func TestOwnerOfTheFiles(t *testing.T) {
+	it := newDirectory(t)
+	it.fill(1, 2)
+	if err := os.Chown(it.path, 12345, 23456); err != nil {
+		t.Skip("changing the owner of a file needs root:", err)
+	}
+	it.good(it.log.DropBefore(it.compact(0)))
+	for _, path := range []string{it.path, it.path + ".snapshot"} {
+		found, err := os.Stat(path)
+		it.good(err)
+		if owner := found.Sys().(*syscall.Stat_t); owner.Uid != 12345 || owner.Gid != 23456 || found.Mode().Perm() != 0o600 {
+			t.Error(path, owner.Uid, owner.Gid, found.Mode())
+		}
 	}
 }
 
