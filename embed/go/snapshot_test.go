@@ -3,6 +3,7 @@ package coniks
 import (
 	"bytes"
 	"context"
+	"encoding/binary"
 	"encoding/hex"
 	"encoding/json"
 	"errors"
@@ -868,5 +869,33 @@ func TestSlowRestore(t *testing.T) {
 		it.settings.Timeout = timeout
 		it.tell(`"restored" wait 3`)
 		it.wants(it.opened(), wanted)
+	}
+}
+
+// Entries that are linked, and are in no chain all the same.
+func TestEntriesThatContinueAChain(t *testing.T) {
+	entry := func(version byte, epoch, previous uint64, link [32]byte, nonce byte) []byte {
+		out := binary.BigEndian.AppendUint64(binary.BigEndian.AppendUint64([]byte{version}, epoch), previous)
+		out = append(append(append(out, make([]byte, 32)...), link[:]...), bytes.Repeat([]byte{nonce}, 32)...)
+		return append(out, make([]byte, 96)...)
+	}
+	none := [32]byte{}
+	first, rotated := entry(1, 5, 0, none, 7), entry(2, 5, 0, none, 7)
+	link, other := linkOf(first), linkOf(rotated)
+	for number, it := range []struct {
+		before, entry []byte
+		is            bool
+	}{
+		{nil, first, true}, {nil, rotated, true}, {nil, entry(0, 5, 0, none, 7), false}, {nil, entry(3, 5, 0, none, 7), false},
+		{nil, entry(1, 0, 0, none, 7), false}, {nil, entry(1, 5, 4, none, 7), false}, {nil, entry(1, 5, 0, link, 7), false},
+		{first, entry(1, 6, 5, link, 7), true}, {first, entry(1, ^uint64(0), 5, link, 7), true}, {first, entry(2, 6, 5, link, 7), true},
+		{first, entry(2, 6, 5, link, 8), true}, {first, entry(1, 6, 5, link, 8), false}, {first, entry(3, 6, 5, link, 7), false},
+		{first, entry(0, 6, 5, link, 7), false}, {first, entry(1, 6, 4, link, 7), false}, {first, entry(1, 6, 0, link, 7), false},
+		{first, entry(1, 5, 5, link, 7), false}, {first, entry(1, 4, 5, link, 7), false}, {first, entry(1, 6, 5, other, 7), false},
+		{first, entry(1, 6, 5, none, 7), false}, {rotated, entry(2, 6, 5, other, 8), true}, {rotated, entry(1, 6, 5, other, 7), false},
+	} {
+		if continues(it.entry, it.before) != it.is {
+			t.Error(number)
+		}
 	}
 }
