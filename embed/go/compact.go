@@ -9,24 +9,24 @@ import (
 // swapRounds is how often another child reads on before changes wait for it.
 const swapRounds = 3
 
-// Compact stores a snapshot in the log, and forgets the epochs before it: a second child is restored from the snapshot and takes this
-// one's place. Lookups and commits go on meanwhile. It returns the snapshot's position: after a backup of the snapshot, DropBefore of
-// the log may drop the lines below.
+// Compact stores a snapshot in the log, and forgets the epochs before it: a second child is restored from the snapshot and
+// takes this one's place. Lookups and commits go on meanwhile. It returns the snapshot's position: after a backup of the
+// snapshot, DropBefore of the log may drop the lines below.
 //
-// The snapshot is of the oldest epoch whose proofs the policy still promises. With a policy digest alone it is of the latest epoch.
-// Lookups at epochs before it, and histories from there, return UnknownEpoch; a call of Lookups that goes on meanwhile may return it
-// too. Chain, CatchUp and Entries have all entries as before.
+// The snapshot is of the oldest epoch whose proofs the policy still promises. With a policy digest alone it is of the latest
+// epoch. Lookups at epochs before it, and histories from there, return UnknownEpoch; a call of Lookups that goes on meanwhile
+// may return it too. Chain, CatchUp and Entries have all entries as before.
 //
 // It returns ErrProofsPromised if the policy promises what would be forgotten, UnknownEpoch if no epoch is installed, and
-// ErrSnapshotDiffers if the second child hasn't what this one has. Then this child stays, and so does the snapshot that was stored
-// before; also after ctx.Err(), ErrClosed and other errors. But if the log fails at the end, which is ErrLogFailed, the older epochs
-// may be forgotten: call it again. One call at a time takes a snapshot; others wait for it.
+// ErrSnapshotDiffers if the second child hasn't what this one has. Then this child stays, and so does the snapshot that was
+// stored before; also after ctx.Err(), ErrClosed and other errors. But if the log fails at the end, which is ErrLogFailed, the
+// older epochs may be forgotten: call it again. One call at a time takes a snapshot; others wait for it.
 func (it *Provider) Compact(ctx context.Context) (position int, err error) {
 	return it.CompactAt(ctx, 0)
 }
 
-// CompactAt is Compact for the snapshot of an epoch, which the policy lets be older. It returns UnknownEpoch for one that isn't in
-// memory. 0 is the epoch that Compact takes.
+// CompactAt is Compact for the snapshot of an epoch, which the policy lets be older. It returns UnknownEpoch for one that isn't
+// in memory. 0 is the epoch that Compact takes.
 func (it *Provider) CompactAt(ctx context.Context, epoch uint64) (position int, err error) {
 	if it.isSigner() {
 		return 0, errSigner
@@ -118,8 +118,8 @@ func knowing(err error) error {
 	return err
 }
 
-// restoring calls store with the lines of a snapshot, each of which another engine takes first. Before the last line, which makes the
-// snapshot whole, that engine takes the place of this one: so no snapshot is stored from which a start would differ.
+// restoring calls store with the lines of a snapshot, each of which another engine takes first. Before the last line, which
+// makes the snapshot whole, that engine takes the place of this one: so no snapshot is stored from which a start would differ.
 func (it *host) restoring(ctx context.Context, second *engine, made *snapshot, store func(line []byte) error) error {
 	restorer := &restorer{engine: second, ctx: ctx}
 	ask := func(line []byte) (*answer, error) {
@@ -141,8 +141,8 @@ func (it *host) restoring(ctx context.Context, second *engine, made *snapshot, s
 	})
 }
 
-// swap puts an engine that was restored from a snapshot in the place of this one, once it has replayed the same lines and has the same.
-// Lookups go on meanwhile.
+// swap puts an engine that was restored from a snapshot in the place of this one, once it has replayed the same lines and has
+// the same. Lookups go on meanwhile.
 func (it *host) swap(ctx context.Context, second *engine) error {
 	for round := 0; round < swapRounds; round++ {
 		if err := second.follow(ctx, it.current().end()); err != nil {
@@ -168,8 +168,8 @@ func (it *host) swap(ctx context.Context, second *engine) error {
 	})
 }
 
-// checkSame returns ErrSnapshotDiffers if the child of this engine hasn't what that of another one has, which has replayed the same
-// lines: the latest entry, the names, the pending update, and the proofs of some names.
+// checkSame returns ErrSnapshotDiffers if the child of this engine hasn't what that of another one has, which has replayed the
+// same lines: the latest entry, the names, the pending update, and the proofs of some names.
 func (it *engine) checkSame(ctx context.Context, other *engine) error {
 	mine, its := it.seen, other.seen
 	isSame := it.position == other.position && it.opening == other.opening && it.isStrict == other.isStrict &&
@@ -202,8 +202,8 @@ func (it *engine) checkSame(ctx context.Context, other *engine) error {
 var errSecond = failed(ErrSnapshotDiffers, "what a second child has restored isn't what the first one has: the program or the log was "+
 	"changed, so find out what did it")
 
-// chosen returns the epoch to take a snapshot of, the oldest promised one if none is given. No epoch after it is forgotten, so it is
-// none after the oldest promised one.
+// chosen returns the epoch to take a snapshot of, the oldest promised one if none is given. No epoch after it is forgotten, so
+// it is none after the oldest promised one.
 func (it *Provider) chosen(seen view, epoch uint64) (point, error) {
 	found, err := seen.pointOf(epoch)
 	if err != nil {

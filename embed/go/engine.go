@@ -18,8 +18,8 @@ const (
 
 const checkReplay = "check that log and program are this directory's"
 
-// update is a pending update, with its line as the log has it, how many names it registers and, if it was replayed and its indices
-// weren't compared, its operations.
+// update is a pending update, with its line as the log has it, how many names it registers and, if it was replayed and its
+// indices weren't compared, its operations.
 type update struct {
 	pending    Pending
 	line       []byte
@@ -109,8 +109,8 @@ func (it *engine) restored(epoch Epoch, point point, chain, replaced [][]byte) {
 	it.seen.latest, it.seen.chain, it.seen.points = epoch, chain, append(it.seen.points, point)
 }
 
-// replay restores the snapshot of the log, if there is one, and replays the lines from its position on. If it must be new, the log
-// must have no line.
+// replay restores the snapshot of the log, if there is one, and replays the lines from its position on. If it must be new, the
+// log must have no line.
 func (it *engine) replay(ctx context.Context, mustBeNew bool) error {
 	if stored := snapshotOf(it.settings.Log); stored != nil {
 		if err := it.restore(ctx, stored, mustBeNew); err != nil {
@@ -207,8 +207,8 @@ func (it *engine) read(position int, each func(line []byte) error) error {
 	return it.reading(func(each func(line []byte) error) error { return it.settings.Log.Read(position, each) }, each)
 }
 
-// reading makes a call that reads lines of the log, and calls each with them until its first error, which is returned before an error
-// of the log. That is ErrLogFailed or ErrSnapshotDiffers.
+// reading makes a call that reads lines of the log, and calls each with them until its first error, which is returned before an
+// error of the log. That is ErrLogFailed or ErrSnapshotDiffers.
 func (it *engine) reading(read func(each func(line []byte) error) error, each func(line []byte) error) error {
 	var stopped error
 	err := guarded(func() error {

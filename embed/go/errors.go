@@ -23,7 +23,8 @@ var (
 	// ErrLinesDropped: the log begins after the line that is asked for, because DropBefore dropped the lines below its snapshot's
 	// position.
 	ErrLinesDropped error = logKind("the log begins after the line that is asked for")
-	// ErrOvertaken: the log has a line at this position already, which another provider appended, or a snapshot of a later position.
+	// ErrOvertaken: the log has a line at this position already, which another provider appended, or a snapshot of a later
+	// position.
 	ErrOvertaken error = logKind("the log has a line at this position already")
 	// ErrLogForked: the log lacks lines that this process has seen in it, or has others in their place, or lacks what the signer's
 	// record has. Provider.Evidence returns what it has seen and what the log has.
@@ -33,8 +34,8 @@ var (
 	ErrLogBehind error = behind("the log ends before what it is to have")
 	// ErrReplayDiffers: the program answers a line of the log otherwise than it did when the line was appended.
 	ErrReplayDiffers = errors.New("the program answers a line of the log otherwise than when it was appended")
-	// ErrSnapshotDiffers: the snapshot isn't whole, isn't one of this directory, or was changed. Or what a second child restored from
-	// a new one isn't what the first child has: then the first one goes on, and the snapshot that was stored before stays.
+	// ErrSnapshotDiffers: the snapshot isn't whole, isn't one of this directory, or was changed. Or what a second child restored
+	// from a new one isn't what the first child has: then the first one goes on, and the snapshot that was stored before stays.
 	ErrSnapshotDiffers = errors.New("the snapshot isn't whole, isn't one of this directory, or was changed")
 	// ErrProofsPromised: the policy promises proofs of an epoch that a snapshot would forget.
 	ErrProofsPromised = errors.New("the policy promises proofs of an epoch that the snapshot would forget")

@@ -229,8 +229,8 @@ func (it *host) ask(ctx context.Context, line []byte, command string) (*answer, 
 	}
 }
 
-// build returns another engine, which has replayed the log. It begins anew if a snapshot takes the place of the one that it began with,
-// and the lines below are dropped. The caller has the steps.
+// build returns another engine, which has replayed the log. It begins anew if a snapshot takes the place of the one that it
+// began with, and the lines below are dropped. The caller has the steps.
 func (it *host) build(mayCreate, mustBeNew bool) (*engine, error) {
 	for tries := 1; ; tries++ {
 		engine, err := it.begin()

@@ -19,9 +19,9 @@ import (
 // Log stores a provider's lines. Lines have no newline and are counted from 0.
 //
 // A provider makes one call at a time, beside a call of Compact. A log may have more methods. String names it in errors.
-// CheckWritable returns an error if an Append could not succeed, as far as that can be told without one; a provider calls it before
-// it starts to write. If IsNew returns true, a provider makes a directory in it without Create. If it has the calls of SnapshotLog,
-// it may begin with a snapshot.
+// CheckWritable returns an error if an Append could not succeed, as far as that can be told without one; a provider calls it
+// before it starts to write. If IsNew returns true, a provider makes a directory in it without Create. If it has the calls of
+// SnapshotLog, it may begin with a snapshot.
 type Log interface {
 	// Append stores a line so that it outlives the machine's failure, and then returns nil. It returns an error that is
 	// ErrOvertaken if the log has a line at this position, and ErrLogRefused if it is certain that the line is not stored and
@@ -35,14 +35,14 @@ type Log interface {
 // SnapshotLog is a log that stores a snapshot, which has the effect of all lines below its position.
 type SnapshotLog interface {
 	Log
-	// Snapshot calls each with the lines of the stored snapshot, and returns its position, 0 if there is none. A nil each reads no
-	// line. It returns the first error of each, with the position. It returns an error that is ErrLogFailed if the log ends before
-	// the position, ErrLinesDropped if it begins after it, and ErrSnapshotDiffers if the snapshot isn't whole.
+	// Snapshot calls each with the lines of the stored snapshot, and returns its position, 0 if there is none. A nil each reads
+	// no line. It returns the first error of each, with the position. It returns an error that is ErrLogFailed if the log ends
+	// before the position, ErrLinesDropped if it begins after it, and ErrSnapshotDiffers if the snapshot isn't whole.
 	Snapshot(each func(line []byte) error) (position int, err error)
-	// Compact stores a snapshot in place of an older one: the lines that its argument calls store with. A failure of the machine at
-	// any moment leaves one of both whole. It returns an error that is ErrOvertaken if a snapshot of a later position is stored, and
-	// ErrLogRefused if it is certain that the older one stays. It returns an error of lines, and then it stores nothing. After
-	// another error either is stored. While lines runs, Append and Read are called.
+	// Compact stores a snapshot in place of an older one: the lines that its argument calls store with. A failure of the
+	// machine at any moment leaves one of both whole. It returns an error that is ErrOvertaken if a snapshot of a later
+	// position is stored, and ErrLogRefused if it is certain that the older one stays. It returns an error of lines, and then
+	// it stores nothing. After another error either is stored. While lines runs, Append and Read are called.
 	Compact(position int, lines func(store func(line []byte) error) error) error
 	// DropBefore drops the lines below a position, at most that of the snapshot: back up the snapshot first. Positions go on. It
 	// returns an error that is ErrLogRefused without such a snapshot.
@@ -60,9 +60,9 @@ func nameOf(log Log) string {
 // FileLog is a log in a file, one line after another, and its snapshot in PATH.snapshot. One process has it open at a time. All
 // calls can be used from several goroutines.
 //
-// The files contain keys, and the openings that blind the commitments, so their mode is 0600. A file that others may read or write
-// is refused, unless OpenFileLogMode allows it. A missing file is a log that doesn't exist yet: Read returns ErrNoDirectory, and
-// an Append at position 0 makes the file.
+// The files contain keys, and the openings that blind the commitments, so their mode is 0600. A file that others may read or
+// write is refused, unless OpenFileLogMode allows it. A missing file is a log that doesn't exist yet: Read returns
+// ErrNoDirectory, and an Append at position 0 makes the file.
 //
 // Each Append checks that the file is still the one at its path and has the length that it was left with.
 type FileLog struct {

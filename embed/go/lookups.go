@@ -31,8 +31,8 @@ type lookup struct {
 	err      error
 }
 
-// Lookup returns a name's proof at an epoch, the latest if it is 0. It stores nothing, also for an unknown name. An epoch that isn't
-// installed, or is before the snapshot, is UnknownEpoch.
+// Lookup returns a name's proof at an epoch, the latest if it is 0. It stores nothing, also for an unknown name. An epoch that
+// isn't installed, or is before the snapshot, is UnknownEpoch.
 func (it *Provider) Lookup(ctx context.Context, name string, epoch uint64) (Found, error) {
 	if err := it.isOpen(); err != nil {
 		return Found{}, err

@@ -112,8 +112,8 @@ func (it Policy) Digest() ([32]byte, error) {
 	return sha256.Sum256(text), err
 }
 
-// IsPromised reports whether proofs of an older epoch are promised at a time. The epoch that follows it in the chain has the number
-// following. Without a clock they are promised for ever, unless ProofsKept is 0.
+// IsPromised reports whether proofs of an older epoch are promised at a time. The epoch that follows it in the chain has the
+// number following. Without a clock they are promised for ever, unless ProofsKept is 0.
 func (it Policy) IsPromised(following uint64, at time.Time) bool {
 	if it.ProofsKept == nil || it.EpochPeriod == 0 {
 		return it.ProofsKept == nil || *it.ProofsKept > 0

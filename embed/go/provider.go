@@ -30,8 +30,8 @@ type Settings struct {
 	Program []string                            // the program `provider` with its arguments
 	Index   func(name string) ([32]byte, error) // the index of a name, the same each time
 	Sign    func(body []byte) ([]byte, error)   // the signature, 64 bytes, of a body
-	// Signer, in the place of Sign, is a signer with a record of what it signed, as a *Guard. Each start compares the log with the
-	// record, and Abandon is possible.
+	// Signer, in the place of Sign, is a signer with a record of what it signed, as a *Guard. Each start compares the log with
+	// the record, and Abandon is possible.
 	Signer Signer
 	Log    Log       // isn't closed by the provider
 	Policy [32]byte  // the policy digest in each entry
@@ -134,14 +134,14 @@ func (it *Settings) index(name string) (index [32]byte, err error) {
 // minute. Lookups wait for it, at most Timeout. A Commit that waits for its answer returns ErrProgramFailed; the update is
 // pending if Pending returns it.
 //
-// Compact stores a snapshot of one epoch beside the log, and forgets the epochs before it. A start then restores the snapshot, and
-// replays the lines after it.
+// Compact stores a snapshot of one epoch beside the log, and forgets the epochs before it. A start then restores the snapshot,
+// and replays the lines after it.
 //
 // Reply, CatchUp and History return what a service sends to clients.
 //
 // A call whose context is done returns ctx.Err(). A Commit, Retry, Abandon or Restart that has begun goes on to its end without
-// its caller: Latest and Pending show what became of it. A Compact ends, and changes nothing. All calls can be used from several
-// goroutines.
+// its caller: Latest and Pending show what became of it. A Compact ends, and changes nothing. All calls can be used from
+// several goroutines.
 type Provider struct {
 	settings  *Settings
 	host      *host
@@ -157,20 +157,20 @@ type Provider struct {
 	closed     chan none // closed once it has ended the child
 }
 
-// StartProvider starts the child, restores the snapshot if the log has one, and replays the lines after it. Each entry of the snapshot
-// must follow the one before it, the bindings must have the root of the last one, and Verify must accept its signature; else it is
-// ErrSnapshotDiffers. A log that begins after the snapshot's position is ErrLinesDropped. Then StartProvider makes a directory if the log has none and Create is set, or the
-// log is new; else a log that is missing or has no line is ErrNoDirectory, and one with lines is ErrDirectoryExists if Create
-// is set.
+// StartProvider starts the child, restores the snapshot if the log has one, and replays the lines after it. Each entry of the
+// snapshot must follow the one before it, the bindings must have the root of the last one, and Verify must accept its
+// signature; else it is ErrSnapshotDiffers. A log that begins after the snapshot's position is ErrLinesDropped. Then
+// StartProvider makes a directory if the log has none and Create is set, or the log is new; else a log that is missing or has
+// no line is ErrNoDirectory, and one with lines is ErrDirectoryExists if Create is set.
 //
 // A log that lacks what the signer's record has, the last signed entry or the body that was asked for, is ErrLogBehind or
 // ErrLogForked. The *ProviderError has two entries that overlap, if there are two. A record that can't be read is
 // ErrRecordFailed.
 //
-// The indices of the first, the last and 64 random bindings and operations of the log are asked again: another one is the fault OtherIndex,
-// since the VRF isn't that of this directory. Then the pending update is signed and installed, if there is one. If the signer
-// fails, ErrSignerFailed is returned and no provider. An update that the signer has abandoned stays pending. A start whose
-// context is done may have made the directory.
+// The indices of the first, the last and 64 random bindings and operations of the log are asked again: another one is the fault
+// OtherIndex, since the VRF isn't that of this directory. Then the pending update is signed and installed, if there is one. If
+// the signer fails, ErrSignerFailed is returned and no provider. An update that the signer has abandoned stays pending. A start
+// whose context is done may have made the directory.
 func StartProvider(ctx context.Context, settings Settings) (*Provider, error) {
 	err := settings.check()
 	if err == nil {
@@ -577,8 +577,8 @@ func (it *Provider) DiscardEvidence(link [32]byte) error {
 }
 
 // Shutdown ends the child, after the change that is under way. It waits for that until the context is done, and then returns
-// ctx.Err(): an update that is signed later isn't installed but stays pending. Other calls return ErrClosed from then on, and so does
-// a Compact that is under way, unless its snapshot is stored. The log stays open, since the caller opened it.
+// ctx.Err(): an update that is signed later isn't installed but stays pending. Other calls return ErrClosed from then on, and
+// so does a Compact that is under way, unless its snapshot is stored. The log stays open, since the caller opened it.
 func (it *Provider) Shutdown(ctx context.Context) (err error) {
 	if it.isSigner() {
 		return errSigner

@@ -79,8 +79,8 @@ func (it *replacement) Write(data []byte) (int, error) {
 	return size, err
 }
 
-// put puts the file in the place of the other one, and returns it. It returns ErrLogRefused if the file isn't there, and an error that is
-// ErrLogFailed alone if a failure of the machine could bring back the other one.
+// put puts the file in the place of the other one, and returns it. It returns ErrLogRefused if the file isn't there, and an
+// error that is ErrLogFailed alone if a failure of the machine could bring back the other one.
 func (it *replacement) put() (*os.File, error) {
 	err := it.steps.sync(it.file)
 	if err == nil && !isAt(it.new(), it.file) {

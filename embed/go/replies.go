@@ -12,8 +12,9 @@ import (
 // messageVersion is the first byte of a reply and of a history.
 const messageVersion = 1
 
-// Reply returns the reply for a client that looks a name up at an epoch, the latest if it is 0: entry, VRF proof and proof. Without
-// a VRF its proof has no byte. It returns the errors of Lookup, and another one for a VRF proof of more than 65,535 bytes.
+// Reply returns the reply for a client that looks a name up at an epoch, the latest if it is 0: entry, VRF proof and proof.
+// Without a VRF its proof has no byte. It returns the errors of Lookup, and another one for a VRF proof of more than 65,535
+// bytes.
 func (it *Provider) Reply(ctx context.Context, name string, vrfProof []byte, epoch uint64) ([]byte, error) {
 	found, err := it.Lookup(ctx, name, epoch)
 	if err != nil {
@@ -36,10 +37,10 @@ func (it *Provider) CatchUp(epoch uint64) []byte {
 	return bytes.Join(chain[sort.Search(len(chain), func(at int) bool { return epochOf(chain[at]) > epoch }):], nil)
 }
 
-// History returns the proofs of a name at each epoch from number first to last, for the client that watches it. What two proofs in a
-// row have in common is sent once. Numbers without an epoch are left out, so that a history of none of them has no step. An epoch before
-// the snapshot is UnknownEpoch, so no history lacks one. It returns the errors of Lookup, and another one for a VRF proof of more than
-// 65,535 bytes.
+// History returns the proofs of a name at each epoch from number first to last, for the client that watches it. What two proofs
+// in a row have in common is sent once. Numbers without an epoch are left out, so that a history of none of them has no step.
+// An epoch before the snapshot is UnknownEpoch, so no history lacks one. It returns the errors of Lookup, and another one for a
+// VRF proof of more than 65,535 bytes.
 func (it *Provider) History(ctx context.Context, name string, vrfProof []byte, first, last uint64) ([]byte, error) {
 	if err := it.isOpen(); err != nil {
 		return nil, err

@@ -22,8 +22,8 @@ var followers = map[string][]string{
 // restoreBatch is for how many names at a time the program may take its timeout to build the tree.
 const restoreBatch = 4096
 
-// restorer takes the lines of a snapshot, one after another, has a child restored from them, and compares them with each other and
-// with what the child prints. The engine is restored once it has taken the last line.
+// restorer takes the lines of a snapshot, one after another, has a child restored from them, and compares them with each other
+// and with what the child prints. The engine is restored once it has taken the last line.
 type restorer struct {
 	engine *engine
 	ctx    context.Context

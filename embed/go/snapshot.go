@@ -17,8 +17,8 @@ const (
 	lastHead = `{"cmd":"restored","link":"`
 	// groupSize is the most entries or bodies of a line.
 	groupSize = 1000
-	// pageSize is how many bindings the child is asked for at once: a page of the longest names and keys has less than answerBytes, and
-	// a lookup waits for few bindings.
+	// pageSize is how many bindings the child is asked for at once: a page of the longest names and keys has less than
+	// answerBytes, and a lookup waits for few bindings.
 	pageSize = 40
 )
 
@@ -102,8 +102,8 @@ func valuesOf(text json.RawMessage, length int) ([][]byte, error) {
 	return values, nil
 }
 
-// point is an epoch that a child has in memory: its number, the position of the log after its line `install`, and how many names and
-// how many replaced updates the log has below.
+// point is an epoch that a child has in memory: its number, the position of the log after its line `install`, and how many
+// names and how many replaced updates the log has below.
 type point struct {
 	epoch           uint64
 	position        int
@@ -210,7 +210,8 @@ func linkOf(entry []byte) [32]byte {
 	return sha256.Sum256(append([]byte{linkTag}, entry...))
 }
 
-// continues reports whether an entry continues a chain by its version, epochs, link and nonce. There is no entry before the first one.
+// continues reports whether an entry continues a chain by its version, epochs, link and nonce. There is no entry before the
+// first one.
 func continues(entry, before []byte) bool {
 	if before == nil {
 		return previousOf(entry) == 0 && epochOf(entry) > 0 && bytes.Equal(entry[49:81], make([]byte, 32)) && (entry[0] == 1 || entry[0] == 2)

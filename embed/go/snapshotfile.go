@@ -62,8 +62,8 @@ func (it *FileLog) Snapshot(each func(line []byte) error) (position int, err err
 	return position, err
 }
 
-// ends returns the position that a snapshot's header has, and the size of its file. It returns ErrSnapshotDiffers if its last line
-// isn't the one that makes it whole.
+// ends returns the position that a snapshot's header has, and the size of its file. It returns ErrSnapshotDiffers if its last
+// line isn't the one that makes it whole.
 func ends(file *os.File) (position int, size int64, err error) {
 	found, err := file.Stat()
 	if err != nil {
@@ -79,8 +79,7 @@ func ends(file *os.File) (position int, size int64, err error) {
 	if err != nil && err != io.EOF {
 		return 0, 0, unreadable(file, err)
 	}
-	last = last[:count]
-	if last = bytes.TrimSuffix(last, []byte("\n")); len(last) == count || !bytes.HasPrefix(last[bytes.LastIndexByte(last, '\n')+1:], []byte(lastHead)) {
+	if !endsWhole(last[:count]) {
 		return 0, 0, differs("the file "+file.Name(), "is cut")
 	}
 	header := make([]byte, shortLine)
@@ -91,6 +90,12 @@ func ends(file *os.File) (position int, size int64, err error) {
 	header, _, _ = bytes.Cut(header[:count], []byte("\n"))
 	position, err = positionOf(header, "the file "+file.Name())
 	return position, size, err
+}
+
+// endsWhole reports whether the last bytes of a snapshot end with the line that makes it whole.
+func endsWhole(text []byte) bool {
+	lines := bytes.TrimSuffix(text, []byte("\n"))
+	return len(lines) < len(text) && bytes.HasPrefix(lines[bytes.LastIndexByte(lines, '\n')+1:], []byte(lastHead))
 }
 
 func unreadable(file *os.File, err error) error {
@@ -131,8 +136,8 @@ func readLines(file *os.File, size int64, each func(line []byte) error) error {
 	}
 }
 
-// Compact stores a snapshot in PATH.snapshot. It is written to PATH.snapshot.new, synced and renamed, and the folder is synced. After
-// an error that is ErrLogFailed alone a failure of the machine could bring back the older one.
+// Compact stores a snapshot in PATH.snapshot. It is written to PATH.snapshot.new, synced and renamed, and the folder is synced.
+// After an error that is ErrLogFailed alone a failure of the machine could bring back the older one.
 func (it *FileLog) Compact(position int, lines func(store func(line []byte) error) error) error {
 	// A snapshot that is cut may be replaced.
 	before, err := it.Snapshot(nil)
@@ -195,9 +200,9 @@ func (it *FileLog) checkStill(position int) (os.FileInfo, error) {
 	return mine, nil
 }
 
-// DropBefore drops the lines below a position, at most that of the snapshot. The file is replaced as a whole: the rest is written to
-// PATH.new, synced, locked and renamed, and the folder is synced. Appends wait meanwhile. After an error that is ErrLogFailed alone the log must be opened
-// again.
+// DropBefore drops the lines below a position, at most that of the snapshot. The file is replaced as a whole: the rest is
+// written to PATH.new, synced, locked and renamed, and the folder is synced. Appends wait meanwhile. After an error that is
+// ErrLogFailed alone the log must be opened again.
 //
 // Back up the snapshot first: without it a log that has dropped lines can't be started.
 func (it *FileLog) DropBefore(position int) error {
