@@ -588,6 +588,30 @@ func TestLookupsDuringSnapshots(t *testing.T) {
 	it.check(epochs...)
 }
 
+// A lookup of the latest epoch that finds its child replaced asks for the epoch that is the latest then.
+func TestLookupThatASnapshotOvertakes(t *testing.T) {
+	it := newDirectory(t)
+	it.fill(1)
+	index, _ := indexOf("user-1-0")
+	begun := func(isLatest bool) *lookup {
+		return &lookup{of: &lookups{it.provider, background, 1, true, isLatest}, name: "user-1-0", index: index}
+	}
+	one, other := begun(true), begun(false)
+	first := it.provider.host.current().child
+	made := it.commit(2)
+	it.compact(0)
+	for _, one := range []*lookup{one, other} {
+		<-first.ended
+		one.child, one.question = first, first.send(lookupLine(one.name, index, 1))[0]
+	}
+	if found, err := one.end(); err != nil || one.err != nil || found.Epoch != 2 || !bytes.Equal(found.Entry, made.Entry) {
+		t.Error(found, err, one.err)
+	}
+	if _, err := other.end(); err != nil || !errors.Is(other.err, UnknownEpoch) {
+		t.Error(err, other.err)
+	}
+}
+
 // A call whose context is done, and one that Shutdown ends, leave all as it was.
 func TestSnapshotThatIsCutShort(t *testing.T) {
 	it := newDirectory(t)

@@ -13,6 +13,7 @@ import (
 	"strings"
 	"syscall"
 	"testing"
+	"time"
 )
 
 // alterer makes snapshots that differ from a genuine one of five lines, with three entries and 16 bindings.
@@ -526,10 +527,46 @@ func TestDropBefore(t *testing.T) {
 	it.check(1, 2, 3, 4, 5, 6)
 	it.rewriteSnapshot(backup)
 	it.refused("an older snapshot from a backup", ErrLinesDropped)
+	_, err = it.log.Snapshot(nil)
+	it.wants(err, ErrLinesDropped)
 	// Snapshot and log from a backup: the guard knows.
 	it.close()
 	it.good(os.WriteFile(it.path, []byte(left), 0o600))
 	it.refused("an older log too", ErrLogBehind)
+}
+
+// Whoever reads a large log while its first lines are dropped gets all of them, and a reading afterwards finds its place.
+func TestReadingsAroundDropBefore(t *testing.T) {
+	it := newDirectory(t)
+	var operations []Operation
+	for number := 0; number < 150; number++ {
+		operations = append(operations, Register(fmt.Sprint("user-", number), make([]byte, 16384)))
+	}
+	it.commit(1, operations...)
+	it.fill(2, 3)
+	position, whole := it.compact(2), it.lines()
+	var lines []string
+	it.good(it.log.Read(0, func(line []byte) error {
+		if lines = append(lines, string(line)+"\n"); len(lines) == 1 {
+			it.good(it.log.DropBefore(3))
+			// The old file may be closed now.
+			time.Sleep(20 * time.Millisecond)
+		}
+		return nil
+	}))
+	if strings.Join(lines, "") != strings.Join(whole, "")+"\n" {
+		t.Error(len(lines), len(whole))
+	}
+	it.good(it.log.Read(3, nothing))
+	it.good(it.log.DropBefore(position))
+	it.commit(4)
+	for begin := position; begin < 9; begin++ {
+		lines = nil
+		it.good(it.log.Read(begin, func(line []byte) error { lines = append(lines, string(line)+"\n"); return nil }))
+		if all := it.lines(); strings.Join(lines, "") != strings.Join(all[1+begin-position:], "")+"\n" {
+			t.Error(begin, len(lines), len(all))
+		}
+	}
 }
 
 // A log behind a link is replaced where the link leads to.
