@@ -216,6 +216,25 @@ func TestAlteredSnapshots(t *testing.T) {
 	it.seen(1)
 }
 
+// A snapshot whose last entry has something else in a place is refused, also if its link is that of the entry, and nobody verifies
+// its signature. Only a signature tells another epoch number.
+func TestSnapshotWithAnotherLastEntry(t *testing.T) {
+	it := newDirectory(t)
+	it.fill(1, 2)
+	it.compact(0)
+	it.settings.Verify = nil
+	genuine, entry := it.snapshotLines(), it.provider.Chain(1)[0]
+	for what, place := range map[string]int{"version": 0, "previous epoch": 16, "root": 17, "link": 49, "nonce": 81, "policy": 113} {
+		other := changedAt(entry, place)
+		text := strings.ReplaceAll(strings.Join(genuine[:len(genuine)-1], "\n"), hex.EncodeToString(entry), hex.EncodeToString(other))
+		it.rewriteSnapshot(append(strings.Split(text, "\n"), fmt.Sprintf(`%s%x"}`, lastHead, linkOf(other))))
+		it.refused("another "+what, ErrSnapshotDiffers)
+	}
+	it.rewriteSnapshot(genuine)
+	it.reopen()
+	it.check(1, 2)
+}
+
 // A snapshot whose entry isn't signed is refused, also if its link is that of the entry.
 func TestSnapshotWithAnotherSignature(t *testing.T) {
 	it := newGuarded(t)
