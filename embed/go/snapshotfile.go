@@ -250,10 +250,9 @@ func (it *FileLog) drop(position int) error {
 	if err != nil {
 		return err
 	}
-	// Until the new file is known to be at the path after a failure of the machine, no line may be added to it.
-	it.isBad = true
 	file, err := made.put()
 	if err != nil {
+		// Unless the new file is known to be at the path after a failure of the machine, no line may be added to it.
 		it.isBad = !errors.Is(err, ErrLogRefused)
 		return err
 	}
@@ -262,7 +261,7 @@ func (it *FileLog) drop(position int) error {
 		readers.Wait()
 		old.Close()
 	}()
-	it.file, it.readers, it.first, it.start, it.end, it.read, it.isBad = file, &sync.WaitGroup{}, position, start, end, mark{}, false
+	it.file, it.readers, it.first, it.start, it.end, it.read = file, &sync.WaitGroup{}, position, start, end, mark{}
 	return nil
 }
 
