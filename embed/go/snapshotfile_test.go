@@ -201,6 +201,9 @@ func TestAlteredSnapshots(t *testing.T) {
 	it.rewriteSnapshot(genuine)
 	it.reopen()
 	it.check(1, 2, 3, 4)
+	// The entries aren't read twice.
+	it.rewriteSnapshot(append([]string{strings.Replace(genuine[0], `"position":7`, `"position":0`, 1)}, genuine[1:]...))
+	it.wants(Entries(it.log, nothing), ErrSnapshotDiffers)
 	// A restart leaves the child, and the next snapshot takes the place of a damaged one.
 	it.rewriteSnapshot(genuine[:4])
 	it.wants(it.provider.Restart(background), ErrSnapshotDiffers)
@@ -398,11 +401,15 @@ func TestFilesOfASnapshot(t *testing.T) {
 		}
 		os.Remove(left)
 	}
-	// A file that is moved while it is written isn't the one that is stored.
-	it.provider.settings.Log = &delayedLog{it.log, 3, func() { it.good(os.Rename(left, left+"-")) }}
+	// A file that takes the place of the one that is written isn't stored.
+	it.provider.settings.Log = &delayedLog{it.log, 3, func() {
+		it.good(os.Rename(left, left+"-"))
+		it.good(os.WriteFile(left, []byte("another"), 0o600))
+	}}
 	_, err := it.provider.Compact(background)
 	it.wants(err, ErrLogRefused)
 	it.provider.settings.Log = it.log
+	hasText(t, left, "another")
 	it.good(os.Remove(left + "-"))
 	if fmt.Sprint(it.snapshotLines()) != fmt.Sprint(genuine) {
 		t.Error("another snapshot")
