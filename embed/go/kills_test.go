@@ -144,7 +144,7 @@ func (it *room) commitAndKill(list string, returned map[uint64][]byte) {
 		}
 		returned[number(entry)] = entry
 		if isFirst {
-			time.AfterFunc(time.Duration(rand.Intn(300000))*time.Microsecond, func() { process.Process.Kill() })
+			time.AfterFunc(time.Duration(rand.Intn(500000))*time.Microsecond, func() { process.Process.Kill() })
 			if rand.Intn(3) == 0 {
 				time.AfterFunc(time.Duration(rand.Intn(100000))*time.Microsecond, func() { killChildren(process.Process.Pid) })
 			}
@@ -186,7 +186,7 @@ func TestKills(t *testing.T) {
 	text := it.text() + strings.Join(it.snapshotLines(), "\n")
 	it.reopen()
 	epochs := it.hasAll(returned)
-	if len(returned) < 10 || len(snapshots) < 5 || !strings.Contains(text, `"abandons"`) && !strings.Contains(text, `"replaced"`) {
+	if len(returned) < 10 || len(snapshots) < 2 || !strings.Contains(text, `"abandons"`) && !strings.Contains(text, `"replaced"`) {
 		t.Error("idle:", len(returned), len(snapshots))
 	}
 	t.Logf("%d entries returned or shown, %d snapshots seen, %d epochs", len(returned), len(snapshots), len(epochs))
