@@ -25,8 +25,8 @@ func (it *Provider) Compact(ctx context.Context) (position int, err error) {
 	return it.CompactAt(ctx, 0)
 }
 
-// CompactAt is Compact for the snapshot of an epoch, which the policy lets be older. It returns UnknownEpoch for one that isn't
-// in memory. 0 is the epoch that Compact takes.
+// CompactAt is Compact for a snapshot of this epoch, at the latest the one that Compact takes, which 0 stands for. It returns
+// UnknownEpoch for one that isn't in memory.
 func (it *Provider) CompactAt(ctx context.Context, epoch uint64) (position int, err error) {
 	if it.isSigner() {
 		return 0, errSigner
