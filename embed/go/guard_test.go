@@ -1020,6 +1020,8 @@ func TestGuardBesideOneOfPython(t *testing.T) {
 	_, entries := it.begun(1)
 	last, given, ended := entries[0], map[string]bool{string(entries[0]): true}, make(chan string)
 	go func() {
+		// Also if Python fails, which ends this goroutine.
+		defer close(ended)
 		ended <- it.pythonGuard(`
 import time
 guard, until = Guard(path, sign), time.monotonic() + 2
@@ -1035,9 +1037,10 @@ while time.monotonic() < until:
 `)
 	}()
 	guard, refused := it.open(GuardSettings{}), 0
-	for said := ""; said == ""; {
+	for isOver := false; !isOver; {
 		select {
-		case said = <-ended:
+		case said := <-ended:
+			isOver = true
 			for _, line := range strings.Fields(said) {
 				given[string(decoded(t, line))] = true
 			}
