@@ -52,6 +52,7 @@ class Policy:
     keys: tuple[bytes, Optional[bytes]]
     start: Optional[int] = None
     period: int = 0
+    proofs_kept: Optional[int] = None
 
     @classmethod
     def read(cls, text: bytes) -> Policy:
@@ -60,7 +61,16 @@ class Policy:
         keys = bytes.fromhex(lines["signing-key"]), None if vrf is None else bytes.fromhex(vrf)
         start = lines.get("epoch-start")
         clock = (None, 0) if start is None else (int(start), int(lines["epoch-period"]))
-        return cls(sha256(text), keys, *clock)
+        kept = lines["proofs-kept"]
+        return cls(sha256(text), keys, *clock, None if kept == "forever" else int(kept))
+
+    def promises(self, following: int, now: int) -> bool:
+        """Whether proofs are promised of an epoch that another one follows."""
+        if self.proofs_kept is None:
+            return True
+        if self.start is None:
+            return self.proofs_kept > 0
+        return now < self.start + (following - 1) * self.period + self.proofs_kept
 
 
 @dataclass
@@ -300,6 +310,10 @@ class Client:
     def missing(self) -> Answer:
         return {"missing": [it.entry.epoch for it in self.kept if it.seen == MISSING]}
 
+    def lost(self, now: int) -> Answer:
+        pairs = [(it, following.entry.epoch) for it, following in zip(self.kept, self.kept[1:]) if it.seen == MISSING]
+        return {"lost": [it.entry.epoch for it, following in pairs if not self.policy.promises(following, now)]}
+
     # The state.
 
     @property
@@ -423,6 +437,8 @@ def stepped(client: Client, step: Answer, now: int) -> Answer:
         return call(step["epoch"], bytes.fromhex(step["link"]))
     if do == "evidence":
         return client.evidence(bytes.fromhex(step["entry"]))
+    if do == "lost":
+        return client.lost(now)
     return client.head() if do == "head" else client.missing()
 
 

@@ -158,9 +158,9 @@ def turns(third: list[Answer]) -> Iterator[Answer]:
     yield case("expect: an open change stays, and nothing is missing", proved, *wanted, "compare equal", new, now=hour(5))
 
 
-def state_after(steps: list[Answer], now: int = hour(3)) -> bytes:
+def state_after(steps: list[Answer], now: int = hour(3), **more: str) -> bytes:
     """The state of a client after some steps."""
-    client = begun(case("", [], now=now))
+    client = begun(case("", [], now=now, **more))
     for step in steps:
         stepped(client, step, now)
     return client.state

@@ -19,11 +19,20 @@ START, PERIOD = 1767225600, 3600
 Batch = dict[str, bytes]
 
 
-def policy_text(signing: bytes = SIGNING_KEY, vrf: Optional[bytes] = VRF_KEY, has_clock: bool = True) -> str:
+def policy_text(
+    signing: bytes = SIGNING_KEY,
+    vrf: Optional[bytes] = VRF_KEY,
+    has_clock: bool = True,
+    *,
+    start: int = START,
+    period: int = PERIOD,
+    kept: Optional[int] = None,
+) -> str:
     scheme = ["vrf none"] if vrf is None else ["vrf ECVRF-EDWARDS25519-SHA512-TAI", f"vrf-key {vrf.hex()}"]
-    clock = [f"epoch-start {START}", f"epoch-period {PERIOD}"] if has_clock else []
+    clock = [f"epoch-start {start}", f"epoch-period {period}"] if has_clock else []
     front = ["policy coniks-1", "origin keys.example.com", "signature Ed25519", f"signing-key {signing.hex()}"]
-    return "".join(f"{it}\n" for it in [*front, *scheme, *clock, "evidence one-chain", "proofs-kept forever"])
+    end = ["evidence one-chain", f"proofs-kept {'forever' if kept is None else kept}"]
+    return "".join(f"{it}\n" for it in [*front, *scheme, *clock, *end])
 
 
 POLICY = policy_text()

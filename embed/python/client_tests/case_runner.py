@@ -39,9 +39,9 @@ class Tell(Protocol):
 class Clock:
     """A clock that is set."""
 
-    now = 0
+    now: float = 0
 
-    def __call__(self) -> int:
+    def __call__(self) -> float:
         return self.now
 
 
@@ -127,6 +127,7 @@ CALLS: dict[str, Callable[[Client, Answer], Answer]] = {
     "evidence": lambda client, step: {"evidence": evidence_of(client, client.evidence(bytes.fromhex(step["entry"])))},
     "head": lambda client, step: head(client),
     "missing": lambda client, step: {"missing": client.missing},
+    "lost": lambda client, step: {"lost": client.lost},
 }
 
 

@@ -13,7 +13,7 @@ import coniks
 import curve
 from case_runner import Clock, Tell
 from client_attacks import OTHER, WORLD
-from client_world import POLICY, SIGNING_KEY, VRF_KEY, hour, index, policy_text, signed, vrf_proof
+from client_world import BATCHES, PERIOD, POLICY, SIGNING_KEY, VRF_KEY, World, hour, index, policy_text, signed, vrf_proof
 from coniks.client import Cause, Client, Comparison, Refusal, Watched
 
 THREE = WORLD.entries(1, 2, 3)
@@ -368,7 +368,35 @@ def try_watching(tell: Tell) -> None:
     tell("and is proved", client.lookup("alice", WORLD.reply("alice", 2), 2).seen is Watched.SAME and client.missing == [])
 
 
+def try_lost(tell: Tell) -> None:
+    """Epochs that can no longer be verified, by clocks that return fractions or nothing, and by a bare digest."""
+    policy, clock = coniks.Policy.read(policy_text(kept=PERIOD).encode()), Clock()
+    world, end = World(BATCHES[:3], policy=policy.digest), hour(3, 0)
+
+    def watching(given: Any, clock: Any) -> Client:
+        client = Client(SIGNING_KEY, VRF_KEY, given, clock=clock)
+        client.watch("alice", KEY)
+        client.feed(world.entries())
+        return client
+
+    client = watching(policy, clock)
+    for seconds, wanted in [(end - 0.25, []), (end, [1]), (end + 0.25, [1]), (end + PERIOD - 0.001, [1]), (end + PERIOD, [1, 2])]:
+        clock.now = seconds
+        tell(f"lost: {seconds - end} seconds after the end", client.lost == wanted, client.lost)
+    state = client.state
+    client.lost.append(3)
+    tell("lost: a list of one's own", client.lost == [1, 2] and client.state == state)
+    tell("lost: a resumed state", Client(SIGNING_KEY, VRF_KEY, policy, state, clock=lambda: end).lost == [1])
+    tell("lost: never by a digest", watching(policy.digest, lambda: hour(10**9)).lost == [])
+    for time in [-1, 2.0**64, float("nan"), float("inf")]:
+        clock.now = time
+        tell(f"lost: a clock that returns {time}", raised(lambda: client.lost) is ValueError)
+    clock.now = True
+    tell("lost: a clock that returns no number", raised(lambda: client.lost) is TypeError)
+    tell("lost: nothing of it is kept", client.state == state and client.missing == [1, 2, 3])
+
+
 def try_hostile(tell: Tell) -> None:
     tests = [try_forgotten, try_types, try_clocks, try_schemes, try_exceptions, try_again, try_keys, try_names, try_states]
-    for test in [*tests, try_watching]:
+    for test in [*tests, try_watching, try_lost]:
         test(tell)

@@ -10,12 +10,13 @@ import case_runner
 import client as second
 from alterations import verdict
 from case_runner import Answer, Clock, Tell
-from client_world import POLICY, SIGNING_KEY, VRF_KEY, World, hour
+from client_world import PERIOD, SIGNING_KEY, VRF_KEY, World, digest, hour, policy_text
 
 # The key that alice gets at each epoch, `-` if none. Some numbers have no epoch.
 KEYS = "-AB-ABCCBA"
 NUMBERS = [1, 2, 3, 4, 6, 7, 8, 9, 11, 12]
-WORLD = World([(epoch, {} if key == "-" else {"alice": key.encode()}) for epoch, key in zip(NUMBERS, KEYS)], 8)
+POLICY = policy_text(kept=2 * PERIOD)
+WORLD = World([(epoch, {} if key == "-" else {"alice": key.encode()}) for epoch, key in zip(NUMBERS, KEYS)], 8, digest(POLICY))
 NAME = b"alice".hex()
 
 
@@ -32,10 +33,14 @@ class Walk:
 
     def step(self) -> Answer:
         kinds = [self.feed, self.feed, self.lookup, self.lookup, self.lookup, self.history, self.watch, self.expect, self.cover]
-        return self.chance.choice([*kinds, self.missing])()
+        return self.chance.choice([*kinds, self.missing, self.lost])()
 
     def missing(self) -> Answer:
         return {"do": "missing"}
+
+    def lost(self) -> Answer:
+        """The lost epochs at a time that is near a limit."""
+        return {"do": "lost", "now": hour(self.chance.randrange(1, 15), self.chance.choice([-1, 0]))}
 
     def key(self) -> Optional[str]:
         it = self.chance.choice(["A", "A", "B", "B", "C", None])

@@ -11,6 +11,7 @@ is never an alarm. What convicts the provider is the error's `evidence`: publish
     client.watch("alice", my_key)                           # my own name: each epoch must show my key
     client.lookup("alice", reply).seen                      # SAME, CHANGED, ABSENT, or None for another name
     client.missing                                          # the epochs that no reply was accepted for
+    client.lost                                             # those of them that can no longer be verified
     client.expect(new_key, by=epoch)                        # before I change my key
     store(client.state)                                     # and then Client(signing_key, vrf_key, policy, state)
 
@@ -188,9 +189,9 @@ class Client:
         self._signatures, self._indices = signatures_of(signing_key), indices_of(vrf_key)
         check_keys(policy, signing_key, vrf_key)
         self._digest = policy.digest if isinstance(policy, Policy) else digest(policy)
-        self._policy = policy if isinstance(policy, Policy) and policy.epoch_period is not None else None
+        self._policy = policy if isinstance(policy, Policy) else None
         period = (self._policy and self._policy.epoch_period) or 0
-        self._max_age = seconds(2 * period if max_age is None else max_age, "max_age")
+        self._max_age = 2 * period if max_age is None else seconds(max_age, "max_age")
         self._skew, self._clock = seconds(skew, "skew"), clock
         # The entries that are kept, by their epochs, in the order of the chain. It is the only record of the chain, so that an
         # interrupt leaves either all of an entry or nothing of it.
@@ -438,6 +439,16 @@ class Client:
     def missing(self) -> list[int]:
         """The epochs that must show the watched name, and of which no reply was accepted."""
         return [it.body.epoch for it in self._kept if it.seen == Seen.MISSING]
+
+    @property
+    def lost(self) -> list[int]:
+        """The missing epochs of which the policy promises no proof any more, by the client's clock. Say that they can no longer be
+        verified, never that they are the same."""
+        policy, now, kept = self._policy, self._now(), self._kept
+        if policy is None:
+            return []
+        missing = [(it, following) for it, following in zip(kept, kept[1:]) if it.seen == Seen.MISSING]
+        return [it.body.epoch for it, following in missing if not policy.is_promised(following.body.epoch, now)]
 
     # The state.
 
