@@ -14,6 +14,7 @@ Bytes are hexadecimal digits, `.` for no byte. `-` stands for nothing: no key, n
 | `watch NAME KEY SINCE` | `watching` |
 | `expect KEY BY` | `expected` |
 | `missing` | `missing EPOCH ..` |
+| `lost` | `lost EPOCH ..` |
 | `head` | `head EPOCH LINK`, or `head -` |
 | `compare EPOCH LINK`, `cover EPOCH LINK` | `equal`, `unknown` or `differs` |
 | `evidence ENTRY` | `evidence KIND MINE OTHER`, or `evidence -` |
@@ -114,6 +115,7 @@ REQUESTS: dict[str, Callable[[Answer], list[str]]] = {
     "evidence": lambda it: ["evidence", word(it["entry"])],
     "head": lambda it: ["head"],
     "missing": lambda it: ["missing"],
+    "lost": lambda it: ["lost"],
 }
 
 
@@ -161,8 +163,8 @@ def answer_of(side: Side, step: Answer, said: list[str]) -> Answer:
         return {"watch": watched_from(state_of(side))}
     if do == "expect" and first == "expected":
         return {"expect": step["by"]}
-    if do == "missing" and first == "missing":
-        return {"missing": [int(it) for it in rest]}
+    if do in ("missing", "lost") and first == do:
+        return {do: [int(it) for it in rest]}
     if do == "head" and first == "head":
         return {"head": None if rest[0] == "-" else [int(rest[0]), rest[1]]}
     if do in ("compare", "cover") and first in ("equal", "unknown", "differs"):

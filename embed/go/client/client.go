@@ -12,6 +12,7 @@
 //	err = it.Watch("alice", myKey)          // my own name: each epoch must show my key
 //	found, err = it.Lookup("alice", reply)  // found.Seen is Same, Changed or Absent
 //	it.Missing()                            // the epochs for which no reply was accepted
+//	it.Lost()                               // those of them that can no longer be verified
 //	err = it.Expect(newKey, by)             // before I change my key
 //	store(it.State())                       // and then client.Resume
 //

@@ -9,12 +9,14 @@ import (
 
 const defaultSkew = 300 * time.Second
 
-// clock is that of the policy, with which ages are computed, and what they may be. The period is 0 without one. A policy has numbers
-// of 64 bits, so ages are exact: they may be longer than a time.Duration.
+// clock is that of the policy, with which ages are computed, and what they may be. The period is 0 without one. Proofs are kept for
+// so many seconds, for ever if that is nil. A policy has numbers of 64 bits, so ages are exact: they may be longer than a
+// time.Duration.
 type clock struct {
 	read          func() time.Time
 	start, period uint64
 	maxAge, skew  *big.Int
+	proofsKept    *uint64
 }
 
 func newClock(settings Settings) (clock, error) {
@@ -24,6 +26,10 @@ func newClock(settings Settings) (clock, error) {
 	}
 	if settings.Policy != nil {
 		it.start, it.period = settings.Policy.EpochStart, settings.Policy.EpochPeriod
+		if kept := settings.Policy.ProofsKept; kept != nil {
+			seconds := *kept
+			it.proofsKept = &seconds
+		}
 	}
 	it.maxAge.Lsh(nanoseconds(it.period), 1)
 	for _, limit := range []struct {
@@ -59,7 +65,8 @@ func (it *clock) age(epoch uint64, now time.Time) *big.Int {
 	if it.period == 0 {
 		return nil
 	}
-	age := new(big.Int).Add(nanoseconds(uint64(now.Unix())), big.NewInt(int64(now.Nanosecond())))
+	age := new(big.Int).Mul(big.NewInt(now.Unix()), big.NewInt(int64(time.Second)))
+	age.Add(age, big.NewInt(int64(now.Nanosecond())))
 	age.Sub(age, nanoseconds(it.start))
 	// Epoch n begins n - 1 periods after the start. No chain has the epoch 0.
 	periods := new(big.Int).Sub(new(big.Int).SetUint64(epoch), big.NewInt(1))
@@ -78,6 +85,18 @@ func (it *clock) check(epoch uint64, now time.Time) error {
 		return refusal(Future)
 	}
 	return nil
+}
+
+// promises reports whether proofs of an epoch are promised at a time, if another one follows it in the chain.
+func (it *clock) promises(following uint64, now time.Time) bool {
+	if it.proofsKept == nil {
+		return true
+	}
+	age := it.age(following, now)
+	if age == nil {
+		return *it.proofsKept > 0
+	}
+	return age.Cmp(nanoseconds(*it.proofsKept)) < 0
 }
 
 // told returns an age for the caller, nil without a clock. One that is too long for a duration is the longest one.

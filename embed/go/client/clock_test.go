@@ -1,6 +1,7 @@
 package client
 
 import (
+	"fmt"
 	"math"
 	"testing"
 	"time"
@@ -88,6 +89,65 @@ func TestGreatNumbers(t *testing.T) {
 	found, err := made.LookupAt("alice", it.reply(1), 1)
 	if err != nil || *found.Age != math.MaxInt64 {
 		t.Error(found, err)
+	}
+}
+
+// A missing epoch is lost at the nanosecond at which its proofs end. A bare digest promises them for ever.
+func TestLost(t *testing.T) {
+	it, kept := newWorld(t, "AAA"), uint64(hour)
+	var now time.Time
+	settings := it.settings(1)
+	settings.Clock = func() time.Time { return now }
+	made, err := New(settings)
+	good(t, err)
+	good(t, made.Watch("alice", []byte("A")))
+	now = it.start(1)
+	_, err = made.Feed(it.chain)
+	good(t, err)
+	for _, wanted := range []struct {
+		kept *uint64
+		now  time.Time
+		lost string
+	}{
+		{&kept, it.start(3).Add(-1), "[]"},
+		{&kept, it.start(3), "[1]"},
+		{&kept, it.start(4).Add(-1), "[1]"},
+		{&kept, it.start(4), "[1 2]"},
+		{&kept, it.start(1000000), "[1 2]"},
+		{new(uint64), it.start(2).Add(-1), "[]"},
+		{new(uint64), it.start(2), "[1]"},
+		{new(uint64), time.Unix(-1, 0), "[]"},
+		{new(uint64), time.Time{}, "[]"},
+		{nil, it.start(1000000), "[]"},
+	} {
+		made.clock.proofsKept, now = wanted.kept, wanted.now
+		if lost := made.Lost(); fmt.Sprint(lost) != wanted.lost || fmt.Sprint(made.Missing()) != "[1 2 3]" {
+			t.Error(wanted, lost)
+		}
+	}
+	it.policy.ProofsKept = new(uint64)
+	settings = it.settings(1000)
+	if clock, err := newClock(settings); err != nil || clock.promises(2, it.start(2)) {
+		t.Error("the policy's time is not read", err)
+	}
+	digest, err := it.policy.Digest()
+	good(t, err)
+	settings.Policy, settings.Digest = nil, &digest
+	if clock, err := newClock(settings); err != nil || !clock.promises(2, it.start(1000000)) {
+		t.Error("a digest ends a promise", err)
+	}
+}
+
+// What the caller does with the policy later changes nothing.
+func TestPolicyIsCopied(t *testing.T) {
+	it, kept := newWorld(t, "A"), uint64(hour)
+	settings := it.settings(1)
+	settings.Policy.ProofsKept = &kept
+	clock, err := newClock(settings)
+	good(t, err)
+	kept = 0
+	if !clock.promises(2, it.start(2)) || clock.promises(2, it.start(3)) {
+		t.Error("the time that proofs are kept changed")
 	}
 }
 

@@ -63,6 +63,9 @@ func ExampleResume() {
 	good(err)
 	fmt.Printf("epoch %d, key %s, %v, began %v ago\n", found.Epoch, found.Key, found.Seen, found.Age)
 	fmt.Println("missing:", it.Missing())
+	if lost := it.Lost(); len(lost) > 0 {
+		fmt.Println("epochs", lost, "can no longer be verified")
+	}
 	_, err = it.History("alice", bytes(sent.History))
 	good(err)
 	fmt.Println("missing:", it.Missing())

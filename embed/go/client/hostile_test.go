@@ -351,6 +351,7 @@ func TestOneCallAtATime(t *testing.T) {
 		"WatchSince":  func() { made.WatchSince("alice", nil, 1) },
 		"Expect":      func() { made.Expect([]byte("B"), 9) },
 		"Missing":     func() { made.Missing() },
+		"Lost":        func() { made.Lost() },
 		"Head":        func() { made.Head() },
 		"Compare":     func() { made.Compare(it.head(1)) },
 		"Cover":       func() { made.Cover(it.head(1)) },

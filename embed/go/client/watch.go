@@ -242,3 +242,19 @@ func (it *Client) Missing() []uint64 {
 	}
 	return epochs
 }
+
+// Lost returns the missing epochs of which the policy promises no proof any more, by the Clock of the Settings. Report that they can
+// no longer be verified, never that they are the same.
+func (it *Client) Lost() []uint64 {
+	it.mutex.Lock()
+	defer it.mutex.Unlock()
+	now := it.clock.read()
+	var epochs []uint64
+	for at, kept := range it.chain {
+		isLatest := at == len(it.chain)-1
+		if kept.seen == seenMissing && !isLatest && !it.clock.promises(it.chain[at+1].body.Epoch, now) {
+			epochs = append(epochs, kept.body.Epoch)
+		}
+	}
+	return epochs
+}

@@ -182,12 +182,12 @@ func (it *program) watch(words []string) (string, error) {
 	return "watching", it.client.WatchSince(name, key, number(words[2]))
 }
 
-func (it *program) missing() string {
-	text := "missing"
-	for _, epoch := range it.client.Missing() {
-		text += fmt.Sprintf(" %d", epoch)
+// epochWords is a word and the epochs after it.
+func epochWords(word string, epochs []uint64) string {
+	for _, epoch := range epochs {
+		word += fmt.Sprintf(" %d", epoch)
 	}
-	return text
+	return word
 }
 
 func (it *program) head() string {
@@ -252,7 +252,9 @@ func (it *program) answer(word string, words []string) (string, error) {
 	case "expect":
 		return "expected", it.client.Expect(data(words[0]), number(words[1]))
 	case "missing":
-		return it.missing(), nil
+		return epochWords(word, it.client.Missing()), nil
+	case "lost":
+		return epochWords(word, it.client.Lost()), nil
 	case "head":
 		return it.head(), nil
 	case "compare":
