@@ -47,6 +47,7 @@ const answers = {
   watch: (name, key, since) => (client.watch(data(name), data(key), number(since)), "watching"),
   expect: (key, by) => (client.expect(data(key), number(by)), "expected"),
   missing: () => all("missing", client.missing),
+  lost: () => all("lost", client.lost),
   head: () => (client.head() === null ? "head -" : `head ${client.head().epoch} ${hex(client.head().link)}`),
   compare: (epoch, link) => client.compare(headOf(epoch, link)),
   cover: (epoch, link) => client.cover(headOf(epoch, link)),

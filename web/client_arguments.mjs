@@ -186,6 +186,32 @@ async function tryTimes() {
   same("the time of a feed in whole seconds", (await floored.lookup("alice", reply)).firstSeen, begins);
 }
 
+/** Epochs that can no longer be verified, by clocks with fractions, and by a bare digest. Their proofs are kept for a day. */
+async function tryLost() {
+  const lines = read("cases/client/lost.jsonl").split("\n");
+  const given = JSON.parse(lines.find((it) => it.includes('"lost: as its proofs end"')));
+  const kept = readPolicy(textBytes(given.policy));
+  const keys = [kept.signingKey, kept.vrfKey];
+  const end = start + 3600 + 86400;
+  let now = start;
+  const client = await library.client(...keys, kept, { clock: () => now });
+  client.watch("alice", key, 1);
+  await client.feed(given.steps[1].entries.map(data));
+  const before = client.state;
+  const at = (/** @type {any} */ time) => ((now = time), client.lost);
+  same("a fraction of a second before its proofs end", at(end - 2 ** -20), []);
+  same("as its proofs end", [at(end), at(BigInt(end)), at(end + 0.5)], [[1], [1], [1]]);
+  same("a bigint before", at(BigInt(end - 1)), []);
+  at(end).push(7n);
+  same("what was returned changes nothing", client.lost, [1]);
+  for (const time of [-1, NaN, Infinity, 2 ** 64]) await throwing(`a clock that returns ${time}`, () => at(time), "RangeError");
+  for (const time of ["1", null, undefined]) await throwing(`a clock that returns ${JSON.stringify(time)}`, () => at(time), "TypeError");
+  same("a state has nothing of it", client.state, before);
+  const resumed = (/** @type {any} */ by) => library.client(...keys, by, { state: before, clock: () => end });
+  same("after a state", (await resumed(kept)).lost, [1]);
+  same("never by a digest", (await resumed(kept.digest)).lost, []);
+}
+
 /** What claims to be long is refused at once, without room for it. */
 async function tryHostile() {
   const client = await begun({ state });
@@ -322,6 +348,7 @@ await tryPolicies();
 await tryNumbers();
 await tryWrongArguments();
 await tryTimes();
+await tryLost();
 await tryHostile();
 await tryOrder();
 await tryStepOrder();

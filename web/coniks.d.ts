@@ -182,6 +182,11 @@ export interface Client {
   expect(key: Uint8Array | null, by: number | bigint): void;
   /** The epochs that must show the watched name, and of which no reply was accepted. */
   readonly missing: bigint[];
+  /**
+   * The missing epochs of which the policy promises no proof any more, by the client's clock. Report that they can no longer be
+   * verified, never that they are the same.
+   */
+  readonly lost: bigint[];
   /** Returns the head of the latest entry, null before the first. */
   head(): Head | null;
   /** Returns whether a head is one of the chain, as far as its entries are kept. One that differs convicts nobody: fetch its entry. */

@@ -26,6 +26,9 @@ const [ENTRY, BODY, KEPT, FIXED] = [209, 145, 218, 70];
 // Statuses of coniks.h.
 const [GOOD, ABSENT, TOO_DEEP, SIGNATURE, ENTRY_LENGTH] = [0, 1, 2, 40, 48];
 
+// What a digest says in place of a document.
+const NO_DOCUMENT = { epochStart: null, epochPeriod: null, proofsKept: null };
+
 /** @param {any} policy @param {any} options */
 function settingsOf(policy, { maxAge = null, skew = 300, clock = () => Date.now() / 1000, ...others }) {
   const unknown = Object.keys(others);
@@ -33,10 +36,12 @@ function settingsOf(policy, { maxAge = null, skew = 300, clock = () => Date.now(
   if (typeof clock !== "function") throw new TypeError("the clock is no function");
   const isPolicy = policy instanceof Policy;
   if (!isPolicy && policy?.length !== 32) throw new TypeError("a policy is a Policy, or its digest of 32 bytes: readPolicy reads a document");
-  const { epochStart: start, epochPeriod: period } = isPolicy ? policy : { epochStart: null, epochPeriod: null };
+  const { epochStart: start, epochPeriod: period, proofsKept } = isPolicy ? policy : NO_DOCUMENT;
   const epochs = start === null || period === null ? null : { start, period };
   const digest = isPolicy ? policy.digest : bytes(policy, "the policy digest");
-  return { digest, epochs, maxAge: ticks(maxAge ?? 2n * (period ?? 0n), "maxAge"), skew: ticks(skew, "skew"), clock };
+  // Two periods may be 2^64 seconds or more, and a caller's number is less.
+  const oldest = maxAge === null ? 2n * (period ?? 0n) * TICKS : ticks(maxAge, "maxAge");
+  return { digest, epochs, proofsKept, maxAge: oldest, skew: ticks(skew, "skew"), clock };
 }
 
 /**
@@ -74,6 +79,8 @@ export class Client {
   #digest;
   /** The clock of the policy, null without one. @type {{start: bigint, period: bigint} | null} */
   #epochs;
+  /** For how many seconds proofs are kept, null for ever. @type {bigint | null} */
+  #proofsKept;
   #maxAge;
   #skew;
   #clock;
@@ -87,8 +94,9 @@ export class Client {
   #watch = null;
 
   /** Makes a client that accepts nothing: call `of` or `vouched`. @param {Coniks} coniks @param {ReturnType<typeof settingsOf>} settings */
-  constructor(coniks, { digest, epochs, maxAge, skew, clock }) {
-    [this.#coniks, this.#digest, this.#epochs, this.#maxAge, this.#skew, this.#clock] = [coniks, digest, epochs, maxAge, skew, clock];
+  constructor(coniks, { digest, epochs, proofsKept, maxAge, skew, clock }) {
+    [this.#coniks, this.#digest, this.#epochs, this.#proofsKept] = [coniks, digest, epochs, proofsKept];
+    [this.#maxAge, this.#skew, this.#clock] = [maxAge, skew, clock];
   }
 
   /**
@@ -409,6 +417,22 @@ export class Client {
   /** The epochs that must show the watched name, and of which no reply was accepted. */
   get missing() {
     return this.#kept.filter(isMissing).map((it) => it.epoch);
+  }
+
+  /** The missing epochs of which the policy promises no proof any more. */
+  get lost() {
+    const now = this.#now();
+    return this.#kept.filter((it, i) => isMissing(it) && !this.#isPromised(this.#kept[i + 1], now)).map((it) => it.epoch);
+  }
+
+  /**
+   * Whether proofs of an epoch are promised. The latest one has none that follows it.
+   * @param {Kept | undefined} following @param {bigint} now
+   */
+  #isPromised(following, now) {
+    if (this.#proofsKept === null || following === undefined) return true;
+    const age = this.#age(following, now);
+    return age === null ? this.#proofsKept > 0n : age < this.#proofsKept * TICKS;
   }
 
   // The state.
