@@ -27,7 +27,7 @@
  * Pointers. A pointer may be NULL only if its length is 0, or if its comment says so. Outputs may not overlap inputs.
  *
  * Limits. A name has 1 to 255 bytes, a key that a proof shows 1 to 16,384, and an expected key fewer than 2^32. Times are Unix
- * times in whole seconds; a time, an age or a skew of 2^63 or more counts as 2^63 - 1.
+ * times in whole seconds; in a lookup a time, an age or a skew of 2^63 or more counts as 2^63 - 1.
  *
  * Build, in the repository, after embed/build and with libsodium-dev (libsodium 1.0.18):
  *
@@ -273,6 +273,14 @@ uint32_t coniks_client_expect(coniks_client *client, const uint8_t *key, size_t 
 /* Writes the epochs that must show the watched name and of which no reply was accepted, at most `room`. Returns how many there are. */
 CONIKS_NODISCARD CONIKS_NONNULL((1))
 size_t coniks_client_missing(const coniks_client *client, uint64_t *epochs, size_t room);
+
+/*
+ * Writes the missing epochs of which the policy promises no proof any more, at most `room`. Returns how many there are, at most as
+ * many as coniks_client_missing does. A later call can return more, since each reads the clock. Report "epochs 100 to 102 can no
+ * longer be verified", never that they are the same.
+ */
+CONIKS_NODISCARD CONIKS_NONNULL((1))
+size_t coniks_client_lost(const coniks_client *client, uint64_t *epochs, size_t room);
 
 /* Writes the head of the latest entry. Returns 0, or CONIKS_E_NO_ENTRY. */
 CONIKS_NODISCARD CONIKS_NONNULL((1, 2))

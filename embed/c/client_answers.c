@@ -441,13 +441,16 @@ static void expect(struct answerer *it)
     free(key.at);
 }
 
-static void print_missing(struct answerer *it)
+/* Prints epochs of the watched name, which a call writes. */
+static void print_epochs(struct answerer *it)
 {
-    size_t i, count = coniks_client_missing(it->client, NULL, 0);
+    int is_lost = strcmp(word(it, 0), "lost") == 0;
+    size_t (*call)(const coniks_client *, uint64_t *, size_t) = is_lost ? coniks_client_lost : coniks_client_missing;
+    size_t i, count = call(it->client, NULL, 0);
     uint64_t *epochs = own(count * sizeof *epochs);
-    if (coniks_client_missing(it->client, epochs, count) != count)
-        fail("two numbers of missing epochs");
-    printf("missing");
+    if (call(it->client, epochs, count) != count)
+        fail("two numbers of epochs");
+    printf("%s", word(it, 0));
     for (i = 0; i < count; i++)
         printf(" %llu", (unsigned long long)epochs[i]);
     putchar('\n');
@@ -511,13 +514,9 @@ static const struct {
     const char *word;
     void (*call)(struct answerer *it);
 } CALLS[] = {
-    {"begin", begin},        {"vouched", begin},
-    {"now", set_clock},      {"feed", feed},
-    {"catchup", catch_up},   {"lookup", look_up},
-    {"history", go_through}, {"watch", watch},
-    {"expect", expect},      {"missing", print_missing},
-    {"head", print_head},    {"compare", compare},
-    {"cover", compare},      {"evidence", print_convicting},
+    {"begin", begin},       {"vouched", begin},      {"now", set_clock},   {"feed", feed},     {"catchup", catch_up},
+    {"lookup", look_up},    {"history", go_through}, {"watch", watch},     {"expect", expect}, {"missing", print_epochs},
+    {"lost", print_epochs}, {"head", print_head},    {"compare", compare}, {"cover", compare}, {"evidence", print_convicting},
     {"state", print_state},
 };
 

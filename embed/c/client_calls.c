@@ -332,6 +332,37 @@ static void try_misuse(void)
     coniks_client_free(client);
 }
 
+/* The example's policy, with proofs that are kept for so many seconds, at a time. */
+static size_t lost_at(coniks_client *client, struct told *told, uint64_t proofs_kept, uint64_t now)
+{
+    uint64_t epochs[2] = {7, 7};
+    size_t count;
+    client->policy.has_end = 1;
+    client->policy.proofs_kept = proofs_kept;
+    told->now = now;
+    count = coniks_client_lost(client, epochs, 2);
+    CHECK(epochs[0] == (count ? 1 : 7) && epochs[1] == 7 && coniks_client_missing(client, NULL, 0) == 2);
+    return count;
+}
+
+static void try_lost(void)
+{
+    const uint64_t second = START + PERIOD;
+    uint64_t epoch = 1, room = 7;
+    struct told told;
+    coniks_client *client = fed(&told);
+    CHECK(coniks_client_watch(client, NAME("alice"), (const uint8_t *)"k", 1, &epoch) == 0);
+    CHECK(coniks_client_lost(client, NULL, 0) == 0);
+    CHECK(lost_at(client, &told, 9, second + 8) == 0 && lost_at(client, &told, 9, second + 9) == 1);
+    CHECK(lost_at(client, &told, 0, second - 1) == 0 && lost_at(client, &told, 0, second) == 1);
+    CHECK(lost_at(client, &told, UINT64_MAX - second, UINT64_MAX - 1) == 0);
+    CHECK(lost_at(client, &told, UINT64_MAX - second, UINT64_MAX) == 1);
+    CHECK(lost_at(client, &told, UINT64_MAX - second + 1, UINT64_MAX) == 0);
+    CHECK(lost_at(client, &told, UINT64_MAX, UINT64_MAX) == 0 && lost_at(client, &told, UINT64_MAX, 0) == 0);
+    CHECK(lost_at(client, &told, 9, second + 9) == 1 && coniks_client_lost(client, &room, 0) == 1 && room == 7);
+    coniks_client_free(client);
+}
+
 static void try_settings(void)
 {
     coniks_client_settings settings;
@@ -339,6 +370,7 @@ static void try_settings(void)
     struct told told;
     coniks_client *client;
     coniks_bytes32 digest;
+    uint64_t first = 1;
     begin_settings(&settings, &told);
     settings.policy_length--;
     CHECK(coniks_client_new(&client, &settings) == CONIKS_CLIENT_E_POLICY_FORM && client == NULL);
@@ -352,6 +384,9 @@ static void try_settings(void)
     CHECK(coniks_client_feed(client, state + 37, CONIKS_ENTRY_BYTES, NULL, NULL) == 0);
     CHECK(coniks_client_feed(client, state + 255, CONIKS_ENTRY_BYTES, NULL, NULL) == 0);
     CHECK(look_up(client, reply, reply_length, NULL) == 0);
+    /* A digest promises proofs for ever. */
+    CHECK(coniks_client_watch(client, NAME("alice"), NULL, 0, &first) == 0);
+    CHECK(coniks_client_missing(client, NULL, 0) == 2 && coniks_client_lost(client, NULL, 0) == 0);
     coniks_client_free(client);
     begin_settings(&settings, &told);
     settings.signing_key = NULL;
@@ -470,6 +505,7 @@ int main(void)
     try_evidence();
     try_misuse();
     try_settings();
+    try_lost();
     try_texts();
     return failures ? 1 : 0;
 }

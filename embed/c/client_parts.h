@@ -34,11 +34,12 @@ struct watch {
     struct slice key, new_key;
 };
 
-/* The policy, as far as a client needs it. The period is 0 without a clock. */
+/* The policy, as far as a client needs it. The period is 0 without a clock. If `has_end` is 1, proofs are kept for `proofs_kept`
+ * seconds, else for ever. */
 struct policy {
     coniks_bytes32 digest, signing_key, vrf_key;
-    int has_keys, has_vrf;
-    uint64_t start, period;
+    int has_keys, has_vrf, has_end;
+    uint64_t start, period, proofs_kept;
 };
 
 struct coniks_client {
@@ -111,6 +112,10 @@ size_t client_proof_bytes(const struct step *step, uint8_t *proof);
 
 /* Reads a policy document. Returns 0, or CONIKS_CLIENT_E_POLICY_FORM. */
 CONIKS_NODISCARD uint32_t client_read_policy(struct slice document, struct policy *policy);
+/* Returns whether an epoch begins after a time; the policy has a clock. */
+int client_begins_after(const struct policy *policy, uint64_t epoch, uint64_t time);
+/* Returns whether proofs of an epoch are promised at a time, if another one follows it in the chain. */
+int client_is_promised(const struct policy *policy, uint64_t following, uint64_t time);
 
 /* client_watch.c */
 

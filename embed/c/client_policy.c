@@ -96,11 +96,13 @@ static int take_clock(struct reader *it, struct policy *policy)
            policy->period > 0;
 }
 
-static int take_kept(struct reader *it)
+static int take_kept(struct reader *it, struct policy *policy)
 {
     struct slice value;
-    uint64_t seconds;
-    return take_value(it, "proofs-kept ", &value) && (is_text(value, "forever") || is_number(value, &seconds));
+    if (!take_value(it, "proofs-kept ", &value))
+        return 0;
+    policy->has_end = !is_text(value, "forever");
+    return !policy->has_end || is_number(value, &policy->proofs_kept);
 }
 
 uint32_t client_read_policy(struct slice document, struct policy *policy)
@@ -111,9 +113,23 @@ uint32_t client_read_policy(struct slice document, struct policy *policy)
     memset(policy, 0, sizeof *policy);
     if (!take_line(&it, "policy coniks-1") || !take_origin(&it) || !take_line(&it, "signature Ed25519") ||
         !take_key(&it, "signing-key ", &policy->signing_key) || !take_vrf(&it, policy) || !take_clock(&it, policy) ||
-        !take_line(&it, "evidence one-chain") || !take_kept(&it) || it.left)
+        !take_line(&it, "evidence one-chain") || !take_kept(&it, policy) || it.left)
         return CONIKS_CLIENT_E_POLICY_FORM;
     policy->has_keys = 1;
     client_hash_bytes(document.bytes, document.length, &policy->digest);
     return 0;
+}
+
+int client_begins_after(const struct policy *policy, uint64_t epoch, uint64_t time)
+{
+    return time < policy->start || epoch - 1 > (time - policy->start) / policy->period;
+}
+
+int client_is_promised(const struct policy *policy, uint64_t following, uint64_t time)
+{
+    if (!policy->has_end)
+        return 1;
+    if (policy->period == 0)
+        return policy->proofs_kept > 0;
+    return time < policy->proofs_kept || client_begins_after(policy, following, time - policy->proofs_kept);
 }

@@ -13,26 +13,20 @@ uint64_t client_time_of(const coniks_client *client)
     return client->clock(client->clock_context);
 }
 
-/* Whether an epoch begins after a time; the client's policy has a clock. */
-static int begins_after(const struct policy *policy, uint64_t epoch, uint64_t time)
-{
-    return time < policy->start || epoch - 1 > (time - policy->start) / policy->period;
-}
-
 static uint32_t check_age(const coniks_client *client, uint64_t epoch, uint64_t time)
 {
     uint64_t now = capped(time);
     if (client->policy.period == 0)
         return 0;
-    if (now > client->max_age && !begins_after(&client->policy, epoch, now - client->max_age - 1))
+    if (now > client->max_age && !client_begins_after(&client->policy, epoch, now - client->max_age - 1))
         return CONIKS_CLIENT_E_STALE;
-    return begins_after(&client->policy, epoch, now + client->skew) ? CONIKS_CLIENT_E_FUTURE : 0;
+    return client_begins_after(&client->policy, epoch, now + client->skew) ? CONIKS_CLIENT_E_FUTURE : 0;
 }
 
 static int64_t age_of(const struct policy *policy, uint64_t epoch, uint64_t now)
 {
     uint64_t begins;
-    if (begins_after(policy, epoch, UINT64_MAX))
+    if (client_begins_after(policy, epoch, UINT64_MAX))
         return INT64_MIN;
     begins = policy->start + (epoch - 1) * policy->period;
     if (now >= begins)

@@ -156,6 +156,20 @@ size_t coniks_client_missing(const coniks_client *client, uint64_t *epochs, size
     return count;
 }
 
+size_t coniks_client_lost(const coniks_client *client, uint64_t *epochs, size_t room)
+{
+    uint64_t now = client_time_of(client);
+    size_t i, count = 0;
+    for (i = 0; i + 1 < client->count; i++) {
+        if (client->kept[i].seen != SEEN_MISSING || client_is_promised(&client->policy, client->kept[i + 1].body.epoch, now))
+            continue;
+        if (count < room)
+            epochs[count] = client->kept[i].body.epoch;
+        count++;
+    }
+    return count;
+}
+
 int client_copy_slice(const coniks_client_memory *memory, struct slice from, struct slice *to)
 {
     uint8_t *copy;

@@ -24,7 +24,7 @@ class Walk:
     """The steps of one walk, which are chosen at random."""
 
     def __init__(self, chance: random.Random) -> None:
-        self.chance, self.fed = chance, 0
+        self.chance, self.fed, self.asked = chance, 0, 0
 
     def case(self, state: Optional[bytes]) -> Answer:
         steps = [self.step() for _ in range(self.chance.randrange(4, 14))]
@@ -33,14 +33,15 @@ class Walk:
 
     def step(self) -> Answer:
         kinds = [self.feed, self.feed, self.lookup, self.lookup, self.lookup, self.history, self.watch, self.expect, self.cover]
-        return self.chance.choice([*kinds, self.missing, self.lost])()
+        return self.chance.choice([*kinds, self.missing])()
 
     def missing(self) -> Answer:
-        return {"do": "missing"}
-
-    def lost(self) -> Answer:
-        """The lost epochs at a time that is near a limit."""
-        return {"do": "lost", "now": hour(self.chance.randrange(1, 15), self.chance.choice([-1, 0]))}
+        """By turns the lost epochs, as the proofs of one of the last epochs end or a second before, and the missing ones."""
+        self.asked += 1
+        if self.asked % 2 == 0:
+            return {"do": "missing"}
+        latest = NUMBERS[self.fed - 1] if self.fed else 0
+        return {"do": "lost", "now": hour(latest + self.asked % 3, -(self.asked // 2 % 2))}
 
     def key(self) -> Optional[str]:
         it = self.chance.choice(["A", "A", "B", "B", "C", None])
