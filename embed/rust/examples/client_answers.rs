@@ -168,6 +168,7 @@ impl Held {
                 "expected".into()
             }
             "missing" => listed("missing", client.missing().iter().map(u64::to_string)),
+            "lost" => listed("lost", client.lost().iter().map(u64::to_string)),
             "head" => format!("head {}", said(client.head().map(|it| format!("{} {}", it.epoch, hex(&it.link))))),
             "compare" => compared(client.compare(&head(words[1], words[2])?)),
             "cover" => compared(client.cover(&head(words[1], words[2])?)),

@@ -309,6 +309,76 @@ fn the_last_epoch_number_at_any_time() {
     }
 }
 
+/// A client to which each signature is good, which watches alice from epoch 1 on, and its clock. It was fed entries with these
+/// numbers, under the example's policy with other lines. With `is_digest` it has no document.
+fn watching(changes: &[(&str, &str)], is_digest: bool, epochs: &[u64]) -> (Client, Time) {
+    let document = changes.iter().fold(POLICY.to_string(), |text, (before, after)| text.replace(before, after));
+    let policy = Policy::read(document.as_bytes()).expect("a policy");
+    let (scheme, time) = (Scheme::default(), Time::default());
+    scheme.result.store(true, Ordering::Relaxed);
+    let (digest, keys) = (policy.digest(), with_schemes(&scheme, &scheme));
+    let client =
+        if is_digest { Client::new(keys, digest, time.settings()) } else { Client::new(keys, policy, time.settings()) };
+    let mut client = client.expect("a client");
+    client.watch("alice", Some(b"k"), Some(1)).expect("no other name");
+    let (mut before, mut before_link) = (0, [0; 32]);
+    for &epoch in epochs {
+        let mut entry = entry_of(epoch, before, before_link);
+        entry[113..145].copy_from_slice(&digest);
+        assert_eq!(client.feed([&entry]).map(|it| it.len()), Ok(1));
+        (before, before_link) = (epoch, link(&entry).expect("an entry"));
+    }
+    (client, time)
+}
+
+#[test]
+fn a_missing_epoch_is_lost_at_a_second() {
+    let epochs = [1, 2, 4];
+    let (client, time) = watching(&[("kept forever", "kept 9")], false, &epochs);
+    // The proofs of epoch 1 end 9 seconds after epoch 2 begins, and those of epoch 2 when epoch 4 is as old.
+    let end = 1000 * (PERIOD + 9);
+    let two_more = end + 2 * PERIOD * 1000;
+    for (now, wanted) in [
+        (0, vec![]),
+        (end - 1, vec![]),
+        (end, vec![1]),
+        (two_more - 1, vec![1]),
+        (two_more, vec![1, 2]),
+        (u64::MAX, vec![1, 2]),
+    ] {
+        time.set(now);
+        assert_eq!(client.lost(), wanted, "{now}");
+        assert_eq!(client.missing(), epochs);
+    }
+    for (kept, is_digest, wanted) in [("kept forever", false, vec![]), ("kept 0", false, vec![1, 2]), ("kept 0", true, vec![])]
+    {
+        let (client, time) = watching(&[("kept forever", kept)], is_digest, &epochs);
+        time.set(u64::MAX);
+        assert_eq!(client.lost(), wanted, "{kept}");
+    }
+}
+
+#[test]
+fn numbers_of_lost_epochs_are_exact() {
+    let most = "18446744073709551615";
+    let (start, period) = (format!("epoch-start {most}"), format!("epoch-period {most}"));
+    let whole = format!("kept {most}");
+    let start_and_all = [("epoch-start 1767225600", &*start), ("epoch-period 3600", &*period), ("kept forever", &*whole)];
+    for changes in [&start_and_all[..1], &start_and_all[1..2], &start_and_all[2..], &start_and_all] {
+        let changes = [changes, &[("kept forever", "kept 0")]].concat();
+        for epochs in [[1, 2], [1, u64::MAX]] {
+            let scheme = Scheme::default();
+            scheme.result.store(true, Ordering::Relaxed);
+            let (client, _) = watching(&changes, false, &epochs);
+            let settings = coniks::client::Settings { clock: Box::new(|| Duration::MAX), ..Default::default() };
+            let document = changes.iter().fold(POLICY.to_string(), |text, (before, after)| text.replace(before, after));
+            let policy = Policy::read(document.as_bytes()).expect("a policy");
+            let late = Client::resume(with_schemes(&scheme, &scheme), policy, &client.state(), settings).expect("a client");
+            assert_eq!(late.lost(), Vec::<u64>::new(), "{document}");
+        }
+    }
+}
+
 #[test]
 fn a_watch_that_a_caller_can_not_have() {
     let (mut client, _) = fed();

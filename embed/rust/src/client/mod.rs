@@ -19,7 +19,7 @@
 //! what anyone can send is never an alarm. What convicts the provider is the refusal's `evidence`: publish it.
 //!
 //! The owner of a name calls [`Client::watch`], and then each epoch must show the key. [`Client::missing`] has the epochs of which
-//! no reply was accepted. Call [`Client::expect`] before you change the key. Store [`Client::state`] after each call that
+//! no reply was accepted, and [`Client::lost`] those of them that can no longer be verified. Call [`Client::expect`] before you change the key. Store [`Client::state`] after each call that
 //! changes it, and go on with [`Client::resume`].
 //!
 //! If the policy has a clock, the latest epoch must have begun at most `max_age` ago, by default two periods. It must begin at most
@@ -155,6 +155,8 @@ pub struct Client {
     keys: Keys,
     digest: [u8; 32],
     epochs: Option<EpochClock>,
+    /// For how many seconds proofs are kept, None for ever.
+    proofs_kept: Option<u64>,
     max_age: Duration,
     skew: Duration,
     clock: Clock,
@@ -177,17 +179,17 @@ impl Client {
     ///
     /// [`Cause::PolicyKeys`] if a key is not that of the policy document.
     pub fn new(keys: Keys, policy: impl Into<PolicyOrDigest>, settings: Settings) -> Result<Self, Refusal> {
-        let (digest, epochs) = match policy.into() {
+        let (digest, epochs, proofs_kept) = match policy.into() {
             PolicyOrDigest::Policy(it) => {
                 keys.check(&it)?;
-                (it.digest(), it.clock())
+                (it.digest(), it.clock(), it.proofs_kept())
             }
-            PolicyOrDigest::Digest(it) => (it, None),
+            PolicyOrDigest::Digest(it) => (it, None, None),
         };
         let two_periods = || Duration::from_secs(epochs.map_or(0, |it| it.period.get().saturating_mul(2)));
         let Settings { max_age, skew, clock } = settings;
         let max_age = max_age.unwrap_or_else(two_periods);
-        Ok(Self { keys, digest, epochs, max_age, skew, clock, kept: Chain::new(), watch: None })
+        Ok(Self { keys, digest, epochs, proofs_kept, max_age, skew, clock, kept: Chain::new(), watch: None })
     }
 
     /// Returns a client that goes on from the state of another one.
@@ -439,6 +441,17 @@ impl Client {
         Some(i128::from(now.as_secs()).saturating_sub(begins.try_into().unwrap_or(i128::MAX)))
     }
 
+    /// Whether proofs of an epoch are promised, if another one follows it in the chain.
+    fn is_promised(&self, following: u64, now: Duration) -> bool {
+        match (self.proofs_kept, self.epochs) {
+            (None, _) => true,
+            (Some(seconds), None) => seconds > 0,
+            (Some(seconds), Some(epochs)) => {
+                u128::from(now.as_secs()) < epochs.begins(following).saturating_add(seconds.into())
+            }
+        }
+    }
+
     fn check_age(&self, kept: &Kept, now: Duration) -> Result<(), Cause> {
         let Some(epochs) = self.epochs else {
             return Ok(());
@@ -493,6 +506,15 @@ impl Client {
     #[must_use]
     pub fn missing(&self) -> Vec<u64> {
         self.kept.values().filter(|it| it.seen == Seen::Missing).map(|it| it.body.epoch).collect()
+    }
+
+    /// Returns the missing epochs of which the policy promises no proof any more, by the client's clock. Report that they can no
+    /// longer be verified, never that they are the same.
+    #[must_use]
+    pub fn lost(&self) -> Vec<u64> {
+        let (now, following) = (self.now(), self.kept.values().skip(1).map(|it| it.body.epoch));
+        let missing = self.kept.values().zip(following).filter(|(it, _)| it.seen == Seen::Missing);
+        missing.filter(|&(_, following)| !self.is_promised(following, now)).map(|(it, _)| it.body.epoch).collect()
     }
 
     /// Returns all that the client keeps, for [`Client::resume`]: 70 bytes, 218 for each epoch, and the watched name.
