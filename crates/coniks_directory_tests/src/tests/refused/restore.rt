@@ -89,6 +89,7 @@ fn restore_at_last<R: Threads + Sync + Abort>(
     first_epoch(rt, clerk);
     let entry = *clerk.directory.chain().last().expect(rt, "an entry");
     let (board, mut publisher) = new_board(rt, clerk.alloc, 4);
+    assert!(rt; board.capacity() == 4);
     let mut begun = begun_at_last(rt, clerk.alloc, entry);
     let in_add = add_at_last(rt, clerk.alloc, &mut begun);
     let is_finished = match finish_first(rt, begun, &mut publisher, &board) {
