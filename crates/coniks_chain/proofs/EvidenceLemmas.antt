@@ -122,7 +122,7 @@ module _ (hash : List ℕ → List ℕ) (verdict : List ℕ → List ℕ → Boo
       (λ no. no (subst IsWellFormed (sym is_b.same) (well_formed is_b.place is_b.member is_b.there)))
       bad
 
--- what stands at a place that no list has
+-- an entry for a place beyond the ends of both lists
 empty_entry : Entry
 empty_entry = record {
   body =

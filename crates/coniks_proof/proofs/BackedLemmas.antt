@@ -8,7 +8,7 @@ use Rattle.coniks_proof.specs.Preimages.{inner_preimage}
 use Rattle.coniks_proof.specs.Tree.{node_below, node}
 use Rattle.coniks_proof.specs.Paths.{siblings_below, siblings, end_below, end_of}
 
--- a test that doesn't read what stands behind a commitment
+-- a test that doesn't read the data behind a commitment
 pub filter-backed : {B C : Type 0} (f : B → C) (p : Entry B → Bool) (q : Entry C → Bool) → ((e : Entry B) → q (backed_by f e) ≡ p e) → (es : List (Entry B))
     → filter q (map (backed_by f) es) ≡ map (backed_by f) (filter p es)
 filter-backed f p q same [] = refl
@@ -34,7 +34,7 @@ node_below-backed f by (suc h) p (e ∷ d ∷ es) =
     ap (λ x. by.hash (inner_preimage x (node_below by h (child p true) (half true (length p) (map (backed_by f) (e ∷ d ∷ es)))))) (at false)
     ∙ ap (λ x. by.hash (inner_preimage (node_below by h (child p false) (half false (length p) (e ∷ d ∷ es))) x)) (at true)
 
--- a node doesn't depend on what stands behind its commitments
+-- a node doesn't depend on the data behind its commitments
 pub node-backed : {B C : Type 0} (f : B → C) (by : Hashing) (p : List Bool) (es : List (Entry B)) → node by p (map (backed_by f) es) ≡ node by p es
 unfolding node
 node-backed f by p es = node_below-backed f by (256 - length p) p es
@@ -68,7 +68,7 @@ end_below-backed f (suc h) p j (e ∷ d ∷ es) =
     let b = bit_at j (length p) in
     ap (end_below h (child p b) j) (half-backed f b (length p) (e ∷ d ∷ es)) ∙ end_below-backed f h (child p b) j (half b (length p) (e ∷ d ∷ es))
 
--- a path ends with what it ends with, and with what stands behind that
+-- if the data behind the commitments is mapped, so is the end of a path
 pub end_of-backed : {B C : Type 0} (f : B → C) (p : List Bool) (j : List ℕ) (es : List (Entry B)) → end_of p j (map (backed_by f) es) ≡ map (backed_by f) (end_of p j es)
 unfolding end_of
 end_of-backed f p j es = end_below-backed f (256 - length p) p j es

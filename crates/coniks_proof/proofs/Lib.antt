@@ -18,4 +18,5 @@ mod NameLemmas
 mod OverwrittenLemmas
 mod BatchLemmas
 mod WireLemmas
+mod BindingLemmas
 pub mod Lemmas

@@ -15,6 +15,7 @@ pub mod Faults
 pub mod Collisions
 pub mod Meetings
 pub mod Registry
+pub mod Bindings
 pub mod Batches
 pub use Rattle.sha2.specs.Sha256
 pub mod Limits

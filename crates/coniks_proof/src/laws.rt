@@ -1,7 +1,8 @@
 //! Lemmas about the definitions, each the contract of a function that only reads.
 
-ghost use Rattle.std.specs.Prelude.{◌↔◌, ◌≡◌, ◌<◌, ◌≤◌, ◌∷◌, [], List, ℕ, Bool, None, Option, false, length, map, not, slice_get, slice_index_or};
+ghost use Rattle.std.specs.Prelude.{◌↔◌, ◌≡◌, ◌⊎◌, ◌<◌, ◌≤◌, ◌∷◌, [], List, ℕ, Bool, None, Option, false, length, map, not, slice_get, slice_index_or};
 ghost use Rattle.coniks_proof.specs.Batches.{MayFollow, Operation, after, first_fault};
+ghost use Rattle.coniks_proof.specs.Bindings.{AreOpenings, Collide, hashed_for};
 ghost use Rattle.coniks_proof.specs.Bits.{bit_at, child, first_bits};
 ghost use Rattle.coniks_proof.specs.Changes.{AreApart, AreIncreasing, AreInOrder, overwritten};
 ghost use Rattle.coniks_proof.specs.Entries.{Entry, IsIn, backed_by, under};
@@ -54,6 +55,19 @@ pub fn order_is_of_no_account<T>()
         → siblings by prefix index es ≡ siblings by prefix index fs }
     ensures end { (prefix : List Bool) (index : Octets) (es fs : List (Entry T)) → IsMap es → IsMap fs → SameEntries es fs
         → end_of prefix index es ≡ end_of prefix index fs }
+{}
+
+/// Proves that a root binds all entries: two registries with one root have the same entries, or there is a collision.
+///
+/// The collision is of two byte strings: one is hashed for the first tree, the other for the second. The two registries may
+/// give a name different indices. A hash has 32 bytes, and so has an opening.
+pub fn roots_bind()
+    ensures { (hash index_of also : Octets → Octets) (nonce : Octets) (registry other : Registry) → ((bytes : Octets) → length (hash bytes) ≡ 32)
+        → IsMap (entries_of hash index_of registry) → IsMap (entries_of hash also other)
+        → AreWithin registry → AreWithin other → AreOpenings registry → AreOpenings other
+        → root_of hash index_of nonce registry ≡ root_of hash also nonce other
+        → SameEntries (entries_of hash index_of registry) (entries_of hash also other)
+        ⊎ Collide hash (hashed_for hash index_of nonce registry) (hashed_for hash also nonce other) }
 {}
 
 /// Proves that a node and its path's siblings do not depend on the data behind the commitments.

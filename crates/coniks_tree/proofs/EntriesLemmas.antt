@@ -307,7 +307,7 @@ within-backed {B} {C} f (suc h) k es =
     ∙ ap (λ xs. map (backed_by f) (in_order_within h (suc k) (half false k es)) ++ xs) (side true)
     ∙ sym (map-append (backed_by f) (in_order_within h (suc k) (half false k es)) (in_order_within h (suc k) (half true k es)))
 
--- the list doesn't depend on what stands behind the commitments
+-- the list doesn't depend on the data behind the commitments
 pub in_order-backed : {B C : Type 0} (f : B → C) (es : List (Entry B)) → in_order 0 (map (backed_by f) es) ≡ map (backed_by f) (in_order 0 es)
 unfolding in_order
 in_order-backed f es = within-backed f 256 0 es

@@ -173,7 +173,7 @@ beyond-backed : {B C : Type 0} (f : B → C) (after : Option Index) (es : List (
 beyond-backed f None es = refl
 beyond-backed f (Some index) es = filter-backed f (λ e. is_less_from 0 index.0 e.index) (λ e. is_less_from 0 index.0 e.index) (λ e. refl) es
 
--- a page doesn't depend on what stands behind the commitments
+-- a page doesn't depend on the data behind the commitments
 pub page-backed : {B C : Type 0} (f : B → C) (after : Option Index) (most : ℕ) (es : List (Entry B))
     → page_of after most (map (backed_by f) es) ≡ map (backed_by f) (page_of after most es)
 page-backed f after most es =
