@@ -1,4 +1,5 @@
-"""The lines of `cases/size`, a directory of many names and how many there are of each, and those of `cases/full-board`."""
+"""The lines of `cases/size`, a directory of many names and how many there are of each, those of `cases/restored` and those of
+`cases/full-board`."""
 
 from __future__ import annotations
 
@@ -65,13 +66,73 @@ def lines(size: Size) -> Iterator[str]:
         yield text_of(it)
 
 
+def signature(epoch: int) -> str:
+    return hashlib.sha512(b"%d" % epoch).hexdigest()
+
+
+# The epoch of a restored directory, and the one before it.
+RESTORED, BEFORE = 7, 5
+
+
+def index_of(name: str) -> str:
+    return hashlib.sha256(name.encode()).hexdigest()
+
+
+def binding(number: int) -> dict[str, str]:
+    """What a name is bound to, with its index."""
+    made = operation("register", number, 0)
+    return {"index": index_of(made["name"]), **{it: made[it] for it in ("key", "name", "opening")}}
+
+
+def with_index(made: dict[str, str]) -> dict[str, str]:
+    return {"index": index_of(made["name"]), **made}
+
+
+def entry_of(root: str) -> str:
+    """The entry of the restored epoch: version 1, epoch, epoch before, root, previous link, nonce, policy and signature."""
+    return f"01{RESTORED:016x}{BEFORE:016x}{root}{'66' * 32}{NONCE}{POLICY}{signature(RESTORED)}"
+
+
+def restored_lines(size: Size, root: str) -> Iterator[str]:
+    """The lines of `cases/restored`: all names are restored, some are listed and looked up, and a batch follows."""
+    yield text_of({"cmd": "restore", "entry": entry_of(root)})
+    for first in range(0, size.names, size.batch):
+        listed = [binding(it) for it in range(first, min(first + size.batch, size.names))]
+        yield text_of({"cmd": "restoring", "bindings": listed})
+    yield text_of({"cmd": "restoring", "bindings": [binding(size.names), binding(0)]})
+    yield text_of({"cmd": "restored"})
+    yield from map(text_of, lines_after_restoring(size))
+
+
+def pages(size: Size, epoch: int) -> Iterator[dict[str, Any]]:
+    """The first page of an epoch's bindings, one from the middle on, and a last one that is not full."""
+    yield {"cmd": "bindings", "epoch": epoch, "most": size.batch}
+    yield {"cmd": "bindings", "epoch": epoch, "after": "7f" + "ff" * 31, "most": size.batch}
+    yield {"cmd": "bindings", "epoch": epoch, "after": "ff80" + "00" * 30, "most": size.batch}
+
+
+def lines_after_restoring(size: Size) -> Iterator[dict[str, Any]]:
+    """Pages and lookups at the restored epoch; a batch of changes and registrations; and the same at its epoch."""
+    half = size.batch // 2
+    ops = changes(size, half, 23, 1) + [operation("register", size.names + it, 0) for it in range(half)]
+    yield {"cmd": "latest"}
+    yield from pages(size, RESTORED)
+    yield from with_indices(lookups(size, RESTORED, size.names))
+    yield {"cmd": "prepare", "epoch": RESTORED + 1, "ops": [with_index(it) for it in ops]}
+    yield {"cmd": "install", "signature": signature(RESTORED + 1)}
+    yield {"cmd": "latest"}
+    yield from pages(size, RESTORED + 1)
+    yield from with_indices(lookups(size, RESTORED + 1, size.names))
+
+
+def with_indices(asked: Iterator[dict[str, Any]]) -> Iterator[dict[str, Any]]:
+    for it in asked:
+        yield {**it, "index": index_of(it["name"])}
+
+
 # How many epochs the board of `provider` takes.
 BOARD = 65536
 INDEX, OTHER_INDEX = "22" * 32, "a2" * 32
-
-
-def signature(epoch: int) -> str:
-    return hashlib.sha512(b"%d" % epoch).hexdigest()
 
 
 def board_lines() -> Iterator[str]:

@@ -9,7 +9,7 @@ from client import Answer
 from client_attacks import case, feed, flipped, lookup
 from client_cases import EQUAL, FIRST_KEY, SECOND_KEY, head, history, vouched, watch
 from client_names import MISSING, state_after
-from client_world import BATCHES, PERIOD, START, Batch, World, digest, hour, policy_text
+from client_world import BATCHES, START, Batch, World, digest, hour, policy_text
 
 LOST = {"do": "lost"}
 DAY = 86400
