@@ -1,5 +1,5 @@
 -- Batches whose operations have indices: the indices that they are checked with, their first error, and what an install supplies.
-use Rattle.std.proofs.Common.{◌≡◌, ◌≤◌, ◌<◌, ◌⊎◌, get_or, ℕ, zero, suc, ◌+◌, List, [], ◌∷◌, ◌++◌, length, map, take, drop, Bool, true, false, ◌||◌, refl, sym, ap, ◌∙◌, arith, inl, inr, Option, Some, None, Result, Ok, Err, if◌then◌else◌, slice_get, nat_lt, nat_le}
+use Rattle.std.proofs.Common.{◌≡◌, ◌≤◌, ◌<◌, ◌⊎◌, get_or, ℕ, zero, suc, ◌+◌, List, [], ◌∷◌, ◌++◌, length, map, take, drop, Bool, true, false, ◌||◌, refl, sym, ap, subst, ◌∙◌, arith, length-append, inl, inr, Option, Some, None, Result, Ok, Err, if◌then◌else◌, slice_get, nat_lt, nat_le}
 use Rattle.std.specs.Prelude.{IfErr, IfOk, OnOk}
 use Rattle.std.specs.Bool.{then_some}
 use Rattle.std.specs.Option.{option_or}
@@ -9,6 +9,7 @@ use Rattle.std.specs.BTreeMap.{insert_entry}
 use Rattle.std.specs.Ordering.{match_ordering}
 use Rattle.std.specs.declared.cmp.Ordering.{Ordering}
 use Rattle.std.specs.declared.cmp.Ordering.TheVariants.{Equal, Greater, Less}
+use Rattle.std.proofs.lemmas.List.{take-map, take_all}
 use Rattle.std.proofs.Math.Path.{fun_ext}
 use Rattle.coniks_proof.specs.declared.values.TheConstants.{MAX_OPERATIONS}
 use Rattle.coniks_work.specs.declared.jobs.TheConstants.{MAX_DEPTH}
@@ -21,12 +22,16 @@ use Rattle.coniks_directory.specs.declared.supplied_batch.SuppliedBatchFault.{Su
 use Rattle.coniks_directory.specs.declared.supplied_batch.SuppliedBatchFault.TheVariants.{Batch as InBatch, OtherIndex}
 use Rattle.coniks_proof.specs.Batches.{name_length, key_length, name_twice, name_taken, name_unknown}
 use Rattle.coniks_proof.specs.declared.values.Index.{Index}
-use Rattle.coniks_directory.proofs.Words.{Fault, Op, Operation, Prepared, Record, Registered, Registry, State, Whole, at_drop_all, at_drop_more, bound_by, bytes_eq, bytes_eq-Decides, fault_from, fault_of, first_fault}
+use Rattle.coniks_directory.proofs.Words.{Fault, Grows, Op, Operation, Prepared, Record, Registered, Registry, Shown, State, Whole, at_drop_all, at_drop_more, bound_by, bytes_eq, bytes_eq-Decides, fault_from, fault_of, first_fault}
 use Rattle.coniks_directory.proofs.Words.{get_or_from_slice_get, has_name, history_of, index_clash, is_eq, is_eq-slice_cmp, latest_registry, map-append, nat_cmp, operation_of, operations, or_cases, placed, registered_of, registry_after, slice_cmp, slice_get-get_or, slice_get_read, slice_get_within, zeros}
 use Rattle.coniks_directory.specs.Supplied.{AgreeOn, Supplied, is_supplied, supplied_index}
 use Rattle.coniks_directory.specs.SuppliedBatches.{AreOf, Indexed, IsEarliest, IsFresh, IsSuppliedFault, IsWithin, SuppliedFault, earlier_of, earliest, given_index, has_other, index_in, indexed, indices_by, indices_in, named_in, of_operation, operations_of, or_other, other_from, other_index, placed_fault}
-use Rattle.coniks_directory.specs.SuppliedBatches.{put_index, put_indices, supplied_fault, supplied_fault_from, supplied_fault_is}
+use Rattle.coniks_directory.specs.SuppliedBatches.{IsSuppliedUpdate, LeavesIndices, put_index, put_indices, supplied_fault, supplied_fault_from, supplied_fault_is}
+use Rattle.coniks_directory.specs.Updates.{IsRefused, MayInstall, base_of, refusals}
+use Rattle.coniks_directory.specs.declared.update.InstallFault.{InstallFault}
+use Rattle.coniks_directory.specs.declared.update.InstallFault.TheVariants as install
 use Rattle.coniks_directory.proofs.AgreementLemmas.{leaves_name}
+use Rattle.coniks_directory.proofs.FreshLemmas.{Grows-trans, fresh_history, stays}
 use Rattle.coniks_directory.proofs.LastLemmas.{take_next}
 use Rattle.coniks_directory.proofs.SuppliedLemmas.{seen}
 use Rattle.coniks_proof.proofs.Lemmas.{eq_apart, eq_same}
@@ -426,6 +431,22 @@ held_is index_of (r ∷ rs) (op ∷ ops) binds held =
     let index : r.index.0 ≡ index_of op.name = held.0 ∙ ap index_of name in
     rw (name, index, held_is index_of rs ops rest held.1) refl
 
+-- an update with its indices stays one while epochs are installed, if the registered names keep their indices
+pub supplied_stays : (hash index_of also index : List ℕ → List ℕ) (s later : State) (p : Prepared) → Grows s later → AgreeOn index_of also (latest_registry (history_of s))
+    → IsSuppliedUpdate hash index_of s p index → IsSuppliedUpdate hash also later p index
+supplied_stays hash index_of also index s later p grows kept u = record {
+  agree = λ base name has.
+      let earlier = u.update.earlier in
+      let since = Grows-trans earlier s later u.update.grows grows in
+      let long = length-append s.epochs grows.more_epochs in
+      let before : base_of p ≡ length s.epochs = omega (arith, base, ap length grows.epochs, long, ap length u.update.grows.epochs, length-append earlier.epochs u.update.grows.more_epochs, u.update.update.base) in
+      let same : history_of later ≡ history_of s = fresh_history hash index earlier later p since u.update.update base ∙ sym (fresh_history hash index earlier s p u.update.grows u.update.update before) in
+      let had : has_name (latest_registry (history_of s)) name ≡ true = subst (λ (h : List Shown). has_name (latest_registry h) name ≡ true) same has in
+      sym (kept name had) ∙ u.agree before name had;
+  update = stays hash index s later p grows u.update;
+  held = u.held;
+}
+
 -- ---- what an install supplies
 
 pub put-append : (source xs ys : List Supplied) → put_indices source (xs ++ ys) ≡ put_indices (put_indices source xs) ys
@@ -483,6 +504,29 @@ pub held_take : (index : List ℕ → List ℕ) (records : List Record) (n : ℕ
 held_take index records zero held = tt
 held_take index [] (suc n) held = tt
 held_take index (r ∷ rs) (suc n) held = (held.0, held_take index rs n held.1)
+
+-- ---- what a refused install leaves
+
+-- an error before the indices are supplied
+pub left_none : (given old : List Supplied) (fault : InstallFault) → refusals fault ≡ 0 → LeavesIndices given old old fault
+left_none given old (install.Stale latest) none = refl
+left_none given old (install.EpochNotLater latest) none = refl
+left_none given old install.BoardFull none = refl
+left_none given old install.OutOfMemory none = (0, refl)
+left_none given old install.SignerRefused none = absurd (let never = none in cc)
+
+-- an error while they are supplied
+pub left_some : (records : List Record) (old : List Supplied) (n : ℕ) → LeavesIndices (indices_in records) old (put_indices old (indices_in (take n records))) install.OutOfMemory
+left_some records old n = (n, ap (put_indices old) (sym (take-map (λ (r : Record). (r.binding.name, r.index.0)) n records)))
+
+-- and an error after that
+pub left_all : (s : State) (base t published capacity : ℕ) (given old : List Supplied) (fault : InstallFault) → MayInstall s base t published capacity
+    → IsRefused s base t published capacity fault → LeavesIndices given old (put_indices old given) fault
+left_all s base t published capacity given old (install.Stale latest) may why = absurd (why.1 may.fresh)
+left_all s base t published capacity given old (install.EpochNotLater latest) may why = absurd (let later = may.later in let at = why.0 in let before = why.2 in omega arith)
+left_all s base t published capacity given old install.BoardFull may why = absurd (may.room why.2)
+left_all s base t published capacity given old install.OutOfMemory may why = (length given, ap (put_indices old) (sym (take_all (length given) given (omega arith))))
+left_all s base t published capacity given old install.SignerRefused may why = refl
 
 -- what follows from a property of a result's value holds of the value
 pub if_ok-map : {T E : Type 0} (r : Result T E) (P Q : T → Type 0) → ((x : T) → P x → Q x) → IfOk r P → IfOk r Q

@@ -1,5 +1,5 @@
 -- Batches whose operations come with the indices of their names.
-use Rattle.std.specs.Prelude.{◌≡◌, ◌≤◌, ℕ, ◌+◌, List, [], ◌∷◌, ◌++◌, length, map, Bool, true, false, not, ◌&&◌, nat_lt, nat_le, Option, Some, None, if◌then◌else◌}
+use Rattle.std.specs.Prelude.{◌≡◌, ◌≤◌, ℕ, ◌+◌, List, [], ◌∷◌, ◌++◌, length, map, take, Bool, true, false, not, ◌&&◌, nat_lt, nat_le, Option, Some, None, if◌then◌else◌}
 use Rattle.std.specs.Cmp.Lexicographic.{slice_cmp}
 use Rattle.std.specs.BTreeMap.{insert_entry}
 use Rattle.std.specs.Ordering.{nat_cmp}
@@ -15,12 +15,14 @@ use Rattle.coniks_directory.specs.Batches.{AreWorkers, IsBatchFault, fault_is, o
 use Rattle.coniks_directory.specs.History.{latest_registry}
 use Rattle.coniks_directory.specs.State.{State, history_of}
 use Rattle.coniks_directory.specs.Supplied.{AgreeOn, Supplied, is_supplied, supplied_index}
-use Rattle.coniks_directory.specs.Updates.{IsUpdateOf}
+use Rattle.coniks_directory.specs.Updates.{IsUpdateOf, base_of}
 use Rattle.coniks_directory.specs.declared.batch.BatchFault.TheVariants.{Workers, Depth, BatchTooLong, At, OutOfMemory}
 use Rattle.coniks_directory.specs.declared.batch.Op.{Op}
 use Rattle.coniks_directory.specs.declared.supplied_batch.SuppliedBatchFault.{SuppliedBatchFault}
 use Rattle.coniks_directory.specs.declared.supplied_batch.SuppliedBindings.{SuppliedBindings}
 use Rattle.coniks_directory.specs.declared.supplied_batch.SuppliedBatchFault.TheVariants.{Batch, OtherIndex}
+use Rattle.coniks_directory.specs.declared.update.InstallFault.{InstallFault}
+use Rattle.coniks_directory.specs.declared.update.InstallFault.TheVariants as install
 use Rattle.coniks_directory.specs.declared.update.Prepared.{Prepared}
 
 -- an operation, and the index of its name
@@ -171,14 +173,23 @@ indices_of update = indices_in update.records.items
 abbrev pub indices_by : (Octets → Octets) → List Operation → List Supplied
 indices_by index_of ops = map (λ (op : Operation). (op.name, index_of op.name)) ops
 
+-- what a refused install leaves of a source: the indices that it had, with none of the update's, with those of its first names if an
+-- allocation failed, or with all of them if the signer refused
+abbrev pub LeavesIndices : List Supplied → List Supplied → List Supplied → InstallFault → Type 0
+LeavesIndices given old new (install.Stale latest) = new ≡ old
+LeavesIndices given old new (install.EpochNotLater latest) = new ≡ old
+LeavesIndices given old new install.BoardFull = new ≡ old
+LeavesIndices given old new install.OutOfMemory = (n : ℕ) × (new ≡ put_indices old (take n given))
+LeavesIndices given old new install.SignerRefused = new ≡ put_indices old given
+
 -- each of the names has the index that the function gives it
 abbrev pub AreOf : (Octets → Octets) → List Supplied → Type 0
 AreOf index_of [] = Unit {0}
 AreOf index_of (x ∷ xs) = (x.1 ≡ index_of x.0) × AreOf index_of xs
 
--- the update holds the indices of its names, and by a function that gives these, and each registered name its index, it was prepared from a
--- directory in this state or an earlier one
+-- the update holds the indices of its names, and by a function that gives these it was prepared from a directory in this state or an
+-- earlier one; unless an epoch was installed since then, the function gives each registered name its index
 pub record IsSuppliedUpdate (hash index_of : Octets → Octets) (s : State) (p : Prepared) (index : Octets → Octets) : Type 0 where
-  pub agree : AgreeOn index_of index (latest_registry (history_of s))
+  pub agree : base_of p ≡ length s.epochs → AgreeOn index_of index (latest_registry (history_of s))
   pub update : IsUpdateOf hash index s p
   pub held : AreOf index (indices_of p)

@@ -25,7 +25,7 @@ use crate::lookup::{LookupFault, SignedProof};
 use crate::preparing::{Build, Origin, update_on};
 use crate::source::IndexSource;
 use crate::state::DirectoryState;
-use crate::update::{CommitFault, InstallFault, Prepared};
+use crate::update::{CommitFault, InstallFault, Prepared, in_install, in_prepare};
 use coniks_chain::{Body, Entry, Sign};
 use coniks_proof::{Digest, Hash32, Index, MAX_NAME, Nonce, Proof};
 use coniks_shared::{Board, Publisher};
@@ -588,13 +588,7 @@ impl<H: Hash32 + Sync, X: IndexSource> Directory<H, X> {
             workers,
             gate,
         };
-        let update = match self.prepared(&build, nonce, ops) {
-            Ok(update) => update,
-            Err(fault) => return Err(CommitFault::Batch(fault)),
-        };
-        match self.install(update, t, signer, publisher, board) {
-            Ok(entry) => Ok(entry),
-            Err((fault, _)) => Err(CommitFault::Install(fault)),
-        }
+        let update = in_prepare(self.prepared(&build, nonce, ops))?;
+        in_install(self.install(update, t, signer, publisher, board))
     }
 }

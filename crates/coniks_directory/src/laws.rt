@@ -13,6 +13,7 @@ ghost use Rattle.coniks_directory.specs.Restored.{restored_epoch, said_before};
 ghost use Rattle.coniks_directory.specs.Runs.{AreAccepted, AreAcceptedFrom, Batch, IsPreparedOf, Run, Start, begins_after, defined, epochs_from, policy_of, restoring};
 ghost use Rattle.coniks_directory.specs.State.{State, Whole, history_of};
 ghost use Rattle.coniks_directory.specs.Supplied.{AgreeOn};
+ghost use Rattle.coniks_directory.specs.SuppliedBatches.{IsSuppliedUpdate};
 ghost use Rattle.coniks_directory.specs.Updates.{Grows, IsUpdate, IsUpdateOf, base_of, registry_after};
 ghost use Rattle.coniks_directory.specs.declared.update.Prepared.{Prepared};
 ghost use Rattle.coniks_proof.specs.Batches.{Operation, after, first_fault};
@@ -35,6 +36,16 @@ pub fn updates_stay()
     ensures prepared { (hash index_of : Octets → Octets) (s : State) (update : Prepared) → IsUpdate hash index_of s update → IsUpdateOf hash index_of s update }
     ensures stays { (hash index_of : Octets → Octets) (s later : State) (update : Prepared)
         → Grows s later → IsUpdateOf hash index_of s update → IsUpdateOf hash index_of later update }
+{}
+
+/// Proves that an update with its indices remains one while epochs are installed and registered names keep their indices.
+///
+/// So it can be passed to `install_supplied` whatever was installed meanwhile, which then returns `Stale`.
+#[tactic(auto, using(crate::proofs::SuppliedBatchLemmas::supplied_stays))]
+pub fn supplied_updates_stay()
+    ensures { (hash index_of also index : Octets → Octets) (s later : State) (update : Prepared)
+        → Grows s later → AgreeOn index_of also (latest_registry (history_of s))
+        → IsSuppliedUpdate hash index_of s update index → IsSuppliedUpdate hash also later update index }
 {}
 
 /// Proves that errors between `prepare` and `install` change neither the history nor the update's registry.
@@ -70,12 +81,15 @@ pub fn answers_are_no_older()
 /// Proves that a run of public calls from `open` or `restore` on leaves the directory that its batches define.
 ///
 /// The run can contain calls that return errors and calls of `supply`. The directory is the same for every choice of
-/// workers and split depths. The batches are a history of accepted ones, by the indices that the directory holds at the
-/// end. The entries are those of that directory, if `chain` promises that they are the history's. So are the results of
-/// `root_at` and `lookup`.
+/// workers and split depths (`epochs`). The batches are a history of accepted ones, by the indices that the directory
+/// holds at the end (`accepted`). These two clauses carry the content.
 ///
-/// Two proofs that are accepted for one root, nonce and index with different answers disagree. `coniks_proof::extract`
-/// then returns two different byte strings that have one hash.
+/// Four clauses restate what a call promises of the directory's own history, for the epochs that the batches define:
+/// `entries` of `chain`, with the policy and the previous entry of the start, `roots` of `root_at`, and `paths` and
+/// `lookups` of `lookup`.
+///
+/// `answers` is the definition of `Disagree`: two proofs that are accepted for one root, nonce and index, with different
+/// answers. `coniks_proof::extract` then returns two different byte strings that have one hash.
 pub fn directory_theorem()
     ensures epochs { (hash index_of : Octets → Octets) (start : Start) (batches : List Batch) (s : State) → Run hash index_of start batches s
         → history_of s ≡ defined start batches }

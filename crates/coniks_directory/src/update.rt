@@ -1,9 +1,11 @@
 //! Prepared updates, and the errors of an install.
 
-ghost use Rattle.std.specs.Prelude.{◌≡◌};
+ghost use Rattle.std.specs.Prelude.{◌≡◌, Err, IfErr, IfOk, Ok};
+ghost use Rattle.coniks_directory.specs.declared.update.CommitFault.TheVariants.{Batch, Install};
 ghost use Rattle.coniks_tree.specs.Parts.{node_count};
 
 use crate::batch::BatchFault;
+use coniks_chain::Entry;
 use coniks_proof::Nonce;
 use coniks_tree::{Part, Record};
 use thiserror::Error;
@@ -81,4 +83,28 @@ pub enum CommitFault {
     Batch(BatchFault),
     #[error("the update is refused: {0}")]
     Install(InstallFault),
+}
+
+/// Returns the update that a commit prepared. The error is the batch's, also if an allocation failed.
+pub(crate) fn in_prepare(prepared: Result<Prepared, BatchFault>) -> Result<Prepared, CommitFault>
+    ensures update { IfOk prepared (λ update. result ≡ Ok update) }
+    ensures fault { IfErr prepared (λ fault. result ≡ Err (Batch fault)) }
+{
+    match prepared {
+        Ok(update) => Ok(update),
+        Err(fault) => Err(CommitFault::Batch(fault)),
+    }
+}
+
+/// Returns the entry that a commit installed. The error is the install's, also if an allocation failed.
+pub(crate) fn in_install(
+    installed: Result<Entry, (InstallFault, Prepared)>,
+) -> Result<Entry, CommitFault>
+    ensures entry { IfOk installed (λ entry. result ≡ Ok entry) }
+    ensures fault { IfErr installed (λ r. result ≡ Err (Install r.0)) }
+{
+    match installed {
+        Ok(entry) => Ok(entry),
+        Err((fault, _)) => Err(CommitFault::Install(fault)),
+    }
 }

@@ -18,6 +18,8 @@ mod refused;
 mod restores;
 mod rotations;
 mod runs;
+mod supplied_clerk;
+mod supplied_refusals;
 mod supplying;
 mod together;
 mod updates;

@@ -1,11 +1,12 @@
 //! A directory whose indices are supplied: lookups, batches and installs that come with the indices of names.
 
-ghost use Rattle.std.specs.Prelude.{◌≡◌, ◌<◌, ◌+◌, ◌-◌, ◌^◌, ◌++◌, ◌∷◌, [], List, None, Some, IfErr, IfOk, OnErr, OnOk, length, true, false};
+ghost use Rattle.std.specs.Prelude.{◌≡◌, ◌≢◌, ◌<◌, ◌≤◌, ◌+◌, ◌-◌, ◌^◌, ◌++◌, ◌∷◌, [], List, None, Some, IfErr, IfOk, OnErr, OnOk, length, true, false};
 ghost use Rattle.coniks_chain.specs.Entries.{body_bytes};
 ghost use Rattle.coniks_proof.specs.Batches.{after};
 ghost use Rattle.coniks_proof.specs.Octets.{Octets};
 ghost use Rattle.coniks_proof.specs.Registry.{has_name};
-ghost use Rattle.coniks_directory.specs.Batches.{IsAccepted, operations};
+ghost use Rattle.coniks_tree.specs.Parts.{KeepsNone};
+ghost use Rattle.coniks_directory.specs.Batches.{IsAccepted, most_anew, most_nodes, operations};
 ghost use Rattle.coniks_directory.specs.Directories.{FindsAt, HasGoodChain, NextBodyBy, ShowsAt, batch_index, entry, heads, history, registry};
 ghost use Rattle.coniks_directory.specs.History.{nonce_bytes};
 ghost use Rattle.coniks_directory.specs.Supplied.{IsMissedAt, MaySupply};
@@ -148,18 +149,21 @@ impl<H: Hash32, X: SupplyIndex> Directory<H, X> {
 impl<H: Hash32> Directory<H, SuppliedIndices> {
     ghost use Rattle.std.specs.Prelude.{length};
     ghost use Rattle.coniks_directory.specs.Supplied.{AgreeOn, supplied_index};
-    ghost use Rattle.coniks_directory.specs.SuppliedBatches.{IsSuppliedUpdate, indices_of, put_indices};
+    ghost use Rattle.coniks_directory.specs.SuppliedBatches.{IsSuppliedUpdate, LeavesIndices, indices_of, put_indices};
     ghost use Rattle.coniks_directory.specs.Updates.{Grows, IsRefused, LeavesSigner, MayInstall, base_of, nodes_added, refusals, registry_after, shown_after};
 
     /// Supplies the indices of an update's names and installs the update, as `install` does.
     ///
     /// The update contains the indices. A name is registered from then on, and keeps its index.
     ///
+    /// The update was prepared from this directory. Unless an epoch was installed since then, the source still gives each
+    /// registered name the index that it had.
+    ///
     /// # Errors
     ///
     /// The errors of `install`, in the same order and with the update. After an error nothing is installed or published.
-    /// After `OutOfMemory` or `SignerRefused`, some of the update's indices may be supplied, and the same update can be
-    /// installed again.
+    /// After `Stale`, `EpochNotLater` or `BoardFull` no index is supplied. After `OutOfMemory` the indices of the update's
+    /// first names may be supplied, and after `SignerRefused` all of them are. The same update can then be installed again.
     #[tactic(auto, using(crate::proofs::FreshLemmas::growth))]
     pub fn install_supplied<S: Sign>(
         &mut self,
@@ -208,6 +212,7 @@ impl<H: Hash32> Directory<H, SuppliedIndices> {
         // An error.
         ensures refused { IfErr result (λ r. IsRefused self.old.state (base_of update) t (length publisher.old.heads) board.now.capacity r.0) }
         ensures unchanged { OnErr result ((self.new.state ≡ self.old.state) × (publisher.new ≡ publisher.old)) }
+        ensures left { IfErr result (λ r. LeavesIndices (indices_of update) self.old.index self.new.index r.0) }
         ensures handed_back { IfErr result (λ r. r.1 ≡ update) }
         ensures unsigned { IfErr result (λ r. HasRefused S.made_of S.refused_of S.last_of signer.old signer.new (refusals r.0)) }
         ensures unasked { IfErr result
@@ -338,6 +343,10 @@ impl<H: Hash32 + Sync, X: IndexSource> Directory<H, X> {
         ensures indices { IfOk result (λ p. indices_of p ≡ indices_by (batch_index X.index_of self.now batch.now) (operations batch.now.ops.now)) }
         ensures nodes { IfOk result (λ p. nodes_added p ≡ epoch_nodes (batch_index X.index_of self.now batch.now)
             (history self.now) (nonce_bytes batch.now.nonce) (operations batch.now.ops.now)) }
+        ensures few { IfOk result (λ p. batch.now.nonce ≡ None → nodes_added p ≤ most_nodes (history self.now) (length batch.now.ops.now)) }
+        ensures none { IfOk result (λ p. batch.now.nonce ≡ None → length batch.now.ops.now ≡ 0 → nodes_added p ≡ most_nodes (history self.now) 0) }
+        ensures anew { IfOk result (λ p. batch.now.nonce ≢ None
+            → (nodes_added p ≤ most_anew (after (registry self.now) (operations batch.now.ops.now))) × KeepsNone p.part) }
         ensures accepted { OnOk result
             (IsAccepted (batch_index X.index_of self.now batch.now) (registry self.now) (operations batch.now.ops.now) depth workers) }
         ensures within { OnOk result (IsWithin (indexed batch.now.ops.now batch.now.indices.now) depth workers) }

@@ -3,9 +3,7 @@
 //! error changes nothing, except for indices that `install_supplied` supplied, and the same call then succeeds. Each
 //! test prints whether its call was refused.
 
-ghost use Rattle.std.specs.Prelude.{◌≡◌, IfErr, IfOk, length};
 ghost use Rattle.coniks_directory_tests.specs.Letters.{index_of_letter};
-ghost use Rattle.coniks_directory.specs.Chain.{heads_of};
 ghost use Rattle.coniks_directory.specs.Supplied.{supplied_index};
 ghost use Rattle.coniks_directory.specs.SuppliedBatches.{IsSuppliedUpdate};
 ghost use Rattle.coniks_directory.specs.Updates.{IsUpdateOf};
@@ -17,15 +15,16 @@ mod prepare;
 mod restore;
 
 use crate::tests::answers::{Told, asked};
-use crate::tests::clerk::{Clerk, Letters, Written, new_board, ops_of, refusing, with_clerk};
+use crate::tests::clerk::{Clerk, Letters, Written, new_board, ops_of, with_clerk};
+use crate::tests::supplied_clerk::SuppliedClerk;
 use coniks_chain::{Entry, Sign, Signer};
 use coniks_directory::OpKind::{Change, Register};
 use coniks_directory::{
     BatchFault, CommitFault, Directory, IndexSource, InstallFault, LookupAtFault, LookupFault, Op,
-    Prepared, SuppliedBatch, SuppliedBatchFault, SuppliedIndices, SupplyFault,
+    Prepared, SuppliedBatchFault, SuppliedIndices, SupplyFault,
 };
 use coniks_proof::{Digest, Hash32, Head, Index, Nonce, Sha256Hash};
-use coniks_shared::{Board, Publisher};
+use coniks_shared::Publisher;
 use coniks_test_support::{NEW_NONCE, NONCE, POLICY, Stamp, digest};
 use coniks_work::Open;
 use std::alloc::Global;
@@ -76,6 +75,10 @@ fn seen_of<X: IndexSource>(
 }
 
 fn seen(clerk: &Clerk<Sha256Hash>) -> Snapshot {
+    seen_of(&clerk.directory, &clerk.publisher, &clerk.signer)
+}
+
+fn seen_by(clerk: &SuppliedClerk<'_>) -> Snapshot {
     seen_of(&clerk.directory, &clerk.publisher, &clerk.signer)
 }
 
@@ -315,84 +318,6 @@ const MIXED: [Written; 3] = [
 /// The link of the second entry if its batch is `MIXED`.
 const MIXED_LINK: &str = "a7b5bd21f961c2e087a6322529435f19eab6b2d4fc2dffa91274140414493b38";
 
-/// A directory whose indices come with the batches, with its signer and its board's publisher.
-#[derive(Drop)]
-struct SuppliedClerk<'a> {
-    alloc: Global,
-    directory: Directory<Sha256Hash, SuppliedIndices>,
-    signer: Signer<Stamp>,
-    publisher: Publisher,
-    board: &'a Board,
-    ghost tabled: { publisher.table ≡ board.now.table },
-    ghost headed: { publisher.heads ≡ heads_of (⟦<Sha256Hash as Hash32>⟧.digest_of directory.hash) directory.state.chain },
-}
-
-impl<'a> SuppliedClerk<'a> {
-    fn seen(&self) -> Snapshot {
-        seen_of(&self.directory, &self.publisher, &self.signer)
-    }
-
-    /// Returns how many of the batches' names have an index. Asserts that each index is right, and no other name has
-    /// one.
-    fn supplied(&self, rt: &impl Abort) -> usize {
-        let source = self.directory.source();
-        let names = [b"a", b"b", b"c", b"d"];
-        for name in names {
-            assert!(rt; !source.has_other(name, &Letters.index(name)));
-        }
-        let count = names
-            .iter()
-            .filter(|name| source.has(name.as_slice()))
-            .count();
-        assert!(rt; source.count() == count);
-        count
-    }
-
-    /// Prepares a batch with its indices by one worker.
-    fn prepare<R: Threads + Sync>(
-        &self,
-        rt: &R,
-        ops: &[Op],
-        indices: &[Index],
-    ) -> Result<Prepared, SuppliedBatchFault>
-        requires { length ops.now ≡ length indices.now }
-        ensures { IfOk result (λ p. (index : Octets → Octets)
-            × IsSuppliedUpdate (⟦<Sha256Hash as Hash32>⟧.digest_of self.now.directory.hash)
-            (supplied_index self.now.directory.index) self.now.directory.state p index) }
-    {
-        let batch = SuppliedBatch {
-            nonce: None,
-            ops,
-            indices,
-        };
-        self.directory.prepare_supplied(rt, &batch, 1, 1, &Open)
-    }
-
-    /// Installs an update with its indices.
-    fn install(
-        &mut self,
-        rt: &impl Abort,
-        update: Prepared,
-        t: u64,
-    ) -> Result<Entry, (InstallFault, Prepared)>
-        requires { (index : Octets → Octets)
-            × IsSuppliedUpdate (⟦<Sha256Hash as Hash32>⟧.digest_of self.old.directory.hash)
-            (supplied_index self.old.directory.index) self.old.directory.state update index }
-        ensures { IfErr result (λ r. (index : Octets → Octets)
-            × IsSuppliedUpdate (⟦<Sha256Hash as Hash32>⟧.digest_of self.new.directory.hash)
-            (supplied_index self.new.directory.index) self.new.directory.state r.1 index) }
-    {
-        assert!(rt; self.signer.made() < u64::MAX && self.signer.refused() < u64::MAX);
-        self.directory.install_supplied(
-            update,
-            t,
-            &mut self.signer,
-            &mut self.publisher,
-            self.board,
-        )
-    }
-}
-
 /// Prepares a batch with its indices, and prepares it again if an allocation fails. Returns the update, and whether one
 /// failed.
 fn prepare_supplied_at_last<R: Threads + Sync + Abort>(
@@ -407,9 +332,9 @@ fn prepare_supplied_at_last<R: Threads + Sync + Abort>(
 {
     let ops = batch(rt, clerk.alloc, written);
     assert!(rt; ops.len() == indices.len());
-    let before = (clerk.seen(), clerk.supplied(rt));
+    let before = (seen_by(clerk), clerk.supplied(rt));
     let prepared = clerk.prepare(rt, &ops, indices);
-    assert!(rt; (clerk.seen(), clerk.supplied(rt)) == before);
+    assert!(rt; (seen_by(clerk), clerk.supplied(rt)) == before);
     match prepared {
         Ok(update) => (update, false),
         Err(fault) => {
@@ -421,8 +346,16 @@ fn prepare_supplied_at_last<R: Threads + Sync + Abort>(
     }
 }
 
-/// Installs an update with its indices, and installs it again if an allocation fails. Returns whether one failed. Some
-/// of the indices can be supplied by then.
+/// Asserts that the names with an index are the first of their batch: `a` comes before `b` in `FIRST`, and `d` before `c`
+/// in `MIXED`.
+fn are_first(rt: &impl Abort, clerk: &SuppliedClerk<'_>) {
+    let source = clerk.directory.source();
+    assert!(rt; source.has(b"a") || !source.has(b"b"));
+    assert!(rt; source.has(b"d") || !source.has(b"c"));
+}
+
+/// Installs an update with its indices, and installs it again if an allocation fails. Returns whether one failed. The
+/// indices of the batch's first names can be supplied by then.
 fn install_supplied_at_last(
     rt: &impl Abort,
     clerk: &mut SuppliedClerk<'_>,
@@ -433,14 +366,15 @@ fn install_supplied_at_last(
         × IsSuppliedUpdate (⟦<Sha256Hash as Hash32>⟧.digest_of clerk.old.directory.hash)
         (supplied_index clerk.old.directory.index) clerk.old.directory.state update index }
 {
-    let before = clerk.seen();
+    let before = seen_by(clerk);
     let supplied = clerk.supplied(rt);
     let Err((fault, update)) = clerk.install(rt, update, t) else {
         return false;
     };
     assert!(rt; fault == InstallFault::OutOfMemory, "{fault}");
-    assert!(rt; clerk.seen() == before);
+    assert!(rt; seen_by(clerk) == before);
     assert!(rt; clerk.supplied(rt) >= supplied);
+    are_first(rt, clerk);
     assert!(rt; clerk.install(rt, update, t).is_ok());
     true
 }
@@ -449,14 +383,7 @@ fn install_supplied_at_last(
 /// prepared, and whether one fails during its install.
 fn supplied_epochs<R: Threads + Sync + Abort>(rt: &R, alloc: Global) -> (bool, bool) {
     let (board, publisher) = new_board(rt, alloc, 4);
-    let source = SuppliedIndices::new(alloc);
-    let mut clerk = SuppliedClerk {
-        alloc,
-        directory: Directory::open(alloc, Sha256Hash, source, NONCE, POLICY),
-        signer: refusing(u64::MAX),
-        publisher,
-        board: &board,
-    };
+    let mut clerk = SuppliedClerk::new(alloc, &board, publisher, u64::MAX);
     let [a, b, c, d] = [b"a", b"b", b"c", b"d"].map(|name| Letters.index(name));
     let (first, _) = prepare_supplied_at_last(rt, &clerk, &FIRST, &[a, b]);
     install_supplied_at_last(rt, &mut clerk, first, 1);

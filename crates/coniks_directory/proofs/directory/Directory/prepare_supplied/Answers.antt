@@ -3,6 +3,7 @@ use Rattle.coniks_directory.proofs.Words.{IsJudgedFault, IsUpdateBy, Nonce, Regi
 use Rattle.coniks_directory.specs.SuppliedBatches.{given_index, index_in, indexed}
 use Rattle.coniks_directory.proofs.AgreementLemmas.{whole_agree}
 use Rattle.coniks_directory.proofs.FreshLemmas.{prepared_of}
+use Rattle.coniks_directory.proofs.PrepareLemmas.{few_anew, few_kept}
 use Rattle.coniks_directory.proofs.SuppliedBatchLemmas.{given_agree, held_is, judged_fault, limit_fault, no_fault, other_fault, within_is}
 use Rattle.coniks_directory.proofs.directory.Directory.prepare_supplied.Goals.{In-Ok, In-Ok-update_on}
 use Rattle.coniks_directory.proofs.directory.Directory.prepare_supplied.Given as given
@@ -79,7 +80,7 @@ returns-in-Ok-update_on-clause-installable g c =
     let made = made_in g (goal.at.returns-in-Ok-update_on-clause-installable g c).In-Ok-update_on in
     rw (← c.self.view_is)
     (record {
-      agree = given_agree registry index_of batch;
+      agree = λ fresh. given_agree registry index_of batch;
       update = prepared_of (g.H.Hash32.digest_of d.h)
           (index_in index_of registry batch) s c.in-Ok-update_on.update made.update;
       held = made.held;
@@ -97,6 +98,24 @@ returns-in-Ok-update_on-clause-indices g c =
 
 pub returns-in-Ok-update_on-clause-nodes : goal.returns-in-Ok-update_on-clause-nodes
 returns-in-Ok-update_on-clause-nodes g c = rw (← c.self.view_is) (made_in g (goal.at.returns-in-Ok-update_on-clause-nodes g c).In-Ok-update_on).nodes
+
+pub returns-in-Ok-update_on-clause-few : goal.returns-in-Ok-update_on-clause-few
+returns-in-Ok-update_on-clause-few g c = λ none.
+    rw (← c.self.view_is)
+    (few_kept (state_of c.self.inside.held) c.args.batch.now.nonce c.args.batch.now.ops.now c.in-Ok-update_on.update
+    (made_in g (goal.at.returns-in-Ok-update_on-clause-few g c).In-Ok-update_on).few none).0
+
+pub returns-in-Ok-update_on-clause-none : goal.returns-in-Ok-update_on-clause-none
+returns-in-Ok-update_on-clause-none g c = λ none empty.
+    rw (← c.self.view_is)
+    ((few_kept (state_of c.self.inside.held) c.args.batch.now.nonce c.args.batch.now.ops.now c.in-Ok-update_on.update
+    (made_in g (goal.at.returns-in-Ok-update_on-clause-none g c).In-Ok-update_on).few none).1 empty)
+
+pub returns-in-Ok-update_on-clause-anew : goal.returns-in-Ok-update_on-clause-anew
+returns-in-Ok-update_on-clause-anew g c = λ some.
+    rw (← c.self.view_is)
+    (few_anew (state_of c.self.inside.held) c.args.batch.now.nonce c.args.batch.now.ops.now c.in-Ok-update_on.update
+    (made_in g (goal.at.returns-in-Ok-update_on-clause-anew g c).In-Ok-update_on).few some)
 
 pub returns-in-Ok-update_on-clause-within : goal.returns-in-Ok-update_on-clause-within
 returns-in-Ok-update_on-clause-within g c =

@@ -2,10 +2,11 @@ use Rattle.std.proofs.Common.{◌≡◌, List, ℕ, ap, length, subst, sym, take
 use Rattle.std.specs.declared.alloc.AllocError.{AllocError}
 use Rattle.coniks_directory.proofs.Words.{Body, Record, Whole, before_at, history_of, latest_registry, registry_after, shown_after, state_of}
 use Rattle.coniks_directory.specs.Supplied.{AgreeOn, Supplied, supplied_index}
-use Rattle.coniks_directory.specs.SuppliedBatches.{IsSuppliedUpdate, indices_in, put_indices}
+use Rattle.coniks_directory.specs.SuppliedBatches.{IsSuppliedUpdate, LeavesIndices, indices_in, put_indices}
 use Rattle.coniks_directory.specs.Updates.{LeavesSigner}
+use Rattle.coniks_directory.specs.declared.update.InstallFault.TheVariants.{OutOfMemory}
 use Rattle.coniks_directory.proofs.AgreementLemmas.{body_agree, update_of_agree, whole_agree}
-use Rattle.coniks_directory.proofs.SuppliedBatchLemmas.{all_ok, held_take, if_err-map, if_ok-map, kept_agree, of_ok, supplied_all}
+use Rattle.coniks_directory.proofs.SuppliedBatchLemmas.{all_ok, held_take, if_err-map, if_ok-map, kept_agree, left_all, left_none, left_some, of_ok, supplied_all}
 use Rattle.coniks_directory.proofs.directory.supplying.Directory+H+SuppliedIndices.install_supplied.Goals.{After-install, After-supply_all, Else-is_err}
 use Rattle.coniks_directory.proofs.directory.supplying.Directory+H+SuppliedIndices.install_supplied.Given as given
 use Rattle.coniks_directory.proofs.directory.supplying.Directory+H+SuppliedIndices.install_supplied.Goals as goal
@@ -22,7 +23,7 @@ kept_in g c =
     let some = rw c.deref.ensures.value at c.supply_all.ensures.some.1 in
     let n = c.supply_all.ensures.some.0 in
     subst (λ (xs : List Supplied). AgreeOn (supplied_index d.source) (supplied_index xs) registry) (sym some)
-    (kept_agree index d.source (indices_in (take n records)) registry u.agree (held_take index records n u.held))
+    (kept_agree index d.source (indices_in (take n records)) registry (u.agree c.in_default.ensures.ok.fresh) (held_take index records n u.held))
 
 -- so the directory still satisfies its invariant
 whole_in : (g : given.Over) (c : After-supply_all g) → Whole (g.H.Hash32.digest_of c.self.inside.h) (supplied_index c.supply_all.new.source) (state_of c.self.inside.held)
@@ -47,7 +48,7 @@ agree_in g c index u =
     let s = state_of d.held in
     let hash = g.H.Hash32.digest_of d.h in
     subst (λ (xs : List Supplied). AgreeOn index (supplied_index xs) (registry_after s c.args.update))
-    (sym (put_in g c)) (supplied_all hash index d.source s c.args.update c.self.invariant u.agree u.held)
+    (sym (put_in g c)) (supplied_all hash index d.source s c.args.update c.self.invariant (u.agree c.in_default.ensures.ok.fresh) u.held)
 
 -- an install does not change the source
 index_in : (g : given.Over) (c : After-install g) → c.supply_all.new.source ≡ c.install.new.self.index
@@ -113,3 +114,31 @@ returns-clause-unasked g c =
     subst (λ (b : Body). LeavesSigner g.S.Sign.signs b signer c.install.new.signer r.0)
     (sym (body_agree hash index (supplied_index c.supply_all.new.source) s.policy (before_at hash s.before s.chain (length s.chain)) (shown_after s c.args.update c.args.t) agree)) leaves)
     c.install.ensures.unasked)
+
+-- before the indices are supplied, the source is as it was
+pub returns-in-Err-clause-left : goal.returns-in-Err-clause-left
+returns-in-Err-clause-left g c =
+    rw (← c.self.view_is) (left_none (indices_in c.args.update.records.items) c.self.inside.source c.in-Err.fault c.in-Err.ensures.unsigned)
+
+-- an allocation failed after the first of them
+pub returns-then-is_err-clause-left : goal.returns-then-is_err-clause-left
+returns-then-is_err-clause-left g c =
+    let source = c.self.inside.source in
+    let records = c.args.update.records.items in
+    let some = rw c.deref.ensures.value at c.supply_all.ensures.some.1 in
+    rw (← c.self.view_is)
+    (subst (λ (xs : List Supplied). LeavesIndices (indices_in records) source xs OutOfMemory) (sym some) (left_some records source c.supply_all.ensures.some.0))
+
+-- and an install does not change the source
+pub returns-clause-left : goal.returns-clause-left
+returns-clause-left g c =
+    let d = c.self.inside in
+    let s = state_of d.held in
+    let given = indices_in c.args.update.records.items in
+    let may = rw (c.published-published.ensures, c.capacity-capacity.ensures) at c.in_default.ensures.ok in
+    let put = sym (put_in g (goal.at.returns-clause-left g c).Else-is_err) ∙ index_in g (goal.at.returns-clause-left g c).After-install in
+    rw (← c.self.view_is)
+    (if_err-map c.install.result _ _ (λ r why.
+    subst (λ (xs : List Supplied). LeavesIndices given d.source xs r.0) put
+    (left_all s c.args.update.base c.args.t (length c.args.publisher.now.heads) c.args.board.now.capacity given d.source r.0 may why))
+    c.install.ensures.refused)
