@@ -1,25 +1,7 @@
--- A command with one more subcommand, or one more option.
-use Rattle.std.proofs.Common.{◌≡◌, ◌∙◌, ◌||◌, ap, refl, Bool, true}
-use Rattle.clap.specs.Words.{App, AddsArg, AddsSubcommand, Rule, is_simple_and_free, rule_of, shape_of, with_rule, with_subcommand}
-use Rattle.clap.specs.declared.builder.arg.Arg.{Arg}
-use Rattle.clap.specs.declared.builder.command.Command.{Command}
-use Rattle.clap.specs.declared.builder.command.Command.TheViews.{out-Command as fields_of}
-use Rattle.coniks_tool.specs.Keydir.{IsCommand, IsOption, keydir}
-
--- the command's app is the earlier one with the subcommand's app added
-pub adds-subcommand : (old sub new : Command) (before below : App) → AddsSubcommand old sub new → IsCommand before old → IsCommand below sub → IsCommand (with_subcommand before below.top) new
-adds-subcommand old sub new before below adds was is = (
-  adds.shape is.1 ∙ ap (λ (a : App). with_subcommand a (shape_of sub)) was.0 ∙ ap (λ (a : App). with_subcommand before a.top) is.0,
-  adds.globals ∙ ap (λ (b : Bool). b || (fields_of sub).has_globals) was.1 ∙ is.1,
-)
-
--- the command's app is the earlier one with the option's rule added
-pub adds-option : (old : Command) (option : Arg) (new : Command) (before : App) (rule : Rule)
-    → AddsArg old option new → IsCommand before old → IsOption rule option → IsCommand (with_rule before rule) new
-adds-option old option new before rule adds was is = (
-  adds.shape is.1 ∙ ap (λ (a : App). with_rule a (rule_of option)) was.0 ∙ ap (λ (r : Rule). with_rule before r) is.0,
-  adds.globals ∙ ap (λ (b : Bool). b || option.global) was.1 ∙ is.1,
-)
+-- The command of the program.
+use Rattle.std.proofs.Common.{◌≡◌, refl, true}
+use Rattle.clap.specs.Words.{is_simple_and_free}
+use Rattle.coniks_tool.specs.Keydir.{keydir}
 
 -- what `clap` defines for simple commands holds for `keydir`
 pub keydir-is_simple : is_simple_and_free keydir ≡ true

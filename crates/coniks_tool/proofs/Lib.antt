@@ -18,4 +18,3 @@ mod ReplyLemmas
 mod SealedLemmas
 mod StoreLemmas
 mod SubcommandLemmas
-mod TellingLemmas

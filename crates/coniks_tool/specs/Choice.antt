@@ -5,15 +5,13 @@ use Rattle.std.specs.Result.{result_ok}
 use Rattle.std.specs.Str.{bytes_eq}
 use Rattle.coniks_proof.specs.Octets.{Octets}
 use Rattle.clap.specs.Walk.{byte_or_zero}
-use Rattle.clap.specs.Words.{Row, Kinds, IsAmong, first_of, kind_of}
+use Rattle.clap.specs.Words.{Row, first_of}
 use Rattle.coniks_directory.specs.Batches.{AreWorkers}
 use Rattle.hex.specs.Hex.{decode_sized}
 use Rattle.coniks_work.specs.declared.jobs.TheConstants.{MAX_DEPTH}
 use Rattle.coniks_tool.specs.Expectations.{expectation_in}
 use Rattle.coniks_tool.specs.declared.cli.choice.Settings.{Settings}
 use Rattle.coniks_tool.specs.declared.cli.choice.Settings.TheVariants.{Run, Check, Audit, Monitor}
-use Rattle.coniks_tool.specs.declared.cli.choice.WordsFault.{WordsFault}
-use Rattle.coniks_tool.specs.declared.cli.choice.WordsFault.TheVariants.{Clap, OutOfMemory}
 
 -- what to do
 pub data Choice : Type 0 where
@@ -85,8 +83,3 @@ lacks_expectation _ = false
 -- a key or an expectation is asked for, and its text isn't one
 abbrev pub Lacks : Option Choice → Type 0
 Lacks choice = (lacks_key choice ≡ true) ⊎ (lacks_expectation choice ≡ true)
-
--- memory ran out, or it is an error of `clap` of one of these kinds
-abbrev pub IsRefusal : Kinds → WordsFault → Type 0
-IsRefusal kinds (Clap error) = IsAmong (kind_of error) kinds
-IsRefusal kinds OutOfMemory = Unit {0}

@@ -1,11 +1,8 @@
 -- The command line of the program, as `clap`'s definitions see it.
-use Rattle.std.specs.Prelude.{◌≡◌, ℤ, Bool, codes, pos, false, true, [], ◌∷◌, Some}
+use Rattle.std.specs.Prelude.{ℤ, Bool, codes, pos, false, true, [], ◌∷◌, Some}
 use Rattle.coniks_proof.specs.Octets.{Octets}
-use Rattle.clap.specs.Words.{App, Rule, app_of, new_app, new_rule, rule_of, with_rule, with_subcommand}
+use Rattle.clap.specs.Words.{App, Rule, new_app, new_rule, with_rule, with_subcommand}
 use Rattle.clap.specs.Simple.{on_top}
-use Rattle.clap.specs.declared.builder.arg.Arg.{Arg}
-use Rattle.clap.specs.declared.builder.command.Command.{Command}
-use Rattle.clap.specs.declared.builder.command.Command.TheViews.{out-Command as fields_of}
 use Rattle.clap.specs.declared.builder.value_parser.ValueParser.TheVariants as parser
 
 -- an option with this name, the range of its number, and its default
@@ -72,11 +69,3 @@ with_run_and_check = with_subcommand (with_subcommand keydir_top run_app.top) ch
 -- the command with its subcommands
 abbrev pub keydir : App
 keydir = with_subcommand (with_subcommand with_run_and_check audit_app.top) monitor_app.top
-
--- the argument has this rule, and is not global
-abbrev pub IsOption : Rule → Arg → Type 0
-IsOption rule option = (rule_of option ≡ rule) × (option.global ≡ false)
-
--- the command has this app, and no global argument
-abbrev pub IsCommand : App → Command → Type 0
-IsCommand app command = (app_of command ≡ app) × ((fields_of command).has_globals ≡ false)

@@ -2,11 +2,13 @@
 use Rattle.std.specs.Prelude.{◌≡◌, ◌≢◌, ◌⊎◌, ℕ, List, [], Bool, true, false, codes, Option, Some, None, Result, Ok, Err}
 use Rattle.std.specs.String.{string_bytes}
 use Rattle.coniks_proof.specs.Octets.{Octets}
-use Rattle.clap.specs.Words.{Kinds, IsAmong, fault_of, subcommand_of}
-use Rattle.clap.specs.declared.error.kind.ErrorKind.{ErrorKind}
-use Rattle.clap.specs.declared.error.kind.ErrorKind.TheVariants.{DisplayHelp, DisplayVersion}
-use Rattle.coniks_lines.specs.Known.{Sink, Appends, next_count}
-use Rattle.coniks_lines.specs.Runs.{IsBeginning, WritesOn, CannotRead, CannotWrite, EndsBadly, EndsWell, FailsWithBoard, Streams}
+use Rattle.clap.specs.Words.{fault_of, subcommand_of, takes}
+use Rattle.coniks_cli.specs.Help.{AsksForHelp, Fails, HasMistake, IsCutOff, IsIdle, IsShown, NeverBegins}
+use Rattle.coniks_cli.specs.Telling.{TellsIf}
+use Rattle.coniks_cli.specs.declared.arguments.Unread.{Unread}
+use Rattle.coniks_cli.specs.declared.arguments.Unread.TheVariants as unread
+use Rattle.coniks_lines.specs.Known.{Sink}
+use Rattle.coniks_lines.specs.Runs.{EndsBadly, EndsWell, FailsWithBoard, Streams}
 use Rattle.coniks_lines.specs.declared.fault.RunFault.{RunFault}
 use Rattle.coniks_lines.specs.declared.fault.RunFault.TheVariants.{Read, Write, OutOfMemory, NoBoard}
 use Rattle.coniks_tool.specs.Audit.{AuditState, audit_answer, none_audited}
@@ -16,8 +18,6 @@ use Rattle.coniks_tool.specs.Expectations.{expectation_in}
 use Rattle.coniks_tool.specs.Keydir.{keydir}
 use Rattle.coniks_tool.specs.Monitor.{MonitorState, monitor_answer, none_watched}
 use Rattle.coniks_tool.specs.Script.{ScriptState, script_answer}
-use Rattle.coniks_tool.specs.declared.cli.choice.Unread.{Unread}
-use Rattle.coniks_tool.specs.declared.cli.choice.Unread.TheVariants as unread
 use Rattle.coniks_tool.specs.declared.cli.ending.Ending.{Ending}
 use Rattle.coniks_tool.specs.declared.cli.ending.Ending.TheVariants.{Done, Refused, BadKey, BadExpectation}
 
@@ -46,29 +46,6 @@ bad_key_line = codes "keydir: bad key\n"
 abbrev pub bad_expectation_line : Octets
 bad_expectation_line = codes "keydir: bad expectation\n"
 
--- a text was written, and one flush followed
-pub record TellsWhole (old : Sink) (text : Octets) (new : Sink) : Type 0 where
-  pub written : Appends old text new
-  pub flushed : new.flushes ≡ next_count old.flushes
-  pub writes_on : WritesOn old new
-
--- a beginning of a text was written, and then a write or the flush did not go on
-pub record TellsPart (old : Sink) (text : Octets) (new : Sink) : Type 0 where
-  pub part : Octets
-  pub begins : IsBeginning part text
-  pub written : Appends old part new
-  pub because : CannotWrite old new
-
--- a text was written as far as the sink allowed
-abbrev pub Tells : Sink → Octets → Sink → Type 0
-Tells old text new = TellsWhole old text new ⊎ TellsPart old text new
-
--- an error of `clap` of this kind is a text that was asked for
-abbrev pub is_asked_for : ErrorKind → Bool
-is_asked_for DisplayHelp = true
-is_asked_for DisplayVersion = true
-is_asked_for _ = false
-
 -- the status of an ending
 abbrev pub status_of : Result Ending RunFault → ℕ
 status_of (Ok (Done true)) = 0
@@ -85,19 +62,6 @@ told_of (Ok (Refused text)) = Some (string_bytes text)
 told_of (Ok BadKey) = Some bad_key_line
 told_of (Ok BadExpectation) = Some bad_expectation_line
 told_of (Err fault) = Some (fault_line fault)
-
--- the text was written as far as the sink allowed; without a text, nothing was
-abbrev pub TellsIf : Option Octets → Sink → Sink → Type 0
-TellsIf None old new = new ≡ old
-TellsIf (Some text) old new = Tells old text new
-
--- one of the kinds that `clap` may give is a text that was asked for
-abbrev pub AsksForHelp : Kinds → Type 0
-AsksForHelp kinds = (kind : ErrorKind) × (IsAmong kind kinds × (is_asked_for kind ≡ true))
-
--- one of the kinds that `clap` may return is a mistake in the arguments
-abbrev pub HasMistake : Kinds → Type 0
-HasMistake kinds = (kind : ErrorKind) × (IsAmong kind kinds × (is_asked_for kind ≡ false))
 
 -- `audit` ran under the key that this text is
 pub record Audits (text : Octets) (io : Streams) (all : Bool) : Type 0 where
@@ -134,18 +98,6 @@ BreaksOff (Some (monitor text name expect)) io fault =
     (key : Octets) × (expected : Option Octets) × (key_in text ≡ Some key) × (expectation_in expect ≡ Some expected)
     × EndsBadly monitor_answer (none_watched key name expected) io fault
 
--- memory ran out before anything was read or written
-abbrev pub NeverBegins : Streams → RunFault → Type 0
-NeverBegins io fault = (fault ≡ OutOfMemory) × (io.from' ≡ io.from) × (io.to' ≡ io.to)
-
--- help or the version was shown: a text was written whole, and flushed once
-abbrev pub IsShown : Streams → Type 0
-IsShown io = (io.from' ≡ io.from) × ((text : Octets) × TellsWhole io.to text io.to')
-
--- help or the version was not shown to its end
-abbrev pub IsCutOff : Streams → RunFault → Type 0
-IsCutOff io fault = (fault ≡ Write) × (io.from' ≡ io.from) × ((text : Octets) × TellsPart io.to text io.to')
-
 -- `clap` finds no mistake in the arguments, and what they choose was run
 pub record RunsFor (words : List Octets) (io : Streams) (all : Bool) : Type 0 where
   pub faultless : fault_of keydir words ≡ []
@@ -176,31 +128,6 @@ pub record HasBadExpectation (words : List Octets) : Type 0 where
 abbrev pub HasBadText : List Octets → Type 0
 HasBadText words = HasBadKey words ⊎ HasBadExpectation words
 
--- the arguments choose no run: `clap` finds a mistake or a request for help, or a text in them is not valid
-abbrev pub ChooseNoRun : List Octets → Type 0
-ChooseNoRun words = (fault_of keydir words ≢ []) ⊎ HasBadText words
-
--- the program may end in this way for these arguments
-abbrev pub EndsFor : List Octets → Streams → Ending → Type 0
-EndsFor words io (Done true) = RunsFor words io true ⊎ (AsksForHelp (fault_of keydir words) × IsShown io)
-EndsFor words io (Done false) = RunsFor words io false
-EndsFor words io (Refused text) = HasMistake (fault_of keydir words)
-EndsFor words io BadKey = HasBadKey words
-EndsFor words io BadExpectation = HasBadExpectation words
-
--- a choice ends in this way
-abbrev pub EndsBy : Option Choice → Streams → Ending → Type 0
-EndsBy choice io (Done all) = Runs choice io all
-EndsBy choice io (Refused text) = ⊥
-EndsBy choice io BadKey = lacks_key choice ≡ true
-EndsBy choice io BadExpectation = lacks_expectation choice ≡ true
-
--- an error of this kind is explained in this way
-abbrev pub IsExplained : ErrorKind → Ending → Type 0
-IsExplained kind (Done true) = is_asked_for kind ≡ true
-IsExplained kind (Refused text) = is_asked_for kind ≡ false
-IsExplained kind _ = ⊥
-
 -- a run of this choice has a board
 abbrev pub HasBoard : Option Choice → Type 0
 HasBoard None = ⊥
@@ -214,20 +141,32 @@ pub record AsksForBoard (words : List Octets) : Type 0 where
   pub faultless : fault_of keydir words ≡ []
   pub has_board : HasBoard (chosen (subcommand_of keydir words))
 
--- what each error says: which stream did not go on, if one did not; without a
--- board, that one was wanted, and that nothing was read or written
-abbrev pub Fails : Type 0 → Streams → RunFault → Type 0
-Fails wanted io Read = CannotRead io.from io.from' × WritesOn io.to io.to'
-Fails wanted io Write = (io.from'.failed ≡ io.from.failed) × CannotWrite io.to io.to'
-Fails wanted io OutOfMemory = (io.from'.failed ≡ io.from.failed) × WritesOn io.to io.to'
-Fails wanted io NoBoard = wanted × ((io.from' ≡ io.from) × (io.to' ≡ io.to))
+-- a choice may end in this way
+abbrev pub EndsBy : Option Choice → Streams → Result Ending RunFault → Type 0
+EndsBy choice io (Ok (Done all)) = Runs choice io all
+EndsBy choice io (Ok (Refused text)) = ⊥
+EndsBy choice io (Ok BadKey) = (lacks_key choice ≡ true) × IsIdle io
+EndsBy choice io (Ok BadExpectation) = (lacks_expectation choice ≡ true) × IsIdle io
+EndsBy choice io (Err fault) = Fails (HasBoard choice) io fault × (BreaksOff choice io fault ⊎ NeverBegins io fault)
 
--- the fact holds if `clap` refused the arguments
-abbrev pub IfRefused : Ending → Type 0 → Type 0
-IfRefused (Refused text) fact = fact
-IfRefused _ fact = Unit {0}
+-- `clap` refuses the arguments with a text that isn't empty
+pub record IsRefused (words : List Octets) (text : Octets) : Type 0 where
+  pub mistake : HasMistake (fault_of keydir words)
+  pub untaken : takes keydir words ≢ true
+  pub some : text ≢ []
 
--- the fact holds if the program is done
-abbrev pub IfDone : Ending → Type 0 → Type 0
-IfDone (Done all) fact = fact
-IfDone _ fact = Unit {0}
+-- the program may end in this way for these arguments
+abbrev pub EndsFor : List Octets → Streams → Result Ending RunFault → Type 0
+EndsFor words io (Ok (Done true)) = RunsFor words io true ⊎ (AsksForHelp (fault_of keydir words) × IsShown io)
+EndsFor words io (Ok (Done false)) = RunsFor words io false
+EndsFor words io (Ok (Refused text)) = IsRefused words (string_bytes text) × IsIdle io
+EndsFor words io (Ok BadKey) = HasBadKey words × IsIdle io
+EndsFor words io (Ok BadExpectation) = HasBadExpectation words × IsIdle io
+EndsFor words io (Err fault) = Fails (AsksForBoard words) io fault × StopsAt words io fault
+
+-- the program ended in one of these ways, returned its status, and wrote its text to standard error, if it has one
+pub record IsOutcome (words : List Octets) (io : Streams) (old new : Sink) (status : ℕ) : Type 0 where
+  pub outcome : Result Ending RunFault
+  pub ends : EndsFor words io outcome
+  pub status_is : status ≡ status_of outcome
+  pub told : TellsIf (told_of outcome) old new

@@ -7,4 +7,3 @@ pub(crate) mod help;
 pub(crate) mod running;
 pub(crate) mod settings;
 pub(crate) mod statuses;
-pub(crate) mod telling;

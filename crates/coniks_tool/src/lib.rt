@@ -21,9 +21,10 @@ pub use audit::laws as audit_laws;
 pub use audit::machine::run_audit;
 pub use check::laws as check_laws;
 pub use check::machine::run_check;
-pub use cli::choice::{Settings, Unread, WordsFault};
+pub use cli::choice::Settings;
 pub use cli::settings::settings;
 pub use cli::statuses::{program, unread_words};
+pub use coniks_cli::{Unread, WordsFault, words};
 pub use coniks_lines::{
     ByteIn, ByteOut, Failed, MemoryIn, MemoryOut, RunFault, SystemIn, SystemOut,
 };

@@ -1,9 +1,7 @@
 //! The program `keydir`, which passes its arguments and streams to `coniks_tool::program`.
 #![tactic(auto)]
 
-use coniks_tool::{SystemIn, SystemOut, Unread, program, unread_words};
-use std::env;
-use std::io::ErrorKind;
+use coniks_tool::{SystemIn, SystemOut, program, unread_words, words};
 use std::process::ExitCode;
 
 fn main(rt: HostRuntime) -> ExitCode {
@@ -23,13 +21,4 @@ fn main(rt: HostRuntime) -> ExitCode {
         &mut errors,
     );
     ExitCode::from(status)
-}
-
-/// Returns the arguments that the program was called with.
-fn words(rt: &HostRuntime) -> Result<Vec<String>, Unread> {
-    match env::args(rt) {
-        Ok(words) => words.collect(rt.alloc()).or(Err(Unread::OutOfMemory)),
-        Err(error) if error.kind() == ErrorKind::OutOfMemory => Err(Unread::OutOfMemory),
-        Err(_) => Err(Unread::NotText),
-    }
 }

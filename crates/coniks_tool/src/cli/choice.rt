@@ -1,7 +1,5 @@
 //! The settings that the command line selects.
 
-use clap::Error;
-
 /// The settings of a command line.
 #[derive(Clone, Copy, Debug, PartialEq, Eq)]
 pub enum Settings<'a> {
@@ -26,22 +24,4 @@ pub enum Settings<'a> {
         name: &'a str,
         expect: Option<&'a str>,
     },
-}
-
-/// The error of a command line without settings.
-#[derive(Debug, Drop)]
-pub enum WordsFault {
-    /// `clap` refused the arguments, or they ask for help or the version.
-    Clap(Error),
-    /// An allocation failed.
-    OutOfMemory,
-}
-
-/// The error of arguments that cannot be read.
-#[derive(Clone, Copy, Debug, PartialEq, Eq)]
-pub enum Unread {
-    /// An argument is not UTF-8.
-    NotText,
-    /// An allocation failed.
-    OutOfMemory,
 }

@@ -1,13 +1,15 @@
 //! The command that parses the command line.
 
 ghost use Rattle.std.specs.Prelude.{◌≡◌, ℤ, IfOk, false, true};
-ghost use Rattle.clap.specs.Words.{app_of, new_app, with_rule, with_subcommand, App, Rule};
+ghost use Rattle.clap.specs.Words.{app_of, new_app};
 ghost use Rattle.clap.specs.declared.builder.command.Command.TheViews.{out-Command as fields_of};
-ghost use Rattle.coniks_tool.specs.Keydir.{audit_app, check_app, key_rule, keydir, keydir_top, monitor_app, number_rule, run_app, text_rule, IsCommand, IsOption};
+ghost use Rattle.coniks_cli.specs.Commands.{IsCommand, IsOption};
+ghost use Rattle.coniks_tool.specs.Keydir.{audit_app, check_app, key_rule, keydir, keydir_top, monitor_app, number_rule, run_app, text_rule};
 
 use crate::cli::help;
 use clap::builder::ValueParser;
 use clap::{Arg, Command};
+use coniks_cli::{with_below, with_option};
 use std::alloc::{AllocError, Global};
 
 /// Returns a command of this name, with the first and the last text of its help.
@@ -115,27 +117,4 @@ pub(crate) fn keydir_command<'a>(alloc: Global) -> Result<Command<'a>, AllocErro
     let with_check = with_below(with_run, Ok(check_command(alloc)));
     let with_audit = with_below(with_check, audit_command(alloc));
     with_below(with_audit, monitor_command(alloc))
-}
-
-/// Returns a command with one more option, if the command could be allocated.
-fn with_option<'a>(
-    command: Result<Command<'a>, AllocError>,
-    option: Arg<'a>,
-) -> Result<Command<'a>, AllocError>
-    ensures { (before : App) (rule : Rule) → IfOk command.entry (IsCommand before)
-        → IsOption rule option.entry → IfOk result (IsCommand (with_rule before rule)) }
-{
-    command?.arg(option)
-}
-
-/// Returns a command with one more subcommand, if both could be allocated.
-fn with_below<'a>(
-    command: Result<Command<'a>, AllocError>,
-    below: Result<Command<'a>, AllocError>,
-) -> Result<Command<'a>, AllocError>
-    ensures { (before under : App) → IfOk command.entry (IsCommand before)
-        → IfOk below.entry (IsCommand under) → IfOk result (IsCommand (with_subcommand before under.top)) }
-{
-    let command = command?;
-    command.subcommand(below?)
 }

@@ -1,13 +1,11 @@
 //! Runs the settings of a command line.
 
-ghost use Rattle.std.specs.Prelude.{◌≡◌, ◌⊎◌, ◌<◌, ◌≤◌, ◌+◌, ◌^◌, IfOk, None, Some, option_map, IfErr};
+ghost use Rattle.std.specs.Prelude.{◌≡◌, ◌<◌, ◌+◌, ◌^◌, IfErr, IfOk, Some, option_map};
 ghost use Rattle.coniks_lines.specs.Runs.{streams};
-ghost use Rattle.coniks_tool.specs.Choice.{audit, choice_of, key_in, monitor, IsWithinLimits, Lacks};
-ghost use Rattle.coniks_tool.specs.Expectations.{expectation_in};
-ghost use Rattle.coniks_tool.specs.Program.{BreaksOff, EndsBy, Fails, HasBoard, NeverBegins};
-ghost use Rattle.coniks_directory.specs.Batches.{AreWorkers};
 ghost use Rattle.coniks_lines.specs.declared.fault.RunFault.TheVariants.{OutOfMemory};
-ghost use Rattle.coniks_work.specs.declared.jobs.TheConstants.{MAX_DEPTH};
+ghost use Rattle.coniks_tool.specs.Choice.{IsWithinLimits, audit, choice_of, monitor};
+ghost use Rattle.coniks_tool.specs.Expectations.{expectation_in};
+ghost use Rattle.coniks_tool.specs.Program.{EndsBy};
 
 use crate::audit::machine::run_audit;
 use crate::check::machine::run_check;
@@ -33,15 +31,8 @@ pub(crate) fn run_settings<T: Threads + Sync, R: ByteIn, W: ByteOut>(
     requires within { IsWithinLimits settings }
     requires reads { (R.source reader.old).failed + 1 < 2 ^ 64 }
     requires writes { (W.sink writer.old).failed + 1 < 2 ^ 64 }
-    ensures ends { IfOk result (EndsBy (Some (choice_of settings.entry))
-        (streams (R.source reader.old) (R.source reader.new) (W.sink writer.old) (W.sink writer.new))) }
-    ensures idle_reader { Lacks (Some (choice_of settings.entry)) → R.source reader.new ≡ R.source reader.old }
-    ensures idle_writer { Lacks (Some (choice_of settings.entry)) → W.sink writer.new ≡ W.sink writer.old }
-    ensures fails { IfErr result (Fails (HasBoard (Some (choice_of settings.entry)))
-        (streams (R.source reader.old) (R.source reader.new) (W.sink writer.old) (W.sink writer.new))) }
-    ensures stops { IfErr result (λ fault. BreaksOff (Some (choice_of settings.entry))
-        (streams (R.source reader.old) (R.source reader.new) (W.sink writer.old) (W.sink writer.new)) fault
-        ⊎ NeverBegins (streams (R.source reader.old) (R.source reader.new) (W.sink writer.old) (W.sink writer.new)) fault) }
+    ensures { EndsBy (Some (choice_of settings.entry))
+        (streams (R.source reader.old) (R.source reader.new) (W.sink writer.old) (W.sink writer.new)) result }
 {
     match settings {
         Settings::Run { workers, depth } => {
@@ -65,13 +56,8 @@ fn audit_under<R: ByteIn, W: ByteOut>(
 ) -> Result<Ending, RunFault>
     requires reads { (R.source reader.old).failed + 1 < 2 ^ 64 }
     requires writes { (W.sink writer.old).failed + 1 < 2 ^ 64 }
-    ensures ends { IfOk result (EndsBy (Some (audit key.now)) (streams (R.source reader.old) (R.source reader.new) (W.sink writer.old) (W.sink writer.new))) }
-    ensures idle_reader { Lacks (Some (audit key.now)) → R.source reader.new ≡ R.source reader.old }
-    ensures idle_writer { Lacks (Some (audit key.now)) → W.sink writer.new ≡ W.sink writer.old }
-    ensures fails { IfErr result (Fails ⊥ (streams (R.source reader.old) (R.source reader.new) (W.sink writer.old) (W.sink writer.new))) }
-    ensures stops { IfErr result (λ fault. BreaksOff (Some (audit key.now))
-        (streams (R.source reader.old) (R.source reader.new) (W.sink writer.old) (W.sink writer.new)) fault
-        ⊎ NeverBegins (streams (R.source reader.old) (R.source reader.new) (W.sink writer.old) (W.sink writer.new)) fault) }
+    ensures { EndsBy (Some (audit key.now))
+        (streams (R.source reader.old) (R.source reader.new) (W.sink writer.old) (W.sink writer.new)) result }
 {
     match bytes_of_digits(key) {
         Some(key) => Ok(Ending::Done(run_audit(alloc, key, reader, writer)?)),
@@ -90,14 +76,8 @@ fn watch_under<R: ByteIn, W: ByteOut>(
 ) -> Result<Ending, RunFault>
     requires reads { (R.source reader.old).failed + 1 < 2 ^ 64 }
     requires writes { (W.sink writer.old).failed + 1 < 2 ^ 64 }
-    ensures ends { IfOk result (EndsBy (Some (monitor key.now name.now (option_map (λ text. text.now) expect.entry)))
-        (streams (R.source reader.old) (R.source reader.new) (W.sink writer.old) (W.sink writer.new))) }
-    ensures idle_reader { Lacks (Some (monitor key.now name.now (option_map (λ text. text.now) expect.entry))) → R.source reader.new ≡ R.source reader.old }
-    ensures idle_writer { Lacks (Some (monitor key.now name.now (option_map (λ text. text.now) expect.entry))) → W.sink writer.new ≡ W.sink writer.old }
-    ensures fails { IfErr result (Fails ⊥ (streams (R.source reader.old) (R.source reader.new) (W.sink writer.old) (W.sink writer.new))) }
-    ensures stops { IfErr result (λ fault. BreaksOff (Some (monitor key.now name.now (option_map (λ text. text.now) expect.entry)))
-        (streams (R.source reader.old) (R.source reader.new) (W.sink writer.old) (W.sink writer.new)) fault
-        ⊎ NeverBegins (streams (R.source reader.old) (R.source reader.new) (W.sink writer.old) (W.sink writer.new)) fault) }
+    ensures { EndsBy (Some (monitor key.now name.now (option_map (λ text. text.now) expect.entry)))
+        (streams (R.source reader.old) (R.source reader.new) (W.sink writer.old) (W.sink writer.new)) result }
 {
     let Some(key) = bytes_of_digits(key) else {
         return Ok(Ending::BadKey);

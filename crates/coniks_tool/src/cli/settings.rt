@@ -3,15 +3,16 @@
 ghost use Rattle.std.specs.Prelude.{◌≡◌, IfOk, IfErr, OnOk, Some, [], codes, is_some, map, option_map, true};
 ghost use Rattle.std.specs.Str.{bytes_eq};
 ghost use Rattle.clap.specs.Walk.{byte_or_zero};
-ghost use Rattle.clap.specs.Words.{Kinds, HasKind, fault_of, first_of, found_of, kind_of, rows_of, subcommand_of, takes};
+ghost use Rattle.clap.specs.Words.{fault_of, first_of, found_of, rows_of, subcommand_of, takes};
 ghost use Rattle.coniks_tool.specs.Keydir.{keydir};
-ghost use Rattle.coniks_tool.specs.Choice.{choice_by, choice_of, chosen, depth_of, number_of, run, text_of, workers_of, AreWordsWithin, IsRefusal, IsWithinLimits};
-ghost use Rattle.coniks_tool.specs.declared.cli.choice.WordsFault.TheVariants.{OutOfMemory};
+ghost use Rattle.coniks_tool.specs.Choice.{choice_by, choice_of, chosen, depth_of, number_of, run, text_of, workers_of, AreWordsWithin, IsWithinLimits};
+ghost use Rattle.coniks_cli.specs.Refusals.{IsRefusal};
+ghost use Rattle.coniks_cli.specs.declared.refusing.WordsFault.TheVariants.{OutOfMemory};
 
-use crate::cli::choice::{Settings, WordsFault};
+use crate::cli::choice::Settings;
 use crate::cli::command::keydir_command;
-use clap::error::ErrorKind;
-use clap::{ArgMatches, Error};
+use clap::ArgMatches;
+use coniks_cli::{WordsFault, refused};
 use std::alloc::Global;
 use std::convert::AsStr;
 
@@ -37,7 +38,7 @@ pub fn settings<'a, S: AsStr>(alloc: Global, words: &'a [S]) -> Result<Settings<
     };
     let matches = match command.try_get_matches_from(words) {
         Ok(matches) => matches,
-        Err(error) => return Err(refusal(error)),
+        Err(error) => return Err(refused(error)),
     };
     match matches.subcommand() {
         Some((name, found)) => Ok(settings_by(name, found)),
@@ -112,15 +113,5 @@ fn text_or_empty<'a>(found: &ArgMatches<'a>, name: &str) -> &'a str
     match text(found, name) {
         Some(text) => text,
         None => "",
-    }
-}
-
-fn refusal(error: Error) -> WordsFault
-    ensures memory { kind_of error ≡ ErrorKind.OutOfMemory → result ≡ OutOfMemory }
-    ensures kind { (kinds : Kinds) → HasKind kinds error → IsRefusal kinds result }
-{
-    match error.kind() {
-        ErrorKind::OutOfMemory => WordsFault::OutOfMemory,
-        _ => WordsFault::Clap(error),
     }
 }

@@ -1,20 +1,19 @@
 //! The whole program over its streams.
 
-ghost use Rattle.std.specs.Prelude.{◌≡◌, ◌≢◌, ◌⊎◌, ◌<◌, ◌≤◌, ◌+◌, ◌^◌, IfErr, IfOk, false, map, true};
-ghost use Rattle.coniks_proof.specs.Octets.{Octets};
-ghost use Rattle.clap.specs.Words.{fault_of, kind_of, takes};
+ghost use Rattle.std.specs.Prelude.{◌≡◌, ◌≢◌, ◌<◌, ◌+◌, ◌^◌, List, map, true};
+ghost use Rattle.clap.specs.Words.{IsAmong, fault_of, kind_of, takes};
+ghost use Rattle.coniks_cli.specs.Telling.{Tells};
 ghost use Rattle.coniks_lines.specs.Known.{Source};
 ghost use Rattle.coniks_lines.specs.Runs.{streams};
-ghost use Rattle.coniks_lines.specs.declared.fault.RunFault.{RunFault as Fault};
+ghost use Rattle.coniks_proof.specs.Octets.{Octets};
 ghost use Rattle.coniks_tool.specs.Keydir.{keydir};
-ghost use Rattle.coniks_tool.specs.Program.{bad_expectation_line, bad_key_line, fault_line, status_of, told_of, is_asked_for, unread_line, unread_status, AsksForHelp, ChooseNoRun, EndsFor, HasBadExpectation, HasBadKey, HasBadText, HasMistake, IfDone, IfRefused, IsCutOff, IsExplained, IsShown, NeverBegins, RunsFor, StopsAt, Tells, TellsIf, AsksForBoard, Fails};
+ghost use Rattle.coniks_tool.specs.Program.{EndsFor, IsOutcome, unread_line, unread_status};
 
-use crate::cli::choice::{Unread, WordsFault};
 use crate::cli::ending::{Ending, fault_text, status, told};
 use crate::cli::running::run_settings;
 use crate::cli::settings::settings;
-use crate::cli::telling::tell;
 use clap::Error;
+use coniks_cli::{Explained, Unread, WordsFault, explain, tell, tell_if};
 use coniks_lines::{ByteIn, ByteOut, RunFault};
 use std::alloc::Global;
 use std::convert::AsStr;
@@ -41,53 +40,16 @@ pub fn program<T: Threads + Sync, S: AsStr, R: ByteIn, W: ByteOut, E: ByteOut>(
     requires reads { (R.source reader.old).failed + 1 < 2 ^ 64 }
     requires writes { (W.sink writer.old).failed + 1 < 2 ^ 64 }
     requires tells { (E.sink errors.old).failed + 1 < 2 ^ 64 }
-    ensures status { result ≤ 3 }
-
     // The result of `clap` for the arguments decides between a run, help or the version, and an error. A run is that of
-    // the settings, under their key and expectation. Its status is 0 if it accepted every line, and else 1.
-    ensures done { result ≡ 0 → RunsFor (map S.text words.entry.now)
-        (streams (R.source reader.old) (R.source reader.new) (W.sink writer.old) (W.sink writer.new)) true
-        ⊎ (AsksForHelp (fault_of keydir (map S.text words.entry.now))
-        × IsShown (streams (R.source reader.old) (R.source reader.new) (W.sink writer.old) (W.sink writer.new))) }
-    ensures ran { result ≡ 1 → RunsFor (map S.text words.entry.now)
-        (streams (R.source reader.old) (R.source reader.new) (W.sink writer.old) (W.sink writer.new)) false }
-    ensures refused { result ≡ 2 → HasMistake (fault_of keydir (map S.text words.entry.now)) ⊎ HasBadText (map S.text words.entry.now) }
-    ensures taken { takes keydir (map S.text words.entry.now) ≡ true → result ≡ 2 → HasBadText (map S.text words.entry.now) }
-    ensures bad_key { HasBadKey (map S.text words.entry.now) → 2 ≤ result }
-    ensures bad_expectation { HasBadExpectation (map S.text words.entry.now) → 2 ≤ result }
-
-    // Nothing is written to `errors` if the run succeeds. Arguments that select no run leave the input unread, whatever
-    // the status. They are those that `clap` refuses, those that ask for help, and those with a bad key or expectation.
-    // Refused arguments leave the output unwritten too.
-    ensures quiet { result ≤ 1 → E.sink errors.new ≡ E.sink errors.old }
-    ensures unread { result ≡ 2 → R.source reader.new ≡ R.source reader.old }
-    ensures unwritten { result ≡ 2 → W.sink writer.new ≡ W.sink writer.old }
-    ensures idle_reader { ChooseNoRun (map S.text words.entry.now) → R.source reader.new ≡ R.source reader.old }
-    ensures idle_writer { HasBadText (map S.text words.entry.now) → W.sink writer.new ≡ W.sink writer.old }
-    ensures refused_told { result ≡ 2 → (text : Octets) × Tells (E.sink errors.old) text (E.sink errors.new) }
-    ensures bad_key_told { HasBadKey (map S.text words.entry.now) → result ≡ 2 → Tells (E.sink errors.old) bad_key_line (E.sink errors.new) }
-    ensures bad_expectation_told { HasBadExpectation (map S.text words.entry.now)
-        → result ≡ 2 → Tells (E.sink errors.old) bad_expectation_line (E.sink errors.new) }
-    // At status 3 the line in `errors` is that of the error that ended the run, and of no other. The answers until then
-    // are written, and of help or the version a prefix.
-    ensures told { result ≡ 3 → (fault : Fault) × (Tells (E.sink errors.old) (fault_line fault) (E.sink errors.new)
-        × (Fails (AsksForBoard (map S.text words.entry.now)) (streams (R.source reader.old) (R.source reader.new) (W.sink writer.old) (W.sink writer.new)) fault
-        × StopsAt (map S.text words.entry.now) (streams (R.source reader.old) (R.source reader.new) (W.sink writer.old) (W.sink writer.new)) fault)) }
+    // the settings, under their key and expectation. Arguments that select no run leave the input unread, whatever the
+    // status, and refused ones leave the output unwritten too. Nothing is written to `errors` if the run ends.
+    ensures { IsOutcome (map S.text words.entry.now)
+        (streams (R.source reader.old) (R.source reader.new) (W.sink writer.old) (W.sink writer.new))
+        (E.sink errors.old) (E.sink errors.new) result }
 {
     let outcome = dispatch(rt, alloc, words, reader, writer);
-    conclude(&outcome, errors)
-}
-
-/// Writes the error of an outcome, if any, and returns the status.
-fn conclude<E: ByteOut>(outcome: &Result<Ending, RunFault>, errors: &mut E) -> u8
-    requires { (E.sink errors.old).failed + 1 < 2 ^ 64 }
-    ensures status { result ≡ status_of outcome.now }
-    ensures told { TellsIf (told_of outcome.now) (E.sink errors.old) (E.sink errors.new) }
-{
-    if let Some(text) = told(outcome) {
-        let _ = tell(errors, text);
-    }
-    status(outcome)
+    tell_if(errors, told(&outcome));
+    status(&outcome)
 }
 
 /// Writes the error of arguments that cannot be read, and returns the status.
@@ -124,41 +86,29 @@ fn dispatch<T: Threads + Sync, S: AsStr, R: ByteIn, W: ByteOut>(
 ) -> Result<Ending, RunFault>
     requires reads { (R.source reader.old).failed + 1 < 2 ^ 64 }
     requires writes { (W.sink writer.old).failed + 1 < 2 ^ 64 }
-    ensures found { IfOk result (EndsFor (map S.text words.entry.now)
-        (streams (R.source reader.old) (R.source reader.new) (W.sink writer.old) (W.sink writer.new))) }
-    ensures taken { IfOk result (λ ending. IfRefused ending (takes keydir (map S.text words.entry.now) ≢ true)) }
-    ensures unwritten { IfOk result (λ ending. IfRefused ending (W.sink writer.new ≡ W.sink writer.old)) }
-    ensures idle_reader { ChooseNoRun (map S.text words.entry.now) → R.source reader.new ≡ R.source reader.old }
-    ensures idle_writer { HasBadText (map S.text words.entry.now) → W.sink writer.new ≡ W.sink writer.old }
-    ensures fails { IfErr result (Fails (AsksForBoard (map S.text words.entry.now))
-        (streams (R.source reader.old) (R.source reader.new) (W.sink writer.old) (W.sink writer.new))) }
-    ensures stops { IfErr result (StopsAt (map S.text words.entry.now)
-        (streams (R.source reader.old) (R.source reader.new) (W.sink writer.old) (W.sink writer.new))) }
+    ensures { EndsFor (map S.text words.entry.now)
+        (streams (R.source reader.old) (R.source reader.new) (W.sink writer.old) (W.sink writer.new)) result }
 {
     match settings(alloc, words) {
         Ok(settings) => run_settings(rt, alloc, settings, reader, writer),
-        Err(WordsFault::Clap(error)) => explain(alloc, error, writer),
+        Err(WordsFault::Clap(error)) => show_or_refuse(alloc, &error, writer),
         Err(WordsFault::OutOfMemory) => Err(RunFault::OutOfMemory),
     }
 }
 
 /// Writes help or the version, or returns why the arguments are refused.
-fn explain<W: ByteOut>(alloc: Global, error: Error, writer: &mut W) -> Result<Ending, RunFault>
+fn show_or_refuse<W: ByteOut>(
+    alloc: Global,
+    error: &Error,
+    writer: &mut W,
+) -> Result<Ending, RunFault>
     requires { (W.sink writer.old).failed + 1 < 2 ^ 64 }
-    ensures kind { IfOk result (IsExplained (kind_of error)) }
-    ensures unwritten { IfOk result (λ ending. IfRefused ending (W.sink writer.new ≡ W.sink writer.old)) }
-    ensures shown { (still : Source) → IfOk result (λ ending. IfDone ending (IsShown (streams still still (W.sink writer.old) (W.sink writer.new)))) }
-    ensures fails { (still : Source) → IfErr result (Fails ⊥ (streams still still (W.sink writer.old) (W.sink writer.new))) }
-    ensures stops { (still : Source)
-        → IfErr result (λ fault. ((is_asked_for (kind_of error) ≡ true) × IsCutOff (streams still still (W.sink writer.old) (W.sink writer.new)) fault)
-        ⊎ NeverBegins (streams still still (W.sink writer.old) (W.sink writer.new)) fault) }
+    ensures { (still : Source) (words : List Octets) → IsAmong (kind_of error.now) (fault_of keydir words)
+        → takes keydir words ≢ true → EndsFor words (streams still still (W.sink writer.old) (W.sink writer.new)) result }
 {
-    let Ok(text) = error.to_string(alloc) else {
-        return Err(RunFault::OutOfMemory);
-    };
-    if error.use_stderr() {
-        return Ok(Ending::Refused(text));
+    match explain(alloc, error, writer) {
+        Ok(Explained::Shown) => Ok(Ending::Done(true)),
+        Ok(Explained::Refused(text)) => Ok(Ending::Refused(text)),
+        Err(fault) => Err(fault),
     }
-    tell(writer, text.as_str())?;
-    Ok(Ending::Done(true))
 }

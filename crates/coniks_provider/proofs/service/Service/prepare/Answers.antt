@@ -45,7 +45,7 @@ shown_in g c =
 body_in : (g : given.Over) (c : Joined-self g) → (let s = c.args.self.now.directory.state in
     c.next_body-body.result ≡ body_of sha256 (index_for (provided_of c.args.self.now) (batch_line_of c.args.batch.now))
     s.policy (before_at sha256 s.before s.chain (length s.chain)) (shown_after s c.in-Ok.update c.args.batch.now.epoch))
-body_in g c = c.next_body-body.ensures (index_for (provided_of c.args.self.now) (batch_line_of c.args.batch.now)) c.in-Ok.ensures.installable.agree c.in-Ok.ensures.update
+body_in g c = c.next_body-body.ensures (index_for (provided_of c.args.self.now) (batch_line_of c.args.batch.now)) (c.in-Ok.ensures.installable.agree c.in-Ok.ensures.update.base) c.in-Ok.ensures.update
 
 body_is : (g : given.Over) (c : Joined-self g) → c.next_body-body.result ≡ (pending_by (provided_of c.args.self.now) (batch_line_of c.args.batch.now)).body
 body_is g c =

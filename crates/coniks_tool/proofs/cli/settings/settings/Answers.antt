@@ -15,7 +15,7 @@ fault_is app words is none = ap (λ (a : App). fault_of a words) (sym is) ∙ no
 
 pub returns-in-Err-clause-passes : goal.returns-in-Err-clause-passes
 returns-in-Err-clause-passes g c =
-    λ taken. c.refusal.ensures.memory (c.in-Err.ensures.passes (ap (λ (a : App). takes a (map g.S.AsStr.text c.args.words.now)) c.in-Ok.ensures.app ∙ taken))
+    λ taken. c.refused.ensures.memory (c.in-Err.ensures.passes (ap (λ (a : App). takes a (map g.S.AsStr.text c.args.words.now)) c.in-Ok.ensures.app ∙ taken))
 
 -- `clap` finds no error, so these are the subcommand and its rows
 taken : (g : given.Over) (c : goal.In-Some g) → (let words = map g.S.AsStr.text c.args.words.now in

@@ -1,0 +1,3 @@
+mod CommandLemmas
+pub mod Lemmas
+mod TellingLemmas

@@ -1,0 +1,4 @@
+pub mod Commands
+pub mod Help
+pub mod Refusals
+pub mod Telling

@@ -1,0 +1,69 @@
+//! The command that parses the command line.
+
+ghost use Rattle.std.specs.Prelude.{◌≡◌, IfOk};
+ghost use Rattle.clap.specs.Words.{app_of};
+ghost use Rattle.coniks_cli.specs.Commands.{IsCommand, IsOption};
+ghost use Rattle.provider.specs.Command.{depth_rule, provider, top, workers_rule};
+
+use clap::{Arg, Command};
+use coniks_cli::with_option;
+use std::alloc::{AllocError, Global};
+
+/// The text at the end of the help.
+const EXAMPLE: &str =
+    "A service starts the program as a child process, computes the index of each name by its own verifiable
+random function, and signs each epoch's body by its own key. Each line is a JSON object, and gives one
+line: open, prepare, install, lookup, latest, bindings, restore, restoring, restored (docs/FORMATS.md).
+
+Example:
+  ./provider < examples/provider.jsonl
+
+Status:
+  0  every line was accepted
+  1  a line was refused
+  2  the command line is wrong
+  3  a stream or an allocation failed";
+
+/// Returns the option `--workers`, a number from 1 to 64.
+fn workers_option<'a>(alloc: Global) -> Arg<'a>
+    ensures { IsOption workers_rule result }
+{
+    let numbers = clap::value_parser!(u8);
+    Arg::new(alloc, "workers")
+        .long("workers")
+        .value_parser(numbers.range(1..=64))
+        .value_name("1-64")
+        .help(
+            "The number of worker threads that build an epoch, 1 to 64; the default is the number of processors",
+        )
+}
+
+/// Returns the option `--depth`, a number from 0 to 12.
+fn depth_option<'a>(alloc: Global) -> Arg<'a>
+    ensures { IsOption depth_rule result }
+{
+    let numbers = clap::value_parser!(u8);
+    Arg::new(alloc, "depth")
+        .long("depth")
+        .value_parser(numbers.range(0..=12))
+        .value_name("0-12")
+        .default_value("12")
+        .help("The split depth in bits, 0 to 12")
+}
+
+/// Returns the command without its options.
+fn bare_command<'a>(alloc: Global) -> Command<'a>
+    ensures { IsCommand top result }
+{
+    Command::new(alloc, "provider")
+        .version("1.0.0")
+        .about("Runs a key directory whose indices and signatures come from outside")
+        .after_help(EXAMPLE)
+}
+
+pub(crate) fn command<'a>(alloc: Global) -> Result<Command<'a>, AllocError>
+    ensures { IfOk result (λ command. app_of command ≡ provider) }
+{
+    let with_workers = with_option(Ok(bare_command(alloc)), workers_option(alloc));
+    with_option(with_workers, depth_option(alloc))
+}

@@ -1,0 +1,115 @@
+//! The whole program over its streams.
+
+ghost use Rattle.std.specs.Prelude.{◌≡◌, ◌≢◌, ◌<◌, ◌+◌, ◌^◌, List, map, true};
+ghost use Rattle.clap.specs.Words.{IsAmong, fault_of, kind_of, takes};
+ghost use Rattle.coniks_cli.specs.Telling.{Tells};
+ghost use Rattle.coniks_lines.specs.Known.{Source};
+ghost use Rattle.coniks_lines.specs.Runs.{streams};
+ghost use Rattle.coniks_proof.specs.Octets.{Octets};
+ghost use Rattle.provider.specs.Command.{provider};
+ghost use Rattle.provider.specs.Program.{EndsFor, IsOutcome, unread_line, unread_status};
+
+use crate::ending::{Ending, fault_text, status, told};
+use crate::settings::settings_of;
+use clap::Error;
+use coniks_cli::{Explained, Unread, WordsFault, explain, tell, tell_if};
+use coniks_lines::{ByteIn, ByteOut, RunFault};
+use coniks_provider::run_provider;
+use std::alloc::Global;
+use std::convert::AsStr;
+use std::thread::Threads;
+
+/// Runs the program for a command line, and returns its exit status. The first argument is the program's name.
+///
+/// - 0: every line was accepted, or help or the version was asked for and written to `writer`.
+/// - 1: a line was refused.
+/// - 2: `clap` refused the arguments. Its text is written to `errors`.
+/// - 3: a read or a write failed, an allocation failed, or the board could not be allocated. `errors` gets a line with the
+///   cause.
+///
+/// A failure of `errors` changes no status.
+pub(crate) fn program<T: Threads + Sync, S: AsStr, R: ByteIn, W: ByteOut, E: ByteOut>(
+    rt: &T,
+    alloc: Global,
+    words: &[S],
+    reader: &mut R,
+    writer: &mut W,
+    errors: &mut E,
+) -> u8
+    requires reads { (R.source reader.old).failed + 1 < 2 ^ 64 }
+    requires writes { (W.sink writer.old).failed + 1 < 2 ^ 64 }
+    requires tells { (E.sink errors.old).failed + 1 < 2 ^ 64 }
+    ensures { IsOutcome (map S.text words.entry.now)
+        (streams (R.source reader.old) (R.source reader.new) (W.sink writer.old) (W.sink writer.new))
+        (E.sink errors.old) (E.sink errors.new) result }
+{
+    let outcome = dispatch(rt, alloc, words, reader, writer);
+    tell_if(errors, told(&outcome));
+    status(&outcome)
+}
+
+/// Writes the error of arguments that cannot be read, and returns the status.
+///
+/// The status is 2 for an argument that is not UTF-8, and 3 if an allocation failed. A failure of `errors` changes no
+/// status.
+pub(crate) fn unread_words<E: ByteOut>(why: Unread, errors: &mut E) -> u8
+    requires { (E.sink errors.old).failed + 1 < 2 ^ 64 }
+    ensures status { result ≡ unread_status why }
+    ensures told { Tells (E.sink errors.old) (unread_line why) (E.sink errors.new) }
+{
+    let _ = tell(errors, unread_text(why));
+    match why {
+        Unread::NotText => 2,
+        Unread::OutOfMemory => 3,
+    }
+}
+
+fn unread_text(why: Unread) -> &'static str
+    ensures { result.now ≡ unread_line why }
+{
+    match why {
+        Unread::NotText => "provider: an argument is not UTF-8\n",
+        Unread::OutOfMemory => fault_text(RunFault::OutOfMemory),
+    }
+}
+
+fn dispatch<T: Threads + Sync, S: AsStr, R: ByteIn, W: ByteOut>(
+    rt: &T,
+    alloc: Global,
+    words: &[S],
+    reader: &mut R,
+    writer: &mut W,
+) -> Result<Ending, RunFault>
+    requires reads { (R.source reader.old).failed + 1 < 2 ^ 64 }
+    requires writes { (W.sink writer.old).failed + 1 < 2 ^ 64 }
+    ensures { EndsFor (map S.text words.entry.now)
+        (streams (R.source reader.old) (R.source reader.new) (W.sink writer.old) (W.sink writer.new)) result }
+{
+    match settings_of(rt, alloc, words) {
+        Ok(settings) => {
+            match run_provider(rt, alloc, reader, writer, settings.workers, settings.depth) {
+                Ok(all) => Ok(Ending::Done(all)),
+                Err(fault) => Err(fault),
+            }
+        }
+        Err(WordsFault::Clap(error)) => show_or_refuse(alloc, &error, writer),
+        Err(WordsFault::OutOfMemory) => Err(RunFault::OutOfMemory),
+    }
+}
+
+/// Writes help or the version, or returns why the arguments are refused.
+fn show_or_refuse<W: ByteOut>(
+    alloc: Global,
+    error: &Error,
+    writer: &mut W,
+) -> Result<Ending, RunFault>
+    requires { (W.sink writer.old).failed + 1 < 2 ^ 64 }
+    ensures { (still : Source) (words : List Octets) → IsAmong (kind_of error.now) (fault_of provider words)
+        → takes provider words ≢ true → EndsFor words (streams still still (W.sink writer.old) (W.sink writer.new)) result }
+{
+    match explain(alloc, error, writer) {
+        Ok(Explained::Shown) => Ok(Ending::Done(true)),
+        Ok(Explained::Refused(text)) => Ok(Ending::Refused(text)),
+        Err(fault) => Err(fault),
+    }
+}
