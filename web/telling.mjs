@@ -1,8 +1,7 @@
-// What the tests of the client share: results are counted, and bytes are compared as digits.
+// What the tests in `tests` share: results are compared, bytes as digits.
 
+import assert from "node:assert/strict";
 import { readFileSync } from "node:fs";
-
-let [passed, failed] = [0, 0];
 
 /** @param {string} file  in the repository */
 export const read = (file) => readFileSync(new URL(`../${file}`, import.meta.url), "utf-8");
@@ -17,11 +16,7 @@ function plain(value) {
 
 /** @param {string} what @param {any} found @param {any} wanted */
 export function same(what, found, wanted) {
-  if (plain(found) === plain(wanted)) passed++;
-  else {
-    failed++;
-    console.log(`FAILED: ${what}: ${plain(found)}, not ${plain(wanted)}`);
-  }
+  assert.equal(plain(found), plain(wanted), what);
 }
 
 /** What a call throws or rejects with: the name of a refusal, or else that of the class; null if it returns. @param {() => any} call */
@@ -37,10 +32,4 @@ export async function thrown(call) {
 /** @param {string} what @param {() => any} call @param {string | null} wanted */
 export async function throwing(what, call, wanted) {
   same(what, await thrown(call), wanted);
-}
-
-/** Prints the counts. */
-export function end() {
-  console.log(`${passed} passed, ${failed} failed`);
-  process.exitCode = failed === 0 ? 0 : 1;
 }

@@ -2,7 +2,6 @@
 
 from __future__ import annotations
 
-import base64
 import json
 import time
 from pathlib import Path
@@ -12,7 +11,6 @@ import proofs
 from browser import FRESH, PAGE, Browser, count, note, paste, press, set_keys, standings, texts, wait
 from given import (
     AUTHENTIC,
-    CONSISTENT,
     DEMONSTRATION,
     ENTRIES,
     FORGEABLE,

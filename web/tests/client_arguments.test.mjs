@@ -1,15 +1,16 @@
-// Tests of what callers, services and platforms can do wrong to the client: `node web/client_arguments.mjs`. The last line is
-// `N passed, M failed`. Policy, reply, history and state are the examples of docs/FORMATS.md.
+// Tests of what callers, services and platforms can do wrong to the client: `node --test web/tests/client_arguments.test.mjs`. Policy,
+// reply, history and state are the examples of docs/FORMATS.md.
 
 import { createHash } from "node:crypto";
 import { readFileSync } from "node:fs";
+import { test } from "node:test";
 
-import { Policy, Refusal, Unsupported, load, readPolicy } from "./out/coniks.js";
-import { Coniks } from "./src/coniks.js";
-import { Refusal as Refused } from "./src/messages.js";
-import { data, end, hex, read, same, textBytes, throwing, thrown } from "./telling.mjs";
+import { Policy, Refusal, Unsupported, load, readPolicy } from "../out/coniks.js";
+import { Coniks } from "../src/coniks.js";
+import { Refusal as Refused } from "../src/messages.js";
+import { data, hex, read, same, textBytes, throwing, thrown } from "../telling.mjs";
 
-const module = readFileSync(new URL("./out/coniks.wasm", import.meta.url));
+const module = readFileSync(new URL("../out/coniks.wasm", import.meta.url));
 const library = await load(module);
 const formats = read("docs/FORMATS.md");
 
@@ -46,7 +47,7 @@ function renewed(...parts) {
   return Buffer.concat([whole, createHash("sha256").update(whole).digest()]);
 }
 
-async function tryExamples() {
+test("the examples of docs/FORMATS.md", async () => {
   same("the digest of the policy", policy.digest, "9b7c1ee453e0628965915c3a88e82924b3e90fe53ba30531b2b3ff12be6f7fef");
   const parts = { origin: policy.origin, start: policy.epochStart, period: policy.epochPeriod, kept: policy.proofsKept };
   same("its parts", parts, { origin: "keys.example.com/directory", start: 1767225600, period: 3600, kept: null });
@@ -66,10 +67,10 @@ async function tryExamples() {
   const found = await timed.history("alice", history);
   same("the history", found.map((it) => [it.epoch, it.seen, it.age]), [[1, "same", 3660], [2, "same", 60]]);
   same("the state once more", (await begun({ state })).state, state);
-}
+});
 
 /** Documents that differ in one line from the example, of which a policy has exactly one. */
-async function tryPolicies() {
+test("documents that are no policy", async () => {
   const document = new TextDecoder().decode(policy.document);
   const most = String(2n ** 64n - 1n);
   const good = [
@@ -90,9 +91,9 @@ async function tryPolicies() {
   }
   for (const [from, to] of wrong) await throwing(`no policy: ${String(to).slice(0, 30)}`, () => readPolicy(textBytes(document.replace(from, to))), "RangeError");
   await throwing("a policy is made by readPolicy alone", () => new Policy(policy.document), "TypeError");
-}
+});
 
-async function tryNumbers() {
+test("numbers", async () => {
   const listed = [...formats.slice(formats.indexOf("## Replies to clients")).matchAll(/^\| `(\w+)` \| (\d+) \|/gm)];
   const pairs = [...formats.matchAll(/^\| `(\w+)`, `(\w+)` \| (\d+), (\d+) \|/gm)];
   for (const [, one, other, first, second] of pairs) listed.push([, one, first], [, other, second]);
@@ -118,9 +119,9 @@ async function tryNumbers() {
     same(what, [refusal.message, refusal.number, refusal.status], [texts[name], number, number]);
     same(`${what} is a refusal`, [refusal instanceof Refusal, refusal instanceof Error, refusal.name, refusal.cause], [true, true, "Refusal", undefined]);
   }
-}
+});
 
-async function tryWrongArguments() {
+test("arguments of other types", async () => {
   const [make, client] = [library.client.bind(library), await begun({ state })];
   const keys = [policy.signingKey, policy.vrfKey, policy];
   const link = new Uint8Array(32);
@@ -161,10 +162,10 @@ async function tryWrongArguments() {
     const other = await begun({ state, clock: () => time });
     await throwing(`a lookup at ${String(time)}`, () => other.lookup("alice", reply), typeof time === "number" ? "RangeError" : "TypeError");
   }
-}
+});
 
 /** Seconds with fractions, and bigints, are exact. */
-async function tryTimes() {
+test("seconds with fractions, and bigints", async () => {
   const at = async (now, more) => {
     const client = await begun({ state, clock: () => now, ...more });
     return (await thrown(() => client.lookup("alice", reply))) ?? (await client.lookup("alice", reply)).age;
@@ -184,10 +185,10 @@ async function tryTimes() {
   const floored = await begun({ clock: () => begins + 0.75 });
   await floored.feed(entries);
   same("the time of a feed in whole seconds", (await floored.lookup("alice", reply)).firstSeen, begins);
-}
+});
 
 /** Epochs that can no longer be verified, by clocks with fractions, and by a bare digest. Their proofs are kept for a day. */
-async function tryLost() {
+test("epochs that can no longer be verified", async () => {
   const lines = read("cases/client/lost.jsonl").split("\n");
   const given = JSON.parse(lines.find((it) => it.includes('"lost: as its proofs end"')));
   const kept = readPolicy(textBytes(given.policy));
@@ -210,10 +211,10 @@ async function tryLost() {
   const resumed = (/** @type {any} */ by) => library.client(...keys, by, { state: before, clock: () => end });
   same("after a state", (await resumed(kept)).lost, [1]);
   same("never by a digest", (await resumed(kept.digest)).lost, []);
-}
+});
 
 /** What claims to be long is refused at once, without room for it. */
-async function tryHostile() {
+test("what claims to be long", async () => {
   const client = await begun({ state });
   const watch = 473;
   const chain = state.subarray(0, watch);
@@ -246,10 +247,10 @@ async function tryHostile() {
   same("little memory was taken", process.memoryUsage().arrayBuffers - before < 64e6, true);
   const wide = renewed(state.subarray(0, 37), ...Array(2).fill(state.subarray(37, 255)), data("00"));
   await throwing("an entry twice", () => begun({ state: wide }), "StateForm");
-}
+});
 
 /** The first of several errors of a state, in the order of docs/FORMATS.md. */
-async function tryOrder() {
+test("the first of several errors of a state", async () => {
   const [other, version, policyOf] = [data("02"), state.subarray(0, 1), state.subarray(1, 33)];
   const count = data("ffffffff");
   for (const [what, wanted, given] of [
@@ -260,10 +261,10 @@ async function tryOrder() {
     ["form and chain", "StateForm", renewed(version, policyOf, data("00000001"), new Uint8Array(218), data("03"))],
     ["chain", "StateChain", renewed(version, policyOf, data("00000001"), new Uint8Array(218), data("00"))],
   ]) await throwing(what, () => begun({ state: given }), wanted);
-}
+});
 
 /** The first of two errors of a step, in the order of docs/FORMATS.md. The history before it has two steps, and one sibling at last. */
-async function tryStepOrder() {
+test("the first of two errors of a step", async () => {
   const client = await begun({ state });
   const kept = hex(history.subarray(-32));
   for (const [what, wanted, step] of [
@@ -280,10 +281,10 @@ async function tryStepOrder() {
     ["a repeated end", "EndRepeated", `000000000000000302000100${"dd".repeat(32)}0005616c696365000000016b`],
     ["no error of the bytes", "UnknownEpoch", "000000000000000303000100"],
   ]) await throwing(what, () => client.history("alice", Buffer.concat([history, data(step)])), wanted);
-}
+});
 
 /** A platform without WebCrypto, or without Ed25519 in it. */
-async function tryPlatforms() {
+test("platforms without WebCrypto or Ed25519", async () => {
   const real = Object.getOwnPropertyDescriptor(globalThis, "crypto");
   const others = { "no crypto": undefined, "plain http": {}, "no Ed25519": { subtle: { importKey: async () => { throw new DOMException("unknown", "NotSupportedError"); } } } };
   for (const [what, value] of Object.entries(others)) {
@@ -302,7 +303,7 @@ async function tryPlatforms() {
   const none = await library.client(signing, null, policy.digest, { state: null });
   await none.feed(entries);
   await throwing("no VRF", () => none.lookup("alice", reply, 2), "VrfProof");
-}
+});
 
 /** The module with a memory of at most so many pages. @param {number} pages */
 function limited(pages) {
@@ -326,7 +327,7 @@ function limited(pages) {
 }
 
 /** A memory that can't grow, and arguments beyond 32 bits: the call throws, and the module goes on. */
-async function tryMemory() {
+test("a memory that can't grow", async () => {
   const small = await Coniks.of(limited(200));
   const proof = reply.slice(292);
   const check = (/** @type {Uint8Array} */ given) => small.check(new Uint8Array(32), new Uint8Array(32), new Uint8Array(32), textBytes("alice"), given).status;
@@ -341,17 +342,4 @@ async function tryMemory() {
   await throwing("a reply that has no room", () => client.lookup("alice", Buffer.concat([reply, Buffer.alloc(20_000_000)])), "RangeError");
   same("nothing is kept of it", client.state, state);
   same("the client goes on", (await client.lookup("alice", reply)).key, key);
-}
-
-await tryExamples();
-await tryPolicies();
-await tryNumbers();
-await tryWrongArguments();
-await tryTimes();
-await tryLost();
-await tryHostile();
-await tryOrder();
-await tryStepOrder();
-await tryPlatforms();
-await tryMemory();
-end();
+});

@@ -1,15 +1,16 @@
-// Tests of the client beside the cases of cases/client: `node web/client_units.mjs`. The last line is `N passed, M failed`.
+// Tests of the client beside the cases of cases/client: `node --test web/tests/client.test.mjs`.
 //
 // Keys, entries, replies and results are those of cases/client, which another implementation made.
 
 import { readFileSync } from "node:fs";
+import { test } from "node:test";
 
-import { load, readPolicy } from "./out/coniks.js";
-import { VrfKey, keyPoint } from "./src/ecvrf.js";
-import { signaturesOf } from "./src/schemes.js";
-import { data, end, hex, read, same, textBytes, throwing, thrown } from "./telling.mjs";
+import { load, readPolicy } from "../out/coniks.js";
+import { VrfKey, keyPoint } from "../src/ecvrf.js";
+import { signaturesOf } from "../src/schemes.js";
+import { data, hex, read, same, textBytes, throwing, thrown } from "../telling.mjs";
 
-const library = await load(readFileSync(new URL("./out/coniks.wasm", import.meta.url)));
+const library = await load(readFileSync(new URL("../out/coniks.wasm", import.meta.url)));
 const cases = new Map(read("cases/client/replies.jsonl").trim().split("\n").map((line) => [JSON.parse(line).name, JSON.parse(line)]));
 const given = cases.get("reply: a key");
 const policy = readPolicy(textBytes(given.policy));
@@ -45,7 +46,7 @@ function deferred() {
 
 class Broken extends Error {}
 
-async function tryOwnSchemes() {
+test("schemes of the caller", async () => {
   for (const [what, options] of [["keys", {}], ["objects", { signing, vrf }]]) {
     const client = await fed(options);
     same(`a lookup by ${what}`, shown(await client.lookup(name, reply)), ordered(wanted));
@@ -69,9 +70,9 @@ async function tryOwnSchemes() {
     await throwing(`an index that is ${what}`, () => client.lookup(name, reply), error);
     same("the epoch stays missing", client.missing.length, 1);
   }
-}
+});
 
-async function tryFailingSchemes() {
+test("schemes that fail", async () => {
   const throws = () => {
     throw new Broken();
   };
@@ -89,9 +90,9 @@ async function tryFailingSchemes() {
   await throwing("a scheme that fails at the third entry", () => client.feed(entries), "Broken");
   same("two entries are kept", client.entries, entries.slice(0, 2));
   same("the rest follows", (await client.feed(entries.slice(2))).length, entries.length - 2);
-}
+});
 
-async function tryWaiting() {
+test("calls that wait for each other", async () => {
   // The first signature is verified at last. Calls beside it go on, and its entry is kept once.
   const first = deferred();
   let calls = 0;
@@ -109,7 +110,7 @@ async function tryWaiting() {
     same(`one of ${count} feeds is accepted`, [refused.filter((it) => it === null).length, new Set(refused).size], [1, 2]);
     same(`${count} feeds keep each entry once`, many.entries, entries);
   }
-}
+});
 
 /** A client whose lookup waits until the promise of its proof is resolved. */
 async function looking(options = {}, count = entries.length) {
@@ -119,7 +120,7 @@ async function looking(options = {}, count = entries.length) {
   return { client, proof };
 }
 
-async function tryChangesMeanwhile() {
+test("changes while a lookup waits", async () => {
   const older = cases.get("reply: an older epoch").steps[1];
   const [olderName, olderReply] = [data(older.name), data(older.reply)];
   {
@@ -157,13 +158,13 @@ async function tryChangesMeanwhile() {
     await throwing("a clock that goes on meanwhile", () => client.lookup(name, reply), "Stale");
     same("nothing was seen", client.missing.length, 1);
   }
-}
+});
 
 const zero = (/** @type {Uint8Array[]} */ all) => all.forEach((it) => it.fill(0));
 const buffers = (/** @type {Uint8Array[]} */ all) => all.map((it) => Buffer.from(it));
 
 /** Callers change what they passed while a call waits. The slice of a Buffer is no copy. */
-async function tryGivenCopies() {
+test("what is given is copied", async () => {
   const keys = buffers([policy.signingKey, policy.vrfKey, policy.digest]);
   const making = library.client(...keys, { clock });
   zero(keys);
@@ -189,9 +190,9 @@ async function tryGivenCopies() {
   const evidence = client.evidence(entry);
   zero([entry]);
   same("another one's entry is copied", await evidence, null);
-}
+});
 
-async function tryReturnedCopies() {
+test("what is returned is a copy", async () => {
   const client = await fed();
   client.watch(name, data(wanted.key));
   const found = await client.lookup(name, reply);
@@ -213,12 +214,4 @@ async function tryReturnedCopies() {
   await throwing("a client in a literal", async () => ({ ...client }).feed(entries), "TypeError");
   await throwing("a client as a prototype", () => Object.create(client).feed(entries), "TypeError");
   await throwing("a clone of a client", () => structuredClone(client).feed(entries), "TypeError");
-}
-
-await tryOwnSchemes();
-await tryFailingSchemes();
-await tryWaiting();
-await tryChangesMeanwhile();
-await tryGivenCopies();
-await tryReturnedCopies();
-end();
+});
