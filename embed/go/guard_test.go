@@ -925,15 +925,15 @@ func needsPython(t *testing.T) {
 	if _, err := exec.LookPath("python3"); err != nil {
 		t.Skip("python3 is missing")
 	}
-	if _, err := os.Stat("../python/coniks/guard.py"); err != nil {
-		t.Skip("../python/coniks/guard.py is missing")
+	if _, err := os.Stat("../python/src/coniks/guard.py"); err != nil {
+		t.Skip("../python/src/coniks/guard.py is missing")
 	}
 }
 
 // pythonGuard runs lines of Python over the record, with guard(sign) as a guard whose signatures are SHA-512.
 func (it *bench) pythonGuard(lines string) string {
 	it.t.Helper()
-	program := "import hashlib, sys\nsys.dont_write_bytecode = True\nsys.path.insert(0, '../python')\n" +
+	program := "import hashlib, sys\nsys.dont_write_bytecode = True\nsys.path.insert(0, '../python/src')\n" +
 		"from coniks.guard import Guard, BodyRefused, BodyAbandoned, BodySigned\n" +
 		"sign = lambda body: hashlib.sha512(body).digest()\npath = sys.argv[1]\n" + lines
 	said, err := exec.Command("python3", "-c", program, it.path).CombinedOutput()

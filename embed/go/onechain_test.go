@@ -912,7 +912,7 @@ func (it *room) pythonProvider(lines string) {
 	program := `
 import hashlib, os, sys
 sys.dont_write_bytecode = True
-sys.path.insert(0, "../python")
+sys.path.insert(0, "../python/src")
 from coniks.guard import Guard
 from coniks.provider import FileLog, Provider, Register, SignerFailed
 path, program = sys.argv[1], sys.argv[2:]

@@ -195,7 +195,7 @@ func TestPoliciesOfPython(t *testing.T) {
 		said, err := exec.Command("python3", "-c", `
 import sys
 sys.dont_write_bytecode = True
-sys.path.insert(0, "../python")
+sys.path.insert(0, "../python/src")
 from coniks.policy import Policy
 policy = Policy.read(sys.argv[1].encode())
 print(policy.digest.hex(), policy.epoch_at(1800000000.5) if policy.epoch_period else "")

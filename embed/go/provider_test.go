@@ -6,7 +6,6 @@ import (
 	"errors"
 	"fmt"
 	"math"
-	"os"
 	"strings"
 	"sync"
 	"testing"
@@ -313,17 +312,15 @@ func TestSignerThatCallsTheProvider(t *testing.T) {
 	it.check(1, 2)
 }
 
-// CONIKS_LOG names a log of the package for Python, with one epoch and an update that is pending.
+// A log of the package for Python has one epoch and an update that is pending.
 func TestLogOfPython(t *testing.T) {
-	path := os.Getenv("CONIKS_LOG")
-	if path == "" {
-		t.Skip("CONIKS_LOG names no log")
-	}
-	text, err := os.ReadFile(path)
+	needsPython(t)
 	for _, isSigned := range []bool{true, false} {
 		it := newRoom(t)
-		it.good(err)
-		it.good(os.WriteFile(it.path, text, 0o600))
+		it.pythonProvider(`
+    own.commit(1, [Register("alice", b"key")])
+    pends(own.commit, 2, [Register("bob \u00e9", b"key")])
+`)
 		it.settings.LeavePending = !isSigned
 		it.reopen()
 		if !isSigned {

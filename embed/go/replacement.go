@@ -1,15 +1,18 @@
 package coniks
 
 import (
+	"errors"
 	"io/fs"
 	"os"
+	"path/filepath"
 	"syscall"
 )
 
-// replacement is a file that is written beside another one, at PATH.new, and then takes its place. What a process left there that
-// was killed is overwritten. One process and one goroutine at a time has it.
+// replacement is a file that is written beside another one, at PATH.new, and then takes its place. A symbolic link stays: PATH is
+// then the file that it leads to. What a process left there that was killed is overwritten. One process and one goroutine at a time
+// has it.
 type replacement struct {
-	path  string // of the other file
+	path  string // of the other file, no symbolic link
 	file  *os.File
 	steps replacing
 }
@@ -24,6 +27,11 @@ type replacing interface {
 // newReplacement makes PATH.new with this mode and the owner of a log, and locks it. Its errors are ErrLogRefused.
 func newReplacement(path string, mode os.FileMode, log os.FileInfo, steps replacing) (*replacement, error) {
 	it := &replacement{path: path, steps: steps}
+	target, err := targetOf(path)
+	if err != nil {
+		return nil, it.refused("can't be made", err)
+	}
+	it.path = target
 	file, err := os.OpenFile(it.new(), os.O_RDWR|os.O_CREATE|syscall.O_NOFOLLOW|syscall.O_NONBLOCK|syscall.O_NOCTTY, 0o600)
 	if err != nil {
 		return nil, it.refused("can't be made", err)
@@ -33,21 +41,46 @@ func newReplacement(path string, mode os.FileMode, log os.FileInfo, steps replac
 		file.Close()
 		return nil, failed(ErrLogRefused, "another call is writing %s: call again after it", it.new())
 	}
-	if err == nil {
-		err = giveTo(file, log)
-	}
-	if err == nil {
-		err = file.Chmod(mode)
-	}
-	if err == nil {
-		err = file.Truncate(0)
-	}
 	if err != nil {
 		file.Close()
 		return nil, it.refused("can't be made", err)
 	}
 	it.file = file
+	if err := it.begin(mode, log); err != nil {
+		it.drop()
+		return nil, it.refused("can't be made", err)
+	}
 	return it, nil
+}
+
+// begin empties the file, and gives it this mode and the owner of a log.
+func (it *replacement) begin(mode os.FileMode, log os.FileInfo) error {
+	err := giveTo(it.file, log)
+	if err == nil {
+		err = it.file.Chmod(mode)
+	}
+	if err == nil {
+		err = it.file.Truncate(0)
+	}
+	return err
+}
+
+// targetOf returns the path of the file that a path leads to over symbolic links. That file can be missing.
+func targetOf(path string) (string, error) {
+	for {
+		target, err := filepath.EvalSymlinks(path)
+		if !errors.Is(err, fs.ErrNotExist) {
+			return target, err
+		}
+		next, err := os.Readlink(path)
+		if err != nil {
+			return path, nil
+		}
+		if !filepath.IsAbs(next) {
+			next = filepath.Dir(path) + "/" + next
+		}
+		path = next
+	}
 }
 
 // giveTo gives a file the owner of another one, so that whoever opens that can open this one too.
@@ -101,7 +134,7 @@ func (it *replacement) put() (*os.File, error) {
 	return file, nil
 }
 
-// drop removes the file, unless it was put.
+// drop removes the file, unless it was put, or another one is there.
 func (it *replacement) drop() {
 	if it.file == nil {
 		return

@@ -114,9 +114,6 @@ func (it *restorer) begin(line []byte, members map[string]json.RawMessage) error
 			return it.differs("has a header whose member " + name + " is wrong")
 		}
 	}
-	if it.position < 0 || it.epochs > uint64(it.position) || uint64(it.position) < 2*it.epochs+1 {
-		return it.differs("has a position that isn't the one of its epochs")
-	}
 	said, err := loggedOf(line, "the header of the snapshot")
 	if err != nil {
 		return err
@@ -155,12 +152,16 @@ func (it *restorer) addReplaced(text json.RawMessage) error {
 	return nil
 }
 
-// checkEntry checks the entry to restore, and its signature.
+// checkEntry checks the entry to restore, the position after it, and its signature.
 func (it *restorer) checkEntry(text json.RawMessage) error {
 	var entry digits
 	last := it.chain[len(it.chain)-1]
 	if json.Unmarshal(text, &entry) != nil || !bytes.Equal(entry, last) || uint64(len(it.chain)) != it.epochs {
 		return it.differs("doesn't restore its last entry, or has another number of entries than its header")
+	}
+	// The lines below are `open`, a `prepare` for each entry and each replaced body, and an `install` for each entry.
+	if it.position != 1+2*len(it.chain)+len(it.replaced) {
+		return it.differs("has a position that isn't the one of its entries and replaced bodies")
 	}
 	verify, isValid := it.engine.settings.Verify, true
 	if verify == nil {

@@ -19,10 +19,9 @@ import (
 	"syscall"
 	"testing"
 	"time"
-)
 
-// built is the program that ./gate builds. The variable CONIKS_PROVIDER names another one.
-const built = "../../crates/provider/out/provider"
+	"example.org/coniks/internal/built"
+)
 
 // patience is how long a test waits for what must happen.
 const patience = time.Minute
@@ -154,18 +153,11 @@ func otherIndexOf(name string) ([32]byte, error) { return sha256.Sum256([]byte("
 
 // program is the program to test with its arguments.
 func program(t *testing.T) []string {
-	path := os.Getenv("CONIKS_PROVIDER")
-	if path == "" {
-		path = built
-		if _, err := os.Stat(path); err != nil {
-			t.Skip("CONIKS_PROVIDER names no program, and ./gate hasn't built one")
-		}
-	}
-	absolute, err := filepath.Abs(path)
+	path, err := built.Provider()
 	if err != nil {
-		t.Fatal(err)
+		t.Skip(err)
 	}
-	return []string{absolute, "--workers", "2"}
+	return []string{path, "--workers", "2"}
 }
 
 // newRoom is a room whose directory isn't started.

@@ -446,6 +446,42 @@ func TestProgramThatLies(t *testing.T) {
 	}
 }
 
+// Another child that differs in what later commits or snapshots depend on isn't the same.
+func TestChildrenThatDiffer(t *testing.T) {
+	it := newDirectory(t)
+	it.fill(1, 2)
+	it.failing(1)
+	_, err := it.provider.Commit(background, 3, []Operation{Register("late", []byte("key"))}, nil)
+	it.wants(err, ErrSignerFailed)
+	first := it.provider.host.current()
+	for what, change := range map[string]func(other *engine){
+		"nothing":             func(*engine) {},
+		"the position":        func(other *engine) { other.position++ },
+		"the opening":         func(other *engine) { other.opening += " " },
+		"the format":          func(other *engine) { other.isStrict = false },
+		"the number of names": func(other *engine) { other.seen.size.Names++ },
+		"the link":            func(other *engine) { other.seen.size.Link[31]++ },
+		"the epoch":           func(other *engine) { other.seen.latest.Epoch++ },
+		"a replaced body":     func(other *engine) { other.replaced = [][]byte{make([]byte, bodyLength)} },
+		"no pending update":   func(other *engine) { other.seen.update = nil },
+		"the pending line":    func(other *engine) { other.seen.update = &update{line: []byte("{}"), names: first.seen.update.names} },
+		"the pending names":   func(other *engine) { other.seen.update = &update{line: first.seen.update.line} },
+	} {
+		other := &engine{settings: first.settings, child: first.child, position: first.position, opening: first.opening,
+			isStrict: first.isStrict, replaced: first.replaced, seen: first.view()}
+		change(other)
+		wanted := error(errSecond)
+		if what == "nothing" {
+			wanted = nil
+		}
+		for _, err := range []error{first.checkSame(background, other), other.checkSame(background, first)} {
+			if err != wanted {
+				t.Error(what, err)
+			}
+		}
+	}
+}
+
 // isAlone checks that no other child than the one that answers lookups is left.
 func (it *room) isAlone() {
 	it.t.Helper()

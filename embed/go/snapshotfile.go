@@ -8,7 +8,6 @@ import (
 	"io"
 	"io/fs"
 	"os"
-	"path/filepath"
 	"sync"
 	"syscall"
 )
@@ -139,15 +138,7 @@ func readLines(file *os.File, size int64, each func(line []byte) error) error {
 // Compact stores a snapshot in PATH.snapshot. It is written to PATH.snapshot.new, synced and renamed, and the folder is synced.
 // After an error that is ErrLogFailed alone a failure of the machine could bring back the older one.
 func (it *FileLog) Compact(position int, lines func(store func(line []byte) error) error) error {
-	// A snapshot that is cut may be replaced.
-	before, err := it.Snapshot(nil)
-	if err != nil && !errors.Is(err, ErrSnapshotDiffers) {
-		return err
-	}
-	if before > position {
-		return failed(ErrOvertaken, "%s has a snapshot of position %d, and %d is before that: take a later epoch", it, before, position)
-	}
-	log, err := it.checkStill(position)
+	log, err := it.checkPosition(position)
 	if err != nil {
 		return err
 	}
@@ -170,7 +161,7 @@ func (it *FileLog) Compact(position int, lines func(store func(line []byte) erro
 		err = stopped
 	}
 	if err == nil {
-		_, err = it.checkStill(position)
+		_, err = it.checkPosition(position)
 	}
 	if err != nil {
 		return err
@@ -182,14 +173,28 @@ func (it *FileLog) Compact(position int, lines func(store func(line []byte) erro
 	return err
 }
 
-// checkStill returns what the file is. It returns ErrLogRefused if the path has another file, or the log hasn't this position.
+// checkPosition is checkStill, and returns ErrOvertaken if there is a later snapshot than one of this position.
+func (it *FileLog) checkPosition(position int) (os.FileInfo, error) {
+	// A snapshot that is cut may be replaced, and one of a position whose lines were dropped.
+	before, err := it.Snapshot(nil)
+	if err != nil && !errors.Is(err, ErrSnapshotDiffers) && !errors.Is(err, ErrLinesDropped) {
+		return nil, err
+	}
+	if before > position {
+		return nil, failed(ErrOvertaken, "%s has a snapshot of position %d, and %d is before that: take a later epoch", it, before, position)
+	}
+	return it.checkStill(position)
+}
+
+// checkStill returns what the file is. It returns ErrLogRefused if the path has another file, or this is no position of a snapshot of
+// the log.
 func (it *FileLog) checkStill(position int) (os.FileInfo, error) {
 	it.mutex.Lock()
 	defer it.mutex.Unlock()
 	if err := it.checkEnd(); err != nil {
 		return nil, err
 	}
-	if it.file == nil || position < it.first || position > it.count {
+	if it.file == nil || position < 1 || position < it.first || position > it.count {
 		return nil, failed(ErrLogRefused, "%s has the positions from %d to %d, so none of a snapshot is %d: nothing is stored", it, it.first,
 			it.count, position)
 	}
@@ -200,9 +205,9 @@ func (it *FileLog) checkStill(position int) (os.FileInfo, error) {
 	return mine, nil
 }
 
-// DropBefore drops the lines below a position, at most that of the snapshot. The file is replaced as a whole: the rest is
-// written to PATH.new, synced, locked and renamed, and the folder is synced. Appends wait meanwhile. After an error that is
-// ErrLogFailed alone the log must be opened again.
+// DropBefore drops the lines below a position, at most that of the snapshot, which is synced first. The file is replaced as a
+// whole: the rest is written to PATH.new, synced, locked and renamed, and the folder is synced. Appends wait meanwhile. After an
+// error that is ErrLogFailed alone the log must be opened again.
 //
 // Back up the snapshot first: without it a log that has dropped lines can't be started.
 func (it *FileLog) DropBefore(position int) error {
@@ -231,14 +236,14 @@ func (it *FileLog) drop(position int) error {
 		return err
 	}
 	mine, err := it.file.Stat()
-	path := ""
-	if err == nil {
-		path, err = filepath.EvalSymlinks(it.path)
-	}
 	if err != nil {
-		return failed(ErrLogRefused, "the place of %s is unknown, so open it again: %w", it, err)
+		return failed(ErrLogRefused, "the state of %s is unknown, so open it again: %w", it, err)
 	}
-	made, err := newReplacement(path, mine.Mode().Perm(), mine, it.steps)
+	if err := it.syncSnapshot(); err != nil {
+		return failed(ErrLogRefused, "the file %s can't be synced, and no line is dropped; repair that, and try again: %w",
+			it.snapshotPath(), err)
+	}
+	made, err := newReplacement(it.path, mine.Mode().Perm(), mine, it.steps)
 	if err != nil {
 		return err
 	}
@@ -263,6 +268,19 @@ func (it *FileLog) drop(position int) error {
 	}()
 	it.file, it.readers, it.first, it.start, it.end, it.read = file, &sync.WaitGroup{}, position, start, end, mark{}
 	return nil
+}
+
+// syncSnapshot has the snapshot on the disk, also one that a process stored which was killed, or an operator.
+func (it *FileLog) syncSnapshot() error {
+	file, err := os.Open(it.snapshotPath())
+	if err != nil {
+		return err
+	}
+	defer file.Close()
+	if err := it.steps.sync(file); err != nil {
+		return err
+	}
+	return it.steps.syncFolder(it.snapshotPath())
 }
 
 // copyFrom writes a log with the lines from a position on, and returns where these start and end. The caller has the mutex.

@@ -11,6 +11,7 @@ import (
 	"os/exec"
 	"path/filepath"
 	"strings"
+	"sync"
 	"syscall"
 	"testing"
 	"time"
@@ -80,7 +81,7 @@ func (it *alterer) ofLines() {
 func (it *alterer) ofHeaders() {
 	for member, values := range map[string][]string{
 		"snapshot": {"null", `"1"`, "2", "0", "1.0", "true", "[]"},
-		"position": {"null", `"7"`, "-1", "7.0", "8", "6", "99999999999999999999", "5", "0"},
+		"position": {"null", `"7"`, "-1", "7.0", "8", "6", "9", "99999999999999999999", "5", "0"},
 		"epochs":   {"null", "2", "4", "0", "-3", "true", "9223372036854775807", "18446744073709551615"},
 		"names":    {"null", "15", "17", `"15"`, "1e1", "{}"},
 		"policy":   {`"` + strings.Repeat("00", 32) + `"`, `"07"`, "7"},
@@ -183,10 +184,11 @@ func TestAlteredSnapshots(t *testing.T) {
 	it.settings.Verify = it.verify
 	alterer := newAlterer(t, genuine, func(what string, lines []string) {
 		it.rewriteSnapshot(lines)
-		if what == "position 6" || what == "position 5" {
-			// No line of the log is read for these.
+		switch what {
+		case "position 5", "position 6", "position 8", "position 9":
+			// No line of the log is read for these. There is none from position 9 on.
 			it.refused(what, ErrSnapshotDiffers)
-		} else {
+		default:
 			it.refused(what, ErrSnapshotDiffers, ErrLogFailed, ErrReplayDiffers)
 		}
 		count++
@@ -343,6 +345,23 @@ func TestOlderSnapshots(t *testing.T) {
 	}
 }
 
+// While a directory runs, an older snapshot is put in the place of the one whose lines were dropped.
+func TestOlderSnapshotThatIsPutBack(t *testing.T) {
+	it := newDirectory(t)
+	it.fill(1, 2, 3)
+	it.compact(1)
+	older := it.snapshotLines()
+	it.good(it.log.DropBefore(it.compact(2)))
+	it.rewriteSnapshot(older)
+	it.wants(it.provider.Restart(background), ErrLinesDropped)
+	it.wants(it.log.DropBefore(3), ErrLinesDropped)
+	if position := it.compact(0); position != 7 {
+		t.Error(position)
+	}
+	it.reopen()
+	it.check(1, 2, 3)
+}
+
 // While a process runs, another log with a snapshot of another chain is a fork.
 func TestForkOverASnapshot(t *testing.T) {
 	it := newDirectory(t)
@@ -381,6 +400,7 @@ func TestFilesOfASnapshot(t *testing.T) {
 	it := newDirectory(t)
 	it.fill(1, 2)
 	path, left := it.path+".snapshot", it.path+".snapshot.new"
+	it.wants(it.log.Compact(0, func(store func(line []byte) error) error { return store([]byte("{}")) }), ErrLogRefused)
 	for _, mode := range []os.FileMode{0o600, 0o666} {
 		it.good(os.WriteFile(left, make([]byte, 99999), mode))
 		it.compact(0)
@@ -586,7 +606,9 @@ func TestReadingsAroundDropBefore(t *testing.T) {
 	it.good(it.log.Read(3, nothing))
 	it.good(it.log.DropBefore(position))
 	it.commit(4)
-	for begin := position; begin < 9; begin++ {
+	it.commit(5)
+	// The first one begins after where the last reading of the old file has ended.
+	for begin := 9; begin >= position; begin-- {
 		lines = nil
 		it.good(it.log.Read(begin, func(line []byte) error { lines = append(lines, string(line)+"\n"); return nil }))
 		if all := it.lines(); strings.Join(lines, "") != strings.Join(all[1+begin-position:], "")+"\n" {
@@ -595,20 +617,54 @@ func TestReadingsAroundDropBefore(t *testing.T) {
 	}
 }
 
-// A log behind a link is replaced where the link leads to.
-func TestDropBeforeBehindALink(t *testing.T) {
+// A log and a snapshot behind links are replaced where the links lead to, which may be over another link to another folder.
+func TestFilesBehindLinks(t *testing.T) {
 	it := newDirectory(t)
 	it.fill(1, 2)
 	it.close()
-	real := filepath.Join(t.TempDir(), "real")
+	elsewhere := t.TempDir()
+	real, stored, between := filepath.Join(elsewhere, "real"), filepath.Join(elsewhere, "stored"), it.path+"-between"
 	it.good(os.Rename(it.path, real))
 	it.good(os.Symlink(real, it.path))
+	it.good(os.Symlink(filepath.Base(between), it.path+".snapshot"))
+	it.good(os.Symlink(stored, between))
 	it.reopen()
-	it.good(it.log.DropBefore(it.compact(0)))
-	hasText(t, real, "{\"first\":5}\n")
-	it.commit(3)
+	// The first snapshot has no file there yet.
+	for number, position := range []int{5, 7} {
+		if number > 0 {
+			it.commit(3)
+		}
+		steps := &countedSteps{}
+		it.log.steps = steps
+		it.good(it.log.DropBefore(it.compact(0)))
+		if made := fmt.Sprint(steps.made); made != "[sync rename stored folder sync folder sync rename real folder]" {
+			t.Error(made)
+		}
+		hasText(t, real, fmt.Sprintf("{\"first\":%d}\n", position))
+	}
+	for _, path := range []string{it.path, it.path + ".snapshot", between} {
+		if found, err := os.Lstat(path); err != nil || found.Mode()&os.ModeSymlink == 0 {
+			t.Error(path, "is no link any more", err)
+		}
+	}
+	if files, err := os.ReadDir(elsewhere); err != nil || len(files) != 2 {
+		t.Error(files, err)
+	}
+	it.commit(4)
 	it.reopen()
-	it.check(1, 2, 3)
+	it.check(1, 2, 3, 4)
+	before := it.snapshotLines()
+	for target, wanted := range map[string]error{elsewhere + "/missing/stored": ErrLogRefused, it.path + ".snapshot": ErrLogFailed} {
+		it.good(os.Remove(between))
+		it.good(os.Symlink(target, between))
+		_, err := it.provider.Compact(background)
+		it.wants(err, wanted)
+	}
+	it.good(os.Remove(between))
+	it.good(os.Symlink(stored, between))
+	if fmt.Sprint(it.snapshotLines()) != fmt.Sprint(before) || it.compact(0) != 9 {
+		t.Error("another snapshot")
+	}
 }
 
 // First lines of a file that say where it begins.
@@ -719,6 +775,88 @@ func TestFullDiskAtASnapshot(t *testing.T) {
 	it.check(1, 2, 3, 4)
 }
 
+// storing returns lines that a log stores as a snapshot of a position, and a function that stores them and makes a call before the
+// last one.
+func storing(position int, call func()) (text string, lines func(store func(line []byte) error) error) {
+	all := []string{fmt.Sprintf(`{"snapshot":1,"position":%d}`, position), "line", lastHead + strings.Repeat("00", 32) + `"}`}
+	return strings.Join(all, "\n") + "\n", func(store func(line []byte) error) error {
+		for number, line := range all {
+			if number == len(all)-1 {
+				call()
+			}
+			if err := store([]byte(line)); err != nil {
+				return err
+			}
+		}
+		return nil
+	}
+}
+
+// syncedAfter makes a call before the first file is synced.
+type syncedAfter struct {
+	diskFiles
+	once sync.Once
+	call func()
+}
+
+func (it *syncedAfter) sync(file *os.File) error {
+	it.once.Do(it.call)
+	return it.diskFiles.sync(file)
+}
+
+// What other calls and processes do while a log stores a snapshot, or drops lines.
+func TestWhatOthersDoBesideASnapshot(t *testing.T) {
+	it := newDirectory(t)
+	it.fill(1, 2, 3)
+	it.compact(1)
+	path, moved := it.path+".snapshot", it.path+"-moved"
+	snapshot, err := os.ReadFile(path)
+	it.good(err)
+	whole := it.text()
+	isSame := func(wanted string) {
+		t.Helper()
+		hasText(t, path, wanted)
+		hasText(t, it.path, whole)
+		for _, left := range []string{it.path + ".new", path + ".new"} {
+			if _, err := os.Lstat(left); err == nil {
+				t.Error("a file is left:", left)
+			}
+		}
+	}
+	refused := func(wanted error, call func()) {
+		t.Helper()
+		_, lines := storing(5, call)
+		it.wants(it.log.Compact(5, lines), wanted)
+	}
+	refused(ErrLogRefused, func() {
+		_, lines := storing(7, func() { t.Error("two calls store a snapshot") })
+		it.wants(it.log.Compact(7, lines), ErrLogRefused)
+		it.good(os.Rename(it.path, moved))
+	})
+	it.good(os.Rename(moved, it.path))
+	isSame(string(snapshot))
+	later, _ := storing(7, func() {})
+	refused(ErrOvertaken, func() { it.good(os.WriteFile(path, []byte(later), 0o600)) })
+	isSame(later)
+	it.good(os.WriteFile(path, snapshot, 0o600))
+	// The log grows while its lines are dropped.
+	it.log.steps = &syncedAfter{call: func() { it.good(os.WriteFile(it.path, []byte(whole+"more\n"), 0o600)) }}
+	it.wants(it.log.DropBefore(3), ErrLogRefused)
+	hasText(t, it.path, whole+"more\n")
+	it.good(os.WriteFile(it.path, []byte(whole), 0o600))
+	it.log.steps = diskFiles{}
+	for _, cut := range []string{strings.TrimSuffix(string(snapshot), "\n"), string(snapshot[:bytes.LastIndexByte(snapshot[:len(snapshot)-1], '\n')+1])} {
+		it.good(os.WriteFile(path, []byte(cut), 0o600))
+		it.wants(it.log.DropBefore(3), ErrSnapshotDiffers)
+		isSame(cut)
+	}
+	it.good(os.WriteFile(path, snapshot, 0o600))
+	it.reopen()
+	it.check(1, 2, 3)
+	refused(ErrLogFailed, func() { it.good(it.log.Close()) })
+	isSame(string(snapshot))
+}
+
 // countedSteps makes the steps of a replacement, counts them, and fails in place of one.
 type countedSteps struct {
 	diskFiles
@@ -748,7 +886,7 @@ func (it *countedSteps) syncFolder(path string) error {
 // A new file is on the disk before it takes the place of the old one, and then the folder. After an error the old one is there, or it
 // is unknown which one is.
 func TestStepsThatReplaceAFile(t *testing.T) {
-	for at := 0; at < 4; at++ {
+	for at := 0; at < 6; at++ {
 		it := newDirectory(t)
 		it.fill(1, 2, 3)
 		it.compact(2)
@@ -761,7 +899,7 @@ func TestStepsThatReplaceAFile(t *testing.T) {
 		}
 		isOlder := fmt.Sprint(it.snapshotLines()) == fmt.Sprint(before)
 		switch {
-		case at == 0:
+		case at == 0 || at > 3:
 			it.good(err)
 		case !errors.Is(err, ErrLogFailed) || errors.Is(err, ErrLogRefused) != (at < 3) || isOlder != (at < 3):
 			t.Error(at, err, isOlder)
@@ -769,12 +907,14 @@ func TestStepsThatReplaceAFile(t *testing.T) {
 		if _, err := os.Stat(it.path + ".snapshot.new"); err == nil {
 			t.Error(at, "a file is left")
 		}
+		*steps = countedSteps{}
 		it.commit(4)
 		it.compact(3)
 		*steps = countedSteps{at: at}
 		whole = it.text()
 		err = it.log.DropBefore(7)
-		if made := fmt.Sprint(steps.made); at == 0 && made != "[sync rename log folder]" {
+		// The snapshot is on the disk before its lines go.
+		if made := fmt.Sprint(steps.made); at == 0 && made != "[sync folder sync rename log folder]" {
 			t.Error(made)
 		}
 		_, other := os.Stat(it.path + ".new")
@@ -783,7 +923,7 @@ func TestStepsThatReplaceAFile(t *testing.T) {
 			t.Error(at, "a file is left")
 		case at == 0:
 			it.good(err)
-		case at < 3:
+		case at < 5:
 			it.wants(err, ErrLogRefused)
 			hasText(t, it.path, whole)
 		default:
@@ -858,8 +998,8 @@ func TestOpeningsOfASnapshot(t *testing.T) {
 // Python and Go go on with each other's snapshots, and with logs from which lines were dropped.
 func TestSnapshotsOfPython(t *testing.T) {
 	needsPython(t)
-	if _, err := os.Stat("../python/coniks/_restoring.py"); err != nil {
-		t.Skip("../python has no snapshots")
+	if _, err := os.Stat("../python/src/coniks/_restoring.py"); err != nil {
+		t.Skip("../python/src has no snapshots")
 	}
 	it := newRoom(t)
 	it.pythonProvider(`

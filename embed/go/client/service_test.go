@@ -6,16 +6,15 @@ import (
 	"encoding/hex"
 	"fmt"
 	"os"
+	"os/exec"
 	"path/filepath"
 	"testing"
 	"time"
 
 	"example.org/coniks"
+	"example.org/coniks/internal/built"
 	"filippo.io/edwards25519"
 )
-
-// builtProvider is the program that ./gate builds. The variable CONIKS_PROVIDER names another one.
-const builtProvider = "../../../crates/provider/out/provider"
 
 // service is a directory of coniks.StartProvider, whose VRF is that of the tests.
 type service struct {
@@ -27,14 +26,18 @@ type service struct {
 
 func (it *service) proof(name string) []byte { return proofOf(it.secret, it.public, name, identity) }
 
+// builtProvider is the program, without which the test is skipped.
+func builtProvider(t *testing.T) string {
+	t.Helper()
+	program, err := built.Provider()
+	if err != nil {
+		t.Skip(err)
+	}
+	return program
+}
+
 func newService(t *testing.T) *service {
-	program := os.Getenv("CONIKS_PROVIDER")
-	if program == "" {
-		program = builtProvider
-	}
-	if _, err := os.Stat(program); err != nil {
-		t.Skip("CONIKS_PROVIDER names no program, and ./gate hasn't built one")
-	}
+	program := builtProvider(t)
 	row := readVectors(t).VRF[0]
 	it := &service{secret: secretScalar(unhex(t, row.Secret)), public: unhex(t, row.Public)}
 	signing := ed25519.NewKeyFromSeed(make([]byte, 32))
@@ -134,14 +137,30 @@ type messages struct {
 	Keys                                  []string // the name's key at each epoch
 }
 
-// The file that CONIKS_MESSAGES names has what a provider in Python returns, and the keys that it registered.
-func TestPythonToClient(t *testing.T) {
-	file := os.Getenv("CONIKS_MESSAGES")
-	if file == "" {
-		t.Skip("CONIKS_MESSAGES names no file")
+// messagesOfPython is a file with what a provider in Python returns, and the keys that it registered. The variable
+// CONIKS_MESSAGES names one that is there.
+func messagesOfPython(t *testing.T) string {
+	t.Helper()
+	if file := os.Getenv("CONIKS_MESSAGES"); file != "" {
+		return file
 	}
+	program, file := builtProvider(t), filepath.Join(t.TempDir(), "messages.json")
+	for _, python := range []string{"python3", "/usr/bin/python3"} {
+		if exec.Command(python, "-c", "import nacl.signing").Run() != nil {
+			continue
+		}
+		if said, err := exec.Command(python, "../../messages.py", program, file).CombinedOutput(); err != nil {
+			t.Fatal(err, string(said))
+		}
+		return file
+	}
+	t.Skip("PyNaCl is missing")
+	return ""
+}
+
+func TestPythonToClient(t *testing.T) {
 	var it messages
-	readJSON(t, file, &it)
+	readJSON(t, messagesOfPython(t), &it)
 	policy, err := coniks.ReadPolicy([]byte(it.Policy))
 	good(t, err)
 	last := it.Epochs[len(it.Epochs)-1]
