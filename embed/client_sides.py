@@ -218,9 +218,9 @@ def try_cases(tally: Tally, what: str, side: Side) -> None:
 
 def try_alterations(tally: Tally, what: str, side: Side, count: int, seed: int) -> None:
     """So many alterations, of which both implementations return the same."""
-    alterer, seen, spent = Alterer(list(cases()), seed), dict[str, int](), 0.0
+    alterer, chance, seen, spent = Alterer(list(cases())), random.Random(seed), dict[str, int](), 0.0
     for number in range(count):
-        case = alterer.altered()
+        case = alterer.altered(chance)
         before = time.monotonic()
         mine = verdict(side, copy.deepcopy(case))
         spent += time.monotonic() - before

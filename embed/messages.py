@@ -14,7 +14,7 @@ from typing import Any, Sequence
 
 TOP = Path(__file__).resolve().parent.parent
 sys.dont_write_bytecode = True
-sys.path[:0] = [str(TOP / "embed/python"), str(TOP / "examples/provider")]
+sys.path[:0] = [str(TOP / "embed/python/src"), str(TOP / "examples/provider")]
 
 import ecvrf
 from coniks import Policy

@@ -1,10 +1,28 @@
-"""Counts what has passed, failed and been skipped, for each script whose last line is `N passed, M failed, K skipped`."""
+"""Counts what has passed, failed and been skipped: by pytest, by `node --test`, and by each script whose last line is
+`N passed, M failed, K skipped`."""
 
 from __future__ import annotations
 
 import re
 
 LAST = re.compile(r"(\d+) passed, (\d+) failed(?:, (\d+) skipped)?")
+# The last line of `pytest --quiet`, and its parts. An error is one of a fixture or of a module.
+PYTEST = re.compile(r"\d+ \w+(?:, \d+ \w+)* in [\d.]+s(?: \(.*\))?")
+PART = re.compile(r"(\d+) (passed|failed|error|skipped)")
+# A line of the summary of `node --test`.
+NODE = re.compile(r"^ℹ (pass|fail|cancelled|skipped) (\d+)$", re.M)
+
+
+def counts_of(text: str) -> list[int]:
+    """What has passed, failed and been skipped by the end of an output. One that says nothing is a failure."""
+    line = (text.strip().splitlines() or [""])[-1].strip()
+    if found := LAST.fullmatch(line):
+        return [int(it or 0) for it in found.groups()]
+    if PYTEST.fullmatch(line):
+        said = {word: int(count) for count, word in PART.findall(line)}
+        return [said.get("passed", 0), said.get("failed", 0) + said.get("error", 0), said.get("skipped", 0)]
+    said = {word: int(count) for word, count in NODE.findall(text)}
+    return [said["pass"], said["fail"] + said["cancelled"], said["skipped"]] if len(said) == 4 else [0, 1, 0]
 
 
 class Tally:
@@ -28,10 +46,8 @@ class Tally:
         print(f"skipped: {what}, which needs {tool}", flush=True)
 
     def add_last_line(self, text: str, status: int) -> None:
-        """Adds what a command's last line counts. Without counts, or with a bad status and no failure, it has failed."""
-        lines = text.strip().splitlines()
-        found = LAST.fullmatch(lines[-1].strip()) if lines else None
-        counts = [int(it or 0) for it in found.groups()] if found else [0, 1, 0]
+        """Adds what the end of a command's output counts. Without counts, or with a bad status and no failure, it has failed."""
+        counts = counts_of(text)
         if status and not counts[1]:
             counts[1] = 1
         self.add(*counts)

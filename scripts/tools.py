@@ -44,13 +44,19 @@ def python_with(*modules: str) -> Optional[str]:
     return None
 
 
-# A Python that makes environments and builds packages in them without a registry, one with PyNaCl, and one with psycopg, which
-# has PyNaCl too if one has both.
+def first_with(*lists: Sequence[str]) -> Optional[str]:
+    """A Python that imports the modules of the first list that one has."""
+    return next((python for modules in lists if (python := python_with(*modules))), None)
+
+
+# A Python that makes environments and builds packages in them without a registry, one with PyNaCl, one with psycopg, which has
+# PyNaCl too if one has both, and one with pytest, which has as much of what the tests need as one has.
 PYTHON = python_with("ensurepip", "setuptools", "venv", "wheel")
 SIGNING_PYTHON = python_with("nacl.bindings", "nacl.signing")
-DATABASE_PYTHON = python_with("psycopg", "nacl.signing") or python_with("psycopg")
+DATABASE_PYTHON = first_with(["psycopg", "nacl.signing"], ["psycopg"])
+TEST_PYTHON = first_with(["pytest", "hypothesis", "psycopg", "nacl.signing"], ["pytest", "nacl.signing"], ["pytest"])
 
-# A tool, whether it is there, its packages in Debian, and what is skipped without it.
+# A tool, whether it is there, its packages in Debian 12, if it has any, and what is skipped without it.
 TOOLS: dict[str, tuple[Callable[[], bool], str, str]] = {
     "a C compiler": (lambda: has_program(CC), "gcc libc6-dev", "faults/run and embed/test"),
     "a C++ compiler": (lambda: compiles("", "-fsyntax-only", "-x", "c++"), "g++", "the header as C++"),
@@ -65,12 +71,19 @@ TOOLS: dict[str, tuple[Callable[[], bool], str, str]] = {
     "PyNaCl": (lambda: SIGNING_PYTHON is not None, "python3-nacl", "signatures by Ed25519 and examples/provider"),
     "PostgreSQL": (lambda: any(Path("/usr/lib/postgresql").glob("*/bin/initdb")), "postgresql", "a directory on several machines"),
     "psycopg": (lambda: DATABASE_PYTHON is not None, "python3-psycopg", "coniks.postgres and examples/cluster"),
+    "pytest": (lambda: TEST_PYTHON is not None, "python3-pytest", "the tests in Python"),
+    "hypothesis": (
+        lambda: python_with("pytest", "hypothesis") is not None,
+        "python3-hypothesis",
+        "alterations and walks of clients",
+    ),
     "mypy": (lambda: has_program("mypy"), "mypy", "the types of the side in Python"),
-    "node": (lambda: has_program("node"), "nodejs", "the page's own tests"),
+    "node": (lambda: has_program("node"), "nodejs", "the tests in JavaScript"),
     "wasm-opt": (lambda: has_program("wasm-opt"), "binaryen", "the page and the module for web projects"),
     "tsc": (lambda: has_program("tsc"), "node-typescript", "the types of the module for web projects"),
     "chromium": (lambda: has_program(CHROMIUM), "chromium", "the page in a browser"),
     "shellcheck": (lambda: has_program("shellcheck"), "shellcheck", "shellcheck in scripts/lint"),
+    "ruff": (lambda: has_program("ruff"), "", "ruff in scripts/lint"),
     "black": (lambda: has_program("black"), "black", "black in scripts/lint"),
     "gofmt": (lambda: has_program("gofmt"), "golang-go", "gofmt in scripts/lint"),
     "rustfmt": (lambda: has_program("rustfmt"), "rustfmt", "rustfmt in scripts/lint"),
@@ -95,7 +108,8 @@ def told(tools: Sequence[str]) -> list[str]:
     if not tools:
         return []
     lines = [f"not here: {it}, so {TOOLS[it][2]} will be skipped" for it in tools]
-    return [*lines, f"on Debian: apt-get install --no-install-recommends {' '.join(packages(tools))}"]
+    found = packages(tools)
+    return [*lines, f"on Debian: apt-get install --no-install-recommends {' '.join(found)}"] if found else lines
 
 
 def install(tools: Sequence[str]) -> None:
@@ -112,7 +126,7 @@ def install(tools: Sequence[str]) -> None:
 def main(words: list[str]) -> int:
     tools = lacking()
     if words == ["--install"]:
-        if tools and os.geteuid() == 0 and has_program("apt-get"):
+        if packages(tools) and os.geteuid() == 0 and has_program("apt-get"):
             install(tools)
         return 0
     print(*told(tools), sep="\n", end="\n" if tools else "")

@@ -3,6 +3,7 @@
 
     keydir run < script.jsonl | watch.py [--key HEX64] [--expect KEY] NAME
 
+From a checkout, set `PYTHONPATH=embed/python/src`, or install the package with `pip install embed/python`.
 Each lookup is checked, each batch's entry is audited, and the lookups of NAME are shown to a monitor that expects the key
 (base64), or none. `keydir` has only its demonstration's seal, under a key that is 32 zero bytes by default: anyone who can verify
 it can forge it. For a provider take `coniks.client`, which verifies signatures and indices.

@@ -14,7 +14,7 @@ from typing import Any, Callable, Optional, Sequence
 
 HERE = Path(__file__).resolve().parent
 sys.dont_write_bytecode = True
-sys.path.append(str(HERE.parent.parent / "embed/python"))
+sys.path.append(str(HERE.parent.parent / "embed/python/src"))
 
 import coniks
 import ecvrf

@@ -11,7 +11,7 @@ import sys
 from pathlib import Path
 
 sys.dont_write_bytecode = True
-sys.path.append(str(Path(__file__).resolve().parent.parent.parent / "embed/python"))
+sys.path.append(str(Path(__file__).resolve().parent.parent.parent / "embed/python/src"))
 
 import ecvrf
 from nacl.exceptions import BadSignatureError

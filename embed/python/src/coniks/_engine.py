@@ -1,0 +1,575 @@
+"""The program `provider` as a child process, and how far a log was replayed into it."""
+
+from __future__ import annotations
+
+import fcntl
+import math
+import os
+import random
+import secrets
+import select
+import subprocess
+import threading
+import time
+from dataclasses import dataclass
+from hashlib import sha256
+from itertools import islice
+from typing import Any, Callable, Iterable, Iterator, Mapping, NamedTuple, Optional, Sequence, Tuple
+
+from . import BODY_LENGTH, ENTRY_LENGTH, Head
+from ._lines import SIGNATURE_LENGTH, Epoch, Index, Latest, Pending, answer, digits, encoded, install_line, lookup_line
+from ._lines import grouped, latest_of, members_of, number, with_member
+from ._restoring import Restoring, link_of
+from ._snapshot_lines import OPENING, Point, lines_of, snapshot_in
+from .faults import Fault, LogBehind, LogFailed, LogForked, OtherIndex, ProgramFailed, ProviderError, ReplayDiffers
+from .faults import SnapshotDiffers, UnknownEpoch
+from .log import Log
+
+_GET_PIPE_SIZE = 1032  # fcntl.F_GETPIPE_SZ, from Python 3.10 on
+# In a log of this format a `prepare` line that follows another one without `install` abandons that update by name.
+_FORMAT = 2
+
+
+class Child:
+    """The program as a child process: lines go in and come out. It is in a session of its own, so that a terminal's interrupt
+    doesn't end it, and it ends with its parent, because its input does. After an error it isn't asked again."""
+
+    def __init__(self, words: Sequence[str], timeout: Optional[float]):
+        try:
+            pipe = subprocess.PIPE
+            self._process = subprocess.Popen(words, stdin=pipe, stdout=pipe, bufsize=0, start_new_session=True)
+        except OSError as error:
+            raise ProgramFailed(f"the program {words[0]} can't be started: {error.strerror}. Look at its path") from error
+        assert self._process.stdin and self._process.stdout
+        self._in, self._out = self._process.stdin.fileno(), self._process.stdout.fileno()
+        self._timeout, self.is_sound = timeout, True
+        self._held, self._at = b"", 0
+        # Lines of this size in all are written before their answers are read. The pipe has room for them, so that the child
+        # and its parent never both wait for the other to read.
+        self.at_once = fcntl.fcntl(self._in, _GET_PIPE_SIZE) // 2
+        self._can_write, self._can_read = select.poll(), select.poll()
+        self._can_write.register(self._in, select.POLLOUT)
+        self._can_read.register(self._out, select.POLLIN)
+        if timeout is not None:
+            os.set_blocking(self._in, False)
+
+    @property
+    def pid(self) -> int:
+        return self._process.pid
+
+    def send(self, lines: Iterable[bytes]) -> None:
+        """Writes lines with their newlines. Each gets an answer."""
+        if not self.is_sound:
+            raise ProgramFailed("the program isn't asked after an error, or once another one took its place: ask again")
+        try:
+            self._send(b"".join(lines))
+        except BaseException:
+            self.is_sound = False
+            raise
+
+    def receive(self, count: int, times: int = 1) -> list[bytes]:
+        """Reads the next answers, each of which may take the timeout so many times."""
+        try:
+            return [self._receive(times) for _ in range(count)]
+        except BaseException:
+            self.is_sound = False
+            raise
+
+    def _wait(self, pipe: select.poll, until: float) -> None:
+        """Waits for a pipe to be ready, if there is a timeout."""
+        if self._timeout is not None and not pipe.poll(max(0, until - time.monotonic()) * 1000):
+            raise ProgramFailed(f"the program didn't answer in {self._timeout} seconds, and is started again")
+
+    def _send(self, data: bytes) -> None:
+        until, rest = time.monotonic() + (self._timeout or 0), memoryview(data)
+        while rest:
+            try:
+                rest = rest[os.write(self._in, rest) :]
+            except BlockingIOError:
+                self._wait(self._can_write, until)
+            except OSError:
+                raise self._ended() from None
+
+    def _receive(self, times: int) -> bytes:
+        end = self._held.find(b"\n", self._at)
+        if end < 0:
+            until = time.monotonic() + (self._timeout or 0) * times
+            while end < 0:
+                self._wait(self._can_read, until)
+                more = os.read(self._out, 65536)
+                if not more:
+                    raise self._ended()
+                held = self._held[self._at :]
+                self._held, self._at = held + more, 0
+                end = self._held.find(b"\n", len(held))
+        line = self._held[self._at : end]
+        self._at = end + 1
+        return line
+
+    def _ended(self) -> ProgramFailed:
+        try:
+            return ProgramFailed(f"the program ended with status {self._process.wait(5)}: see its standard error")
+        except subprocess.TimeoutExpired:
+            return ProgramFailed("the program closed its streams, and is started again")
+
+    def is_usable(self) -> bool:
+        """Whether the program runs and was never out of step."""
+        self.is_sound = self.is_sound and self._process.poll() is None
+        return self.is_sound
+
+    def kill(self) -> None:
+        """Ends the program at once. Whoever waits for its answer gets an error."""
+        self.is_sound = False
+        self._process.kill()
+
+    def stop(self, seconds: float) -> None:
+        """Ends the program: its input ends, and after some seconds it is killed. The log has all that matters."""
+        assert self._process.stdin and self._process.stdout
+        self._process.stdin.close()
+        try:
+            self._process.wait(seconds)
+        except subprocess.TimeoutExpired:
+            self._process.kill()
+            self._process.wait()
+        self._process.stdout.close()
+
+
+Place = Tuple[str, str]
+
+
+class Sample:
+    """Names and indices of the first, the last and 64 random ones of all operations that it was given: reservoir sampling by Li's
+    algorithm L."""
+
+    def __init__(self, size: int = 64):
+        self._size, self._count, self._weight = size, 0, 1.0
+        self._kept: list[Place] = []
+        self._ends: list[Place] = []
+        self._next = size
+        self._skip()
+
+    def _skip(self) -> None:
+        self._weight *= math.exp(math.log(1 - random.random()) / self._size)
+        self._next += int(math.log(1 - random.random()) / math.log1p(-self._weight)) if self._weight < 1 else 0
+
+    def add(self, operations: Sequence[Any]) -> None:
+        if not operations:
+            return
+        self._ends = [*(self._ends or [place_of(operations[0])])[:1], place_of(operations[-1])]
+        self._kept += map(place_of, operations[: self._size - len(self._kept)])
+        while self._next < self._count + len(operations):
+            self._kept[random.randrange(self._size)] = place_of(operations[self._next - self._count])
+            self._next += 1
+            self._skip()
+        self._count += len(operations)
+
+    def last(self) -> list[Place]:
+        return self._ends[1:]
+
+    def all(self) -> list[Place]:
+        return self._ends + self._kept
+
+
+def place_of(operation: Mapping[str, Any]) -> Place:
+    return operation["name"], operation["index"]
+
+
+@dataclass(frozen=True)
+class Setting:
+    """What the children of a directory are started with."""
+
+    words: Sequence[str]
+    timeout: Optional[float]
+    log: Log
+    policy: bytes
+    nonce: Optional[bytes] = None
+    vrf_public_key: Optional[bytes] = None
+    verify: Optional[Callable[[bytes, bytes], bool]] = None
+
+
+class Update(NamedTuple):
+    """A pending update with its line, as the log has it: how many names it registers, how many nodes it adds, and its operations
+    if it was replayed."""
+
+    pending: Pending
+    line: bytes
+    names: int
+    nodes: int
+    operations: Sequence[Any] = ()
+
+    def is_of(self, line: bytes) -> bool:
+        """Whether a line without `body` and `abandons` asks for this update."""
+        return self.line.startswith(with_member(line, "body", self.pending.body)[:-1])
+
+
+class Record(NamedTuple):
+    """What a signer's record has: the entry of the last body that it signed, and a body that it was asked for and whose signature
+    it hasn't given."""
+
+    signed: Optional[bytes] = None
+    asked: Optional[bytes] = None
+
+
+class Engine:
+    """A child, and how far the log was replayed into it: the position of the next line, the latest epoch that the log has, and
+    the pending update. The child answers for these also if it has installed an epoch that the log doesn't have, `unlogged`,
+    since each lookup names its epoch."""
+
+    def __init__(self, setting: Setting):
+        """Starts a child. `replay` replays the log."""
+        self._setting, self.log, self.asking, self.verify = setting, setting.log, threading.Lock(), setting.verify
+        # The position of the snapshot that the replay begins with, 0 if there is none.
+        self.begin = 0
+        self.position, self.latest = 0, Epoch(0, bytes(32), bytes(32), b"")
+        self.size = Latest(0, bytes(32), 0, 0)
+        self.chain: list[bytes] = []
+        # The epochs that the child has, with those of the latest entries of the chain, and what the `open` line said.
+        self.points: list[Point] = []
+        self._opening: Mapping[str, Any] = {}
+        self.update: Optional[Update] = None
+        self.unlogged: Optional[tuple[bytes, Epoch]] = None
+        # The bodies of logged updates that others replaced, and a sample of the logged operations.
+        self.replaced: list[bytes] = []
+        self._sample = Sample()
+        # Whether the log says of each update that is replaced that it was abandoned. Logs of the first format don't.
+        self._is_strict = False
+        self.child = Child(setting.words, setting.timeout)
+
+    def ask(self, line: bytes, times: int = 1) -> Mapping[str, Any]:
+        """What the child answers to a line. It may take the timeout so many times."""
+        with self.asking:
+            self.child.send([line, b"\n"])
+            [said] = self.child.receive(1, times)
+        try:
+            return answer(said)
+        except ProgramFailed:
+            self.child.is_sound = False
+            raise
+
+    def open(self) -> None:
+        """Opens a directory, in a log without a line."""
+        members = {
+            "cmd": "open",
+            "nonce": (self._setting.nonce or secrets.token_bytes(32)).hex(),
+            "policy": self._setting.policy.hex(),
+            "log": _FORMAT,
+        }
+        if self._setting.vrf_public_key is not None:
+            members["vrf"] = sha256(self._setting.vrf_public_key).hexdigest()
+        line = encoded(members)
+        self.ask(line)
+        self.append(line)
+        self.compare_opening(members)
+
+    def replay(self) -> None:
+        """Restores the snapshot of the log, if there is one, and replays the lines from its position on."""
+        try:
+            if found := snapshot_in(self.log):
+                self.begin = found[0]
+                Restoring(self, self.begin).take_all(found[1])
+            for line in self.log.read(self.position):
+                self.take(line)
+        except ProviderError:
+            raise
+        except Exception as error:
+            raise LogFailed(f"the log can't be read: {type(error).__name__}. Repair it, and start again") from error
+
+    def follow(self, position: int) -> None:
+        """Replays the lines below a position that it hasn't replayed."""
+        if self.position < position:
+            for line in islice(self.log.read(self.position), position - self.position):
+                self.take(line)
+        if self.position < position:
+            raise LogFailed(f"{self.log} lost lines: compare it with a backup, and restart")
+
+    def take(self, line: bytes) -> None:
+        """Replays the next line of the log, and compares the answer: of `prepare` the body, and of `install` the link."""
+        what = f"line {self.position} of the log"
+        said = members_of(line, LogFailed, what)
+        self._check_abandons(said, what)
+        try:
+            told = self.ask(line)
+        except Fault as fault:
+            raise ReplayDiffers(f"{what} is refused: {fault}. Look whether log and program are this directory's") from fault
+        command = said.get("cmd")
+        if command == "open":
+            self.compare_opening(said)
+        elif command == "prepare":
+            if told.get("body") != said.get("body"):
+                raise ReplayDiffers(f"{what} has another body: look whether log and program are this directory's")
+            operations = said.get("ops", [])
+            names = sum(it.get("op") == "register" for it in operations)
+            pending = self._pending(number(said, "epoch", LogFailed), told)
+            self._prepared(Update(pending, line, names, number(told, "nodes"), operations))
+        elif command == "install":
+            if told.get("link") != said.get("link"):
+                raise ReplayDiffers(f"{what} has another link: look whether log and program are this directory's")
+            epoch = self._installed(digits(said, "signature", SIGNATURE_LENGTH, LogFailed), told)
+            self._settle(epoch, self.position + 1)
+        else:
+            raise LogFailed(f"{what} is none of a provider: give the path of a log")
+        self.position += 1
+
+    def _check_abandons(self, said: Mapping[str, Any], what: str) -> None:
+        """Checks that a `prepare` line abandons the pending update, and no other one, before the child replaces it."""
+        if not self._is_strict or said.get("cmd") != "prepare":
+            return
+        pending = self.update.pending.body.hex() if self.update else None
+        if said.get("abandons") != pending:
+            wrong = "replaces a pending update that it doesn't abandon" if pending else "abandons an update that isn't pending"
+            raise LogFailed(f"{what} {wrong}: look what wrote it, and restore the log without it")
+
+    def compare_opening(self, said: Mapping[str, Any]) -> None:
+        """Compares what an `open` line says with what the child was started with."""
+        version = said.get("log")
+        if version is not None and (type(version) is not int or version != _FORMAT):
+            raise LogFailed("the log has a format that this version doesn't read: use the version that wrote it, or a later one")
+        self._is_strict = version is not None
+        key = self._setting.vrf_public_key
+        digest = None if key is None or "vrf" not in said else sha256(key).digest()
+        for what, member, given in [
+            ("policy", "policy", self._setting.policy),
+            ("nonce", "nonce", self._setting.nonce),
+            ("public key of the VRF", "vrf", digest),
+        ]:
+            if given is not None and digits(said, member, 32, LogFailed) != given:
+                raise LogFailed(f"the log's directory has another {what}: look whether log and keys belong together")
+        self._opening = {it: said[it] for it in OPENING if it in said}
+
+    def sample(self, bindings: Sequence[Any]) -> None:
+        """Takes some of these for `check_indices`."""
+        self._sample.add(bindings)
+
+    def restored(self, epoch: Epoch, size: Latest, point: Point, chain: list[bytes], replaced: list[bytes]) -> None:
+        """Notes that the child was restored at an epoch."""
+        self.position, self.latest, self.size = point.position, epoch, size
+        self.chain, self.points, self.replaced = chain, [point], replaced
+
+    def point_of(self, epoch: Optional[int]) -> Point:
+        """An epoch that the child has, the latest if none is given."""
+        found = next((it for it in reversed(self.points) if epoch in (None, it.epoch)), None)
+        if found is None:
+            raise UnknownEpoch(advice="a snapshot is of an installed epoch that is in memory")
+        return found
+
+    def snapshot(self, point: Point, ask: Callable[[bytes], Mapping[str, Any]]) -> Iterator[bytes]:
+        """The lines of the snapshot of an epoch."""
+        chain = self.chain[: len(self.chain) - len(self.points) + self.points.index(point) + 1]
+        return lines_of(ask, self._opening, point, chain, self.replaced[: point.replaced], link_of(chain[-1]))
+
+    def check_same(self, other: Engine) -> None:
+        """Raises `SnapshotDiffers` if the child of this engine hasn't what that of another one has, which has replayed the same
+        lines: what the `open` line said, the latest entry, the names, the pending update, and the proofs of some names."""
+        told = latest_of(self.ask(b'{"cmd":"latest"}'))
+        if self._compared() != other._compared() or told != self.size:
+            raise SnapshotDiffers(_SECOND)
+        lines = [lookup_line(name, bytes.fromhex(index), self.latest.epoch) for name, index in self._sample.all()]
+        if self.answers(lines) != other.answers(lines):
+            raise SnapshotDiffers(_SECOND)
+
+    def _compared(self) -> tuple[object, ...]:
+        update = self.update and self.update[:4]
+        return self._opening, self.position, self.latest, self.size.names, self.replaced, update
+
+    def answers(self, lines: Iterable[bytes]) -> list[bytes]:
+        """What the child prints for lines with their newlines."""
+        answers: list[bytes] = []
+        for group in grouped(lines, self.child.at_once):
+            with self.asking:
+                self.child.send(group)
+                answers += self.child.receive(len(group))
+        return answers
+
+    def _pending(self, epoch: int, told: Mapping[str, Any]) -> Pending:
+        """The update that the child has prepared. Its body is one of this epoch, after the latest one."""
+        body, root = digits(told, "body", BODY_LENGTH), digits(told, "root", 32)
+        numbers = epoch.to_bytes(8, "big") + self.latest.epoch.to_bytes(8, "big")
+        if body[1:81] != numbers + root + self.latest.link or body[113:] != self._setting.policy:
+            self.child.is_sound = False
+            raise ProgramFailed(f"the body of epoch {epoch} doesn't follow the entry of epoch {self.latest.epoch}")
+        return Pending(epoch, root, body)
+
+    def _prepared(self, update: Update) -> None:
+        if self.update:
+            self.replaced.append(self.update.pending.body)
+        self.update = update
+
+    def prepare(self, epoch: int, line: bytes, names: int) -> Update:
+        """Has the child prepare an update, which isn't in the log yet. Its line abandons the pending one, if there is one: the
+        caller knows that the signer has abandoned that."""
+        told = self.ask(line)
+        pending = self._pending(epoch, told)
+        whole = with_member(line, "body", pending.body)
+        if self.update:
+            whole = with_member(whole, "abandons", self.update.pending.body)
+        return Update(pending, whole, names, number(told, "nodes"))
+
+    def log_prepared(self, update: Update) -> None:
+        """Appends the line of a prepared update, which is pending then. If the log refuses the line, what was pending before is
+        pending in the child again."""
+        try:
+            self.append(update.line)
+        except LogFailed:
+            self._withdraw()
+            raise
+        self._prepared(update)
+
+    def _withdraw(self) -> None:
+        if self.update:
+            try:
+                told = self.ask(self.update.line)
+                self.child.is_sound = self.child.is_sound and told.get("body") == self.update.pending.body.hex()
+            except ProviderError:
+                self.child.is_sound = False
+
+    def install(self, signature: bytes) -> None:
+        """Has the child install the pending update. Its epoch is `unlogged` until `log_installed` returns."""
+        line = install_line(signature)
+        try:
+            told = self.ask(line)
+        except Fault as fault:
+            self.child.is_sound = False
+            raise ProgramFailed(f"the program refuses a pending update: {fault}. Retry") from fault
+        epoch = self._installed(signature, told)
+        self.unlogged = with_member(line, "link", epoch.link), epoch
+
+    def log_installed(self) -> Epoch:
+        """Appends the line of the epoch that the child has installed, which is the latest then."""
+        assert self.unlogged
+        line, epoch = self.unlogged
+        self.append(line)
+        self._settle(epoch, self.position)
+        return epoch
+
+    def append(self, line: bytes) -> None:
+        try:
+            self.log.append(self.position, line)
+        except LogFailed:
+            raise
+        except Exception as error:
+            raise LogFailed(f"the log can't be written: {type(error).__name__}. Repair it, then restart") from error
+        self.position += 1
+
+    def _installed(self, signature: bytes, told: Mapping[str, Any]) -> Epoch:
+        """The epoch that the child has installed. Its entry is what was signed, with the signature."""
+        pending = self.update.pending if self.update else None
+        root, link, entry = (digits(told, it, size) for it, size in [("root", 32), ("link", 32), ("entry", ENTRY_LENGTH)])
+        epoch = Epoch(number(told, "epoch"), root, link, entry)
+        if not pending or (epoch.epoch, root, entry) != (pending.epoch, pending.root, pending.body + signature):
+            self.child.is_sound = False
+            raise ProgramFailed(f"the entry of epoch {epoch.epoch} isn't what was signed")
+        return epoch
+
+    def _settle(self, epoch: Epoch, position: int) -> None:
+        """Notes that the pending update is installed, in the child and in the log below a position."""
+        assert self.update
+        self._sample.add(self.update.operations)
+        self.chain.append(epoch.entry)
+        self.size = Latest(epoch.epoch, epoch.link, self.size.names + self.update.names, self.size.nodes + self.update.nodes)
+        self.latest, self.update, self.unlogged = epoch, None, None
+        self.points.append(Point(epoch.epoch, position, self.size.names, len(self.replaced)))
+
+    def follows(self, other: Engine) -> bool:
+        """Whether this log has all that another engine has seen in its log: the entries, and the body that it may have had
+        signed."""
+        count = len(other.chain)
+        if len(self.chain) < count or (count and self.chain[count - 1] != other.chain[-1]):
+            return False
+        if other.update is None:
+            return True
+        asked = [*self.replaced, *(it[:BODY_LENGTH] for it in self.chain[count:])]
+        asked += [self.update.pending.body] if self.update else []
+        return other.update.pending.body in asked
+
+    def check_head(self, head: Head) -> None:
+        """Raises `LogBehind` or `LogForked` if this link isn't that of the entry of this epoch."""
+        if head.epoch > self.latest.epoch:
+            raise LogBehind(
+                f"the log ends at epoch {self.latest.epoch}, before the head of epoch {head.epoch}: restore its last lines"
+            )
+        if link_of(self._entry_at(head.epoch)) != head.link:
+            raise LogForked(f"the log has another entry of epoch {head.epoch} than the head: look which log is the right one")
+
+    def _entry_at(self, epoch: int) -> bytes:
+        """The entry of an epoch, no byte if there is none."""
+        return next((it for it in reversed(self.chain) if epoch_of(it) == epoch), b"")
+
+    def check_record(self, record: Record) -> None:
+        """Raises `LogBehind` or `LogForked` if the log lacks what a signer's record has. A log that has more is no error: the
+        record was read first."""
+        pending = self.update.pending.body if self.update else b""
+        signed, asked = record
+        if signed and signed != self._entry_at(epoch_of(signed)) and signed[:BODY_LENGTH] != pending:
+            raise self._not_recorded(signed)
+        if asked and asked not in (*self.replaced, pending, self._entry_at(epoch_of(asked))[:BODY_LENGTH]):
+            raise LogBehind(
+                f"the signer was asked for a body of epoch {epoch_of(asked)} that the log lacks: restore its last lines, "
+                "or abandon that body by the signer's guard if they are lost"
+            )
+
+    def _not_recorded(self, signed: bytes) -> LogForked:
+        """The error of a log that lacks an entry which was signed, with the log's entry that overlaps it."""
+        epoch, latest = epoch_of(signed), self.latest.epoch
+        if epoch > latest:
+            error: LogForked = LogBehind(
+                f"the log ends at epoch {latest}, and the signer has signed epoch {epoch}: restore its last lines"
+            )
+        else:
+            error = LogForked(
+                f"the signer has signed another entry of epoch {epoch} than the log has: "
+                "look whether log and signer are this directory's, and which of them is the right one"
+            )
+        other = next((it for it in self.chain if is_overlap(signed, it)), None)
+        error.entries = (signed, other) if other else None
+        return error
+
+    def check_indices(self, index: Index, with_pending: bool) -> None:
+        """Compares the indices of some logged operations with those of a function. Raises `OtherIndex`."""
+        _compare_indices(index, [*self._sample.all(), *(self._pending_places() if with_pending else [])], _OF_LOG)
+
+    def check_last_index(self, index: Index) -> None:
+        """The same for the last operation alone."""
+        _compare_indices(index, self._sample.last(), _OF_LOG)
+
+    def check_pending_indices(self, index: Index) -> None:
+        """The same for a pending update alone that was replayed."""
+        _compare_indices(index, self._pending_places(), _OF_UPDATE)
+
+    def _pending_places(self) -> list[Place]:
+        """Names and indices of the first and the last operation of a pending update that was replayed."""
+        operations = self.update.operations if self.update else ()
+        return [*map(place_of, [*operations[:1], *operations[-1:]])]
+
+
+_SECOND = "what a second child has restored isn't what the first one has: the program or the log was changed, so look for that"
+_OF_LOG = (
+    "the key of the VRF or its code isn't that of this log. Start with the right one, "
+    "or pass check_indices=False if the log itself has wrong indices"
+)
+_OF_UPDATE = (
+    "the key of the VRF or its code isn't that of the pending update. Start with the right one, or give the update up by abandon()"
+)
+
+
+def _compare_indices(index: Index, places: Sequence[Place], advice: str) -> None:
+    for name, place in places:
+        if place.lower() != index(name).hex():
+            raise OtherIndex(advice=advice)
+
+
+def epoch_of(body: bytes) -> int:
+    """The epoch of a body or an entry."""
+    return int.from_bytes(body[1:9], "big")
+
+
+def is_overlap(one: bytes, other: bytes) -> bool:
+    """Whether two entries have different bodies, each of which covers an epoch number that the other covers: from its epoch down
+    to above the epoch before."""
+    before = (int.from_bytes(it[9:17], "big") for it in (one, other))
+    return one[:BODY_LENGTH] != other[:BODY_LENGTH] and max(before) < min(epoch_of(one), epoch_of(other))
+
+
+def two_bodies(known: Sequence[bytes], found: Sequence[bytes]) -> Optional[tuple[bytes, bytes]]:
+    """The first entries with different bodies in one place of two chains, None if one of the chains just ends. All before have
+    equal bodies, so these two follow one epoch, and overlap."""
+    return next((it for it in zip(known, found) if it[0][:BODY_LENGTH] != it[1][:BODY_LENGTH]), None)

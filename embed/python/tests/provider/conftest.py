@@ -1,0 +1,13 @@
+"""What the tests of `coniks.provider` and `coniks.guard` share."""
+
+from __future__ import annotations
+
+from pathlib import Path
+
+import pytest
+
+
+@pytest.fixture
+def room(tmp_path: Path) -> str:
+    """A folder of the test's own."""
+    return str(tmp_path)
