@@ -1,8 +1,9 @@
 /*
  * The client's side of a CONIKS key directory: a checker of its proofs, an auditor of its chain of signed entries, and a
  * monitor of one name (Melara, Blankstein, Bonneau, Felten, Freedman: "CONIKS: Bringing Key Transparency to End Users",
- * USENIX Security 2015). The hash is SHA-256 (FIPS 180-4). The library is proved to behave as described here, for all bytes
- * that are passed in. This header, the compiler and the caller's pointers are not proved.
+ * USENIX Security 2015). The hash is SHA-256 (FIPS 180-4). What each call returns and writes is proved to be what is described
+ * here, for all bytes that are passed in. What is said of memory, stack and threads is tested. This header, the compiler and
+ * the caller's pointers are not proved.
  *
  * Memory. No call allocates or keeps a pointer, so there is nothing to free. A call uses at most 8 KiB of stack, whatever
  * the length of its input. No other thread may write what a call reads, and outputs may not overlap inputs.
