@@ -12,6 +12,7 @@ import (
 	"os"
 	"os/exec"
 	"path/filepath"
+	"strconv"
 	"strings"
 	"sync"
 	"syscall"
@@ -1013,7 +1014,8 @@ print(guard(guard.asked()).hex())
 	it.has(record{signed: append(append([]byte(nil), open...), signature...)})
 }
 
-// A guard of Python and one of Go over one record, at once: the signatures form one chain.
+// A guard of Python and one of Go over one record, at once: the signatures form one chain. Python goes on until it has
+// been given ten signatures and refused ten bodies, since a guard of Go had gone on.
 func TestGuardBesideOneOfPython(t *testing.T) {
 	needsPython(t)
 	it := newBench(t)
@@ -1024,27 +1026,28 @@ func TestGuardBesideOneOfPython(t *testing.T) {
 		defer close(ended)
 		ended <- it.pythonGuard(`
 import time
-guard, until = Guard(path, sign), time.monotonic() + 2
-while time.monotonic() < until:
+guard, end, given, refused = Guard(path, sign), time.monotonic() + 60, 0, 0
+while (given < 10 or refused < 10) and time.monotonic() < end:
     last = guard.signed()
+    # Every second body comes late.
+    time.sleep(0.01 * ((given + refused) % 2))
     link = hashlib.sha256(b"S" + last).digest()
     epoch = int.from_bytes(last[1:9], "big")
     body = b"\1" + (epoch + 1).to_bytes(8, "big") + last[1:9] + hashlib.sha256(b"%f" % time.monotonic()).digest() + link + last[81:145]
     try:
         print((body + guard(body)).hex())
+        given += 1
     except BodyRefused:
-        pass
+        refused += 1
+print("refused", refused)
 `)
 	}()
-	guard, refused := it.open(GuardSettings{}), 0
+	guard, said := it.open(GuardSettings{}), ""
 	for isOver := false; !isOver; {
 		select {
-		case said := <-ended:
+		case said = <-ended:
 			isOver = true
-			for _, line := range strings.Fields(said) {
-				given[string(decoded(t, line))] = true
-			}
-		default:
+		case <-time.After(time.Millisecond):
 			var err error
 			if last, err = guard.Signed(); err != nil {
 				t.Fatal(err)
@@ -1052,13 +1055,21 @@ while time.monotonic() < until:
 			body := bodyAfter(last, epochOf(last)+1, fmt.Sprint(rand.Int()))
 			if signature, err := guard.Sign(body); err == nil {
 				given[string(body)+string(signature)] = true
-			} else if refused++; !errors.Is(err, ErrBodyRefused) {
+			} else if !errors.Is(err, ErrBodyRefused) {
 				t.Error(err)
 			}
 		}
 	}
-	if len(given) < 20 || refused == 0 {
-		t.Error("idle:", len(given), refused)
+	ofGo := len(given)
+	lines, refused, isWhole := strings.Cut(said, "refused ")
+	for _, line := range strings.Fields(lines) {
+		given[string(decoded(t, line))] = true
+	}
+	if count, err := strconv.Atoi(strings.TrimSpace(refused)); !isWhole || err != nil || count < 10 {
+		t.Error("Python was refused", refused)
+	}
+	if ofGo < 10 || len(given) < ofGo+10 {
+		t.Error("idle:", ofGo, len(given))
 	}
 	isOneChain(t, given)
 }
