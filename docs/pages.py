@@ -31,9 +31,10 @@ contract is one of these; [PROMISES.md](PROMISES.md) has the contracts.
 """
 
 
-def crate_names() -> list[str]:
-    lines = (TOP / "crates.txt").read_text("utf-8").splitlines()
-    return [it.partition(":")[0].split()[0] for it in lines if ":" in it and not it.startswith("#")]
+def crates() -> dict[str, list[str]]:
+    """Each crate of the repository with what it depends on."""
+    lines = subprocess.run([TOP / "scripts/crates"], stdout=subprocess.PIPE, text=True, check=True).stdout.splitlines()
+    return {name: below for name, *below in map(str.split, lines)}
 
 
 def function_of(file: Path, home: Path) -> str:
@@ -71,7 +72,7 @@ def is_passed_on(crate: str, name: str) -> bool:
 
 def lemmas_page() -> str:
     lines = [LEMMAS.rstrip("\n")]
-    for crate in crate_names():
+    for crate in crates():
         files = served(crate)
         if files:
             lines += ["", f"## `{crate}`", "", "| File | Contents | Cited by the proofs of |", "|---|---|---|"]
@@ -121,7 +122,7 @@ def definitions_in(lines: Sequence[str]) -> list[tuple[str, list[str]]]:
 
 def definitions_page() -> str:
     lines = [DEFINITIONS.rstrip("\n")]
-    for crate in crate_names():
+    for crate in crates():
         files = modules(crate)
         if files:
             lines += ["", f"## `{crate}`"]

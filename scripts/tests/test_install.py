@@ -20,7 +20,7 @@ import pytest
 
 TOP = Path(__file__).resolve().parents[2]
 PROGRAMS = ["keydir", "provider"]
-FILES = [*PROGRAMS, "scripts/install", "scripts/launch", "scripts/built"]
+FILES = [*PROGRAMS, "scripts/install", "scripts/launch", "scripts/crates", "scripts/built"]
 FOLDERS = ["docs/man", "embed/python/src/coniks"]
 SITE = "lib/python3/site-packages"
 PACKAGE = f"{SITE}/coniks"
