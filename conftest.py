@@ -2,11 +2,13 @@
 
 from __future__ import annotations
 
+import subprocess
 from contextlib import suppress
 from pathlib import Path
-from typing import Any, Callable
+from typing import Any, Callable, Sequence
 
 import pytest
+import tools
 
 TOP = Path(__file__).resolve().parent
 SAID: pytest.StashKey[list[str]] = pytest.StashKey()
@@ -33,6 +35,19 @@ def pytest_addoption(parser: pytest.Parser) -> None:
     group.addoption("--kills", type=int, default=10, metavar="N", help="kills of a provider, and twice as many of a guard")
     group.addoption("--honest", type=int, default=150, metavar="N", help="honest runs")
     group.addoption("--faults", type=int, default=9, metavar="N", help="faults of a cluster")
+    group.addoption("--proofs", type=int, default=5000, metavar="N", help="random proofs over the library for C")
+    group.addoption("--calls", type=int, default=20_000, metavar="N", help="random calls of the library for C")
+    group.addoption(
+        "--alterations", type=int, default=200, metavar="N", help="alterations of a client's cases, and a quarter as many walks"
+    )
+    group.addoption("--seed", type=int, default=1, metavar="N", help="where the random alterations and walks of clients begin")
+    group.addoption(
+        "--client", metavar="COMMAND", help="a client's program that replies to the requests of embed/tests/client_sides.py"
+    )
+    group.addoption(
+        "--lines", type=int, default=1000, metavar="N", help="random lines, each checked by the page and by the program"
+    )
+    group.addoption("--points", type=int, default=500, metavar="N", help="random VRF proofs and as many signatures in JavaScript")
 
 
 def pytest_configure(config: pytest.Config) -> None:
@@ -77,6 +92,38 @@ def program(request: pytest.FixtureRequest) -> str:
 def keydir(request: pytest.FixtureRequest) -> str:
     """The path of the program `keydir`."""
     return built(request.config, "keydir")
+
+
+@pytest.fixture(scope="session")
+def lines(keydir: str) -> Sequence[dict[str, Any]]:
+    """Lookups, each with its line."""
+    import samples
+
+    return samples.lookups(keydir)
+
+
+@pytest.fixture(scope="session")
+def embedded() -> None:
+    """What embed/build makes: the library for C, proved and built."""
+    needs("a C compiler")
+    build(TOP / "embed/build")
+
+
+@pytest.fixture(scope="session")
+def module() -> None:
+    """What web/build makes: the page and the module for web projects."""
+    needs("wasm-opt")
+    build(TOP / "web/build")
+
+
+def needs(tool: str) -> None:
+    if not tools.has(tool):
+        pytest.skip(f"{tool} is missing")
+
+
+def build(script: Path) -> None:
+    ran = subprocess.run([script], capture_output=True, text=True)
+    assert ran.returncode == 0, ran.stderr[-2000:]
 
 
 @pytest.fixture(scope="session")

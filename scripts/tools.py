@@ -25,6 +25,11 @@ def has_program(name: str) -> bool:
     return shutil.which(name) is not None
 
 
+def path_of(name: str) -> str:
+    """Where a program is, or its name if it isn't found."""
+    return shutil.which(name) or name
+
+
 def compiles(text: str, *words: str) -> bool:
     """Whether the C compiler takes a text."""
     if not has_program(CC):
@@ -54,7 +59,12 @@ def first_with(*lists: Sequence[str]) -> Optional[str]:
 PYTHON = python_with("ensurepip", "setuptools", "venv", "wheel")
 SIGNING_PYTHON = python_with("nacl.bindings", "nacl.signing")
 DATABASE_PYTHON = first_with(["psycopg", "nacl.signing"], ["psycopg"])
-TEST_PYTHON = first_with(["pytest", "hypothesis", "psycopg", "nacl.signing"], ["pytest", "nacl.signing"], ["pytest"])
+TEST_PYTHON = first_with(
+    ["pytest", "hypothesis", "psycopg", "nacl.signing", "selenium.webdriver"],
+    ["pytest", "hypothesis", "psycopg", "nacl.signing"],
+    ["pytest", "nacl.signing"],
+    ["pytest"],
+)
 
 # A tool, whether it is there, its packages in Debian 12, if it has any, and what is skipped without it.
 TOOLS: dict[str, tuple[Callable[[], bool], str, str]] = {
@@ -81,7 +91,12 @@ TOOLS: dict[str, tuple[Callable[[], bool], str, str]] = {
     "node": (lambda: has_program("node"), "nodejs", "the tests in JavaScript"),
     "wasm-opt": (lambda: has_program("wasm-opt"), "binaryen", "the page and the module for web projects"),
     "tsc": (lambda: has_program("tsc"), "node-typescript", "the types of the module for web projects"),
-    "chromium": (lambda: has_program(CHROMIUM), "chromium", "the page in a browser"),
+    "chromium": (
+        lambda: has_program(CHROMIUM) and has_program("chromedriver"),
+        "chromium chromium-driver",
+        "the page in a browser",
+    ),
+    "selenium": (lambda: python_with("pytest", "selenium.webdriver") is not None, "python3-selenium", "the page in a browser"),
     "shellcheck": (lambda: has_program("shellcheck"), "shellcheck", "shellcheck in scripts/lint"),
     "ruff": (lambda: has_program("ruff"), "", "ruff in scripts/lint"),
     "black": (lambda: has_program("black"), "black", "black in scripts/lint"),

@@ -1,4 +1,4 @@
-// Replies to the requests of embed/sides.py, one on each line: `node web/answers.mjs`.
+// Replies to the requests of embed/tests/sides.py, one on each line: `node web/answers.mjs`.
 
 import { readFileSync } from "node:fs";
 import { createInterface } from "node:readline";

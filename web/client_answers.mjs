@@ -1,4 +1,4 @@
-// Replies to the requests of embed/client_sides.py, one on each line, by the client: `node web/client_answers.mjs`.
+// Replies to the requests of embed/tests/client_sides.py, one on each line, by the client: `node web/client_answers.mjs`.
 
 import { readFileSync } from "node:fs";
 import { createInterface } from "node:readline";

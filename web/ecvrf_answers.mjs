@@ -1,4 +1,4 @@
-// Verifies VRF proofs and signatures, one on each line, for web/try-ecvrf: `node web/ecvrf_answers.mjs`.
+// Verifies VRF proofs and signatures, one on each line, for web/page_tests/test_ecvrf.py: `node web/ecvrf_answers.mjs`.
 //
 // `vrf KEY INPUT PROOF` gives the output or `-`, and `signature KEY MESSAGE SIGNATURE` gives `true` or `false`. Words are
 // hexadecimal digits, `.` for no byte. A key that is none gives `no key`.

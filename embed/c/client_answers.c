@@ -1,5 +1,5 @@
 /*
- * Replies to the requests of embed/client_sides.py over the client in C, one on each line.
+ * Replies to the requests of embed/tests/client_sides.py over the client in C, one on each line.
  *
  *     client_answers [refusing]
  *

@@ -6,9 +6,9 @@ import json
 import re
 from typing import Any, Iterable
 
-from browser import HERE, TOP
+from browser import TOP, WEB
 
-CASES = HERE / "cases"
+CASES = WEB / "cases"
 
 # What `keydir run` printed for a demonstration under the key of zeros.
 DEMONSTRATION = (CASES / "demonstration.jsonl").read_text("utf-8")

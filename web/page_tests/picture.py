@@ -2,7 +2,6 @@
 
 from __future__ import annotations
 
-import base64
 import zlib
 from collections import Counter
 from typing import Iterator
@@ -61,8 +60,7 @@ def seen(browser: Browser, selector: str) -> Counter[Colour]:
     """The colours in the picture of the first such element."""
     at = place(browser, selector)
     assert at, selector
-    shot = browser.call("Page.captureScreenshot", format="png", captureBeyondViewport=True, clip={**at, "scale": 1})
-    return pixels(base64.b64decode(shot["data"]))
+    return pixels(browser.picture(clip={**at, "scale": 1}))
 
 
 def is_green(colour: Colour) -> bool:

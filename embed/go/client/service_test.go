@@ -149,7 +149,9 @@ func messagesOfPython(t *testing.T) string {
 		if exec.Command(python, "-c", "import nacl.signing").Run() != nil {
 			continue
 		}
-		if said, err := exec.Command(python, "../../messages.py", program, file).CombinedOutput(); err != nil {
+		command := exec.Command(python, "-B", "../../tests/messages.py", program, file)
+		command.Env = append(os.Environ(), "PYTHONPATH=../../python/src:../../../examples/provider")
+		if said, err := command.CombinedOutput(); err != nil {
 			t.Fatal(err, string(said))
 		}
 		return file

@@ -1,4 +1,4 @@
-//! Replies to the requests of embed/client_sides.py, one on each line.
+//! Replies to the requests of embed/tests/client_sides.py, one on each line.
 
 use coniks::client::{Cause, Client, Comparison, Evidence, Found, Keys, Misuse, Policy, Refusal, Settings, Step, Watched};
 use coniks::{EvidenceKind, Head};

@@ -1,4 +1,4 @@
-// Replies to the requests of embed/sides.py, one on each line.
+// Replies to the requests of embed/tests/sides.py, one on each line.
 package main
 
 import (

@@ -1,4 +1,4 @@
-// Replies to the requests of embed/client_sides.py, one on each line, over package client.
+// Replies to the requests of embed/tests/client_sides.py, one on each line, over package client.
 package main
 
 import (

@@ -4,26 +4,16 @@ from __future__ import annotations
 
 import json
 import struct
-import sys
-from pathlib import Path
 from random import Random
 from typing import Any, Callable, Optional, Sequence, cast
 
-HERE = Path(__file__).resolve().parent
-
-import proofs as samples
-
-# cases/second has a module of the same name.
-del sys.modules["proofs"]
-sys.path.insert(0, str(HERE.parent / "cases/second"))
 import bytelists
 import chain
-import evidence as evidence
+import evidence
+import samples
 from members import Fault
-
-judge: Callable[..., Optional[bytes]] = sys.modules["proofs"].judge
-sys.path.pop(0)
-sys.modules["proofs"] = samples
+from proofs import judge
+from running import EMBED
 
 CHECK = ["TooDeep", "NameLength", "KeyLength", "WrongName", "OtherIsSame", "OtherOffPath", "RootMismatch"]
 AUDIT = ["Version", "VersionBack", "FirstEpoch", "NotLater", "PreviousEpoch", "PreviousLink", "NonceChanged", "Verdict"]
@@ -39,7 +29,7 @@ Answer = tuple[Any, ...]
 
 def texts() -> dict[int, bytes]:
     numbers = samples.statuses()
-    return {numbers[name]: it.encode() for name, it in json.loads((HERE / "texts.json").read_text("utf-8")).items()}
+    return {numbers[name]: it.encode() for name, it in json.loads((EMBED / "texts.json").read_text("utf-8")).items()}
 
 
 TEXTS = texts()
@@ -78,7 +68,7 @@ def check(_: int, nonce: bytes, root: bytes, index: bytes, name: bytes, proof: b
     if status:
         return status, start, length
     try:
-        key = judge(Shown(proof), index, name, nonce, root)
+        key = judge(cast(Any, Shown(proof)), index, name, nonce, root)
     except Fault as fault:
         return STATUSES[str(fault.answer["fault"])], start, length
     if key is None:
@@ -112,7 +102,7 @@ def step(verdict: int, state: bytes, index: bytes, name: bytes, expected: bytes,
         return status, state
     try:
         after, it = audited(state, entry, verdict), chain.Entry(entry)
-        key = judge(Shown(proof), index, name, it.nonce, it.root)
+        key = judge(cast(Any, Shown(proof)), index, name, it.nonce, it.root)
     except Fault as fault:
         return STATUSES[str(fault.answer["fault"])], state
     return (0 if key == (expected or None) else 1 if key is None else 9), after

@@ -11,7 +11,6 @@ from typing import Any, Optional, Sequence
 from browser import Browser, count, paste, set_keys, texts
 from given import DEMONSTRATION, ENTRIES, KEY, LOOKUPS, PROVIDED, SIGNING, VRF, case, key_of, lines_of, text_of
 from picture import shows_green
-from tally import Tally
 
 Line = dict[str, Any]
 OWN = {"signing": SIGNING, "vrf": VRF}
@@ -51,16 +50,16 @@ def verdicts_are_green(browser: Browser) -> list[bool]:
     return found
 
 
-def shown(tally: Tally, browser: Browser, what: str, lines: str, green: int = 0, kind: str = "provider", **keys: Any) -> list[str]:
+def shown(browser: Browser, what: str, lines: str, green: int = 0, kind: str = "provider", **keys: Any) -> list[str]:
     """Shows lines under keys, of which so many verdicts may be green. Returns the verdicts."""
     set_keys(browser, kind, **(keys or (OWN if kind == "provider" else {})))
     paste(browser, lines)
     found = count(browser, ".authentic")
-    tally.tell(f"{what}: {green} are shown as authentic", found == green, (found, texts(browser, ".standing")))
+    assert found == green, (f"{what}: {green} are shown as authentic", (found, texts(browser, ".standing")))
     pictured = verdicts_are_green(browser)
-    tally.tell(f"{what}: {green} are green in the picture", sum(pictured) == green, pictured)
+    assert sum(pictured) == green, (f"{what}: {green} are green in the picture", pictured)
     said = texts(browser, ".standing")
-    tally.tell(f"{what}: {green} are called authentic", sum(it.startswith("authentic") for it in said) == green, said)
+    assert sum(it.startswith("authentic") for it in said) == green, (f"{what}: {green} are called authentic", said)
     return texts(browser, ".verdict")
 
 
@@ -83,30 +82,30 @@ def saved_by(browser: Browser, link: str, file: Path) -> str:
     return file.read_text("utf-8") if file.is_file() else ""
 
 
-def try_stored(tally: Tally, browser: Browser, room: Path) -> None:
+def test_stored(browser: Browser, tmp_path: Path) -> None:
     """The stored cases: an absence that is renamed, names that look alike or turn, spaces, and a fork."""
     for keys in [{"signing": key_of("absence-of-alice")}, {"signing": key_of("absence-of-alice"), "vrf": VRF}]:
-        said = shown(tally, browser, f"a renamed absence, {len(keys)} keys", case("absence-of-alice"), **keys)
+        said = shown(browser, f"a renamed absence, {len(keys)} keys", case("absence-of-alice"), **keys)
         conditional = [it for it in said if it.startswith("At the index in this line, which nobody has verified")]
-        tally.tell("a renamed absence has its condition in front", said and conditional == said, said)
+        assert said and conditional == said, ("a renamed absence has its condition in front", said)
         seen = texts(browser, "#timeline li > span:last-child")
-        tally.tell("and over the epochs too", seen and not any(it.startswith("not registered") for it in seen), seen)
+        assert seen and not any(it.startswith("not registered") for it in seen), ("and over the epochs too", seen)
     for name in ["rtl", "same-looking", "spaces"]:
-        said = shown(tally, browser, name, case(name), signing=key_of(name))
+        said = shown(browser, name, case(name), signing=key_of(name))
         names = {it["name"] for it in lines_of(case(name)) if it["ok"] == "lookup"}
-        tally.tell(f"{name}: different names look different", len({it.split(", ", 2)[1] for it in said}) == len(names), said)
-        tally.tell(f"{name}: each sentence is in order", in_order(browser), said)
+        assert len({it.split(", ", 2)[1] for it in said}) == len(names), (f"{name}: different names look different", said)
+        assert in_order(browser), (f"{name}: each sentence is in order", said)
     widths = browser.value("[...document.querySelectorAll('.name, .key')].map(it => getComputedStyle(it).whiteSpaceCollapse)")
-    tally.tell("spaces in names and keys don't collapse", widths and set(widths) == {"preserve"}, widths)
-    shown(tally, browser, "a fork", case("fork"), signing=key_of("fork"))
+    assert widths and set(widths) == {"preserve"}, ("spaces in names and keys don't collapse", widths)
+    shown(browser, "a fork", case("fork"), signing=key_of("fork"))
     entries = [json.dumps({"entry": it["entry"]}, separators=(",", ":")) for it in lines_of(case("fork")) if it["ok"] == "install"]
     said = contradictions(browser)
     is_well = bool(said) and said[0].startswith("The provider equivocated") and all(it in said[0] for it in entries)
-    tally.tell("a fork is said first, with its entries", is_well, said)
-    saved = saved_by(browser, ".contradiction a", room / "evidence.jsonl")
-    tally.tell("its evidence can be saved", saved.splitlines() == entries, saved)
-    said = shown(tally, browser, "the demonstration", DEMONSTRATION, kind="demonstration", key=KEY)
-    tally.tell("the demonstration's key convicts nobody", not contradictions(browser))
+    assert is_well, ("a fork is said first, with its entries", said)
+    saved = saved_by(browser, ".contradiction a", tmp_path / "evidence.jsonl")
+    assert saved.splitlines() == entries, ("its evidence can be saved", saved)
+    said = shown(browser, "the demonstration", DEMONSTRATION, kind="demonstration", key=KEY)
+    assert not contradictions(browser), "the demonstration's key convicts nobody"
 
 
 def in_order(browser: Browser) -> bool:
@@ -126,9 +125,9 @@ def named(name: str) -> str:
     return text_of([*ENTRIES, {it: value for it, value in (LOOKUPS[3] | {"name": name}).items() if it != "vrf"}])
 
 
-def try_looks(tally: Tally, browser: Browser) -> None:
+def test_looks(browser: Browser) -> None:
     """Names that look like another one: what isn't seen is written out, and what isn't ASCII is noted."""
-    plain = shown(tally, browser, "alice", named("alice"))
+    plain = shown(browser, "alice", named("alice"))
     for kind, characters in {**UNSEEN, "space": " ".join(SPACES)}.items():
         for it in characters.split(" "):
             point = f"{ord(it):x}"
@@ -137,16 +136,16 @@ def try_looks(tally: Tally, browser: Browser) -> None:
                 paste(browser, named(name))
                 said = texts(browser, ".verdict")[0]
                 is_well = f"\\u{{{point}}}" in said and said != plain[0] and count(browser, ".verdict .odd") == 1
-                tally.tell(f"{kind} U+{point} in {name!a} is written out", is_well, said)
+                assert is_well, (f"{kind} U+{point} in {name!a} is written out", said)
     for what, name in LOOKING.items():
-        said = shown(tally, browser, what, named(name))[0]
+        said = shown(browser, what, named(name))[0]
         beyond = next(it for it in name if it > "~")
-        tally.tell(f"{what} is noted", f"(not ASCII: U+{ord(beyond):04X}" in said, said)
-    said = shown(tally, browser, "two scripts", named("\u0430lice"))[0]
-    tally.tell("two scripts are noted", "mixed scripts: Cyrillic, Latin" in said, said)
-    said = shown(tally, browser, "many marks", named("a" + "\u0301" * 40))[0]
-    tally.tell("a third mark on a letter is written out", said.count("\\u{301}") == 38, said)
-    tally.tell("a note isn't given to ASCII", "not ASCII" not in plain[0], plain)
+        assert f"(not ASCII: U+{ord(beyond):04X}" in said, (f"{what} is noted", said)
+    said = shown(browser, "two scripts", named("\u0430lice"))[0]
+    assert "mixed scripts: Cyrillic, Latin" in said, ("two scripts are noted", said)
+    said = shown(browser, "many marks", named("a" + "\u0301" * 40))[0]
+    assert said.count("\\u{301}") == 38, ("a third mark on a letter is written out", said)
+    assert "not ASCII" not in plain[0], ("a note isn't given to ASCII", plain)
 
 
 # Names that imitate what is around them.
@@ -163,18 +162,18 @@ IMITATING = [
 ]
 
 
-def try_imitations(tally: Tally, browser: Browser) -> None:
+def test_imitations(browser: Browser) -> None:
     for name in IMITATING:
-        said = shown(tally, browser, f"the name {name[:30]!a}", named(name))[0]
+        said = shown(browser, f"the name {name[:30]!a}", named(name))[0]
         start, end = "At the index in this line, which nobody has verified as that of ", ", no key is registered at epoch 2"
-        tally.tell(f"the sentence of {name[:30]!a}", said.startswith(f'{start}"') and said.endswith(end), said)
-        tally.tell(f"the order of {name[:30]!a}", in_order(browser), said)
+        assert said.startswith(f'{start}"') and said.endswith(end), (f"the sentence of {name[:30]!a}", said)
+        assert in_order(browser), (f"the order of {name[:30]!a}", said)
         boxes = count(browser, ".verdict .name"), count(browser, ".verdict .name b")
-        tally.tell(f"the box of {name[:30]!a}", boxes == (1, 0), boxes)
-    both = [shown(tally, browser, f"{it!a}", named(it))[0] for it in ["\\u{202e}", "\u202e"]]
-    tally.tell("a name that is written as an escape is another one", both[0] != both[1], both)
-    found = shown(tally, browser, "half of a pair", named("a").replace('"name": "a"', '"name": "\ud83d"'))
-    tally.tell("half of a surrogate pair is no name", not found, found)
+        assert boxes == (1, 0), (f"the box of {name[:30]!a}", boxes)
+    both = [shown(browser, f"{it!a}", named(it))[0] for it in ["\\u{202e}", "\u202e"]]
+    assert both[0] != both[1], ("a name that is written as an escape is another one", both)
+    found = shown(browser, "half of a pair", named("a").replace('"name": "a"', '"name": "\ud83d"'))
+    assert not found, ("half of a surrogate pair is no name", found)
 
 
 def without(line: Line, *names: str) -> Line:
@@ -225,37 +224,37 @@ def attacks() -> Sequence[tuple[str, list[Line], int, Optional[str]]]:
     ]
 
 
-def try_attacks(tally: Tally, browser: Browser) -> None:
+def test_attacks(browser: Browser) -> None:
     for what, lines, green, words in attacks():
-        said = shown(tally, browser, what, text_of(lines), green)
-        tally.tell(f"{what}: what is said", words is None or (said and words in said[-1]), said)
+        said = shown(browser, what, text_of(lines), green)
+        assert words is None or (said and words in said[-1]), (f"{what}: what is said", said)
     twice = json.dumps(LOOKUPS[0]).replace('"name": "alice"', '"name": "bob", "name": "alice"')
-    said = shown(tally, browser, "two names in a line", f"{text_of(ENTRIES)}{twice}\n", 1)
-    tally.tell("the last of two names counts", said == ['"alice" is bound to this key at epoch 1'], said)
-    shown(tally, browser, "a provider's lines under the demonstration's key", PROVIDED, kind="demonstration", key=KEY)
-    shown(tally, browser, "the demonstration's lines under a provider's keys", DEMONSTRATION)
-    shown(tally, browser, "a provider's lines without keys", PROVIDED, kind="none")
+    said = shown(browser, "two names in a line", f"{text_of(ENTRIES)}{twice}\n", 1)
+    assert said == ['"alice" is bound to this key at epoch 1'], ("the last of two names counts", said)
+    shown(browser, "a provider's lines under the demonstration's key", PROVIDED, kind="demonstration", key=KEY)
+    shown(browser, "the demonstration's lines under a provider's keys", DEMONSTRATION)
+    shown(browser, "a provider's lines without keys", PROVIDED, kind="none")
 
 
-def try_contradictions(tally: Tally, browser: Browser) -> None:
+def test_contradictions(browser: Browser) -> None:
     """Two answers for one name and epoch, and entries that convict. Lines that don't contradict are not called so."""
     alice, dave = LOOKUPS[0], LOOKUPS[3]
     later = without(LOOKUPS[1], "vrf")
     absent = without(dave, "vrf") | {"name": "alice"}
     kinds: list[tuple[str, dict[str, Any]]] = [("none", {}), ("provider", OWN)]
     for kind, keys in kinds:
-        shown(tally, browser, f"two answers, {kind}", text_of([*ENTRIES, later, absent]), kind=kind, **keys)
+        shown(browser, f"two answers, {kind}", text_of([*ENTRIES, later, absent]), kind=kind, **keys)
         said = contradictions(browser)
         is_well = len(said) == 1 and said[0].startswith(
             'Two lines contradict each other"alice" at epoch 2 is bound to the key "key of alice" in line 4, and not registered in line 5.'
         )
-        tally.tell(f"two answers are said first, {kind}", is_well, said)
-    shown(tally, browser, "one answer twice", text_of([*ENTRIES, later, later]))
-    tally.tell("one answer twice is no contradiction", not contradictions(browser))
-    shown(tally, browser, "a refused answer beside another", text_of([*ENTRIES, LOOKUPS[1], dave | {"name": "alice"}]), 1)
-    tally.tell("a refused answer contradicts nothing", not contradictions(browser))
-    shown(tally, browser, "answers of two epochs", text_of([*ENTRIES, alice, LOOKUPS[2]]), 2)
-    tally.tell("two epochs contradict nothing", not contradictions(browser))
+        assert is_well, (f"two answers are said first, {kind}", said)
+    shown(browser, "one answer twice", text_of([*ENTRIES, later, later]))
+    assert not contradictions(browser), "one answer twice is no contradiction"
+    shown(browser, "a refused answer beside another", text_of([*ENTRIES, LOOKUPS[1], dave | {"name": "alice"}]), 1)
+    assert not contradictions(browser), "a refused answer contradicts nothing"
+    shown(browser, "answers of two epochs", text_of([*ENTRIES, alice, LOOKUPS[2]]), 2)
+    assert not contradictions(browser), "two epochs contradict nothing"
     text, key = case("fork"), key_of("fork")
     lookups = text_of(it for it in lines_of(text) if it["ok"] == "lookup")
     for what, lines, signing, wanted in [
@@ -264,13 +263,13 @@ def try_contradictions(tally: Tally, browser: Browser) -> None:
         ("one entry twice", text.splitlines()[0] + "\n" + text.splitlines()[0], key, False),
         ("one chain", PROVIDED, SIGNING, False),
     ]:
-        shown(tally, browser, what, lines, signing=signing)
+        shown(browser, what, lines, signing=signing)
         said = [it for it in contradictions(browser) if it.startswith("The provider equivocated")]
-        tally.tell(f"{what}: evidence", bool(said) == wanted, said)
+        assert bool(said) == wanted, (f"{what}: evidence", said)
     for what, kind, keys in [
         ("without keys", "none", dict[str, Any]()),
         ("under the demonstration's key", "demonstration", {"key": KEY}),
     ]:
-        shown(tally, browser, f"a fork {what}", text, kind=kind, **keys)
-        tally.tell(f"a fork {what} convicts nobody", not any("equivocated" in it for it in contradictions(browser)))
+        shown(browser, f"a fork {what}", text, kind=kind, **keys)
+        assert not any("equivocated" in it for it in contradictions(browser)), f"a fork {what} convicts nobody"
     set_keys(browser)

@@ -1,4 +1,4 @@
-"""Tries the clients in Go, Rust, JavaScript and C: the cases of cases/client, and random alterations and walks beside the second
+"""How the clients in Go, Rust, JavaScript and C are asked: the cases of cases/client, and random alterations and walks beside the second
 implementation. Each language has a program that replies to requests, one on each line. Words are separated by one space.
 
 Bytes are hexadecimal digits, `.` for no byte. `-` stands for nothing: no key, no state, the default, the latest epoch.
@@ -39,7 +39,7 @@ import client as second
 from alterations import Alterer, causes_in
 from case_runner import Answer, cases
 from client import plain
-from tally import Tally
+from running import Say
 from walks import Walk, seen_in
 
 
@@ -209,30 +209,28 @@ def verdict(side: Side, case: Answer) -> Any:
         return f"{type(error).__name__}: {error}"
 
 
-def try_cases(tally: Tally, what: str, side: Side) -> None:
+def check_cases(side: Side) -> None:
     for case in cases():
         got = verdict(side, case)
         got = plain(got) if isinstance(got, dict) else got
-        tally.tell(f"{what}: case {case['name']}", got == case["gives"], f"expected {case['gives']}, got {got}"[:3000])
+        assert got == case["gives"], case["name"]
 
 
-def try_alterations(tally: Tally, what: str, side: Side, count: int, seed: int) -> None:
-    """So many alterations, of which both implementations return the same."""
-    alterer, chance, seen, spent = Alterer(list(cases())), random.Random(seed), dict[str, int](), 0.0
+def check_alterations(side: Side, count: int, seed: int) -> tuple[set[str], float]:
+    """So many alterations, of which both implementations return the same. Returns the kinds of results, and the program's seconds."""
+    alterer, chance, seen, spent = Alterer(list(cases())), random.Random(seed), set[str](), 0.0
     for number in range(count):
         case = alterer.altered(chance)
         before = time.monotonic()
         mine = verdict(side, copy.deepcopy(case))
         spent += time.monotonic() - before
         theirs = second.verdicts(case)
-        why = "" if mine == theirs else f"{mine}, {theirs}: {json.dumps(case)}"[:9000]
-        tally.tell(f"{what}: alteration {number} of seed {seed}", mine == theirs, why)
-        for cause in causes_in(mine) if isinstance(mine, dict) else []:
-            seen[cause] = seen.get(cause, 0) + 1
-    print(f"{what}: {count} alterations, of which the program took {spent:.1f} s: {dict(sorted(seen.items()))}", flush=True)
+        assert mine == theirs, f"alteration {number} of seed {seed}: {json.dumps(case)}"[:9000]
+        seen.update(causes_in(mine))
+    return seen, spent
 
 
-def try_walks(tally: Tally, what: str, side: Side, count: int, seed: int) -> None:
+def check_walks(side: Side, count: int, seed: int) -> None:
     """So many walks, each of which is interrupted by starts from the state, of which both implementations return the same."""
     seen: set[str] = set()
     for number in range(count):
@@ -240,20 +238,19 @@ def try_walks(tally: Tally, what: str, side: Side, count: int, seed: int) -> Non
         for part in range(3):
             case = walk.case(state)
             mine, theirs = verdict(side, case), second.verdicts(case)
-            is_same = mine == theirs and mine["begin"] == {"begun": True}
-            tally.tell(f"{what}: walk {number} of seed {seed}, part {part}", is_same, "" if is_same else f"{mine}, {theirs}"[:3000])
-            if not is_same:
-                break
+            assert mine == theirs and mine["begin"] == {"begun": True}, f"walk {number} of seed {seed}, part {part}"
             seen.update(seen_in(mine))
             state = state_of(side)
-    tally.tell(f"{what}: the walks see changes", {"same", "changed", "absent", "misuse"} <= seen, seen)
+    assert {"same", "changed", "absent", "misuse"} <= seen, "the walks see changes"
 
 
-def try_program(tally: Tally, what: str, words: Sequence[str], count: int, seed: int) -> None:
+def check_program(what: str, words: Sequence[str], count: int, seed: int, say: Say) -> None:
+    """All cases over the program of a client, so many alterations, and a quarter as many walks."""
     start, side = time.monotonic(), Side(words)
-    try_cases(tally, what, side)
+    check_cases(side)
     if count:
-        try_alterations(tally, what, side, count, seed)
-        try_walks(tally, what, side, max(1, count // 4), seed)
-    tally.tell(f"{what}: the program ends", side.end() == 0)
-    print(f"{what}: {time.monotonic() - start:.0f} s", flush=True)
+        seen, spent = check_alterations(side, count, seed)
+        say(f"{what}: {count} alterations with {len(seen)} results, of which the program took {spent:.1f} s")
+        check_walks(side, max(1, count // 4), seed)
+    assert side.end() == 0, "the program ends"
+    say(f"{what}: {time.monotonic() - start:.0f} s")

@@ -1,7 +1,6 @@
-#!/usr/bin/env python3
-"""Writes what `coniks.provider` returns for clients, and the keys that it registered, for the tests of clients in other languages.
+"""What `coniks.provider` returns for clients, and the keys that it registered, for the tests of clients in other languages.
 
-    embed/messages.py PROVIDER FILE    over the program `provider`; needs PyNaCl
+    embed/tests/messages.py PROVIDER FILE    writes them to a file, over the program `provider`
 """
 
 from __future__ import annotations
@@ -10,11 +9,7 @@ import json
 import sys
 import tempfile
 from pathlib import Path
-from typing import Any, Sequence
-
-TOP = Path(__file__).resolve().parent.parent
-sys.dont_write_bytecode = True
-sys.path[:0] = [str(TOP / "embed/python/src"), str(TOP / "examples/provider")]
+from typing import Any
 
 import ecvrf
 from coniks import Policy
@@ -61,11 +56,11 @@ def messages(program: str, log: Path) -> dict[str, Any]:
     return {**digits, **shown}
 
 
-def main(words: Sequence[str]) -> int:
+def write(program: str, file: Path) -> None:
+    """Writes them to a file, over the program `provider`."""
     with tempfile.TemporaryDirectory() as room:
-        Path(words[1]).write_text(json.dumps(messages(words[0], Path(room) / "log")), "utf-8")
-    return 0
+        file.write_text(json.dumps(messages(program, Path(room) / "log")), "utf-8")
 
 
 if __name__ == "__main__":
-    sys.exit(main(sys.argv[1:]))
+    write(sys.argv[1], Path(sys.argv[2]))

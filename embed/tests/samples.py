@@ -12,7 +12,9 @@ from pathlib import Path
 from random import Random
 from typing import Any, Callable, Optional, Sequence, Union
 
-TOP = Path(__file__).resolve().parent.parent
+from proof_bytes import bytes_of
+
+TOP = Path(__file__).resolve().parents[2]
 HEADER = (TOP / "include/coniks.h").read_text("utf-8")
 
 
@@ -32,12 +34,12 @@ def statuses() -> dict[str, int]:
     return {name: int(number) for name, number in re.findall(r"CONIKS_(?:E_)?([A-Z_]+) = (\d+)", body[1])}
 
 
-def lines_of(program: Path, script: Union[str, Path]) -> list[Line]:
+def lines_of(program: str, script: Union[str, Path]) -> list[Line]:
     ran = run(program, "run", stdin=open(script, "rb"))
     return [json.loads(it) for it in ran.stdout.splitlines()]
 
 
-def lookups(program: Path) -> list[Line]:
+def lookups(program: str) -> list[Line]:
     """Lookups with their lines: of the examples, and of a directory of 300 names, some for absent names."""
     found = [it for script in ["lookups", "tour", "renewed"] for it in lines_of(program, TOP / f"examples/{script}.jsonl")]
     with tempfile.NamedTemporaryFile("w", suffix=".jsonl") as script:
@@ -76,19 +78,6 @@ def wire_status(proof: bytes) -> Optional[int]:
             if len(proof) < at:
                 return fault
     return 25 if len(proof) > at else None
-
-
-def bytes_of(proof: dict[str, Any]) -> bytes:
-    """The bytes of a proof's object, by docs/FORMATS.md."""
-    end, siblings = proof["end"], b"".join(bytes.fromhex(it) for it in proof["siblings"])
-    kind = {"empty": 0, "other": 1, "here": 2}[end["kind"]]
-    made = bytes([kind]) + len(proof["siblings"]).to_bytes(2, "big") + siblings
-    for member in [["index", "commitment"], ["opening"]][kind - 1] if kind else []:
-        made += bytes.fromhex(end[member])
-    if kind == 2:
-        for part, size in [(end["name"].encode(), 2), (base64.b64decode(end["key"]), 4)]:
-            made += len(part).to_bytes(size, "big") + part
-    return made
 
 
 def object_of(proof: bytes) -> Optional[dict[str, Any]]:
@@ -148,7 +137,7 @@ def mutated(chance: Random, line: Line) -> Question:
     return given, name, bytes(proof)
 
 
-def said_by_program(program: Path, questions: Sequence[Question]) -> list[Optional[str]]:
+def said_by_program(program: str, questions: Sequence[Question]) -> list[Optional[str]]:
     """The result of `keydir check` for those whose bytes are proofs, as (status, key); None for the others."""
     lines, places = [], []
     for place, (given, name, proof) in enumerate(questions):

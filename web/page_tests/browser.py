@@ -4,90 +4,44 @@ from __future__ import annotations
 
 import base64
 import json
-import os
-import select
-import subprocess
-import sys
 import time
 from pathlib import Path
 from typing import Any, Optional
 
-HERE = Path(__file__).resolve().parent
-TOP = HERE.parent
-sys.dont_write_bytecode = True
-sys.path[:0] = [str(TOP / "embed"), str(TOP / "scripts")]
-
+import pytest
 import tools
 
-PAGE = HERE / "out/index.html"
+pytest.importorskip("selenium")
+
+from selenium.webdriver import Chrome, ChromeOptions
+from selenium.webdriver.chrome.service import Service
+
+HERE = Path(__file__).resolve().parent
+WEB = HERE.parent
+TOP = WEB.parent
+PAGE = WEB / "out/index.html"
 
 # A host that no name server knows: the browser takes it for this machine, and its pages for no secure context.
 HOST = "page.invalid"
 
-# A message of the browser.
-Event = dict[str, Any]
+FLAGS = ["--headless", "--no-sandbox", "--disable-gpu", f"--host-resolver-rules=MAP {HOST} 127.0.0.1"]
 
 
 class Browser:
-    """A headless browser with one page, spoken to through pipes (Chrome DevTools Protocol)."""
+    """A headless browser with one page."""
 
-    def __init__(self, room: str) -> None:
-        (here_out, out), (into, here_in) = os.pipe(), os.pipe()
-
-        def placed() -> None:
-            kept = [os.dup(into), os.dup(out)]
-            os.dup2(kept[0], 3)
-            os.dup2(kept[1], 4)
-
-        flags = [
-            "--headless",
-            "--no-sandbox",
-            "--disable-gpu",
-            f"--host-resolver-rules=MAP {HOST} 127.0.0.1",
-            "--remote-debugging-pipe",
-            f"--user-data-dir={room}",
-            "about:blank",
-        ]
-        self.process = subprocess.Popen(
-            [tools.CHROMIUM, *flags], preexec_fn=placed, close_fds=False, stderr=subprocess.DEVNULL, stdout=subprocess.DEVNULL
-        )
-        os.close(into)
-        os.close(out)
-        self.read_from, self.write_to, self.held, self.number = here_out, here_in, b"", 0
-        self.events: list[Event] = []
-        self.session: Optional[str] = None
-        targets = self.call("Target.getTargets")["targetInfos"]
-        page = next(it["targetId"] for it in targets if it["type"] == "page")
-        self.session = self.call("Target.attachToTarget", targetId=page, flatten=True)["sessionId"]
-        for domain in ["Page", "Runtime", "Network", "Log"]:
-            self.call(f"{domain}.enable")
-
-    def message(self, seconds: float) -> Event:
-        end = time.monotonic() + seconds
-        while b"\0" not in self.held:
-            if not select.select([self.read_from], [], [], max(0, end - time.monotonic()))[0]:
-                raise TimeoutError("the browser says nothing")
-            more = os.read(self.read_from, 1 << 16)
-            if not more:
-                raise EOFError("the browser has ended")
-            self.held += more
-        text, _, self.held = self.held.partition(b"\0")
-        said: Event = json.loads(text)
-        return said
+    def __init__(self) -> None:
+        options: Any = ChromeOptions()
+        options.binary_location = tools.path_of(tools.CHROMIUM)
+        for flag in FLAGS:
+            options.add_argument(flag)
+        options.set_capability("goog:loggingPrefs", {"browser": "ALL", "performance": "ALL"})
+        self.driver: Any = Chrome(service=Service(tools.path_of("chromedriver")), options=options)
+        self.driver.set_script_timeout(120)
 
     def call(self, method: str, **parameters: Any) -> Any:
-        self.number += 1
-        said = {"id": self.number, "method": method, "params": parameters} | ({"sessionId": self.session} if self.session else {})
-        data = json.dumps(said).encode() + b"\0"
-        while data:
-            data = data[os.write(self.write_to, data) :]
-        while True:
-            answer = self.message(120)
-            if answer.get("id") == self.number:
-                if "error" in answer:
-                    raise RuntimeError(f"{method}: {answer['error']}")
-                return answer["result"]
-            self.events.append(answer)
+        """What a method of the Chrome DevTools Protocol returns."""
+        return self.driver.execute_cdp_cmd(method, parameters)
 
     def value(self, expression: str) -> Any:
         """What an expression gives in the page; a promise is waited for."""
@@ -97,8 +51,7 @@ class Browser:
         return result["result"].get("value")
 
     def open(self, url: str) -> None:
-        self.events.clear()
-        self.call("Page.navigate", url=url)
+        self.driver.get(url)
 
     def until(self, expression: str, seconds: float = 60) -> float:
         """The time until an expression is true."""
@@ -112,34 +65,27 @@ class Browser:
     def wide(self, width: int, height: int) -> None:
         self.call("Emulation.setDeviceMetricsOverride", width=width, height=height, deviceScaleFactor=1, mobile=width < 600)
 
-    def picture(self, file: Path) -> None:
-        data = self.call("Page.captureScreenshot", captureBeyondViewport=True, format="png")["data"]
-        file.write_bytes(base64.b64decode(data))
+    def picture(self, **more: Any) -> bytes:
+        """A picture of the page, as PNG."""
+        return base64.b64decode(self.call("Page.captureScreenshot", format="png", captureBeyondViewport=True, **more)["data"])
+
+    def forget(self) -> None:
+        """Drops what has been requested and complained of so far."""
+        self.requests()
+        self.complaints()
 
     def complaints(self) -> list[str]:
-        self.value("1")
-        bad = [it for it in self.events if it.get("method") == "Runtime.exceptionThrown"]
-        bad += [
-            it
-            for it in self.events
-            if it.get("method") == "Log.entryAdded" and it["params"]["entry"]["level"] in ("error", "warning")
-        ]
-        bad += [it for it in self.events if it.get("method") == "Runtime.consoleAPICalled"]
-        return [json.dumps(it)[:300] for it in bad]
+        """What is in the console: exceptions, warnings, and what the page has written there."""
+        return [it["message"] for it in self.driver.get_log("browser")]
 
     def requests(self) -> list[str]:
-        urls = [it["params"]["request"]["url"] for it in self.events if it.get("method") == "Network.requestWillBeSent"]
+        """The URLs that were requested, but for the page's own."""
+        events = [json.loads(it["message"])["message"] for it in self.driver.get_log("performance")]
+        urls = [it["params"]["request"]["url"] for it in events if it["method"] == "Network.requestWillBeSent"]
         return [it for it in urls if it != PAGE.as_uri()]
 
     def close(self) -> None:
-        """Has the browser end, so that none of its processes writes to its folder when that is removed."""
-        self.session = None
-        try:
-            self.call("Browser.close")
-            self.process.wait(20)
-        except (OSError, EOFError, RuntimeError, TimeoutError, subprocess.TimeoutExpired):
-            self.process.kill()
-            self.process.wait()
+        self.driver.quit()
 
 
 DONE = "document.getElementById('summary')?.dataset.done"

@@ -1,10 +1,7 @@
-#!/usr/bin/env python3
-"""Compares VRF proofs and signatures in JavaScript with libsodium, at random: good ones and altered ones.
-
-    web/try-ecvrf [COUNT [SEED]]
+"""VRF proofs and signatures in JavaScript beside libsodium, at random: good ones and altered ones.
 
 An alteration changes bytes, takes parts of another proof, adds the order to a number, adds a point of small order to a point, or
-writes a point in another encoding. It needs Node, and PyNaCl. The last line is `N passed, M failed`.
+writes a point in another encoding.
 """
 
 from __future__ import annotations
@@ -12,21 +9,22 @@ from __future__ import annotations
 import hashlib
 import random
 import subprocess
-import sys
 from pathlib import Path
-from typing import Callable, Sequence
+from typing import Callable
 
-HERE = Path(__file__).resolve().parent
-TOP = HERE.parent
-sys.dont_write_bytecode = True
-sys.path[:0] = [str(TOP / it) for it in ("cases/second", "embed/python/src", "examples/provider", "scripts")]
+import pytest
+import tools
+
+pytest.importorskip("nacl.signing")
+if not tools.has("node"):
+    pytest.skip("node is missing", allow_module_level=True)
 
 import curve
 import ecvrf
 from coniks import _ecvrf
 from nacl.signing import SigningKey
-from tally import Tally
 
+WEB = Path(__file__).resolve().parent.parent
 ORDER = curve.ORDER
 # The points of small order, the first of which is the identity. The others are multiples of one of order 8.
 EIGHT = curve.decode(bytes.fromhex("26e8958fc2b227b045c3f489f2ef98f0d5dfac05d3c63339b13802886d53fc05"))
@@ -140,24 +138,18 @@ def by_libsodium(kind: str, parts: Parts) -> str:
         return "-"
 
 
-def main(words: Sequence[str]) -> int:
-    count, seed = [*map(int, words), *[10000, 1][len(words) :]]
-    tally, counts = Tally(), dict[str, int]()
-    asked = requests(count, random.Random(seed))
+def test_beside_libsodium(pytestconfig: pytest.Config, say: Callable[[str], None]) -> None:
+    """Each reply in JavaScript is libsodium's, and all kinds of results occur."""
+    count, counts = pytestconfig.getoption("points"), dict[str, int]()
+    asked = requests(count, random.Random(pytestconfig.getoption("seed")))
     lines = "".join(f"{kind} {' '.join(it.hex() or '.' for it in parts)}\n" for kind, parts in asked)
-    ran = subprocess.run(["node", HERE / "ecvrf_answers.mjs"], input=lines, capture_output=True, text=True)
+    ran = subprocess.run(["node", WEB / "ecvrf_answers.mjs"], input=lines, capture_output=True, text=True)
     said = ran.stdout.splitlines()
-    tally.tell("each line has its reply", ran.returncode == 0 and len(said) == len(asked), ran.stderr[-2000:])
+    assert (ran.returncode, len(said)) == (0, len(asked)), ran.stderr[-2000:]
     for (kind, parts), found in zip(asked, said):
         wanted = by_libsodium(kind, parts)
-        tally.tell(f"{kind} {' '.join(it.hex() for it in parts)}", found == wanted, f"{found}, not {wanted}")
+        assert found == wanted, f"{kind} {' '.join(it.hex() for it in parts)}"
         told = f"{kind}: {wanted if len(wanted) < 10 else 'an output'}"
         counts[told] = counts.get(told, 0) + 1
-    least = count // 20
-    tally.tell("all results occur", len(counts) == 6 and min(counts.values()) >= least, counts)
-    print(dict(sorted(counts.items())))
-    print(tally.line())
-    return tally.status()
-
-
-sys.exit(main(sys.argv[1:]))
+    assert len(counts) == 6 and min(counts.values()) >= count // 20, counts
+    say(str(dict(sorted(counts.items()))))

@@ -10,22 +10,25 @@ import threading
 from functools import partial
 from http.server import SimpleHTTPRequestHandler, ThreadingHTTPServer
 from pathlib import Path
-from typing import Any, Sequence
+from typing import Any, Callable, Sequence
 
-import proofs
-from browser import FRESH, HERE, HOST, PAGE, Browser, count, note, paste, press, set_keys, standings, texts, wait
+import pytest
+import samples
+from browser import FRESH, HOST, PAGE, WEB, Browser, count, note, paste, press, set_keys, standings, texts, wait
 from given import DEMONSTRATION, ENTRIES, LOOKUPS, PROVIDED, SIGNING, UNSIGNED, VRF, case, text_of
-from results import try_demonstration, try_provider
-from tally import Tally
+from test_results import check_demonstration, check_provider
 
 SEED = 30
+
+# Adds a line to the end of the run.
+Say = Callable[[str], None]
 
 # Milliseconds for which the page may not answer, and how often that is tried. On idle cores it is less than 100, to which STOP=100
 # holds it; beside other processes a browser waits for its turn.
 STOP, TRIES = int(os.environ.get("STOP", "250")), 4
 
-# Milliseconds of a lookup with all its steps.
-SLOWEST = 50
+# Milliseconds of a lookup with all its steps, and bytes of the page.
+SLOWEST, LARGEST = 50, 150_000
 
 TICKING = """window.longest = 0; window.last = 0; (function tick() { const now = performance.now();
     window.longest = Math.max(window.longest, now - window.last); window.last = now; window.ticking = setTimeout(tick); })(); 1"""
@@ -41,13 +44,13 @@ def paste_long(browser: Browser, text: str) -> float:
     return wait(browser)
 
 
-def try_insecure(tally: Tally, browser: Browser) -> None:
+def check_insecure(browser: Browser) -> None:
     """From plain http no signature of a provider can be verified, and the page says so."""
     set_keys(browser, "provider", signing=SIGNING, vrf=VRF)
     paste(browser, PROVIDED)
     found = note(browser, "signing")
-    tally.tell("a provider's lines from plain http", found[0].startswith("not verified: ") and found[1] == "false", found)
-    tally.tell("nothing is authentic from plain http", count(browser, ".authentic") == 0 and set(standings(browser)) == {UNSIGNED})
+    assert found[0].startswith("not verified: ") and found[1] == "false", ("a provider's lines from plain http", found)
+    assert count(browser, ".authentic") == 0 and set(standings(browser)) == {UNSIGNED}, "nothing is authentic from plain http"
     set_keys(browser)
 
 
@@ -58,21 +61,21 @@ class Quiet(SimpleHTTPRequestHandler):
         pass
 
 
-def try_origins(tally: Tally, browser: Browser) -> None:
+def test_origins(anywhere: Browser) -> None:
     """From localhost the results are the same, and from plain http those that need no WebCrypto."""
     server = ThreadingHTTPServer(("127.0.0.1", 0), partial(Quiet, directory=PAGE.parent))
     threading.Thread(target=server.serve_forever, daemon=True).start()
     try:
         for host, is_secure in [("localhost", True), (HOST, False)]:
-            browser.open(f"http://{host}:{server.server_port}/index.html")
-            wait(browser)
-            is_well = browser.value("window.isSecureContext && crypto.subtle !== undefined") is is_secure
-            tally.tell(f"{host} is a secure context or none", is_well)
-            try_demonstration(tally, browser, f"from {host}")
+            anywhere.open(f"http://{host}:{server.server_port}/index.html")
+            wait(anywhere)
+            is_well = anywhere.value("window.isSecureContext && crypto.subtle !== undefined") is is_secure
+            assert is_well, f"{host} is a secure context or none"
+            check_demonstration(anywhere, f"from {host}")
             if is_secure:
-                try_provider(tally, browser, f"from {host}")
+                check_provider(anywhere, f"from {host}")
             else:
-                try_insecure(tally, browser)
+                check_insecure(anywhere)
     finally:
         server.shutdown()
         server.server_close()
@@ -87,15 +90,15 @@ def set_files(browser: Browser, files: Sequence[Path]) -> None:
     wait(browser)
 
 
-def try_lines(tally: Tally, browser: Browser, program: Path, room: Path) -> None:
+def test_lines(browser: Browser, keydir: str, tmp_path: Path) -> None:
     """Lines of a file are read as the program reads them: bytes that aren't UTF-8, blank lines, and members hidden by others."""
     good = next(it for it in DEMONSTRATION.splitlines() if '"ok":"lookup"' in it).encode()
     others = [b"\xef\xbb\xbf" + good, b"", b"\xff", good, good.decode().encode("utf-16"), b" ", good]
     given = case("mini").encode() + b"\n".join(others)
-    files = [room / "first.jsonl", room / "second.jsonl"]
+    files = [tmp_path / "first.jsonl", tmp_path / "second.jsonl"]
     files[0].write_bytes(given)
     files[1].write_bytes(good + b"\n")
-    said = proofs.run(program, "check", input=given + b"\n" + good).stdout.splitlines()
+    said = samples.run(keydir, "check", input=given + b"\n" + good).stdout.splitlines()
     wanted = [[it, json.loads(answer).get("fault") == "Json"] for it, answer in enumerate(said, 1)]
     for what in ["files", "the same files again"]:
         set_files(browser, files)
@@ -103,10 +106,10 @@ def try_lines(tally: Tally, browser: Browser, program: Path, room: Path) -> None
             """[...document.querySelectorAll('#results > li')].map(it =>
             [Number(it.querySelector('.number').textContent.slice(5)), it.textContent.includes("isn't a JSON object")])"""
         )
-        tally.tell(f"{what}, line by line", found == wanted, [it for it in zip(found, wanted) if it[0] != it[1]][:3])
+        assert found == wanted, (f"{what}, line by line", [it for it in zip(found, wanted) if it[0] != it[1]][:3])
 
 
-def wrong_lines(lines: Sequence[proofs.Line]) -> list[str]:
+def wrong_lines(lines: Sequence[samples.Line]) -> list[str]:
     """Lines that are refused before any proof is checked."""
     line = lines[0]
     made = ["{", "[]", '{"index":1e999}', json.dumps(line)[:-1]]
@@ -119,22 +122,23 @@ def wrong_lines(lines: Sequence[proofs.Line]) -> list[str]:
     return made
 
 
-def some_lines(lines: Sequence[proofs.Line], count: int) -> list[str]:
+def some_lines(lines: Sequence[samples.Line], count: int) -> list[str]:
     """Lookup lines, good ones and changed ones."""
     chance, made = random.Random(SEED), wrong_lines(lines)
     while len(made) < count:
-        given, name, proof = proofs.mutated(chance, chance.choice(lines))
-        it = None if proofs.wire_status(proof) else proofs.object_of(proof)
+        given, name, proof = samples.mutated(chance, chance.choice(lines))
+        it = None if samples.wire_status(proof) else samples.object_of(proof)
         if it is not None:
             parts = {part: value.hex() for part, value in given.items()}
             made.append(json.dumps({"name": name.decode(errors="replace"), "proof": it} | parts))
     return made
 
 
-def try_verdicts(tally: Tally, browser: Browser, program: Path, lines: Sequence[proofs.Line], many: int) -> None:
+def test_verdicts(browser: Browser, keydir: str, lines: Sequence[samples.Line], pytestconfig: pytest.Config) -> None:
     """Each result and fault is the program's."""
+    many = pytestconfig.getoption("lines")
     asked = some_lines(lines, many)
-    said = proofs.run(program, "check", input="".join(f"{it}\n" for it in asked).encode()).stdout.splitlines()
+    said = samples.run(keydir, "check", input="".join(f"{it}\n" for it in asked).encode()).stdout.splitlines()
     found = browser.value(
         f"""(async lines => {{
             const coniks = await coniks_.Coniks.of(Uint8Array.from(atob(document.getElementById("module").textContent.trim()), it => it.charCodeAt(0)));
@@ -148,25 +152,25 @@ def try_verdicts(tally: Tally, browser: Browser, program: Path, lines: Sequence[
     )
     wanted = [{key: value for key, value in json.loads(it).items() if key != "ok"} for it in said]
     wrong = [(a, b, line[:200]) for a, b, line in zip(found, wanted, asked, strict=True) if a != b]
-    tally.tell(f"{many:,} verdicts are the program's", not wrong, wrong[:3])
+    assert not wrong, (f"{many:,} verdicts are the program's", wrong[:3])
     faults = {it.get("fault", "none") for it in wanted}
     all_faults = set("Json Member TooDeep NameLength KeyLength WrongName OtherIsSame OtherOffPath RootMismatch none".split())
-    tally.tell("among them each fault", faults == all_faults, all_faults - faults)
+    assert faults == all_faults, ("among them each fault", all_faults - faults)
 
 
-def try_hostile(tally: Tally, browser: Browser, lines: Sequence[proofs.Line]) -> None:
+def test_hostile(browser: Browser, lines: Sequence[samples.Line]) -> None:
     """Markup in a name is text."""
     markup = "<img src=x onerror=\"document.title='broken'\"><script>document.title='broken'</script>"
     line = next(it for it in lines if it["proof"]["end"]["kind"] == "here")
     end = line["proof"]["end"] | {"name": markup, "key": base64.b64encode(markup.encode()).decode()}
     paste(browser, json.dumps(line | {"name": markup, "proof": line["proof"] | {"end": end}}))
-    tally.tell("markup makes no element", count(browser, "#results img, #results script") == 0)
+    assert count(browser, "#results img, #results script") == 0, "markup makes no element"
     shown = [json.dumps(markup) in "".join(texts(browser, f"#results {it}")) for it in ["code", ".end .named"]]
-    tally.tell("markup is shown as a key and as a name", shown == [True, True], shown)
-    tally.tell("markup does nothing", browser.value("document.title") == "Check a CONIKS proof")
+    assert shown == [True, True], ("markup is shown as a key and as a name", shown)
+    assert browser.value("document.title") == "Check a CONIKS proof", "markup does nothing"
 
 
-def try_ways_in(tally: Tally, browser: Browser) -> None:
+def test_ways_in(browser: Browser) -> None:
     """Files that are dropped, a text that is pasted beside the field, and one that is pasted into it, which is folded."""
     lines = DEMONSTRATION.splitlines(keepends=True)
     parts, whole = json.dumps(["".join(lines[:4]), "".join(lines[4:])]), json.dumps(DEMONSTRATION)
@@ -188,29 +192,29 @@ def try_ways_in(tally: Tally, browser: Browser) -> None:
         found = browser.value(
             "[Number(document.getElementById('summary').dataset.done), document.getElementById('pasted').open, document.getElementById('folded').textContent]"
         )
-        tally.tell(what, found == [9, False, "9 lines: show them, or paste others"], found)
-    tally.tell("dropping is mentioned", "drop them here" in texts(browser, ".button")[0])
+        assert found == [9, False, "9 lines: show them, or paste others"], (what, found)
+    assert "drop them here" in texts(browser, ".button")[0], "dropping is mentioned"
 
 
-def try_reach(tally: Tally, browser: Browser) -> None:
+def test_reach(browser: Browser) -> None:
     """Headings are in order, targets have 24 pixels, a path is visible with forced colours, and a browser without script shows a note."""
     press(browser, "example")
     levels = browser.value(
         "[...document.querySelectorAll('h1, h2, h3, h4, h5, h6')].filter(it => it.checkVisibility()).map(it => Number(it.tagName[1]))"
     )
-    tally.tell("headings are in order", levels[0] == 1 and all(b <= a + 1 for a, b in zip(levels, levels[1:])), levels)
+    assert levels[0] == 1 and all(b <= a + 1 for a, b in zip(levels, levels[1:])), ("headings are in order", levels)
     small = browser.value(
         """[...document.querySelectorAll('button, .button, select, textarea, input:not(.unseen):not([type]), summary, #choice label')].filter(it => it.checkVisibility())
         .filter(it => it.getBoundingClientRect().height < 24 || it.getBoundingClientRect().width < 24).map(it => it.outerHTML.slice(0, 80))"""
     )
-    tally.tell("targets have 24 pixels", not small, small)
+    assert not small, ("targets have 24 pixels", small)
     browser.call("Emulation.setEmulatedMedia", features=[{"name": "forced-colors", "value": "active"}])
     line = browser.value(
         "(it => [it.borderLeftStyle, it.borderLeftWidth, it.borderLeftColor !== getComputedStyle(document.body).backgroundColor])(getComputedStyle(document.querySelector('.level'), '::before'))"
     )
     browser.call("Emulation.setEmulatedMedia", features=[])
-    tally.tell("a path is seen where colours are forced", line == ["solid", "2px", True], line)
-    tally.tell("who has no script is told", "<noscript>" in PAGE.read_text("utf-8"))
+    assert line == ["solid", "2px", True], ("a path is seen where colours are forced", line)
+    assert "<noscript>" in PAGE.read_text("utf-8"), "who has no script is told"
 
 
 # The contrast of two colours (WCAG 2.2, relative luminance), in the page.
@@ -218,67 +222,67 @@ CONTRAST = """((front, back) => { const light = text => { const [r, g, b] = text
     return 0.2126 * r + 0.7152 * g + 0.0722 * b; }; const [a, b] = [light(front), light(back)].sort((x, y) => y - x); return (a + 0.05) / (b + 0.05); })"""
 
 
-def try_contrast(tally: Tally, browser: Browser, scheme: str) -> None:
+def check_contrast(browser: Browser, scheme: str) -> None:
     """Borders of fields and buttons have a contrast of 3:1 to both sides, and verdicts one of 4.5:1."""
     found = browser.value(
         f"""[...document.querySelectorAll('button, .button, select, textarea, input:not(.unseen):not([type])')].map(it => {{
         const style = getComputedStyle(it), ground = getComputedStyle(document.body).backgroundColor;
         return Math.min({CONTRAST}(style.borderTopColor, ground), {CONTRAST}(style.borderTopColor, style.backgroundColor)); }})"""
     )
-    tally.tell(f"the contrast of borders, {scheme}", len(found) > 8 and min(found) >= 3, min(found))
+    assert len(found) > 8 and min(found) >= 3, (f"the contrast of borders, {scheme}", min(found))
     found = browser.value(
         f"[...document.querySelectorAll('.verdict, .standing, .note, .number')].map(it => {CONTRAST}(getComputedStyle(it).color, getComputedStyle(document.body).backgroundColor))"
     )
-    tally.tell(f"the contrast of texts, {scheme}", min(found) >= 4.5, min(found))
+    assert min(found) >= 4.5, (f"the contrast of texts, {scheme}", min(found))
 
 
-def stopped_for(tally: Tally, browser: Browser, text: str, what: str) -> float:
+def stopped_for(browser: Browser, text: str, what: str, say: Say) -> float:
     """Pastes a long text, and returns the seconds that it took: the page answers meanwhile, in one of some tries."""
     longest: float = STOP
     for _ in range(TRIES):
         browser.value(TICKING)
         took = paste_long(browser, text)
         longest = browser.value("clearTimeout(window.ticking); window.longest")
-        print(f"{what} in {took:.1f} s, the longest stop {longest:.0f} ms", flush=True)
+        say(f"{what} in {took:.1f} s, the longest stop {longest:.0f} ms")
         if longest < STOP:
             break
-    tally.tell(f"the page answers meanwhile: {what}", longest < STOP, longest)
+    assert longest < STOP, (f"the page answers meanwhile: {what}", longest)
     return took
 
 
-def try_many(tally: Tally, browser: Browser, lines: Sequence[proofs.Line]) -> None:
+def test_many(browser: Browser, lines: Sequence[samples.Line], say: Say) -> None:
     """10,000 lines, with progress, while the page responds."""
     text = "\n".join(json.dumps(lines[it % len(lines)]) for it in range(10_000))
-    took = stopped_for(tally, browser, text, "10,000 lookups")
-    tally.tell("10,000 lookups within ten seconds", took < 10, took)
-    tally.tell("200 rows are shown at first", count(browser, "#results > li") == 200)
+    took = stopped_for(browser, text, "10,000 lookups", say)
+    assert took < 10, ("10,000 lookups within ten seconds", took)
+    assert count(browser, "#results > li") == 200, "200 rows are shown at first"
     browser.value("document.getElementById('more').click(); 1")
     browser.until("document.querySelectorAll('#results > li').length >= 400")
-    tally.tell("200 more are shown when asked for", count(browser, "#results > li") == 400)
+    assert count(browser, "#results > li") == 400, "200 more are shown when asked for"
 
 
-def try_speed(tally: Tally, browser: Browser) -> None:
+def test_speed(browser: Browser, say: Say) -> None:
     """A lookup with all its steps, none of which was done before: the time for each of some whose names and proofs are wrong ones."""
     set_keys(browser, "provider", signing=SIGNING, vrf=VRF)
     many = [LOOKUPS[0] | {"name": f"alice {it}"} for it in range(50)]
     press_time = [paste(browser, text_of(ENTRIES)), paste(browser, text_of([*ENTRIES, *many]))]
     each = 1000 * (press_time[1] - press_time[0]) / len(many)
-    print(f"a lookup with all steps takes {each:.1f} ms in the browser", flush=True)
-    tally.tell(f"a lookup takes at most {SLOWEST} ms", each <= SLOWEST, each)
+    say(f"a lookup with all steps takes {each:.1f} ms in the browser")
+    assert each <= SLOWEST, (f"a lookup takes at most {SLOWEST} ms", each)
     set_keys(browser)
 
 
-def try_long(tally: Tally, browser: Browser, lines: Sequence[proofs.Line]) -> None:
+def test_long(browser: Browser, lines: Sequence[samples.Line], say: Say) -> None:
     """Long lines and many of them, while the page responds; reading can be cancelled."""
     line = next(it for it in lines if it["proof"]["end"]["kind"] == "here")
     fifty = "\n".join(json.dumps(lines[it % len(lines)]) for it in range(24_300))
-    stopped_for(tally, browser, fifty, "50 MB of lookups")
-    stopped_for(tally, browser, "{}\n" * 1_700_000, "1,700,000 lines {}")
+    stopped_for(browser, fifty, "50 MB of lookups", say)
+    stopped_for(browser, "{}\n" * 1_700_000, "1,700,000 lines {}", say)
     long_key = line["proof"] | {"end": line["proof"]["end"] | {"key": "A" * 50_000_000}}
     for what, changed in [("a key of 50 MB", {"proof": long_key}), ("a name of 20 MB", {"name": "a" * 20_000_000})]:
-        stopped_for(tally, browser, json.dumps(line | changed), what)
+        stopped_for(browser, json.dumps(line | changed), what, say)
         said = texts(browser, "#results .plain")
-        tally.tell(f"{what} is refused", said == ["refused: the line is longer than 262144 bytes"], said)
+        assert said == ["refused: the line is longer than 262144 bytes"], (f"{what} is refused", said)
     set_keys(browser, "provider", signing=SIGNING, vrf=VRF)
     for what, text in [("1,700,000 lines", "{}\n" * 1_700_000), ("50 MB of lookups", fifty)]:
         browser.value(f"document.getElementById('reading').hidden = true; {WHEN_READING}")
@@ -287,11 +291,15 @@ def try_long(tally: Tally, browser: Browser, lines: Sequence[proofs.Line]) -> No
             "[window.seen, document.getElementById('summary').textContent, Number(document.getElementById('summary').dataset.done)]"
         )
         is_well = found[0] and found[1].startswith("Cancelled after ") and 0 < found[2] < text.count("\n")
-        tally.tell(f"reading of {what} shows progress, and can be cancelled", is_well, found)
+        assert is_well, (f"reading of {what} shows progress, and can be cancelled", found)
     set_keys(browser)
 
 
-def try_pictures(tally: Tally, browser: Browser) -> None:
+def test_size(module: None) -> None:
+    assert PAGE.stat().st_size <= LARGEST
+
+
+def test_pictures(browser: Browser) -> None:
     """The page on a screen and on a phone, in light and dark: pictures for people, and where the first verdict is."""
     for width, height in [(1280, 800), (390, 844), (360, 740)]:
         for scheme in ["light", "dark"]:
@@ -299,11 +307,11 @@ def try_pictures(tally: Tally, browser: Browser) -> None:
             browser.call("Emulation.setEmulatedMedia", features=[{"name": "prefers-color-scheme", "value": scheme}])
             browser.open(PAGE.as_uri())
             wait(browser)
-            browser.picture(HERE / f"out/{width}-{scheme}.png")
+            (WEB / f"out/{width}-{scheme}.png").write_bytes(browser.picture())
             is_well = browser.value("document.documentElement.scrollWidth <= window.innerWidth")
-            tally.tell(f"nothing is wider than the page, {width} {scheme}", is_well)
+            assert is_well, f"nothing is wider than the page, {width} {scheme}"
             lowest = ".path .end" if width == 1280 else ".verdict"
             bottom = browser.value(f"document.querySelector('{lowest}').getBoundingClientRect().bottom")
-            tally.tell(f"{lowest} is seen without scrolling, {width} {scheme}", 0 < bottom <= height, bottom)
-            try_contrast(tally, browser, f"{width} {scheme}")
+            assert 0 < bottom <= height, (f"{lowest} is seen without scrolling, {width} {scheme}", bottom)
+            check_contrast(browser, f"{width} {scheme}")
     browser.call("Emulation.setEmulatedMedia", features=[])

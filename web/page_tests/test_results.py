@@ -7,7 +7,7 @@ import time
 from pathlib import Path
 from typing import Any, Sequence
 
-import proofs
+import samples
 from browser import FRESH, PAGE, Browser, count, note, paste, press, set_keys, standings, texts, wait
 from given import (
     AUTHENTIC,
@@ -29,7 +29,6 @@ from given import (
     lines_of,
     text_of,
 )
-from tally import Tally
 
 AT_AN_INDEX = "At the index in this line, which nobody has verified as that of "
 NOT_A_KEY = "not a key: a key has 64 hexadecimal digits, and this text has "
@@ -45,76 +44,76 @@ def opened(browser: Browser) -> float:
     return time.monotonic() - start
 
 
-def try_example(tally: Tally, browser: Browser) -> None:
+def test_example(browser: Browser) -> None:
     """The page begins with a provider's lines under its keys."""
     # A browser that has just started takes longer, and so does one beside other processes.
     took = [opened(browser) for _ in range(3)]
-    tally.tell("the first verdict comes within a second", min(took) < 1, took)
+    assert min(took) < 1, ("the first verdict comes within a second", took)
     wanted = [f'"alice" is bound to this key at epoch {it}' for it in (1, 2, 3)] + ['"dave" is not registered at epoch 2']
-    tally.tell("the example's verdicts", texts(browser, ".verdict") == wanted, texts(browser, ".verdict"))
+    assert texts(browser, ".verdict") == wanted, ("the example's verdicts", texts(browser, ".verdict"))
     keys = ['"key of alice"', '"key of alice"', '"key of mallory"']
-    tally.tell("the example's keys", texts(browser, "summary .key") == keys, texts(browser, "summary .key"))
-    tally.tell("all of them are authentic", standings(browser) == [AUTHENTIC] * 4, standings(browser))
+    assert texts(browser, "summary .key") == keys, ("the example's keys", texts(browser, "summary .key"))
+    assert standings(browser) == [AUTHENTIC] * 4, ("all of them are authentic", standings(browser))
     later = [it.removeprefix(AUTHENTIC) for it in texts(browser, ".standing")]
     wanted = ["; later epochs follow, up to 3"] * 2 + ["", "; later epochs follow, up to 3"]
-    tally.tell("the epochs that follow are told", later == wanted, later)
-    tally.tell("and shown as authentic", count(browser, ".lookup.authentic") == 4)
+    assert later == wanted, ("the epochs that follow are told", later)
+    assert count(browser, ".lookup.authentic") == 4, "and shown as authentic"
     seen = [
         'epoch 1first key "key of alice"',
         'epoch 2same key "key of alice"',
         'epoch 3changed from "key of alice" to "key of mallory"',
     ]
-    tally.tell("alice over the epochs", texts(browser, "#timeline li") == seen, texts(browser, "#timeline li"))
+    assert texts(browser, "#timeline li") == seen, ("alice over the epochs", texts(browser, "#timeline li"))
     levels = len(LOOKUPS[0]["proof"]["siblings"])
-    tally.tell("the path of the first lookup is drawn", count(browser, ".level") == levels, count(browser, ".level"))
+    assert count(browser, ".level") == levels, ("the path of the first lookup is drawn", count(browser, ".level"))
     root = LOOKUPS[0]["root"]
     whole = browser.value("(it => { it.click(); return [it.textContent, it.ariaLabel]; })(document.querySelector('.root .hash'))")
-    tally.tell("a pressed hash shows whole, and is read whole", whole == [root, f"the root {root}"], whole)
+    assert whole == [root, f"the root {root}"], ("a pressed hash shows whole, and is read whole", whole)
     summary = "4 lookups: 4 authentic, 0 consistent but not authenticated, 0 refused. 3 entries: 3 follow in the chain, their signatures are verified."
-    tally.tell("the example is counted", texts(browser, "#summary") == [summary], texts(browser, "#summary"))
-    tally.tell("the example is folded", browser.value("document.getElementById('pasted').open") is False)
-    tally.tell("no contradiction is shown", browser.value("document.getElementById('contradictions').hidden") is True)
+    assert texts(browser, "#summary") == [summary], ("the example is counted", texts(browser, "#summary"))
+    assert browser.value("document.getElementById('pasted').open") is False, "the example is folded"
+    assert browser.value("document.getElementById('contradictions').hidden") is True, "no contradiction is shown"
 
 
-def try_unkeyed(tally: Tally, browser: Browser) -> None:
+def test_unkeyed(browser: Browser) -> None:
     """Without keys each verdict has its condition in front."""
     press(browser, "unkeyed")
     wanted = [f'{AT_AN_INDEX}"alice", this key is registered at epoch {it}' for it in (1, 2, 3)]
     wanted.append(f'{AT_AN_INDEX}"dave", no key is registered at epoch 2')
-    tally.tell("verdicts without keys", texts(browser, ".verdict") == wanted, texts(browser, ".verdict"))
-    tally.tell("standings without keys", set(standings(browser)) == {UNSIGNED}, standings(browser))
-    tally.tell("nothing is authentic without keys", count(browser, ".authentic") == 0)
+    assert texts(browser, ".verdict") == wanted, ("verdicts without keys", texts(browser, ".verdict"))
+    assert set(standings(browser)) == {UNSIGNED}, ("standings without keys", standings(browser))
+    assert count(browser, ".authentic") == 0, "nothing is authentic without keys"
     wanted = [FOLLOWS.format(it, "not ") for it in (1, 2, 3)]
-    tally.tell("entries without keys", texts(browser, "#results .entry") == wanted, texts(browser, "#results .entry"))
+    assert texts(browser, "#results .entry") == wanted, ("entries without keys", texts(browser, "#results .entry"))
     seen = ['first key "key of alice"', 'same key "key of alice"', 'changed from "key of alice" to "key of mallory"']
     found = texts(browser, "#timeline li > span:last-child")
-    tally.tell("alice over the epochs without keys", found == [f"not authenticated: {it}" for it in seen], found)
+    assert found == [f"not authenticated: {it}" for it in seen], ("alice over the epochs without keys", found)
     summary = "4 lookups: 0 authentic, 4 consistent but not authenticated, 0 refused. 3 entries: 3 follow in the chain, their signatures are not verified."
-    tally.tell("they are counted", texts(browser, "#summary") == [summary], texts(browser, "#summary"))
+    assert texts(browser, "#summary") == [summary], ("they are counted", texts(browser, "#summary"))
 
 
-def try_demonstration(tally: Tally, browser: Browser, where: str) -> None:
+def check_demonstration(browser: Browser, where: str) -> None:
     """Under the demonstration's key lines are valid, and never authentic; under another one they are refused."""
     set_keys(browser, "demonstration", key=KEY)
     paste(browser, DEMONSTRATION)
-    tally.tell(f"the demonstration, {where}", set(standings(browser)) == {FORGEABLE}, standings(browser))
+    assert set(standings(browser)) == {FORGEABLE}, (f"the demonstration, {where}", standings(browser))
     wanted = [f"epoch {it} follows in the chain; its seal is valid, which anyone can forge" for it in (1, 2, 3)]
-    tally.tell(f"its entries, {where}", texts(browser, "#results .entry") == wanted, texts(browser, "#results .entry"))
+    assert texts(browser, "#results .entry") == wanted, (f"its entries, {where}", texts(browser, "#results .entry"))
     summary = texts(browser, "#summary")[0]
     is_well = summary.startswith("5 lookups: 5 valid under the demonstration's key, 0 consistent") and "authentic," not in summary
-    tally.tell(f"it is counted, {where}", is_well, summary)
-    tally.tell(f"nothing of it is authentic, {where}", count(browser, ".authentic") == 0)
+    assert is_well, (f"it is counted, {where}", summary)
+    assert count(browser, ".authentic") == 0, f"nothing of it is authentic, {where}"
     found = texts(browser, "#timeline li > span:last-child")
-    tally.tell(f"its epochs are forgeable, {where}", found and all(it.startswith("forgeable: ") for it in found), found)
+    assert found and all(it.startswith("forgeable: ") for it in found), (f"its epochs are forgeable, {where}", found)
     set_keys(browser, "demonstration", key=OTHER_KEY)
     paste(browser, DEMONSTRATION)
-    tally.tell(f"another key, {where}", set(standings(browser)) == {"refused"}, standings(browser))
+    assert set(standings(browser)) == {"refused"}, (f"another key, {where}", standings(browser))
     said = [it for it in texts(browser, "#results .entry") if "the signature isn't valid for this body" in it]
-    tally.tell(f"entries under another key, {where}", len(said) == 3, texts(browser, "#results .entry"))
+    assert len(said) == 3, (f"entries under another key, {where}", texts(browser, "#results .entry"))
     set_keys(browser)
 
 
-def try_provider(tally: Tally, browser: Browser, where: str) -> None:
+def check_provider(browser: Browser, where: str) -> None:
     """A provider's lines under its keys, under others, and without one of them."""
     own, others = {"signing": SIGNING, "vrf": VRF}, {"signing": OTHER_SIGNING, "vrf": OTHER_VRF}
     wrong = "the signature of its entry isn't valid under this key"
@@ -127,18 +126,24 @@ def try_provider(tally: Tally, browser: Browser, where: str) -> None:
     ]:
         set_keys(browser, "provider", **keys)
         paste(browser, PROVIDED)
-        tally.tell(f"{what}, {where}", set(standings(browser)) == wanted, standings(browser))
-        tally.tell(
-            f"{what}: the first verdict, {where}", texts(browser, ".verdict")[0].endswith(verdict), texts(browser, ".verdict")
-        )
+        assert set(standings(browser)) == wanted, (f"{what}, {where}", standings(browser))
+        assert texts(browser, ".verdict")[0].endswith(verdict), (f"{what}: the first verdict, {where}", texts(browser, ".verdict"))
         is_good = count(browser, ".authentic") == (4 if what == "its keys" else 0)
-        tally.tell(f"{what}: what is shown as authentic, {where}", is_good, count(browser, ".authentic"))
+        assert is_good, (f"{what}: what is shown as authentic, {where}", count(browser, ".authentic"))
     found = note(browser, "signing")
-    tally.tell(f"other keys are told, {where}", found == ["wrong key: no signature of 3 entries is one under it", "true"], found)
+    assert found == ["wrong key: no signature of 3 entries is one under it", "true"], (f"other keys are told, {where}", found)
     set_keys(browser)
 
 
-def try_key_texts(tally: Tally, browser: Browser) -> None:
+def test_demonstration(browser: Browser) -> None:
+    check_demonstration(browser, "from a file")
+
+
+def test_provider(browser: Browser) -> None:
+    check_provider(browser, "from a file")
+
+
+def test_key_texts(browser: Browser) -> None:
     """A text that is no key is reported beside its field, and then nothing is authentic."""
     small = "not a key: the signing key is no point of prime order: take the one of the policy document"
     for what, keys, field, said in [
@@ -152,10 +157,8 @@ def try_key_texts(tally: Tally, browser: Browser) -> None:
     ]:
         set_keys(browser, "provider", **keys)
         paste(browser, PROVIDED)
-        tally.tell(f"{what} is told", note(browser, field) == [said, "true"], note(browser, field))
-        tally.tell(
-            f"{what}: nothing is authentic", count(browser, ".authentic") == 0 and "0 authentic" in texts(browser, "#summary")[0]
-        )
+        assert note(browser, field) == [said, "true"], (f"{what} is told", note(browser, field))
+        assert count(browser, ".authentic") == 0 and "0 authentic" in texts(browser, "#summary")[0], f"{what}: nothing is authentic"
     for key, said in [
         ("00", f"{NOT_A_KEY}2 digits"),
         (OTHER_KEY, "wrong key: no signature of 3 entries is one under it"),
@@ -164,23 +167,23 @@ def try_key_texts(tally: Tally, browser: Browser) -> None:
         set_keys(browser, "demonstration", key=key)
         paste(browser, DEMONSTRATION)
         found = note(browser, "key")
-        tally.tell(f"the demonstration's key {key[:3]}..", found == [said, str(said != "").lower()], found)
+        assert found == [said, str(said != "").lower()], (f"the demonstration's key {key[:3]}..", found)
     set_keys(browser)
 
 
-def try_without_ed25519(tally: Tally, browser: Browser) -> None:
+def test_without_ed25519(browser: Browser) -> None:
     """A browser that can't verify Ed25519 says so, and shows nothing as authentic."""
     browser.value("crypto.subtle.importKey = () => Promise.reject(new DOMException('no', 'NotSupportedError')); 1")
     set_keys(browser, "provider", signing=SIGNING, vrf=VRF)
     paste(browser, PROVIDED)
     browser.value("delete crypto.subtle.importKey; 1")
     found = note(browser, "signing")
-    tally.tell("a browser without Ed25519", found[0].startswith("not verified: ") and found[1] == "false", found)
-    tally.tell("nothing is authentic then", count(browser, ".authentic") == 0 and set(standings(browser)) == {UNSIGNED})
+    assert found[0].startswith("not verified: ") and found[1] == "false", ("a browser without Ed25519", found)
+    assert count(browser, ".authentic") == 0 and set(standings(browser)) == {UNSIGNED}, "nothing is authentic then"
     set_keys(browser)
 
 
-def try_typed_keys(tally: Tally, browser: Browser) -> None:
+def test_typed_keys(browser: Browser) -> None:
     """Keys that are typed after the lines are taken, and those of the example are dropped when other lines come."""
     press(browser, "unkeyed")
     for step in [
@@ -190,21 +193,21 @@ def try_typed_keys(tally: Tally, browser: Browser) -> None:
     ]:
         browser.value(f"{FRESH} {step}; 1")
         wait(browser)
-    tally.tell("keys that are typed", count(browser, ".lookup.authentic") == 4, standings(browser))
+    assert count(browser, ".lookup.authentic") == 4, ("keys that are typed", standings(browser))
     press(browser, "example")
     paste(browser, DEMONSTRATION)
     chosen = browser.value("document.querySelector('input[name=keys]:checked').value")
-    tally.tell("the example's keys are dropped for other lines", chosen == "none" and note(browser, "signing")[0] == "", chosen)
-    tally.tell("and their fields are hidden", browser.value("document.getElementById('of-provider').hidden") is True)
+    assert chosen == "none" and note(browser, "signing")[0] == "", ("the example's keys are dropped for other lines", chosen)
+    assert browser.value("document.getElementById('of-provider').hidden") is True, "and their fields are hidden"
     press(browser, "example")
     edited = PROVIDED.replace("key of", "key to")
     paste(browser, edited)
     chosen = browser.value("document.querySelector('input[name=keys]:checked').value")
-    tally.tell("the example's keys stay while its lines are edited", chosen == "provider", chosen)
+    assert chosen == "provider", ("the example's keys stay while its lines are edited", chosen)
     set_keys(browser)
 
 
-def try_provider_lines(tally: Tally, browser: Browser) -> None:
+def test_provider_lines(browser: Browser) -> None:
     """Lines that are changed, left out, mixed with others, or overtaken by others."""
     set_keys(browser, "provider", signing=SIGNING, vrf=VRF)
     bare = [{name: value for name, value in it.items() if name != "vrf"} for it in LOOKUPS]
@@ -222,18 +225,18 @@ def try_provider_lines(tally: Tally, browser: Browser) -> None:
         ("with another index, which isn't used", [*ENTRIES, LOOKUPS[0] | {"index": LOOKUPS[3]["index"]}], AUTHENTIC),
     ]:
         paste(browser, text_of(lines))
-        tally.tell(f"lookups {what}", set(standings(browser)) == {standing}, standings(browser))
-        tally.tell(f"lookups {what}: colours", (count(browser, ".authentic") > 0) == (standing == AUTHENTIC))
+        assert set(standings(browser)) == {standing}, (f"lookups {what}", standings(browser))
+        assert (count(browser, ".authentic") > 0) == (standing == AUTHENTIC), f"lookups {what}: colours"
     changed = ENTRIES[1] | {"entry": ENTRIES[1]["entry"][:-1] + "8"}
     paste(browser, text_of([ENTRIES[0], changed, ENTRIES[2], *LOOKUPS]))
     wanted = "4 lookups: 1 authentic, 3 consistent but not authenticated, 0 refused. 3 entries: 1 follows in the chain, its signature is verified; 2 refused."
-    tally.tell("an entry whose signature is changed", texts(browser, "#summary") == [wanted], texts(browser, "#summary"))
+    assert texts(browser, "#summary") == [wanted], ("an entry whose signature is changed", texts(browser, "#summary"))
     wanted = 'Under an entry that isn\'t in the pasted chain, "alice" is bound to this key at epoch 2'
-    tally.tell("the lookups of its epoch", texts(browser, ".verdict")[1] == wanted, texts(browser, ".verdict"))
+    assert texts(browser, ".verdict")[1] == wanted, ("the lookups of its epoch", texts(browser, ".verdict"))
     paste(browser, text_of([*LOOKUPS, *ENTRIES]))
-    tally.tell("lookups before their entries", standings(browser) == [AUTHENTIC] * 4, standings(browser))
+    assert standings(browser) == [AUTHENTIC] * 4, ("lookups before their entries", standings(browser))
     paste(browser, text_of([ENTRIES[0], ENTRIES[0], *LOOKUPS[:1]]))
-    tally.tell("an entry twice", standings(browser) == [AUTHENTIC], standings(browser))
+    assert standings(browser) == [AUTHENTIC], ("an entry twice", standings(browser))
     others: list[dict[str, Any]] = [
         {"ok": "open"},
         {"body": "00" * 145, "epoch": 1, "nodes": 3, "ok": "prepare", "root": "00" * 32},
@@ -241,26 +244,26 @@ def try_provider_lines(tally: Tally, browser: Browser) -> None:
     ]
     paste(browser, PROVIDED + text_of(others))
     said = texts(browser, "#summary")[0]
-    tally.tell("other lines of a provider", "4 authentic" in said and said.endswith("3 other lines."), said)
-    try_overtaken(tally, browser)
+    assert "4 authentic" in said and said.endswith("3 other lines."), ("other lines of a provider", said)
+    check_overtaken(browser)
     set_keys(browser)
 
 
-def try_overtaken(tally: Tally, browser: Browser) -> None:
+def check_overtaken(browser: Browser) -> None:
     """While a long text is read nothing of the text before is shown, and a shorter one takes over."""
     many = PROVIDED + "".join(json.dumps({"entry": f"{it:0418x}", "ok": "install"}) + "\n" for it in range(3000))
     browser.value(
         f"(it => {{ it.value = {json.dumps(many)}; it.dispatchEvent(new Event('input')); }})(document.getElementById('lines')); 1"
     )
     shown = browser.value("[document.getElementById('results').childElementCount, document.getElementById('summary').textContent]")
-    tally.tell("nothing stale is shown while lines are read", shown == [0, "Reading\u2026"], shown)
+    assert shown == [0, "Reading\u2026"], ("nothing stale is shown while lines are read", shown)
     time.sleep(0.4)
     paste(browser, PROVIDED)
     is_well = texts(browser, "#summary")[0].startswith("4 lookups: 4 authentic") and count(browser, "#results > li") == 7
-    tally.tell("a reading that is overtaken while signatures are verified", is_well, texts(browser, "#summary"))
+    assert is_well, ("a reading that is overtaken while signatures are verified", texts(browser, "#summary"))
 
 
-def try_missing(tally: Tally, browser: Browser) -> None:
+def test_missing(browser: Browser) -> None:
     """An epoch of which no line shows the name is missing, never the same."""
     set_keys(browser, "provider", signing=SIGNING, vrf=VRF)
     for what, lines, wanted in [
@@ -271,33 +274,33 @@ def try_missing(tally: Tally, browser: Browser) -> None:
     ]:
         paste(browser, text_of(lines))
         found = browser.value("[...document.querySelectorAll('#timeline li')].map(it => it.className)")
-        tally.tell(f"missing: {what}", found == wanted, found)
+        assert found == wanted, (f"missing: {what}", found)
     paste(browser, text_of([*ENTRIES, LOOKUPS[0]]))
     said = texts(browser, "#timeline li")[1]
-    tally.tell("several missing epochs are one row", said == "epochs 2 to 3missing: no line shows the name", said)
+    assert said == "epochs 2 to 3missing: no line shows the name", ("several missing epochs are one row", said)
     set_keys(browser)
 
 
-def try_spoofs(tally: Tally, browser: Browser) -> None:
+def test_spoofs(browser: Browser) -> None:
     """A line whose epoch or index isn't its entry's or its name's is marked."""
     for kind, keys in [("none", dict[str, str]()), ("demonstration", {"key": KEY})]:
         set_keys(browser, kind, **keys)
         paste(browser, case("spoof-epoch"))
         said = standings(browser)[-1]
-        tally.tell(f"another epoch, {kind}", said.endswith("; the line calls it epoch 2, which its entry does not"), said)
+        assert said.endswith("; the line calls it epoch 2, which its entry does not"), (f"another epoch, {kind}", said)
         paste(browser, case("spoof-index"))
         said = texts(browser, ".verdict")[-1]
         wanted = AT_AN_INDEX if kind == "none" else "the proof's other index is the requested index"
-        tally.tell(f"another index, {kind}", wanted in said, said)
-        tally.tell(f"another index isn't good, {kind}", count(browser, ".authentic") == 0)
+        assert wanted in said, (f"another index, {kind}", said)
+        assert count(browser, ".authentic") == 0, f"another index isn't good, {kind}"
     set_keys(browser)
     line = next(it for it in lines_of(DEMONSTRATION) if it["ok"] == "batch") | {"epoch": 0}
     paste(browser, json.dumps(line).replace('"epoch": 0', '"epoch": 18446744073709551615'))
     greatest = [it for it in texts(browser, "#results .entry") if "the line calls it epoch 18446744073709551615," in it]
-    tally.tell("the greatest epoch is exact", greatest, texts(browser, "#results .entry"))
+    assert greatest, ("the greatest epoch is exact", texts(browser, "#results .entry"))
 
 
-def try_kinds(tally: Tally, browser: Browser) -> None:
+def test_kinds(browser: Browser) -> None:
     """A refusal, a malformed entry, a lookup without a proof and a line that is none have texts of their own, and are counted."""
     lookup = lines_of(DEMONSTRATION)[6]
     unproved = {it: lookup[it] for it in lookup if it != "proof"}
@@ -319,34 +322,33 @@ def try_kinds(tally: Tally, browser: Browser) -> None:
         "refused: the line isn't a JSON object",
     ]
     found = texts(browser, "#results .plain, #results .verdict")
-    tally.tell("each kind of line has its words", found == wanted, found)
+    assert found == wanted, ("each kind of line has its words", found)
     summary = "1 lookup: 0 authentic, 0 consistent but not authenticated, 1 refused. 1 entry; 1 refused, 1 of them malformed. 2 answers without a proof. 1 request that the directory refused. 2 lines that aren't JSON objects."
-    tally.tell("each kind of line is counted", texts(browser, "#summary") == [summary], texts(browser, "#summary"))
+    assert texts(browser, "#summary") == [summary], ("each kind of line is counted", texts(browser, "#summary"))
     paste(browser, json.dumps(given[3] | {"root": "0"}))
     wanted = ['refused: "alice" at epoch 3: the member "root" is missing or malformed']
-    tally.tell("a refused member is named, with name and epoch", texts(browser, ".verdict") == wanted, texts(browser, ".verdict"))
+    assert texts(browser, ".verdict") == wanted, ("a refused member is named, with name and epoch", texts(browser, ".verdict"))
     paste(browser, "")
-    tally.tell("an empty page says so", texts(browser, "#summary") == ["Nothing is pasted."])
+    assert texts(browser, "#summary") == ["Nothing is pasted."], "an empty page says so"
 
 
-def try_menu(tally: Tally, browser: Browser) -> None:
+def test_menu(browser: Browser) -> None:
     """A name that is registered later is no change, and a cut menu says so."""
     lines = DEMONSTRATION.splitlines()
     paste(browser, "\n".join([*lines[:2], lines[8]]))
-    tally.tell(
+    assert texts(browser, "#timeline li") == ["epoch 1not authenticated: not registered"], (
         "a name that is absent",
-        texts(browser, "#timeline li") == ["epoch 1not authenticated: not registered"],
         texts(browser, "#timeline li"),
     )
-    tally.tell("an absence isn't shown as bad", count(browser, "#timeline .changed, #timeline .absent, #timeline .missing") == 0)
+    assert count(browser, "#timeline .changed, #timeline .absent, #timeline .missing") == 0, "an absence isn't shown as bad"
     lookup = json.loads(lines[4])
     for many, said in [(500, ""), (501, "The menu has the first 500 of 501 names.")]:
         paste(browser, "\n".join(json.dumps(lookup | {"name": f"n{it}"}) for it in range(many)))
         is_well = browser.value("document.getElementById('watched').length") == 500 and texts(browser, "#unlisted") == [said]
-        tally.tell(f"{many} names in the menu", is_well, texts(browser, "#unlisted"))
+        assert is_well, (f"{many} names in the menu", texts(browser, "#unlisted"))
 
 
-def try_registered(tally: Tally, browser: Browser, program: Path, room: Path) -> None:
+def test_registered(browser: Browser, keydir: str, tmp_path: Path) -> None:
     """A name that is registered at the second epoch, and another key after it."""
     batches: list[list[tuple[str, str]]] = [[], [("register", "b25l")], [("change", "dHdv")], []]
     script: list[object] = [{"cmd": "open", "key": KEY, "nonce": "11" * 32, "policy": "33" * 32}]
@@ -354,18 +356,18 @@ def try_registered(tally: Tally, browser: Browser, program: Path, room: Path) ->
         listed = [{"op": op, "name": "late", "key": key, "opening": "aa" * 32} for op, key in ops]
         script.append({"cmd": "batch", "epoch": epoch, "ops": listed})
     script += [{"cmd": "lookup", "epoch": epoch, "name": "late"} for epoch in range(1, 5)]
-    file = room / "late.jsonl"
+    file = tmp_path / "late.jsonl"
     file.write_text("".join(f"{json.dumps(it)}\n" for it in script), "utf-8")
-    paste(browser, text_of(proofs.lines_of(program, str(file))))
+    paste(browser, text_of(samples.lines_of(keydir, file)))
     seen = ["not registered", 'registered with the key "one"', 'changed from "one" to "two"', 'changed from "one" to "two"']
     wanted = [f"not authenticated: {it}" for it in seen]
     found = texts(browser, "#timeline li > span:last-child")
-    tally.tell("a name that is registered later", found == wanted, found)
+    assert found == wanted, ("a name that is registered later", found)
     kinds = browser.value("[...document.querySelectorAll('#timeline li')].map(it => it.className)")
-    tally.tell("only a change is shown as bad", kinds == ["unregistered", "registered", "changed", "changed"], kinds)
+    assert kinds == ["unregistered", "registered", "changed", "changed"], ("only a change is shown as bad", kinds)
 
 
-def try_shown_faults(tally: Tally, browser: Browser, lines: Sequence[proofs.Line]) -> None:
+def test_shown_faults(browser: Browser, lines: Sequence[samples.Line]) -> None:
     """A refused proof is shown with the place that doesn't fit."""
     line = next(it for it in lines if it["proof"]["end"]["kind"] == "here")
     deep = line | {"proof": line["proof"] | {"siblings": ["00" * 32] * 257}}
@@ -379,22 +381,22 @@ def try_shown_faults(tally: Tally, browser: Browser, lines: Sequence[proofs.Line
         ("no name", line | {"name": ""}, ".asked.wrong"),
     ]:
         paste(browser, json.dumps(changed))
-        tally.tell(f"{what} is marked", count(browser, where) == 1, texts(browser, ".verdict"))
-        tally.tell(f"{what} is refused", texts(browser, ".verdict")[0].startswith("refused: "))
+        assert count(browser, where) == 1, (f"{what} is marked", texts(browser, ".verdict"))
+        assert texts(browser, ".verdict")[0].startswith("refused: "), f"{what} is refused"
     paste(browser, json.dumps(deep))
-    tally.tell("256 levels are drawn", count(browser, ".level") == 256)
+    assert count(browser, ".level") == 256, "256 levels are drawn"
     paste(browser, json.dumps(line | {"entry": "00" * 209}))
     said = texts(browser, ".verdict")[0]
-    tally.tell("an entry of another root is told", said.endswith(": the root or the nonce isn't that of its entry"), said)
+    assert said.endswith(": the root or the nonce isn't that of its entry"), ("an entry of another root is told", said)
     paste(browser, json.dumps(line))
     found = texts(browser, ".verdict") + standings(browser)
     wanted = [
         f'Under an entry that isn\'t in the pasted chain, and at the index in this line, which nobody has verified as that of "{line["name"]}", this key is registered at epoch {line["epoch"]}',
         "consistent, not authenticated: its entry isn't in the pasted chain; no signature is verified",
     ]
-    tally.tell("an entry that isn't pasted is told", found == wanted, found)
+    assert found == wanted, ("an entry that isn't pasted is told", found)
     paste(browser, json.dumps({it: line[it] for it in line if it != "entry"}))
     said = texts(browser, ".verdict")[0]
-    tally.tell("a line without an entry is told", said.startswith("Under the root in this line, which has no entry, and at"), said)
+    assert said.startswith("Under the root in this line, which has no entry, and at"), ("a line without an entry is told", said)
     terms = texts(browser, ".path dt")
-    tally.tell("the terms of the drawing are explained", {"Index", "VRF proof", "Nonce", "Root", "Sibling"} <= set(terms), terms)
+    assert {"Index", "VRF proof", "Nonce", "Root", "Sibling"} <= set(terms), ("the terms of the drawing are explained", terms)
