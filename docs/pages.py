@@ -1,4 +1,4 @@
-"""The generated pages of this folder: LEMMAS.md and DEFINITIONS.md."""
+"""The pages that docs/draw makes from the sources: the definitions and the lemmas."""
 
 from __future__ import annotations
 
@@ -20,14 +20,14 @@ NO_NAMES = {"ci", "memcpy", "memmove", "memset", "FUNCTION", "METHOD", "MODULE",
 LEMMAS = """\
 # Lemmas
 
-The lemma files of each crate (`proofs/*.antt`), what each contains, and the proofs that cite it. `docs/draw` writes this page.
+The lemma files of each crate (`proofs/*.antt`), what each contains, and the proofs that cite it.
 """
 
 DEFINITIONS = """\
 # Definitions
 
 The definitions that contracts cite, module by module, with the comments of `specs/`. `docs/draw` writes this page. A name in a
-contract is one of these; [PROMISES.md](PROMISES.md) has the contracts.
+contract is one of these, and links to its line; [PROMISES.md](PROMISES.md) has the contracts.
 """
 
 
@@ -102,10 +102,11 @@ def comment_from(lines: Sequence[str], at: int) -> tuple[str, int]:
     return " ".join(words), at
 
 
-def definitions_in(lines: Sequence[str]) -> list[tuple[str, list[str]]]:
-    """The public definitions of a module: for each comment its text and the names that it is about."""
-    found: list[tuple[str, list[str]]] = []
-    at = 0
+def definitions_in(lines: Sequence[str], start: int) -> list[tuple[str, list[tuple[str, int]]]]:
+    """The public definitions of a module from a line on: for each comment its text and the names that it is about, each with the
+    number of its line."""
+    found: list[tuple[str, list[tuple[str, int]]]] = []
+    at = start
     while at < len(lines):
         comment, after = comment_from(lines, at)
         following = lines[after] if after < len(lines) else ""
@@ -115,7 +116,7 @@ def definitions_in(lines: Sequence[str]) -> list[tuple[str, list[str]]]:
         if name:
             if not found:
                 found.append(("", []))
-            found[-1][1].append(name[1])
+            found[-1][1].append((name[1], after + 1))
         at = after + 1
     return [it for it in found if it[1]]
 
@@ -130,8 +131,8 @@ def definitions_page() -> str:
             text = file.read_text("utf-8").splitlines()
             head, after = comment_from(text, 0)
             lines += ["", f"### {file.stem}", "", head, ""]
-            for comment, names in definitions_in(text[after:]):
-                shown = ", ".join(f"`{it}`" for it in names)
+            for comment, names in definitions_in(text, after):
+                shown = ", ".join(f"[`{it}`](../{file.relative_to(TOP)}#L{line})" for it, line in names)
                 lines += [f"- {shown}: {comment}" if comment else f"- {shown}"]
     return "\n".join(lines) + "\n"
 
