@@ -305,12 +305,26 @@ static void print_step(const coniks_client_step *step)
     printf(" %llu:%s", (unsigned long long)step->epoch, SEEN[step->seen]);
 }
 
+/* Prints what each of these entries was, or why one was refused. */
+static void print_fed(uint32_t status, const coniks_client_refusal *why, const coniks_client_step *steps, size_t count)
+{
+    size_t i;
+    if (status) {
+        print_refusal(status, why);
+        return;
+    }
+    printf("fed");
+    for (i = 0; i < count; i++)
+        print_step(&steps[i]);
+    putchar('\n');
+}
+
 static void feed(struct answerer *it)
 {
     coniks_client_step *steps = own(it->count * sizeof *steps);
     coniks_client_refusal why;
     uint32_t status = 0;
-    size_t i, done;
+    size_t done;
     for (done = 0; done + 1 < it->count && status == 0; done++) {
         struct bytes entry = bytes_at(it, done + 1);
         struct trial trial = begin_trial(it);
@@ -319,14 +333,7 @@ static void feed(struct answerer *it)
         while (is_tried_again(it, &trial, status));
         free(entry.at);
     }
-    if (status) {
-        print_refusal(status, &why);
-    } else {
-        printf("fed");
-        for (i = 0; i < done; i++)
-            print_step(&steps[i]);
-        putchar('\n');
-    }
+    print_fed(status, &why, steps, done);
     free(steps);
 }
 
@@ -337,7 +344,7 @@ static void catch_up(struct answerer *it)
     coniks_client_step *steps = own((given.length / CONIKS_ENTRY_BYTES) * sizeof *steps);
     coniks_client_refusal why;
     uint32_t status;
-    size_t i, done = 0, more;
+    size_t done = 0, more;
     it->blocks.left = it->is_refusing ? 0 : SIZE_MAX;
     do {
         status = coniks_client_catch_up(it->client, given.at + done * CONIKS_ENTRY_BYTES,
@@ -346,14 +353,7 @@ static void catch_up(struct answerer *it)
         it->blocks.left = 1;
     } while (it->is_refusing && status == CONIKS_CLIENT_E_MEMORY);
     free(given.at);
-    if (status) {
-        print_refusal(status, &why);
-    } else {
-        printf("fed");
-        for (i = 0; i < done; i++)
-            print_step(&steps[i]);
-        putchar('\n');
-    }
+    print_fed(status, &why, steps, done);
     free(steps);
 }
 

@@ -17,14 +17,7 @@ import (
 func TestCloseWhileTheSignerHangs(t *testing.T) {
 	it := newDirectory(t)
 	it.commit(1, Register("alice", []byte("key")))
-	asked, goOn := make(chan bool), make(chan bool)
-	it.holding(func() { asked <- true; <-goOn })
-	done := make(chan error)
-	go func() {
-		_, err := it.provider.Commit(background, 2, nil, nil)
-		done <- err
-	}()
-	<-asked
+	goOn, done := it.heldCommit()
 	pid := it.provider.Pid()
 	_, err := it.provider.Lookup(background, "alice", 0)
 	it.good(err)

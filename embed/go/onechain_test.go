@@ -420,14 +420,7 @@ func TestAbandonAndAnotherChild(t *testing.T) {
 func TestAbandonWhileACommitWaits(t *testing.T) {
 	it := newGuarded(t)
 	it.commit(1)
-	asked, goOn := make(chan bool), make(chan bool)
-	it.holding(func() { asked <- true; <-goOn })
-	done := make(chan error)
-	go func() {
-		_, err := it.provider.Commit(background, 2, nil, nil)
-		done <- err
-	}()
-	<-asked
+	goOn, done := it.heldCommit()
 	it.good(it.settings.Signer.Abandon(it.provider.Pending().Body))
 	it.holding(nil)
 	close(goOn)

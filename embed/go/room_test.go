@@ -182,10 +182,7 @@ func (it *room) withGuard() *Guard {
 
 // newGuarded is a room with a new directory that a guard signs.
 func newGuarded(t *testing.T) *room {
-	it := newRoom(t)
-	log, err := CreateFileLog(it.path)
-	it.good(err)
-	it.over(log)
+	it := newLogged(t)
 	it.withGuard()
 	it.start()
 	return it
@@ -193,12 +190,30 @@ func newGuarded(t *testing.T) *room {
 
 // newDirectory is a room with a new directory.
 func newDirectory(t *testing.T) *room {
+	it := newLogged(t)
+	it.start()
+	return it
+}
+
+// newLogged is a room with a new log.
+func newLogged(t *testing.T) *room {
 	it := newRoom(t)
 	log, err := CreateFileLog(it.path)
 	it.good(err)
 	it.over(log)
-	it.start()
 	return it
+}
+
+// heldCommit begins a commit of epoch 2, whose signer has been asked and waits until goOn is closed. done gets its error.
+func (it *room) heldCommit() (goOn chan bool, done chan error) {
+	asked, goOn, done := make(chan bool), make(chan bool), make(chan error)
+	it.holding(func() { asked <- true; <-goOn })
+	go func() {
+		_, err := it.provider.Commit(background, 2, nil, nil)
+		done <- err
+	}()
+	<-asked
+	return goOn, done
 }
 
 // over takes a log.

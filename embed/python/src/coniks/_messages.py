@@ -166,12 +166,13 @@ class Reader:
         return self.at == len(self.whole)
 
 
-def begun(whole: bytes, empty: Cause, other: Cause) -> None:
-    """Checks the version that a message begins with."""
+def begun(whole: bytes, empty: Cause, other: Cause, cut: Cause) -> Reader:
+    """Checks the version that a message begins with. What it returns reads the rest, and raises `cut` where that ends early."""
     if not whole:
         raise Refusal(empty)
     if whole[:1] != VERSION:
         raise Refusal(other)
+    return Reader(whole, cut, 1)
 
 
 def sized(value: bytes, size: int) -> bytes:
@@ -190,13 +191,10 @@ class Reply:
     @classmethod
     def read(cls, whole: bytes) -> Reply:
         """Returns the parts of a reply, of which nothing is verified. Raises `Refusal`."""
-        whole = _bytes(whole, "a reply")
-        begun(whole, Cause.NO_REPLY, Cause.REPLY_VERSION)
-        it = Reader(whole, Cause.CUT_IN_ENTRY, 1)
+        it = begun(_bytes(whole, "a reply"), Cause.NO_REPLY, Cause.REPLY_VERSION, Cause.CUT_IN_ENTRY)
         entry = it.take(ENTRY_LENGTH)
         it.cut = Cause.CUT_IN_VRF
-        vrf = it.sized(2)
-        return cls(entry, vrf, whole[it.at :])
+        return cls(entry, it.sized(2), whole[it.at :])
 
     def __bytes__(self) -> bytes:
         return VERSION + self.entry + sized(self.vrf, 2) + self.proof
@@ -267,11 +265,8 @@ class History:
     @classmethod
     def read(cls, whole: bytes) -> History:
         """Returns the parts of a history. Raises `Refusal`, also for an error in a step."""
-        whole = _bytes(whole, "a history")
-        begun(whole, Cause.NO_HISTORY, Cause.HISTORY_VERSION)
-        it = Reader(whole, Cause.CUT_IN_VRF, 1)
-        vrf = it.sized(2)
-        history = cls(vrf, whole[it.at :])
+        it = begun(_bytes(whole, "a history"), Cause.NO_HISTORY, Cause.HISTORY_VERSION, Cause.CUT_IN_VRF)
+        history = cls(it.sized(2), whole[it.at :])
         for _ in history.steps():
             pass
         return history

@@ -6,14 +6,12 @@ What was signed is compared by `is_evidence`, which shares no code with the pack
 from __future__ import annotations
 
 import json
-import tempfile
-from contextlib import contextmanager
 from itertools import combinations
-from typing import Any, Iterator
+from typing import Any, ContextManager
 
 from bodies import is_evidence
 from memory_log import Lines, MemoryLog
-from stand_ins import POLICY, Salted, Signer, audited, guarded, index, kill_child, lines, opened
+from stand_ins import POLICY, Salted, Signer, audited, guarded, in_room, index, kill_child, lines, opened
 from steps import HookedLog
 from raising import raises
 from coniks.guard import Guard
@@ -100,11 +98,5 @@ class Stage:
         self.lines.close()
 
 
-@contextmanager
-def staged(program: str, **more: Any) -> Iterator[Stage]:
-    with tempfile.TemporaryDirectory() as room:
-        stage = Stage(room, program, **more)
-        try:
-            yield stage
-        finally:
-            stage.close()
+def staged(program: str, **more: Any) -> ContextManager[Stage]:
+    return in_room(lambda room: Stage(room, program, **more))

@@ -2,14 +2,12 @@
 
 from __future__ import annotations
 
-import tempfile
-from contextlib import contextmanager
 from pathlib import Path
-from typing import Any, Callable, Iterator, Sequence, Union
+from typing import Any, Callable, ContextManager, Sequence, Union
 
 import pytest
 
-from stand_ins import Salted, Signer, guarded, opened
+from stand_ins import Salted, Signer, guarded, in_room, opened
 from coniks import provider
 from coniks.provider import Change, FileLog, Provider, Register
 
@@ -49,14 +47,8 @@ class Stage:
         self.snapshot.write_bytes(b"".join(it + b"\n" for it in lines))
 
 
-@contextmanager
-def staged(program: Any, **more: Any) -> Iterator[Stage]:
-    with tempfile.TemporaryDirectory() as room:
-        stage = Stage(room, program, **more)
-        try:
-            yield stage
-        finally:
-            stage.close()
+def staged(program: Any, **more: Any) -> ContextManager[Stage]:
+    return in_room(lambda room: Stage(room, program, **more))
 
 
 Kinds = Union[type[BaseException], tuple[type[BaseException], ...]]

@@ -9,9 +9,9 @@ import signal
 import subprocess
 import tempfile
 import time
-from contextlib import contextmanager, suppress
+from contextlib import closing, contextmanager, suppress
 from pathlib import Path
-from typing import Any, Callable, Iterable, Iterator, Optional, Protocol, Union
+from typing import Any, Callable, Iterable, Iterator, Optional, Protocol, TypeVar, Union
 
 import chain
 import coniks
@@ -37,6 +37,23 @@ PACKAGE = str(Path(coniks.__file__).resolve().parent) + os.sep
 END = " ."
 POLICY = bytes([7]) * 32
 KEY = bytes([9]) * 32
+
+
+class Closing(Protocol):
+    """What is closed at the end."""
+
+    def close(self) -> None:
+        ...
+
+
+Made = TypeVar("Made", bound=Closing)
+
+
+@contextmanager
+def in_room(make: Callable[[str], Made]) -> Iterator[Made]:
+    """What is made in a new folder, and closed before that is removed."""
+    with tempfile.TemporaryDirectory() as room, closing(make(room)) as made:
+        yield made
 
 
 class Scheme(Protocol):

@@ -376,20 +376,9 @@ def test_signer(program: str) -> None:
             raises(f"a signer that {what}", provider.SignerFailed, lambda: own.commit(3, mine))
             it.signer.keys = Salted()
             assert own.pending and own.pending.epoch == 3 and own.latest().epoch == 0, f"a signer that {what}: it is pending"
-        raises(
-            "other operations under the number",
-            provider.EpochSpent,
-            lambda: own.commit(3, [Register("alice", b"other")]),
-            epoch=3,
-            asked=3,
-        )
-        raises(
-            "other openings under the number",
-            provider.EpochSpent,
-            lambda: own.commit(3, [Register("alice", b"key")]),
-            epoch=3,
-            asked=3,
-        )
+        for what, key in [("operations", b"other"), ("openings", b"key")]:
+            other = [Register("alice", key)]
+            raises(f"other {what} under the number", provider.EpochSpent, lambda: own.commit(3, other), epoch=3, asked=3)
         raises("the same operations under a number before", provider.EpochSpent, lambda: own.commit(2, mine), epoch=2, asked=3)
         it.signer.fails = 1
         raises("a later number while the signer fails", provider.SignerFailed, lambda: own.commit(4, [Change("alice", b"4")]))
