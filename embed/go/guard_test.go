@@ -931,13 +931,20 @@ func needsPython(t *testing.T) {
 	}
 }
 
+// python runs a program of Python, which can import the package beside this one.
+func python(program string, words ...string) *exec.Cmd {
+	command := exec.Command("python3", append([]string{"-c", program}, words...)...)
+	command.Env = append(os.Environ(), "PYTHONPATH=../python/src", "PYTHONDONTWRITEBYTECODE=1")
+	return command
+}
+
 // pythonGuard runs lines of Python over the record, with guard(sign) as a guard whose signatures are SHA-512.
 func (it *bench) pythonGuard(lines string) string {
 	it.t.Helper()
-	program := "import hashlib, sys\nsys.dont_write_bytecode = True\nsys.path.insert(0, '../python/src')\n" +
+	program := "import hashlib, sys\n" +
 		"from coniks.guard import Guard, BodyRefused, BodyAbandoned, BodySigned\n" +
 		"sign = lambda body: hashlib.sha512(body).digest()\npath = sys.argv[1]\n" + lines
-	said, err := exec.Command("python3", "-c", program, it.path).CombinedOutput()
+	said, err := python(program, it.path).CombinedOutput()
 	if err != nil {
 		it.t.Fatal(err, string(said))
 	}

@@ -8,7 +8,6 @@ import (
 	"errors"
 	"fmt"
 	"os"
-	"os/exec"
 	"sort"
 	"strings"
 	"testing"
@@ -904,8 +903,6 @@ func (it *room) pythonProvider(lines string) {
 	it.t.Helper()
 	program := `
 import hashlib, os, sys
-sys.dont_write_bytecode = True
-sys.path.insert(0, "../python/src")
 from coniks.guard import Guard
 from coniks.provider import FileLog, Provider, Register, SignerFailed
 path, program = sys.argv[1], sys.argv[2:]
@@ -927,7 +924,7 @@ index = lambda name: hashlib.sha256(b"index of " + name.encode()).digest()
 log = FileLog.create(path) if is_new else FileLog(path)
 with log, Provider(program, index, guard, log, policy=b"\7" + bytes(31)) as own:
 ` + lines
-	said, err := exec.Command("python3", append([]string{"-c", program, it.path}, it.settings.Program...)...).CombinedOutput()
+	said, err := python(program, append([]string{it.path}, it.settings.Program...)...).CombinedOutput()
 	if err != nil {
 		it.t.Fatal(err, string(said))
 	}

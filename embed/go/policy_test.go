@@ -9,7 +9,6 @@ import (
 	"math"
 	"math/rand"
 	"os"
-	"os/exec"
 	"strings"
 	"testing"
 	"time"
@@ -192,10 +191,8 @@ func TestPoliciesOfPython(t *testing.T) {
 			epoch, _ := policy.EpochAt(time.Unix(1800000000, 500))
 			wanted += fmt.Sprint(" ", epoch)
 		}
-		said, err := exec.Command("python3", "-c", `
+		said, err := python(`
 import sys
-sys.dont_write_bytecode = True
-sys.path.insert(0, "../python/src")
 from coniks.policy import Policy
 policy = Policy.read(sys.argv[1].encode())
 print(policy.digest.hex(), policy.epoch_at(1800000000.5) if policy.epoch_period else "")
