@@ -11,7 +11,7 @@ if TYPE_CHECKING:
     from browser import Browser
 
 
-@pytest.fixture(scope="session")
+@pytest.fixture(scope="module")
 def started(module: None) -> Iterator[Browser]:
     """A browser. Without one the test is skipped."""
     import browser
@@ -34,12 +34,15 @@ def anywhere(started: Browser) -> Browser:
 
 @pytest.fixture
 def browser(anywhere: Browser) -> Iterator[Browser]:
-    """A browser with the page, opened from a file, without keys. At the end nothing was requested, and nothing complained of."""
+    """A browser with the page, opened from a file, without keys and lines. At the end nothing was requested, and nothing complained
+    of."""
     import browser
 
     anywhere.open(browser.PAGE.as_uri())
     browser.wait(anywhere)
     browser.set_keys(anywhere)
+    # The keys have the lines that were there read again, which this ends.
+    browser.paste(anywhere, "")
     anywhere.forget()
     yield anywhere
     assert not anywhere.requests()
