@@ -137,7 +137,10 @@ def answer_of(number: int, ran: Ran) -> bool:
 def try_test(library: str, crate: str, test: str, costs_workers: bool) -> str:
     """Makes each allocation of a test fail. Between the first and the last failure of its call each one is the call's, unless
     it may cost only a worker."""
-    words: Words = [CRATES / crate / f"out/{crate}_tests", test]
+    program = CRATES / crate / f"out/{crate}_tests"
+    if not program.is_file():
+        pytest.skip(f"{program.name} isn't built: `rt ci` builds it")
+    words: Words = [program, test]
     answers = [answer_of(number, ran) for number, ran in each(library, "memory", words)]
     if True not in answers:
         raise Wrong("its call met no refusal")
