@@ -23,6 +23,7 @@ use anyhow::Result;
 use std::env;
 use std::time::Instant;
 
+/// Executes the plan of the command line, and prints what it costs.
 fn main(rt: HostRuntime) -> Result<()> {
     let words: Vec<String> = env::args(&rt)?.collect(rt.alloc())?;
     let plan = plan_of(words.as_slice())?;
@@ -37,7 +38,7 @@ fn main(rt: HostRuntime) -> Result<()> {
     if plan.is_measured {
         print_cost(&rt, start.elapsed(&rt)?)?;
     }
-    if let Some(parallelism) = &plan.parallelism {
+    if let Some(parallelism) = plan.parallelism {
         print_builds(&rt, &registry, &plan, parallelism)?;
         print_lookups(&rt, &registry)?;
         print_rotations(&rt, &registry, parallelism)?;

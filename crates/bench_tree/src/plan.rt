@@ -1,23 +1,10 @@
 //! The number of indices, and the size of their batches.
 
-ghost use Rattle.std.specs.Prelude.{◌<◌, ◌≤◌, IfOk};
-ghost use Rattle.coniks_work.specs.Limits.{deepest_cut, most_workers};
+ghost use Rattle.std.specs.Prelude.{◌<◌};
 
 use anyhow::{Context, Result, ensure};
 use coniks_proof::MAX_OPERATIONS;
-use coniks_work::{MAX_DEPTH, MAX_WORKERS};
-
-/// A number of workers, and their split depth.
-#[derive(Drop)]
-pub struct Parallelism {
-    /// 1 to `MAX_WORKERS`.
-    pub workers: usize,
-    /// 0 to `MAX_DEPTH` bits.
-    pub depth: usize,
-    ghost one: { 1 ≤ workers },
-    ghost few: { workers ≤ most_workers },
-    ghost shallow: { depth ≤ deepest_cut },
-}
+use coniks_work::Parallelism;
 
 /// A number of indices, registered in batches.
 #[derive(Drop)]
@@ -45,15 +32,10 @@ fn number_of(word: &str) -> Result<u64> {
         .context(format_args!("reading {word:?}"))
 }
 
-/// Parses a number in decimal digits, at most `most`.
-fn bounded(word: &str, most: usize) -> Result<usize>
-    ensures { IfOk result (λ number. number ≤ most) }
-{
-    let number = word
-        .parse::<usize>()
-        .context(format_args!("reading {word:?}"))?;
-    ensure!(number <= most, "at most {most}: {number}");
-    Ok(number)
+/// Parses a small number in decimal digits.
+fn small_of(word: &str) -> Result<usize> {
+    word.parse::<usize>()
+        .context(format_args!("reading {word:?}"))
 }
 
 /// Parses the numbers of indices and of a batch.
@@ -75,10 +57,7 @@ fn batches_of(indices: &str, batch: &str) -> Result<Plan> {
 
 /// Parses the number of workers and the split depth.
 fn parallelism_of(workers: &str, depth: &str) -> Result<Parallelism> {
-    let workers = bounded(workers, MAX_WORKERS)?;
-    let depth = bounded(depth, MAX_DEPTH)?;
-    ensure!(workers >= 1, "a crew has at least one worker");
-    Ok(Parallelism { workers, depth })
+    Ok(Parallelism::new(small_of(workers)?, small_of(depth)?)?)
 }
 
 /// Parses the command line, which begins with the program's own name.

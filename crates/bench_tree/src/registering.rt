@@ -1,11 +1,11 @@
 //! A registry of pseudo-random indices, with an epoch for each batch.
 
 use crate::counting::Counting;
-use crate::plan::{Parallelism, Plan};
+use crate::plan::Plan;
 use coniks_proof::{Digest, Hash32, Index, Prefix, Proof, Sha256Hash};
 use coniks_test_support::{NEW_NONCE, NONCE, add, changes_to, known, part_before, record_of};
 use coniks_tree::{Change, OutOfMemory, Part, Record, Root, Tree};
-use coniks_work::{Open, build};
+use coniks_work::{Open, Parallelism, build};
 use std::alloc::{AllocError, Global};
 use std::fmt;
 use std::thread::Threads;
@@ -128,7 +128,7 @@ impl Registry {
         &self,
         rt: &R,
         changes: &[Change],
-        parallelism: &Parallelism,
+        parallelism: Parallelism,
     ) -> Result<Part, OutOfMemory> {
         let latest = known(&self.tree, self.latest);
         Ok(build(
@@ -139,8 +139,8 @@ impl Registry {
             &self.tree,
             latest,
             changes,
-            parallelism.depth,
-            parallelism.workers,
+            parallelism.depth(),
+            parallelism.workers(),
             &Open,
         )?)
     }
@@ -166,7 +166,7 @@ impl Registry {
         &self,
         rt: &R,
         entries: &[Change],
-        parallelism: &Parallelism,
+        parallelism: Parallelism,
     ) -> Result<Part, OutOfMemory> {
         Ok(build(
             rt,
@@ -176,8 +176,8 @@ impl Registry {
             &self.tree,
             None,
             entries,
-            parallelism.depth,
-            parallelism.workers,
+            parallelism.depth(),
+            parallelism.workers(),
             &Open,
         )?)
     }

@@ -1,10 +1,11 @@
 //! The times of one more batch, of a rotation of the nonce, and of searches of authentication paths.
 
-use crate::plan::{Parallelism, Plan};
+use crate::plan::Plan;
 use crate::registering::{Registry, index_of};
 use anyhow::Result;
 use coniks_proof::Index;
 use coniks_tree::Change;
+use coniks_work::Parallelism;
 use std::fmt;
 use std::rt::Clock;
 use std::thread::Threads;
@@ -37,7 +38,7 @@ fn build_time<R: Threads + Sync + Clock>(
     rt: &R,
     registry: &Registry,
     changes: &[Change],
-    parallelism: &Parallelism,
+    parallelism: Parallelism,
 ) -> Result<Duration> {
     let start = Instant::now(rt)?;
     let part = registry.part(rt, changes, parallelism)?;
@@ -50,40 +51,37 @@ fn build_time<R: Threads + Sync + Clock>(
 fn print_times<R: Print>(
     rt: &R,
     what: &str,
-    parallelism: &Parallelism,
+    parallelism: Parallelism,
     mut times: Vec<Duration>,
 ) -> Result<()> {
     times.sort_unstable();
     let (Some(least), Some(median)) = (times.first(), times.get(times.len() / 2)) else {
         return Ok(());
     };
-    let Parallelism { workers, depth } = parallelism;
+    let (workers, depth) = (parallelism.workers(), parallelism.depth());
     let (least, median) = (Micros(*least), Micros(*median));
     println!(rt; "{what}, workers {workers}, depth {depth}: {least} least, {median} median")?;
     Ok(())
 }
 
 /// Prints the times of work that is done in turn by one worker without a split and by several.
-fn print_in_turn<F: Fn(&Parallelism) -> Result<Duration>, R: Print + AllocGlobal>(
+fn print_in_turn<F: Fn(Parallelism) -> Result<Duration>, R: Print + AllocGlobal>(
     rt: &R,
     what: &str,
     repeats: usize,
-    parallelism: &Parallelism,
+    parallelism: Parallelism,
     time: &F,
 ) -> Result<()>
     requires { F.IsAlwaysCallable time.now }
 {
-    let one = Parallelism {
-        workers: 1,
-        depth: 0,
-    };
+    let one = Parallelism::alone();
     let mut alone = Vec::with_capacity(rt.alloc(), repeats)?;
     let mut together = Vec::with_capacity(rt.alloc(), repeats)?;
     for _ in 0..repeats {
-        alone.push(time(&one)?)?;
+        alone.push(time(one)?)?;
         together.push(time(parallelism)?)?;
     }
-    print_times(rt, what, &one, alone)?;
+    print_times(rt, what, one, alone)?;
     print_times(rt, what, parallelism, together)?;
     Ok(())
 }
@@ -93,7 +91,7 @@ pub fn print_builds<R: Threads + Sync + Clock + Print + AllocGlobal>(
     rt: &R,
     registry: &Registry,
     plan: &Plan,
-    parallelism: &Parallelism,
+    parallelism: Parallelism,
 ) -> Result<()> {
     let to = plan.indices.saturating_add(plan.batch);
     let changes = registry.changes(plan.indices, to)?;
@@ -102,7 +100,7 @@ pub fn print_builds<R: Threads + Sync + Clock + Print + AllocGlobal>(
         "batch",
         REPEATS,
         parallelism,
-        &|by: &Parallelism| build_time(rt, registry, &changes, by),
+        &|by: Parallelism| build_time(rt, registry, &changes, by),
     )
 }
 
@@ -110,7 +108,7 @@ pub fn print_builds<R: Threads + Sync + Clock + Print + AllocGlobal>(
 fn rotation_time<R: Threads + Sync + Clock>(
     rt: &R,
     registry: &Registry,
-    parallelism: &Parallelism,
+    parallelism: Parallelism,
 ) -> Result<Duration> {
     let start = Instant::now(rt)?;
     let entries = registry.entries()?;
@@ -124,14 +122,14 @@ fn rotation_time<R: Threads + Sync + Clock>(
 pub fn print_rotations<R: Threads + Sync + Clock + Print + AllocGlobal>(
     rt: &R,
     registry: &Registry,
-    parallelism: &Parallelism,
+    parallelism: Parallelism,
 ) -> Result<()> {
     print_in_turn(
         rt,
         "rotation",
         ROTATIONS,
         parallelism,
-        &|by: &Parallelism| rotation_time(rt, registry, by),
+        &|by: Parallelism| rotation_time(rt, registry, by),
     )
 }
 

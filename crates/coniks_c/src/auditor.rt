@@ -3,7 +3,7 @@
 ghost use Rattle.std.specs.Prelude.{◌==◌, ◌≡◌, ◌≢◌, ◌⊎◌, ◌+◌, Bool, None, Some, IfNone, IfSome, length, replicate};
 ghost use Rattle.coniks_proof.specs.Octets.{Octets};
 ghost use Rattle.coniks_proof.specs.Sha256.{sha256};
-ghost use Rattle.coniks_chain.specs.Chain.{Follows, IsFirstEntryFault, before_of, place_of};
+ghost use Rattle.coniks_chain.specs.Chain.{Follows, IsFirstEntryFault, auditor_after, place_of};
 ghost use Rattle.coniks_chain.specs.Entries.{entry_from};
 ghost use Rattle.coniks_chain.specs.declared.auditor.AuditFault.{AuditFault as Fault};
 ghost use Rattle.coniks_c.specs.Crossing.{IsToldBy, IsZero, before_in};
@@ -53,7 +53,7 @@ pub extern "C" fn coniks_auditor_feed(
     ensures whole { result ≢ 48 → length entry.now ≡ ENTRY_BYTES }
     ensures follows { result ≡ 0 → (verdict : Octets → Octets → Bool)
         → IsToldBy verdict (entry_from entry.now) signature_verdict → Follows verdict (before_in state.old) (entry_from entry.now) }
-    ensures kept { result ≡ 0 → before_in state.new ≡ Some (before_of sha256 (entry_from entry.now)) }
+    ensures kept { result ≡ 0 → before_in state.new ≡ Some (auditor_after sha256 (entry_from entry.now)) }
     ensures unused { result ≡ 0 → state.new.unused ≡ replicate 7 0 }
     ensures refused { (fault : Fault) → result ≡ place_of fault + 33 → (verdict : Octets → Octets → Bool)
         → IsToldBy verdict (entry_from entry.now) signature_verdict → IsFirstEntryFault verdict (before_in state.old) (entry_from entry.now) fault }

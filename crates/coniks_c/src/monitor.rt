@@ -7,7 +7,7 @@ ghost use Rattle.coniks_proof.specs.Sha256.{sha256};
 ghost use Rattle.coniks_proof.specs.Wire.{IsFirstFault as IsFirstUnread, WireHas, order};
 ghost use Rattle.coniks_proof.specs.declared.checker.CheckFault.{CheckFault as Wrong};
 ghost use Rattle.coniks_proof.specs.declared.wire.WireFault.{WireFault as Unread};
-ghost use Rattle.coniks_chain.specs.Chain.{before_of, place_of};
+ghost use Rattle.coniks_chain.specs.Chain.{auditor_after, place_of};
 ghost use Rattle.coniks_chain.specs.Entries.{entry_from};
 ghost use Rattle.coniks_chain.specs.Seen.{key_shown};
 ghost use Rattle.coniks_chain.specs.declared.auditor.AuditFault.{AuditFault as Fault};
@@ -54,7 +54,7 @@ pub extern "C" fn coniks_monitor_step(
     ensures seen { (seen : Sight) → result ≡ status_of_seen seen → (verdict : Octets → Octets → Bool)
         → IsToldBy verdict (entry_from entry.now) signature_verdict
         → Sees verdict (before_in state.old) name.now index.now.bytes (expectation expected.now) (entry_from entry.now) proof.now seen }
-    ensures kept { IsSeenStatus result → before_in state.new ≡ Some (before_of sha256 (entry_from entry.now)) }
+    ensures kept { IsSeenStatus result → before_in state.new ≡ Some (auditor_after sha256 (entry_from entry.now)) }
     ensures unused { IsSeenStatus result → state.new.unused ≡ replicate 7 0 }
     ensures unread { (fault : Unread) → result ≡ order fault + 16 → IsFirstUnread (WireHas proof.now) fault }
     ensures audited { (fault : Fault) → result ≡ place_of fault + 33 → (verdict : Octets → Octets → Bool)

@@ -8,7 +8,7 @@ use Rattle.coniks_chain.specs.declared.entry.Entry.{Entry}
 use Rattle.coniks_chain.specs.declared.auditor.AuditorState.{AuditorState}
 use Rattle.coniks_chain.specs.declared.auditor.AuditFault.{AuditFault}
 use Rattle.coniks_chain.specs.declared.auditor.AuditFault.TheVariants.{Version, VersionBack, FirstEpoch, NotLater, PreviousEpoch, PreviousLink, NonceChanged, Verdict}
-use Rattle.coniks_chain.specs.Chain.{Meets, IsFirstEntryFault, IsFirstRefused, Follows, before_of, before_at, ContinuesTo, Continues, GoodChain}
+use Rattle.coniks_chain.specs.Chain.{Meets, IsFirstEntryFault, IsFirstRefused, Follows, auditor_after, before_at, ContinuesTo, Continues, GoodChain}
 
 -- two elements at one place are one
 pub same_at : (es : List Entry) (k i : ℕ) (e f : Entry) → k ≡ i → slice_get es k ≡ Some e → slice_get es i ≡ Some f → e ≡ f
@@ -16,7 +16,7 @@ same_at es k i e f same at at' = cc
 
 module _ (hash : List ℕ → List ℕ) (verdict : List ℕ → List ℕ → Bool) (start : Option AuditorState) (es : List Entry) (i : ℕ) (d : Entry) (within : i < length es) where
   -- what stands before the next place
-  pub before_at-more : Some (before_of hash (get_or es i d)) ≡ before_at hash start es (i + 1)
+  pub before_at-more : Some (auditor_after hash (get_or es i d)) ≡ before_at hash start es (i + 1)
   before_at-more = rw (add-one, slice_get-get_or es i d within) refl
 
   -- one entry more follows
@@ -82,7 +82,7 @@ slice_get-last (x ∷ es) e = slice_get-last es e
 pub before_at-push : (hash : List ℕ → List ℕ) (start : Option AuditorState) (es : List Entry) (e : Entry) (k : ℕ) → k ≤ length es
     → before_at hash start (es ++ e ∷ []) k ≡ before_at hash start es k
 before_at-push hash start es e zero le = refl
-before_at-push hash start es e (suc k) le = ap (option_map (before_of hash)) (slice_get-push es e k (omega arith))
+before_at-push hash start es e (suc k) le = ap (option_map (auditor_after hash)) (slice_get-push es e k (omega arith))
 
 -- a good chain and an entry that follows it are a good chain
 pub continues_push : (hash : List ℕ → List ℕ) (verdict : List ℕ → List ℕ → Bool) (start : Option AuditorState) (es : List Entry) (e : Entry)
@@ -104,9 +104,9 @@ good_push hash verdict es e good follows = continues_push hash verdict None es e
 
 -- what an entry after an entry of a good chain meets
 pub after : (hash : List ℕ → List ℕ) (verdict : List ℕ → List ℕ → Bool) (es : List Entry) (k : ℕ) (d e : Entry) → GoodChain hash verdict es
-    → slice_get es k ≡ Some d → slice_get es (suc k) ≡ Some e → (fault : AuditFault) → Meets verdict (Some (before_of hash d)) e fault
+    → slice_get es k ≡ Some d → slice_get es (suc k) ≡ Some e → (fault : AuditFault) → Meets verdict (Some (auditor_after hash d)) e fault
 after hash verdict es k d e good there at fault =
-    row verdict (Some (before_of hash d)) e (subst (λ b. Follows verdict b e) (ap (option_map (before_of hash)) there) (good (suc k) e at)) fault
+    row verdict (Some (auditor_after hash d)) e (subst (λ b. Follows verdict b e) (ap (option_map (auditor_after hash)) there) (good (suc k) e at)) fault
 
 -- an entry that follows has no version before 1
 pub version_1 : (verdict : List ℕ → List ℕ → Bool) (before : Option AuditorState) (entry : Entry) → Follows verdict before entry → entry.body.version ≤ 1 → entry.body.version ≡ 1

@@ -7,7 +7,7 @@ use Rattle.std.proofs.lemmas.Bool.{cases_lt}
 use Rattle.coniks_proof.specs.declared.paths.Proof.{Proof}
 use Rattle.coniks_chain.specs.declared.entry.Entry.{Entry}
 use Rattle.coniks_chain.specs.declared.auditor.AuditFault.TheVariants.{NotLater}
-use Rattle.coniks_chain.specs.Chain.{Follows, before_of, before_at, GoodChain}
+use Rattle.coniks_chain.specs.Chain.{Follows, auditor_after, before_at, GoodChain}
 use Rattle.coniks_chain.specs.Watch.{IsSoundRun, entries_watched}
 use Rattle.coniks_chain.specs.Clients.{IsAcceptedAtEntry, TwoClients}
 use Rattle.coniks_chain.proofs.ChainLemmas.{row}
@@ -22,8 +22,8 @@ increasing hash verdict xs i (suc m) e f good at_i at_j less =
     let short : m < length xs = omega arith in
     let d = get_or xs m f in
     let at : slice_get xs m ≡ Some d = slice_get-get_or xs m f short in
-    let before : before_at hash None xs (suc m) ≡ Some (before_of hash d) = ap (option_map (before_of hash)) at in
-    let later : d.body.t < f.body.t = row verdict (Some (before_of hash d)) f (subst (λ b. Follows verdict b f) before (good (suc m) f at_j)) NotLater in
+    let before : before_at hash None xs (suc m) ≡ Some (auditor_after hash d) = ap (option_map (auditor_after hash)) at in
+    let later : d.body.t < f.body.t = row verdict (Some (auditor_after hash d)) f (subst (λ b. Follows verdict b f) before (good (suc m) f at_j)) NotLater in
     ⊎_elim
     (λ (more : i < m). let earlier = increasing hash verdict xs i m e d good at_i at more in omega arith)
     (λ (le : m ≤ i).

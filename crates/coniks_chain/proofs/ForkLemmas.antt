@@ -10,7 +10,7 @@ use Rattle.coniks_chain.specs.declared.entry.Entry.{Entry}
 use Rattle.coniks_chain.specs.declared.auditor.AuditorState.{AuditorState}
 use Rattle.coniks_chain.specs.declared.auditor.AuditFault.TheVariants.{FirstEpoch, NotLater, PreviousEpoch, PreviousLink}
 use Rattle.coniks_chain.specs.Entries.{body_bytes, link_preimage, IsEntry}
-use Rattle.coniks_chain.specs.Chain.{Follows, before_of, before_at, GoodChain}
+use Rattle.coniks_chain.specs.Chain.{Follows, auditor_after, before_at, GoodChain}
 use Rattle.coniks_chain.specs.Fork.{EndsWith, Stand, IsFork, HasNoFork, left_used_up, right_used_up, links_differ}
 use Rattle.coniks_proof.specs.Collisions.{IsCollision}
 use Rattle.coniks_chain.proofs.BodyLemmas.{parted, same_body}
@@ -74,8 +74,8 @@ not_again hash verdict xs ys n e good_x good_y first later =
     let d = get_or ys n e in
     let at : slice_get ys n ≡ Some d = slice_get-get_or ys n e short in
     let some : 0 < d.body.t = positive verdict (before_at hash None ys n) d (good_y n d at) in
-    let before : before_at hash None ys (suc n) ≡ Some (before_of hash d) = ap (option_map (before_of hash)) at in
-    let names : e.body.t_prev ≡ d.body.t = row verdict (Some (before_of hash d)) e (subst (λ b. Follows verdict b e) before (good_y (suc n) e later)) PreviousEpoch in
+    let before : before_at hash None ys (suc n) ≡ Some (auditor_after hash d) = ap (option_map (auditor_after hash)) at in
+    let names : e.body.t_prev ≡ d.body.t = row verdict (Some (auditor_after hash d)) e (subst (λ b. Follows verdict b e) before (good_y (suc n) e later)) PreviousEpoch in
     omega arith
 
 -- a good chain that is the end of another is that chain
@@ -90,8 +90,8 @@ end_is_all hash verdict (e ∷ es) ys (suc n) good_x good_y some is =
 named : (hash : List ℕ → List ℕ) (verdict : List ℕ → List ℕ → Bool) (xs : List Entry) (i : ℕ) (e s : Entry)
     → GoodChain hash verdict xs → slice_get xs i ≡ Some e → slice_get xs (suc i) ≡ Some s → s.body.previous.0 ≡ hash (link_preimage e)
 named hash verdict xs i e s good at next =
-    let before : before_at hash None xs (suc i) ≡ Some (before_of hash e) = ap (option_map (before_of hash)) at in
-    row verdict (Some (before_of hash e)) s (subst (λ b. Follows verdict b s) before (good (suc i) s next)) PreviousLink
+    let before : before_at hash None xs (suc i) ≡ Some (auditor_after hash e) = ap (option_map (auditor_after hash)) at in
+    row verdict (Some (auditor_after hash e)) s (subst (λ b. Follows verdict b s) before (good (suc i) s next)) PreviousLink
 
 -- where nothing stands after, it is the last
 last_is : (hash : List ℕ → List ℕ) (xs : List Entry) (i : ℕ) (e : Entry) (link : List ℕ) → EndsWith hash xs link → slice_get xs i ≡ Some e → slice_get xs (suc i) ≡ None → hash (link_preimage e) ≡ link

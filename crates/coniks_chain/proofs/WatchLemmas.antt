@@ -15,7 +15,7 @@ use Rattle.coniks_chain.specs.declared.seen.Tally.{Tally}
 use Rattle.coniks_chain.specs.declared.seen.MonitorFault.{MonitorFault}
 use Rattle.coniks_chain.specs.declared.seen.MonitorFault.TheVariants.{Audit, Check}
 use Rattle.coniks_chain.proofs.ChainLemmas.{refuses}
-use Rattle.coniks_chain.specs.Chain.{before_of, before_at}
+use Rattle.coniks_chain.specs.Chain.{auditor_after, before_at}
 use Rattle.coniks_chain.specs.Seen.{one_if, counted, is_same, is_changed, is_absent, seen_of}
 use Rattle.coniks_chain.specs.Watch.{Watched, IsSoundStep, IsFirstStepFault, IsSoundTo, IsSoundRun, IsFirstUnsound, entries_watched, seen_at, tally_of}
 
@@ -33,13 +33,13 @@ count_more p xs i x at = count_more_by p xs i x (p x) refl (slice_get_within xs 
 module _ {H : Type 0} (digest : H → List ℕ → List ℕ) (verdict : List ℕ → List ℕ → Bool) (was now : Watched H) (items : List (Entry × Proof)) (i : ℕ) (item : Entry × Proof)
     (at : slice_get items i ≡ Some item) (stands : now ≡ record was { before = before_at (digest was.hasher) was.before (entries_watched items) i }) where
   -- what stands before the next place
-  pub entry_at : Some (before_of (digest was.hasher) item.0) ≡ before_at (digest was.hasher) was.before (entries_watched items) (i + 1)
+  pub entry_at : Some (auditor_after (digest was.hasher) item.0) ≡ before_at (digest was.hasher) was.before (entries_watched items) (i + 1)
   entry_at = rw (add-one, slice_get-map (λ x. x.0) items i, at) refl
 
   -- the monitor stands at the next place
-  pub step-stands : (new : Watched H) → new ≡ record now { before = Some (before_of (digest now.hasher) item.0) }
+  pub step-stands : (new : Watched H) → new ≡ record now { before = Some (auditor_after (digest now.hasher) item.0) }
       → new ≡ record was { before = before_at (digest was.hasher) was.before (entries_watched items) (i + 1) }
-  step-stands new kept = kept ∙ ap (λ (w : Watched H). record w { before = Some (before_of (digest w.hasher) item.0) }) stands ∙ ap (λ b. record was { before = b }) entry_at
+  step-stands new kept = kept ∙ ap (λ (w : Watched H). record w { before = Some (auditor_after (digest w.hasher) item.0) }) stands ∙ ap (λ b. record was { before = b }) entry_at
 
   -- one step more is sound
   pub sound-more : IsSoundStep (digest now.hasher) verdict now.before now.name now.index item.0 item.1 (answer_of item.1.end)

@@ -11,8 +11,8 @@ use Rattle.coniks_chain.specs.declared.auditor.AuditFault.TheVariants.{Version, 
 use Rattle.coniks_chain.specs.Entries.{body_bytes, link_preimage}
 
 -- of an entry, what its successor is compared with
-abbrev pub before_of : (Octets → Octets) → Entry → AuditorState
-before_of hash entry = record {
+abbrev pub auditor_after : (Octets → Octets) → Entry → AuditorState
+auditor_after hash entry = record {
   t = entry.body.t;
   link =
       record { 0 = hash (link_preimage entry) };
@@ -74,7 +74,7 @@ pub record IsFirstEntryFault (verdict : Octets → Octets → Bool)
 -- what place k of some entries is compared with, if the first of them is compared with `start`
 abbrev pub before_at : (Octets → Octets) → Option AuditorState → List Entry → ℕ → Option AuditorState
 before_at hash start entries zero = start
-before_at hash start entries (suc k) = option_map (before_of hash) (slice_get entries k)
+before_at hash start entries (suc k) = option_map (auditor_after hash) (slice_get entries k)
 
 -- the head of that, if there is any
 abbrev pub head_after : Option AuditorState → Option Head

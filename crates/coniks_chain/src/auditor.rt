@@ -1,7 +1,7 @@
 //! The auditor of a chain.
 
 ghost use Rattle.std.specs.Prelude.{◌≡◌, Option, Some, None, OnOk, OnErr, IfOk, IfErr, length};
-ghost use Rattle.coniks_chain.specs.Chain.{Follows, GoodChain, IsFirstEntryFault, IsFirstRefused, before_at, before_of, head_after};
+ghost use Rattle.coniks_chain.specs.Chain.{Follows, GoodChain, IsFirstEntryFault, IsFirstRefused, before_at, auditor_after, head_after};
 
 use crate::entry::{Entry, link};
 use crate::signer::Verify;
@@ -96,8 +96,8 @@ fn judge<V: Verify>(
 }
 
 /// Returns the state after an entry.
-fn before_of<H: Hash32>(h: &H, entry: &Entry) -> AuditorState
-    ensures { result ≡ before_of (H.digest_of h.now) entry.now }
+fn auditor_after<H: Hash32>(h: &H, entry: &Entry) -> AuditorState
+    ensures { result ≡ auditor_after (H.digest_of h.now) entry.now }
 {
     AuditorState {
         t: entry.body.t,
@@ -184,9 +184,9 @@ impl<H: Hash32 + Drop> Auditor<H> {
 
     /// Stores the values that the next entry is compared with.
     pub(crate) fn keep(&mut self, entry: &Entry)
-        ensures { self.new ≡ (self.old.0, Some (before_of (H.digest_of self.old.0) entry.now)) }
+        ensures { self.new ≡ (self.old.0, Some (auditor_after (H.digest_of self.old.0) entry.now)) }
     {
-        self.before = Some(before_of(&self.h, entry));
+        self.before = Some(auditor_after(&self.h, entry));
     }
 
     /// Accepts an entry that follows the last accepted one.
@@ -205,7 +205,7 @@ impl<H: Hash32 + Drop> Auditor<H> {
     /// - `Verdict` if the signature is not one for the body.
     pub fn feed<V: Verify>(&mut self, entry: &Entry, verify: &V) -> Result<(), AuditFault>
         ensures ok { OnOk result (Follows (V.verdict_of verify.now) self.old.1 entry.now) }
-        ensures kept { OnOk result (self.new ≡ (self.old.0, Some (before_of (H.digest_of self.old.0) entry.now))) }
+        ensures kept { OnOk result (self.new ≡ (self.old.0, Some (auditor_after (H.digest_of self.old.0) entry.now))) }
         ensures err { IfErr result (IsFirstEntryFault (V.verdict_of verify.now) self.old.1 entry.now) }
         ensures unchanged { OnErr result (self.new ≡ self.old) }
     {
@@ -236,7 +236,7 @@ pub fn audit<H: Hash32, V: Verify>(
         if let Err(fault) = judge(&before, entry, verify) {
             return Err((i, fault));
         }
-        before = Some(before_of(h, entry));
+        before = Some(auditor_after(h, entry));
     }
     Ok(head_of(before))
 }

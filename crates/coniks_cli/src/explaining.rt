@@ -9,7 +9,7 @@ ghost use Rattle.coniks_cli.specs.Help.{Fails, IsCutOff, IsExplained, NeverBegin
 
 use crate::telling::tell;
 use clap::Error;
-use coniks_lines::{ByteOut, RunFault};
+use coniks_lines::{ByteOut, LineFault};
 use std::alloc::{AllocError, Global};
 
 /// What became of the text of an error of `clap`.
@@ -45,16 +45,16 @@ pub fn explain<W: ByteOut>(
     alloc: Global,
     error: &Error,
     writer: &mut W,
-) -> Result<Explained, RunFault>
+) -> Result<Explained, LineFault>
     requires { (W.sink writer.old).failed + 1 < 2 ^ 64 }
     ensures explained { (still : Source) → IfOk result (IsExplained (kind_of error.now) (streams still still (W.sink writer.old) (W.sink writer.new))) }
-    ensures fails { (still : Source) → IfErr result (Fails ⊥ (streams still still (W.sink writer.old) (W.sink writer.new))) }
+    ensures fails { (still : Source) → IfErr result (Fails (streams still still (W.sink writer.old) (W.sink writer.new))) }
     ensures stops { (still : Source) → IfErr result (λ fault.
         ((is_asked_for (kind_of error.now) ≡ true) × IsCutOff (streams still still (W.sink writer.old) (W.sink writer.new)) fault)
         ⊎ NeverBegins (streams still still (W.sink writer.old) (W.sink writer.new)) fault) }
 {
     let Ok(text) = text_of(alloc, error) else {
-        return Err(RunFault::OutOfMemory);
+        return Err(LineFault::OutOfMemory);
     };
     if error.use_stderr() {
         return Ok(Explained::Refused(text));

@@ -15,7 +15,7 @@ use Rattle.coniks_directory.proofs.AgreementLemmas.{has_still}
 use Rattle.coniks_directory.proofs.LastLemmas.{at_end, get-mapped}
 use Rattle.coniks_directory.proofs.NodeLemmas.{AreAlike, count_same, in_places, nothing_alike, place_in, places_map}
 use Rattle.coniks_directory.proofs.Words.{AreAcceptedFrom, AreOnce, AuditorState, Batch, EndIs, Entry, HaveOwnIndices, IsChainOf, IsIn, IsIndex, IsMap, IsNew, IsPath, MayFollow, Numbered, Operation, Prepared, Proof}
-use Rattle.coniks_directory.proofs.Words.{IsUpdate, Registered, Registry, SameEntries, Shown, State, Whole, after, before_of, body_of, bound_by, bytes_eq}
+use Rattle.coniks_directory.proofs.Words.{IsUpdate, Registered, Registry, SameEntries, Shown, State, Whole, after, auditor_after, body_of, bound_by, bytes_eq}
 use Rattle.coniks_directory.proofs.Words.{bytes_eq-Decides, clashes, defined, entries_of, entry_of, epochs_from, fault_from, fault_of, first_fault, has_name}
 use Rattle.coniks_directory.proofs.Words.{history_of, key_of, latest_registry, most_nodes, nonce_after, overlaid, placed, rebound, registry_after, root_at, shown_by, shown_of, version_after}
 
@@ -145,7 +145,7 @@ pub bodies_same : (hash index_of : List ℕ → List ℕ) (policy : List ℕ) (b
 bodies_same hash index_of policy b c history other chain chained is has k j e f g x y at_e at_e' at_x at_y at_f at_g alike root =
     let left = rw at_e at (is.bodies (suc k) x f at_x at_f) in
     let right = rw at_e' at (has.bodies (suc j) y g at_y at_g) in
-    left ∙ ap (λ (d : List ℕ). record (body_of hash index_of policy (Some (before_of hash e)) x) { root = record { 0 = d } }) root
+    left ∙ ap (λ (d : List ℕ). record (body_of hash index_of policy (Some (auditor_after hash e)) x) { root = record { 0 = d } }) root
     ∙ rw (alike.t, alike.version, alike.nonce) refl ∙ sym right
 
 -- ---- runs

@@ -2,7 +2,7 @@
 use Rattle.std.proofs.Common.{◌≡◌, ◌<◌, ◌≤◌, ◌+◌, ◌*◌, ℕ, suc, List, [], ◌∷◌, ◌++◌, length, map, arith, Bool, true, false, refl, sym, ap, subst, ◌∙◌, inl, inr, Option, Some, None, slice_get}
 use Rattle.coniks_proof.specs.Hashing.{hashing}
 use Rattle.coniks_tree.specs.Table.{Table}
-use Rattle.coniks_directory.proofs.Words.{AllPlaced, AreApart, AreChangesOf, ArePendingRecords, AreSealed, AreInOrder, BTreeMap, Change, Entry, Extends, Fits}
+use Rattle.coniks_directory.proofs.Words.{AllPlaced, AreApart, AreChangesOf, ArePendingRecords, AreCommitted, AreInOrder, BTreeMap, Change, Entry, Extends, Fits}
 use Rattle.coniks_directory.proofs.Words.{Growth, IsBuilt, IsIn, IsIndex, IsMap, IsGrowth, IsOldMap, IsSmall, IsStored, KeepsNone, MayFollow, Mirrors, Numbered, Operation, Part}
 use Rattle.coniks_directory.proofs.Words.{Placed, Record, Registered, Registry, Root, SameEntries, ShowsLatest, Stands, after, backed_by}
 use Rattle.coniks_directory.proofs.Words.{bound_by, entries_of, entry_of, entry_of_change, entry_of_record, false_from_ne_true, first_fault}
@@ -31,7 +31,7 @@ get-behind (x ∷ xs) ys n = let step : suc (length xs) + n ≡ suc (length xs +
 
 module _ (hash index_of : List ℕ → List ℕ) (old : List Record) (es : List Numbered) (registry : Registry) (m : Mirrors hash index_of old es registry)
     (ops : List Operation) (new : List Record) (numbers : BTreeMap (List ℕ) ℕ) (s : ArePendingRecords hash index_of (map bound_by ops) new numbers)
-    (z : AreSealed hash new) (cs : List Numbered) (c : AreChangesOf (length old) new cs) (may : MayFollow index_of registry ops) where
+    (z : AreCommitted hash new) (cs : List Numbered) (c : AreChangesOf (length old) new cs) (may : MayFollow index_of registry ops) where
   -- the binding of the record of a number, among all records
   abbrev binding : ℕ → Registered
   binding n = registered_at (old ++ new) n
@@ -160,7 +160,7 @@ few_kept None = omega arith
 module _ (hash index_of : List ℕ → List ℕ) (nonce latest : List ℕ) (t : Table) (root : Option Root) (registry : Registry) (ops : List Operation)
     (new : List Record) (numbers : BTreeMap (List ℕ) ℕ) (changes : List Change) (growth : Growth) (p : Part)
     (shown : ShowsLatest hash index_of latest t root registry) (none : first_fault index_of registry ops ≡ None) (s : ArePendingRecords hash index_of (map bound_by ops) new numbers)
-    (z : AreSealed hash new) (c : AreChangesOf (length t.records) new (entries_of_changes changes)) where
+    (z : AreCommitted hash new) (c : AreChangesOf (length t.records) new (entries_of_changes changes)) where
   -- there are as many changes as operations
   as_many : length changes ≡ length ops
   as_many = sym (length-map changes entry_of_change) ∙ c.counted ∙ sym (length-map new registered_of) ∙ ap length s.binds ∙ length-map ops bound_by

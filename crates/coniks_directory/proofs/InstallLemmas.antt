@@ -4,14 +4,19 @@ use Rattle.coniks_proof.specs.Hashing.{hashing}
 use Rattle.coniks_tree.specs.Table.{table}
 use Rattle.coniks_directory.proofs.Words.{Body, Continues, Digest, Epoch, Extends, HoldsEpoch, epoch_before, last_number, nil_from_length, length-map}
 use Rattle.coniks_directory.proofs.Words.{IsNext, IsUnder, IsUpdate, Leaves, Node, Numbered, Prepared, Record, Root}
-use Rattle.coniks_directory.proofs.Words.{Shown, Shows, Stands, State, Whole, before_at, body_bytes}
+use Rattle.coniks_directory.proofs.Words.{Grows, Shown, Shows, Stands, State, View, Whole, before_at, body_bytes, head_at, heads_of}
 use Rattle.coniks_directory.proofs.Words.{history_of, last_count, latest_epoch, latest_nonce, latest_version, link_before, map-append, node}
 use Rattle.coniks_directory.proofs.Words.{numbers_of, records_after, registry_after, shown_after, shown_of}
 use Rattle.coniks_chain.specs.declared.entry.Entry.{Entry}
+use Rattle.coniks_proof.specs.declared.values.Head.{Head}
+use Rattle.coniks_shared.specs.Boards.{BoardEnd, board_end}
+use Rattle.coniks_directory.specs.Directories.{heads}
+use Rattle.coniks_directory.specs.Installs.{Keeps}
 use Rattle.coniks_directory.specs.Installed.{Attached}
 use Rattle.coniks_chain.proofs.Lemmas.{continues_push, continues_same_verdict}
 use Rattle.coniks_tree.proofs.Lemmas.{Extends-append, Shows-extended, get-push}
 use Rattle.coniks_directory.proofs.ChainLemmas.{chain-push, follows_next, is_last, last-from, latest-known, rising-push, under-push}
+use Rattle.coniks_directory.proofs.FreshLemmas.{Grows-refl}
 use Rattle.coniks_directory.proofs.LastLemmas.{at_end}
 use Rattle.coniks_directory.proofs.MirrorLemmas.{Mirrors-extended, mirrored_root}
 use Rattle.coniks_directory.proofs.StateLemmas.{registry_at-append}
@@ -157,3 +162,28 @@ body_is hash index_of s p t latest root previous u whole latest-is root-is previ
     let rooted = ap digest (root-is u.entries u.stands ∙ mirrored_root hash index_of p.nonce.0 (records_after s p) u.entries (registry_after s p) u.mirrors) in
     let linked = ap digest previous-is in
     cc
+
+-- ---- what an install keeps
+
+-- the heads that were published are those of the chain, with the head of its last entry
+pub published_next : (hash : List ℕ → List ℕ) (before after : BoardEnd) (chain later : List Entry) (entry : Entry) (head : Head) → before.heads ≡ heads_of hash chain
+    → after ≡ board_end before.table (before.heads ++ head ∷ []) → head ≡ head_at hash entry → later ≡ chain ++ entry ∷ [] → after.heads ≡ heads_of hash later
+published_next hash before after chain later entry head published put head_is later_is =
+    ap (λ (e : BoardEnd). e.heads) put ∙ rw (published, head_is, later_is) (sym (map-append (head_at hash) chain (entry ∷ [])))
+
+-- a directory in the same state, with the same hash, has kept what it had, if the signer's verdicts are those that it had
+pub kept_still : {H X S : Type 0} (digest : H → List ℕ → List ℕ) (verdict_of : S → List ℕ → List ℕ → Bool) (d later : View H X) (old new : S) (publisher : BoardEnd)
+    → later.state ≡ d.state → later.hash ≡ d.hash → ((bytes signature : List ℕ) → verdict_of new bytes signature ≡ verdict_of old bytes signature)
+    → publisher.heads ≡ heads digest d → Keeps digest verdict_of d later old new publisher publisher
+kept_still {H} {X} {S} digest verdict_of d later old new publisher same_state same_hash verdicts published =
+    let state = sym same_state in
+    let hash = sym same_hash in
+    record {
+      grows = subst (λ (s : State). Grows d.state s) state (Grows-refl d.state);
+      good = λ good. subst (λ (s : State). Continues (digest later.hash) (verdict_of new) s.before s.chain) state
+          (continues_same_verdict (digest later.hash) (verdict_of old) (verdict_of new) verdicts d.state.before d.state.chain
+          (subst (λ (h : H). Continues (digest h) (verdict_of old) d.state.before d.state.chain) hash good));
+      verdicts_kept = verdicts;
+      heads = published ∙ ap (λ (h : H). heads_of (digest h) d.state.chain) hash ∙ ap (λ (s : State). heads_of (digest later.hash) s.chain) state;
+      table = refl;
+    }

@@ -5,7 +5,7 @@ mod MirrorLemmas
 mod HolderLemmas
 mod JudgeLemmas
 mod PendingLemmas
-mod SealLemmas
+mod CommitmentLemmas
 mod OrderLemmas
 mod OverlaidLemmas
 mod GrowthLemmas

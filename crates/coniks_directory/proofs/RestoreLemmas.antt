@@ -17,7 +17,7 @@ use Rattle.coniks_directory.proofs.MirrorLemmas.{mirrored_root}
 use Rattle.coniks_directory.proofs.StateLemmas.{registry_at-all}
 use Rattle.coniks_directory.proofs.Words.{ArePendingRecords, AuditorState, BTreeMap, Continues, Epoch, Fault, Follows, HoldsEpoch, IsBuilt, IsUpdate, MAX_KEY, MAX_NAME, Nonce}
 use Rattle.coniks_directory.proofs.Words.{Numbered, Operation, Prepared, Record, Registered, Registry, RotatesTo, Shown, Stands, State, Whole, after, append-nil}
-use Rattle.coniks_directory.proofs.Words.{before_at, before_of, body_bytes, body_of, bound_by, clashes, fault_from, fault_of, first_fault, fits, has_name, history_of}
+use Rattle.coniks_directory.proofs.Words.{before_at, auditor_after, body_bytes, body_of, bound_by, clashes, fault_from, fault_of, first_fault, fits, has_name, history_of}
 use Rattle.coniks_directory.proofs.Words.{index_clash, kind_fault, map-append, node, overlaid, placed, records_after, registered_of, registry_after, same_Some, shown_after}
 
 -- the state of `open` is a directory's
@@ -247,7 +247,7 @@ good_first hash verdict entry may signed =
 -- ---- a restored chain behind the entries before it
 
 before_at-next : (hash : List ℕ → List ℕ) (start : Option AuditorState) (e : Entry) (es : List Entry) (k : ℕ)
-    → before_at hash start (e ∷ es) (suc k) ≡ before_at hash (Some (before_of hash e)) es k
+    → before_at hash start (e ∷ es) (suc k) ≡ before_at hash (Some (auditor_after hash e)) es k
 before_at-next hash from e es zero = refl
 before_at-next hash from e es (suc k) = refl
 
@@ -258,9 +258,9 @@ module _ (hash : List ℕ → List ℕ) (verdict : List ℕ → List ℕ → Boo
   joined from [] first (suc k) f at = good (suc k) f at
   joined from (x ∷ earlier) first zero f at = first 0 f at
   joined from (x ∷ earlier) first (suc k) f at =
-      let rest : Continues hash verdict (Some (before_of hash x)) (earlier ++ e ∷ []) =
+      let rest : Continues hash verdict (Some (auditor_after hash x)) (earlier ++ e ∷ []) =
       λ j g there. subst (λ b. Follows verdict b g) (before_at-next hash from x (earlier ++ e ∷ []) j) (first (suc j) g there) in
-      subst (λ b. Follows verdict b f) (sym (before_at-next hash from x (earlier ++ e ∷ more) k)) (joined (Some (before_of hash x)) earlier rest k f at)
+      subst (λ b. Follows verdict b f) (sym (before_at-next hash from x (earlier ++ e ∷ more) k)) (joined (Some (auditor_after hash x)) earlier rest k f at)
 
 pub good_joined : (hash : List ℕ → List ℕ) (verdict : List ℕ → List ℕ → Bool) (earlier more : List Entry) (e : Entry)
     → Continues hash verdict None (earlier ++ e ∷ []) → Continues hash verdict (Some (said_before e)) (e ∷ more) → Continues hash verdict None (earlier ++ e ∷ more)

@@ -1,6 +1,6 @@
 -- Batches whose operations have indices: the indices that they are checked with, their first error, and what an install supplies.
 use Rattle.std.proofs.Common.{◌≡◌, ◌≤◌, ◌<◌, ◌⊎◌, get_or, ℕ, zero, suc, ◌+◌, List, [], ◌∷◌, ◌++◌, length, map, take, drop, Bool, true, false, ◌||◌, refl, sym, ap, subst, ◌∙◌, arith, length-append, inl, inr, Option, Some, None, Result, Ok, Err, if◌then◌else◌, slice_get, nat_lt, nat_le}
-use Rattle.std.specs.Prelude.{IfErr, IfOk, OnOk}
+use Rattle.std.specs.Prelude.{IfErr, IfOk, OnErr, OnOk}
 use Rattle.std.specs.Bool.{then_some}
 use Rattle.std.specs.Option.{option_or}
 use Rattle.std.specs.Result.{is_err}
@@ -12,8 +12,9 @@ use Rattle.std.specs.declared.cmp.Ordering.TheVariants.{Equal, Greater, Less}
 use Rattle.std.proofs.lemmas.List.{take-map, take_all}
 use Rattle.std.proofs.Math.Path.{fun_ext}
 use Rattle.coniks_proof.specs.declared.values.TheConstants.{MAX_OPERATIONS}
-use Rattle.coniks_work.specs.declared.jobs.TheConstants.{MAX_DEPTH}
-use Rattle.coniks_directory.specs.Batches.{AreWorkers, IsBatchFault, IsLimit}
+use Rattle.coniks_chain.specs.declared.entry.Entry.{Entry}
+use Rattle.coniks_shared.specs.Boards.{BoardEnd}
+use Rattle.coniks_directory.specs.Installs.{IsInstallResult, LeavesSupplied}
 use Rattle.coniks_directory.specs.Judged.{IsJudgedFault}
 use Rattle.coniks_directory.specs.declared.batch.BatchFault.{BatchFault}
 use Rattle.coniks_directory.specs.declared.batch.OpFault.{OpFault}
@@ -22,10 +23,10 @@ use Rattle.coniks_directory.specs.declared.supplied_batch.SuppliedBatchFault.{Su
 use Rattle.coniks_directory.specs.declared.supplied_batch.SuppliedBatchFault.TheVariants.{Batch as InBatch, OtherIndex}
 use Rattle.coniks_proof.specs.Batches.{name_length, key_length, name_twice, name_taken, name_unknown}
 use Rattle.coniks_proof.specs.declared.values.Index.{Index}
-use Rattle.coniks_directory.proofs.Words.{Fault, Grows, Op, Operation, Prepared, Record, Registered, Registry, Shown, State, Whole, at_drop_all, at_drop_more, bound_by, bytes_eq, bytes_eq-Decides, fault_from, fault_of, first_fault}
+use Rattle.coniks_directory.proofs.Words.{Fault, Grows, Op, Operation, Prepared, Record, Registered, Registry, Shown, State, View, Whole, at_drop_all, at_drop_more, bound_by, bytes_eq, bytes_eq-Decides, fault_from, fault_of, first_fault}
 use Rattle.coniks_directory.proofs.Words.{get_or_from_slice_get, has_name, history_of, index_clash, is_eq, is_eq-slice_cmp, latest_registry, map-append, nat_cmp, operation_of, operations, or_cases, placed, registered_of, registry_after, slice_cmp, slice_get-get_or, slice_get_read, slice_get_within, zeros}
 use Rattle.coniks_directory.specs.Supplied.{AgreeOn, Supplied, is_supplied, supplied_index}
-use Rattle.coniks_directory.specs.SuppliedBatches.{AreOf, Indexed, IsEarliest, IsFresh, IsSuppliedFault, IsWithin, SuppliedFault, earlier_of, earliest, given_index, has_other, index_in, indexed, indices_by, indices_in, named_in, of_operation, operations_of, or_other, other_from, other_index, placed_fault}
+use Rattle.coniks_directory.specs.SuppliedBatches.{AreOf, Indexed, IsEarliest, IsFresh, IsSuppliedFault, IsWithin, SuppliedFault, earlier_of, earliest, given_index, has_other, index_in, indexed, indices_by, indices_in, indices_of, named_in, of_operation, operations_of, or_other, other_from, other_index, placed_fault}
 use Rattle.coniks_directory.specs.SuppliedBatches.{IsSuppliedUpdate, LeavesIndices, put_index, put_indices, supplied_fault, supplied_fault_from, supplied_fault_is}
 use Rattle.coniks_directory.specs.Updates.{IsRefused, MayInstall, base_of, refusals}
 use Rattle.coniks_directory.specs.declared.update.InstallFault.{InstallFault}
@@ -353,7 +354,7 @@ module _ (index_of index : List ℕ → List ℕ) (registry : Registry) where
 
 -- ---- why a batch isn't accepted
 
-module _ (index_of : List ℕ → List ℕ) (registry : Registry) (ops : List Op) (indices : List Index) (long : length ops ≡ length indices) (depth workers : ℕ) where
+module _ (index_of : List ℕ → List ℕ) (registry : Registry) (ops : List Op) (indices : List Index) (long : length ops ≡ length indices) where
   abbrev batch : List Indexed
   batch = indexed ops indices
 
@@ -364,19 +365,15 @@ module _ (index_of : List ℕ → List ℕ) (registry : Registry) (ops : List Op
       earliest_fault index_of (index_in index_of registry batch) registry [] 0 batch
       ∙ rw (is, indexed_operations ops indices long) refl
 
-  pub limit_fault : (fault : BatchFault) → IsLimit fault → IsBatchFault index_of registry (operations ops) depth workers fault → IsSuppliedFault index_of registry batch depth workers (InBatch fault)
-  limit_fault batch_fault.Workers limit f = f
-  limit_fault batch_fault.Depth limit f = f
-  limit_fault batch_fault.BatchTooLong limit f = rw (indexed_operations ops indices long) f
-  limit_fault (batch_fault.At position fault) limit f = absurd limit
-  limit_fault batch_fault.OutOfMemory limit f = absurd limit
+  pub long_fault : (fault : BatchFault) → (fault ≡ batch_fault.BatchTooLong) × (MAX_OPERATIONS < length ops) → IsSuppliedFault index_of registry batch (InBatch fault)
+  long_fault fault too = rw (too.0, indexed_length ops indices long) too.1
 
-  pub within_is : AreWorkers workers → depth ≤ MAX_DEPTH → length ops ≤ MAX_OPERATIONS → IsWithin batch depth workers
-  within_is worker_count shallow few = record { worker_count = worker_count; shallow = shallow; few = rw (indexed_length ops indices long) few }
+  pub within_is : length ops ≤ MAX_OPERATIONS → IsWithin batch
+  within_is few = rw (indexed_length ops indices long) few
 
   -- with another index at a place
-  pub other_fault : (place : ℕ) (fault : SuppliedBatchFault) → IsWithin batch depth workers → other_from index_of registry 0 batch ≡ Some place
-      → IsEarliest (index_in index_of registry batch) registry (operations ops) place fault → IsSuppliedFault index_of registry batch depth workers fault
+  pub other_fault : (place : ℕ) (fault : SuppliedBatchFault) → IsWithin batch → other_from index_of registry 0 batch ≡ Some place
+      → IsEarliest (index_in index_of registry batch) registry (operations ops) place fault → IsSuppliedFault index_of registry batch fault
   other_fault place (InBatch batch_fault.Workers) within other f = absurd f
   other_fault place (InBatch batch_fault.Depth) within other f = absurd f
   other_fault place (InBatch batch_fault.BatchTooLong) within other f = absurd f
@@ -388,9 +385,9 @@ module _ (index_of : List ℕ → List ℕ) (registry : Registry) (ops : List Op
   pub no_fault : other_from index_of registry 0 batch ≡ None → first_fault (index_in index_of registry batch) registry (operations ops) ≡ None → supplied_fault index_of registry batch ≡ None
   no_fault other none = faults None other ∙ ap (λ f. earliest f None) none
 
-  pub judged_fault : (fault : BatchFault) → IsWithin batch depth workers → other_from index_of registry 0 batch ≡ None
+  pub judged_fault : (fault : BatchFault) → IsWithin batch → other_from index_of registry 0 batch ≡ None
       → IsJudgedFault (index_in index_of registry batch) registry (operations ops) fault
-      → IsSuppliedFault index_of registry batch depth workers (InBatch fault)
+      → IsSuppliedFault index_of registry batch (InBatch fault)
   judged_fault batch_fault.Workers within other f = absurd f
   judged_fault batch_fault.Depth within other f = absurd f
   judged_fault batch_fault.BatchTooLong within other f = absurd f
@@ -528,6 +525,20 @@ left_all s base t published capacity given old install.BoardFull may why = absur
 left_all s base t published capacity given old install.OutOfMemory may why = (length given, ap (put_indices old) (sym (take_all (length given) given (omega arith))))
 left_all s base t published capacity given old install.SignerRefused may why = refl
 
+-- and what else it leaves, if the install does not change the source
+pub left_supplied : {H : Type 0} (update : Prepared) (t published capacity : ℕ) (d supplied later : View H (List Supplied)) (before after : BoardEnd) (result : Result Entry (InstallFault × Prepared))
+    → MayInstall d.state (base_of update) t published capacity → supplied.state ≡ d.state → later.index ≡ put_indices d.index (indices_of update)
+    → OnErr result ((later ≡ supplied) × (after ≡ before)) → IsInstallResult d.state update t published capacity result
+    → IfErr result (λ r. LeavesSupplied update d later before after r.0)
+left_supplied {H} update t published capacity d supplied later before after (Ok entry) may same put is why = tt
+left_supplied {H} update t published capacity d supplied later before after (Err r) may same put is why =
+    record {
+      state = ap (λ (v : View H (List Supplied)). v.state) is.0 ∙ same;
+      publisher = is.1;
+      indices = subst (λ (xs : List Supplied). LeavesIndices (indices_of update) d.index xs r.0) (sym put)
+          (left_all d.state (base_of update) t published capacity (indices_of update) d.index r.0 may why.0);
+    }
+
 -- what follows from a property of a result's value holds of the value
 pub if_ok-map : {T E : Type 0} (r : Result T E) (P Q : T → Type 0) → ((x : T) → P x → Q x) → IfOk r P → IfOk r Q
 if_ok-map (Ok x) P Q more is = more x is
@@ -540,7 +551,3 @@ if_err-map (Err e) P Q more is = more e is
 pub of_ok : {T E : Type 0} (r : Result T E) (P : Type 0) → false ≡ is_err r → OnOk r P → P
 of_ok (Ok x) P off is = is
 of_ok (Err e) P off is = absurd (let never = off in cc)
-
-pub all_ok : {T E : Type 0} (r : Result T E) (P : Type 0) → P → OnOk r P
-all_ok (Ok x) P is = is
-all_ok (Err e) P is = tt

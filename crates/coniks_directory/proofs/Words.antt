@@ -46,7 +46,7 @@ pub use Rattle.coniks_tree.specs.declared.table.RecordNo.{RecordNo}
 pub use Rattle.coniks_tree.specs.declared.table.Root.{Root}
 pub use Rattle.coniks_shared.specs.Lists.{Begins, last_of}
 pub use Rattle.coniks_work.specs.Grown.{IsOldMap, unchanged}
-pub use Rattle.coniks_chain.specs.Chain.{Continues, Follows, before_at, before_of, epoch_before, link_before}
+pub use Rattle.coniks_chain.specs.Chain.{Continues, Follows, before_at, auditor_after, epoch_before, link_before}
 pub use Rattle.coniks_chain.specs.Entries.{body_bytes}
 pub use Rattle.coniks_chain.specs.declared.auditor.AuditorState.{AuditorState}
 pub use Rattle.coniks_chain.specs.declared.entry.Body.{Body}
@@ -58,7 +58,7 @@ pub use Rattle.coniks_directory.specs.History.{AllHaveOwnIndices, AreRising, Are
 pub use Rattle.coniks_directory.specs.History.{latest_registry, latest_version, nonce_after, numbers_of, root_at, shown_at, version_after}
 pub use Rattle.coniks_directory.specs.Holders.{HolderIs, IsHeld, IsLatestRoot, ShowsLatest}
 pub use Rattle.coniks_directory.specs.Installed.{IsEntered, IsNext, IsSigned, Leaves}
-pub use Rattle.coniks_directory.specs.Judged.{AreChangesOf, ArePendingRecords, AreSealed, AreSealedTo, IsPendingRecord, IsJudged, IsJudgedFault, IsJudgedFaultAfter, number_at, sealed_by}
+pub use Rattle.coniks_directory.specs.Judged.{AreChangesOf, ArePendingRecords, AreCommitted, AreCommittedTo, IsPendingRecord, IsJudged, IsJudgedFault, IsJudgedFaultAfter, number_at, committed_by}
 pub use Rattle.coniks_directory.specs.Lookups.{IsAcceptedAt, IsFound}
 pub use Rattle.coniks_directory.specs.Runs.{AreAccepted, AreAcceptedFrom, Batch, Run, defined, epochs_from, shown_by}
 pub use Rattle.coniks_directory.specs.State.{HoldsEpoch, IsEpochAt, IsInstalled, IsStored, Mirrors, ShowsRegistry, State, View, Whole, history_of, last_count, registered_of, shown_of, state_of}

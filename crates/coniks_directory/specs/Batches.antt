@@ -4,6 +4,7 @@ use Rattle.coniks_proof.specs.Registry.{Registry}
 use Rattle.coniks_proof.specs.Batches.{Kind, register, change, Operation, Fault, name_length, key_length, name_twice, name_taken, name_unknown, index_clash, first_fault}
 use Rattle.coniks_proof.specs.Octets.{Octets}
 use Rattle.coniks_proof.specs.declared.values.TheConstants.{MAX_OPERATIONS}
+use Rattle.coniks_work.specs.Parallel.{AreWorkers}
 use Rattle.coniks_work.specs.declared.building.TheConstants.{MAX_WORKERS}
 use Rattle.coniks_work.specs.declared.jobs.TheConstants.{MAX_DEPTH}
 use Rattle.coniks_directory.specs.History.{Shown}
@@ -34,10 +35,6 @@ fault_is NameTaken = name_taken
 fault_is NameUnknown = name_unknown
 fault_is IndexClash = index_clash
 
--- the number of workers is within its limits
-abbrev pub AreWorkers : ℕ → Type 0
-AreWorkers workers = (1 ≤ workers) × (workers ≤ MAX_WORKERS)
-
 -- workers, depth and the batch's length are within their limits, and no operation has an error
 pub record IsAccepted (index_of : Octets → Octets) (registry : Registry) (ops : List Operation) (depth workers : ℕ) : Type 0 where
   pub worker_count : AreWorkers workers
@@ -54,14 +51,6 @@ IsBatchFault index_of registry ops depth workers (At position fault) =
     AreWorkers workers × (depth ≤ MAX_DEPTH) × (length ops ≤ MAX_OPERATIONS)
     × (first_fault index_of registry ops ≡ Some (position, fault_is fault))
 IsBatchFault index_of registry ops depth workers OutOfMemory = AreWorkers workers × (depth ≤ MAX_DEPTH) × (length ops ≤ MAX_OPERATIONS)
-
--- it is one of the limits of workers, depth and length
-abbrev pub IsLimit : BatchFault → Type 0
-IsLimit Workers = Unit {0}
-IsLimit Depth = Unit {0}
-IsLimit BatchTooLong = Unit {0}
-IsLimit (At position fault) = ⊥
-IsLimit OutOfMemory = ⊥
 
 -- the largest number of nodes that an epoch with this number of operations adds after this history; without operations it is exact
 abbrev pub most_nodes : List Shown → ℕ → ℕ

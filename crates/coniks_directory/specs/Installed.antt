@@ -1,8 +1,9 @@
 -- The steps of an install.
-use Rattle.std.specs.Prelude.{◌≡◌, ◌<◌, ℕ, List, [], ◌∷◌, ◌++◌, length, slice_get, Bool, true, Some}
+use Rattle.std.specs.Prelude.{◌≡◌, ◌<◌, ◌≤◌, ◌+◌, ℕ, List, [], ◌∷◌, ◌++◌, length, slice_get, vec_capacity, vec_len, Bool, true, Some}
 use Rattle.coniks_proof.specs.Batches.{Operation, after}
 use Rattle.coniks_proof.specs.Octets.{Octets}
 use Rattle.coniks_proof.specs.Registry.{root_of}
+use Rattle.coniks_tree.specs.Parts.{node_count}
 use Rattle.coniks_tree.specs.Table.{table}
 use Rattle.coniks_chain.specs.Chain.{Continues, before_at, link_before}
 use Rattle.coniks_chain.specs.Entries.{body_bytes}
@@ -13,6 +14,7 @@ use Rattle.coniks_directory.specs.History.{latest_epoch}
 use Rattle.coniks_directory.specs.State.{HoldsEpoch, State, Whole, history_of, last_count}
 use Rattle.coniks_directory.specs.Updates.{Grows, IsUpdate, registry_after, shown_after}
 use Rattle.coniks_directory.specs.declared.epochs.Epoch.{Epoch}
+use Rattle.coniks_directory.specs.declared.state.DirectoryState.{DirectoryState}
 use Rattle.coniks_directory.specs.declared.update.Prepared.{Prepared}
 
 -- the body is that of the epoch which the update makes under this number, after the entries that there are
@@ -23,6 +25,13 @@ IsNext hash index_of s p t body = body ≡ body_of hash index_of s.policy (befor
 abbrev pub IsSigned : (Octets → Octets) → State → Prepared → ℕ → Octets → Body → Type 0
 IsSigned hash s p t previous body = (index_of : Octets → Octets) → Whole hash index_of s → IsUpdate hash index_of s p
     → previous ≡ link_before (before_at hash s.before s.chain (length s.chain)) → IsNext hash index_of s p t body
+
+-- there is room for the update's nodes and records, and for one more epoch and entry
+pub record HasRoom (held : DirectoryState) (p : Prepared) : Type 0 where
+  pub nodes : length held.tree.nodes + node_count p.part ≤ held.tree.node_room
+  pub records : length held.tree.records + length p.records.items ≤ held.tree.record_room
+  pub epochs : vec_len held.epochs < vec_capacity held.epochs
+  pub chain : vec_len held.chain < vec_capacity held.chain
 
 -- what an install of the update under a number leaves
 pub record Leaves (hash index_of : Octets → Octets) (s later : State) (p : Prepared) (t : ℕ) (entry : Entry) : Type 0 where

@@ -26,8 +26,8 @@ pub record IsPendingRecord (index_of : Octets → Octets) (r : Record) : Type 0 
   pub keyed : IsLength MAX_KEY r.binding.key
 
 -- the record with the commitment to its binding
-abbrev pub sealed_by : (Octets → Octets) → Record → Record
-sealed_by hash r = record r { commitment = record { 0 = commitment_to hash (registered_of r) } }
+abbrev pub committed_by : (Octets → Octets) → Record → Record
+committed_by hash r = record r { commitment = record { 0 = commitment_to hash (registered_of r) } }
 
 -- these bytes are the commitment to what the record at a place binds
 abbrev pub IsCommitmentAt : (Octets → Octets) → List Record → ℕ → Octets → Type 0
@@ -35,12 +35,12 @@ IsCommitmentAt hash records place bytes = (b : Registered)
     → slice_get (map registered_of records) place ≡ Some b → bytes ≡ commitment_to hash b
 
 -- the records as they were, up to a place with the commitments to their bindings
-abbrev pub AreSealedTo : (Octets → Octets) → List Record → ℕ → List Record → Type 0
-AreSealedTo hash records place sealed = sealed ≡ map (sealed_by hash) (take place records) ++ drop place records
+abbrev pub AreCommittedTo : (Octets → Octets) → List Record → ℕ → List Record → Type 0
+AreCommittedTo hash records place committed = committed ≡ map (committed_by hash) (take place records) ++ drop place records
 
 -- the records' commitments are those to their bindings
-abbrev pub AreSealed : (Octets → Octets) → List Record → Type 0
-AreSealed hash records = (n : ℕ) (r : Record) → slice_get records n ≡ Some r → r.commitment.0 ≡ commitment_to hash (registered_of r)
+abbrev pub AreCommitted : (Octets → Octets) → List Record → Type 0
+AreCommitted hash records = (n : ℕ) (r : Record) → slice_get records n ≡ Some r → r.commitment.0 ≡ commitment_to hash (registered_of r)
 
 -- the number of the record at an index
 abbrev pub number_at : BTreeMap Octets ℕ → Octets → Option ℕ

@@ -4,17 +4,14 @@ use Rattle.std.specs.BTreeMap.{BTreeMap}
 use Rattle.coniks_proof.specs.Batches.{Operation, after, first_fault, register}
 use Rattle.coniks_proof.specs.Octets.{Octets}
 use Rattle.coniks_proof.specs.Registry.{Registered, root_of}
-use Rattle.coniks_work.specs.declared.building.TheConstants.{MAX_WORKERS}
-use Rattle.coniks_work.specs.declared.jobs.TheConstants.{MAX_DEPTH}
 use Rattle.coniks_tree.specs.declared.table.Record.{Record}
 use Rattle.coniks_chain.specs.declared.auditor.AuditorState.{AuditorState}
 use Rattle.coniks_chain.specs.declared.entry.Entry.{Entry}
-use Rattle.coniks_directory.specs.Batches.{AreWorkers}
 use Rattle.coniks_directory.specs.History.{Shown}
 use Rattle.coniks_directory.specs.Judged.{ArePendingRecords}
 use Rattle.coniks_directory.specs.State.{State, history_of, opened, registered_of}
 use Rattle.coniks_directory.specs.declared.restoring.RestoreFault.{RestoreFault}
-use Rattle.coniks_directory.specs.declared.restoring.RestoreFault.TheVariants.{NotLater, Version, Workers, Depth, RootDiffers, OutOfMemory}
+use Rattle.coniks_directory.specs.declared.restoring.RestoreFault.TheVariants.{NotLater, Version, RootDiffers, OutOfMemory}
 
 -- what an entry itself says of the one before it, with its own version and nonce
 abbrev pub said_before : Entry → AuditorState
@@ -38,10 +35,8 @@ pub record Restores (entry : Entry) (ops : List Operation) (s : State) : Type 0 
   pub chain : s.chain ≡ entry ∷ []
 
 -- entry and bindings are restored: the entry can begin, the bindings have no error, and their root is the entry's
-pub record IsRestorable (hash index_of : Octets → Octets) (entry : Entry) (ops : List Operation) (depth workers : ℕ) : Type 0 where
+pub record IsRestorable (hash index_of : Octets → Octets) (entry : Entry) (ops : List Operation) : Type 0 where
   pub begins : MayBegin entry
-  pub worker_count : AreWorkers workers
-  pub shallow : depth ≤ MAX_DEPTH
   pub faultless : first_fault index_of [] ops ≡ None
   pub root : entry.body.root.0 ≡ root_of hash index_of entry.body.nonce.0 (after [] ops)
 
@@ -49,20 +44,15 @@ pub record IsRestorable (hash index_of : Octets → Octets) (entry : Entry) (ops
 abbrev pub IsEntryFault : Entry → RestoreFault → Type 0
 IsEntryFault entry NotLater = entry.body.t ≤ entry.body.t_prev
 IsEntryFault entry Version = (entry.body.t_prev < entry.body.t) × (entry.body.version ≢ 1) × (entry.body.version ≢ 2)
-IsEntryFault entry Workers = ⊥
-IsEntryFault entry Depth = ⊥
 IsEntryFault entry RootDiffers = ⊥
 IsEntryFault entry OutOfMemory = MayBegin entry
 
--- the error of a restore of bindings, the first that applies, in their order; or an allocation failed
-abbrev pub IsRestoreFault : (hash index_of : Octets → Octets) → Entry → List Operation → ℕ → ℕ → RestoreFault → Type 0
-IsRestoreFault hash index_of entry ops depth workers NotLater = ⊥
-IsRestoreFault hash index_of entry ops depth workers Version = ⊥
-IsRestoreFault hash index_of entry ops depth workers Workers = (workers ≡ 0) ⊎ (MAX_WORKERS < workers)
-IsRestoreFault hash index_of entry ops depth workers Depth = AreWorkers workers × (MAX_DEPTH < depth)
-IsRestoreFault hash index_of entry ops depth workers RootDiffers =
-    AreWorkers workers × (depth ≤ MAX_DEPTH) × (entry.body.root.0 ≢ root_of hash index_of entry.body.nonce.0 (after [] ops))
-IsRestoreFault hash index_of entry ops depth workers OutOfMemory = AreWorkers workers × (depth ≤ MAX_DEPTH)
+-- the error of a restore of bindings: their root isn't the entry's, or an allocation failed
+abbrev pub IsRestoreFault : (hash index_of : Octets → Octets) → Entry → List Operation → RestoreFault → Type 0
+IsRestoreFault hash index_of entry ops NotLater = ⊥
+IsRestoreFault hash index_of entry ops Version = ⊥
+IsRestoreFault hash index_of entry ops RootDiffers = entry.body.root.0 ≢ root_of hash index_of entry.body.nonce.0 (after [] ops)
+IsRestoreFault hash index_of entry ops OutOfMemory = Unit {0}
 
 -- a restore that has begun, as contracts see it: the hash, the index source, the entry, and the bindings so far
 pub record RestoringView (H X : Type 0) : Type 0 where

@@ -1,5 +1,5 @@
 -- Batches whose operations come with the indices of their names.
-use Rattle.std.specs.Prelude.{◌≡◌, ◌≤◌, ℕ, ◌+◌, List, [], ◌∷◌, ◌++◌, length, map, take, Bool, true, false, not, ◌&&◌, nat_lt, nat_le, Option, Some, None, if◌then◌else◌}
+use Rattle.std.specs.Prelude.{◌≡◌, ◌<◌, ◌≤◌, ℕ, ◌+◌, List, [], ◌∷◌, ◌++◌, length, map, take, Bool, true, false, not, ◌&&◌, nat_lt, nat_le, Option, Some, None, if◌then◌else◌}
 use Rattle.std.specs.Cmp.Lexicographic.{slice_cmp}
 use Rattle.std.specs.BTreeMap.{insert_entry}
 use Rattle.std.specs.Ordering.{nat_cmp}
@@ -10,8 +10,7 @@ use Rattle.coniks_proof.specs.Registry.{Registered, Registry, has_name}
 use Rattle.coniks_proof.specs.declared.values.Index.{Index}
 use Rattle.coniks_proof.specs.declared.values.TheConstants.{MAX_OPERATIONS}
 use Rattle.coniks_tree.specs.declared.table.Record.{Record}
-use Rattle.coniks_work.specs.declared.jobs.TheConstants.{MAX_DEPTH}
-use Rattle.coniks_directory.specs.Batches.{AreWorkers, IsBatchFault, fault_is, operation_of}
+use Rattle.coniks_directory.specs.Batches.{fault_is, operation_of}
 use Rattle.coniks_directory.specs.History.{latest_registry}
 use Rattle.coniks_directory.specs.State.{State, history_of}
 use Rattle.coniks_directory.specs.Supplied.{AgreeOn, Supplied, is_supplied, supplied_index}
@@ -133,24 +132,19 @@ IsEarliest index_of registry ops place (Batch (At position fault)) = earliest
 IsEarliest index_of registry ops place (OtherIndex position) = earliest
     (first_fault index_of registry ops) (Some place) ≡ Some (position, other_index)
 
--- workers, depth and the batch's length are within their limits
-pub record IsWithin (batch : List Indexed) (depth workers : ℕ) : Type 0 where
-  pub worker_count : AreWorkers workers
-  pub shallow : depth ≤ MAX_DEPTH
-  pub few : length batch ≤ MAX_OPERATIONS
+-- the batch's length is within its limit
+abbrev pub IsWithin : List Indexed → Type 0
+IsWithin batch = length batch ≤ MAX_OPERATIONS
 
 -- why such a batch isn't accepted: the first error that applies, in the order of the type, or an allocation failed
-abbrev pub IsSuppliedFault : (Octets → Octets) → Registry → List Indexed → ℕ → ℕ → SuppliedBatchFault → Type 0
-IsSuppliedFault index_of registry batch depth workers (Batch Workers) =
-    IsBatchFault index_of registry (operations_of batch) depth workers Workers
-IsSuppliedFault index_of registry batch depth workers (Batch Depth) =
-    IsBatchFault index_of registry (operations_of batch) depth workers Depth
-IsSuppliedFault index_of registry batch depth workers (Batch BatchTooLong) =
-    IsBatchFault index_of registry (operations_of batch) depth workers BatchTooLong
-IsSuppliedFault index_of registry batch depth workers (Batch (At position fault)) =
-    IsWithin batch depth workers × (supplied_fault index_of registry batch ≡ Some (position, of_operation (fault_is fault)))
-IsSuppliedFault index_of registry batch depth workers (Batch OutOfMemory) = IsWithin batch depth workers
-IsSuppliedFault index_of registry batch depth workers (OtherIndex position) = IsWithin batch depth workers
+abbrev pub IsSuppliedFault : (Octets → Octets) → Registry → List Indexed → SuppliedBatchFault → Type 0
+IsSuppliedFault index_of registry batch (Batch Workers) = ⊥
+IsSuppliedFault index_of registry batch (Batch Depth) = ⊥
+IsSuppliedFault index_of registry batch (Batch BatchTooLong) = MAX_OPERATIONS < length batch
+IsSuppliedFault index_of registry batch (Batch (At position fault)) = IsWithin batch
+    × (supplied_fault index_of registry batch ≡ Some (position, of_operation (fault_is fault)))
+IsSuppliedFault index_of registry batch (Batch OutOfMemory) = IsWithin batch
+IsSuppliedFault index_of registry batch (OtherIndex position) = IsWithin batch
     × (supplied_fault index_of registry batch ≡ Some (position, other_index))
 
 -- the indices with this one for a name, in the order of the names, each name once

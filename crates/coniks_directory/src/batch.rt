@@ -1,12 +1,14 @@
 //! Operations on the registry, and the errors of a batch.
 
-ghost use Rattle.std.specs.Prelude.{◌≤◌, IfErr, OnOk, length};
+ghost use Rattle.std.specs.Prelude.{◌≡◌, ◌<◌, ◌≤◌, List, IfErr, IfOk, OnOk, length};
+ghost use Rattle.coniks_proof.specs.Batches.{Operation};
 ghost use Rattle.coniks_proof.specs.Octets.{Octets};
 ghost use Rattle.coniks_proof.specs.Registry.{Registry};
-ghost use Rattle.coniks_directory.specs.Batches.{AreWorkers, IsBatchFault, IsLimit, operations};
+ghost use Rattle.coniks_directory.specs.Batches.{IsBatchFault};
+ghost use Rattle.coniks_directory.specs.declared.batch.BatchFault.TheVariants.{BatchTooLong};
 
 use coniks_proof::{Bytes, MAX_KEY, MAX_NAME, MAX_OPERATIONS, Opening};
-use coniks_work::{MAX_DEPTH, MAX_WORKERS};
+use coniks_work::{MAX_DEPTH, MAX_WORKERS, Parallelism, ParallelismFault};
 use thiserror::Error;
 
 /// The kind of an operation: it registers a new name, or changes the key of a registered one.
@@ -63,25 +65,33 @@ pub enum BatchFault {
     OutOfMemory,
 }
 
-/// Checks that the workers, the split depth and the batch's length are within their limits.
+/// Returns the parallelism of these numbers, if both are within their limits.
 ///
 /// # Errors
 ///
-/// `Workers`, `Depth` or `BatchTooLong`, the first that applies.
-pub(crate) fn within_limits(ops: &[Op], depth: usize, workers: usize) -> Result<(), BatchFault>
-    ensures workers { OnOk result (AreWorkers workers) }
-    ensures depth { OnOk result (depth ≤ MAX_DEPTH) }
-    ensures few { OnOk result (length ops.now ≤ MAX_OPERATIONS) }
-    ensures refused { IfErr result
-        (λ fault. (index_of : Octets → Octets) (registry : Registry) → IsBatchFault index_of registry (operations ops.now) depth workers fault) }
-    ensures limit { IfErr result IsLimit }
+/// `Workers` or `Depth`, the first that applies.
+pub(crate) fn parallelism_of(depth: usize, workers: usize) -> Result<Parallelism, BatchFault>
+    ensures workers { IfOk result (λ parallelism. parallelism.workers ≡ workers) }
+    ensures depth { IfOk result (λ parallelism. parallelism.depth ≡ depth) }
+    ensures refused { IfErr result (λ fault. (index_of : Octets → Octets) (registry : Registry) (ops : List Operation)
+        → IsBatchFault index_of registry ops depth workers fault) }
 {
-    if workers == 0 || workers > MAX_WORKERS {
-        return Err(BatchFault::Workers);
+    match Parallelism::new(workers, depth) {
+        Ok(parallelism) => Ok(parallelism),
+        Err(ParallelismFault::Workers) => Err(BatchFault::Workers),
+        Err(ParallelismFault::Depth) => Err(BatchFault::Depth),
     }
-    if depth > MAX_DEPTH {
-        return Err(BatchFault::Depth);
-    }
+}
+
+/// Checks that the batch's length is within its limit.
+///
+/// # Errors
+///
+/// `BatchTooLong` if it isn't.
+pub(crate) fn check_length(ops: &[Op]) -> Result<(), BatchFault>
+    ensures few { OnOk result (length ops.now ≤ MAX_OPERATIONS) }
+    ensures refused { IfErr result (λ fault. (fault ≡ BatchTooLong) × (MAX_OPERATIONS < length ops.now)) }
+{
     if ops.len() > MAX_OPERATIONS {
         return Err(BatchFault::BatchTooLong);
     }

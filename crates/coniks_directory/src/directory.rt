@@ -1,14 +1,13 @@
 //! The directory.
 
-ghost use Rattle.std.specs.Prelude.{◌≡◌, ◌≢◌, ◌<◌, ◌≤◌, ◌+◌, ◌-◌, ◌^◌, ◌++◌, ◌∷◌, [], None, Some, IfErr, IfOk, OnErr, OnOk, length, option_map, true};
-ghost use Rattle.coniks_chain.specs.Entries.{body_bytes};
+ghost use Rattle.std.specs.Prelude.{◌≡◌, ◌≤◌, None, Some, IfErr, IfOk, OnErr, OnOk, length, option_map};
 ghost use Rattle.coniks_proof.specs.Batches.{after};
 ghost use Rattle.coniks_proof.specs.Octets.{Octets};
 ghost use Rattle.coniks_proof.specs.Registry.{has_name};
 ghost use Rattle.coniks_tree.specs.Parts.{KeepsNone};
 ghost use Rattle.coniks_directory.specs.Batches.{IsAccepted, IsBatchFault, most_anew, most_nodes, operations};
 ghost use Rattle.coniks_directory.specs.Chain.{IsChainOf};
-ghost use Rattle.coniks_directory.specs.Directories.{HasGoodChain, IsAlike, NextBody, NextBodyBy, entry, heads, history, registry, root_of_epoch};
+ghost use Rattle.coniks_directory.specs.Directories.{IsAlike, NextBodyBy, entry, heads, history, registry, root_of_epoch};
 ghost use Rattle.coniks_directory.specs.History.{AllHaveOwnIndices, AreRising, AreUnder, nonce_bytes, numbers_of};
 ghost use Rattle.coniks_directory.specs.Lookups.{IsAcceptedAt, IsAcceptedUnder, IsFound, IsMissed};
 ghost use Rattle.coniks_directory.specs.Updates.{HasRefused, IsUpdate, IsUpdateOf, RotatesTo};
@@ -16,7 +15,7 @@ ghost use Rattle.coniks_directory.specs.Updates.{HasRefused, IsUpdate, IsUpdateO
 mod restoring;
 mod supplying;
 
-use crate::batch::{BatchFault, Op, within_limits};
+use crate::batch::{BatchFault, Op, check_length, parallelism_of};
 use crate::bindings::{BindingsFault, IndexedBinding, bindings_of};
 use crate::conflicts::{holder_at, is_of};
 use crate::install::{enter, head_of, last_link, make_body, may_install, put_head, signed};
@@ -29,7 +28,7 @@ use crate::update::{CommitFault, InstallFault, Prepared, in_install, in_prepare}
 use coniks_chain::{Body, Entry, Sign};
 use coniks_proof::{Digest, Hash32, Index, MAX_NAME, Nonce, Proof};
 use coniks_shared::{Board, Publisher};
-use coniks_work::Gate;
+use coniks_work::{Gate, Parallelism};
 pub use restoring::Restoring;
 use std::alloc::Global;
 use std::marker::Model;
@@ -266,7 +265,8 @@ impl<H: Hash32, X: IndexSource> Directory<H, X> {
 }
 
 impl<H: Hash32, X: IndexSource> Directory<H, X> {
-    ghost use Rattle.coniks_directory.specs.Updates.{Grows, IsRefused, LeavesSigner, MayInstall, base_of, nodes_added, refusals, shown_after};
+    ghost use Rattle.coniks_directory.specs.Installs.{AddsUpdate, HasSigned, IsInstallResult, IsReady, Keeps, update_body};
+    ghost use Rattle.coniks_directory.specs.Updates.{LeavesSigner, refusals};
 
     /// Installs an update under a later epoch, and returns the epoch's entry.
     ///
@@ -297,39 +297,21 @@ impl<H: Hash32, X: IndexSource> Directory<H, X> {
         board: &Board,
     ) -> Result<Entry, (InstallFault, Prepared)>
         requires update { IsUpdateOf (H.digest_of self.old.hash) (X.index_of self.old.index) self.old.state update }
-        requires made { S.made_of signer.old < 2 ^ 64 - 1 }
-        requires refused { S.refused_of signer.old < 2 ^ 64 - 1 }
-        requires table { publisher.old.table ≡ board.now.table }
-        requires published { publisher.old.heads ≡ heads H.digest_of self.old }
+        requires ready { IsReady H.digest_of S.made_of S.refused_of self.old signer.old publisher.old board.now }
 
-        // What is installed.
-        ensures history { OnOk result (history self.new ≡ history self.old ++ shown_after self.old.state update t ∷ []) }
-        ensures chain { IfOk result (λ entry. self.new.state.chain ≡ self.old.state.chain ++ entry ∷ []) }
-        ensures nodes { OnOk result (length self.new.state.nodes ≡ length self.old.state.nodes + nodes_added update) }
-        ensures body { IfOk result (λ entry. entry.body ≡ NextBody H.digest_of X.index_of self.old (shown_after self.old.state update t)) }
-        ensures may { OnOk result (MayInstall self.old.state (base_of update) t (length publisher.old.heads) board.now.capacity) }
+        // An entry.
+        ensures installed { IfOk result (AddsUpdate H.digest_of X.index_of self.old self.new update t) }
+        ensures signed { IfOk result (HasSigned S.made_of S.refused_of S.last_of S.signs S.verdict_of signer.old signer.new) }
+
+        // An entry or an error.
+        ensures outcome { IsInstallResult self.old.state update t (length publisher.old.heads) board.now.capacity result }
         ensures same { IsAlike self.new self.old }
-        ensures grows { Grows self.old.state self.new.state }
-
-        // The one signature that the signer made is the one that is stored in the chain.
-        ensures made { OnOk result ((S.made_of signer.new ≡ S.made_of signer.old + 1) × (S.refused_of signer.new ≡ S.refused_of signer.old)) }
-        ensures signed { IfOk result (λ entry. S.last_of signer.new ≡ Some entry) }
-        ensures asked { IfOk result (λ entry. S.signs signer.old (body_bytes entry.body) (Some entry.signature) signer.new) }
-        ensures verdict { IfOk result (λ entry. S.verdict_of signer.new (body_bytes entry.body) entry.signature.0 ≡ true) }
-        ensures good { HasGoodChain H.digest_of (S.verdict_of signer.old) self.old → HasGoodChain H.digest_of (S.verdict_of signer.new) self.new }
-        ensures verdicts_kept { (bytes signature : Octets) → S.verdict_of signer.new bytes signature ≡ S.verdict_of signer.old bytes signature }
-
-        // The heads on the board.
-        ensures heads { publisher.new.heads ≡ heads H.digest_of self.new }
-        ensures table { publisher.new.table ≡ publisher.old.table }
+        ensures kept { Keeps H.digest_of S.verdict_of self.old self.new signer.old signer.new publisher.old publisher.new }
 
         // An error.
-        ensures refused { IfErr result (λ r. IsRefused self.old.state (base_of update) t (length publisher.old.heads) board.now.capacity r.0) }
         ensures unchanged { OnErr result ((self.new ≡ self.old) × (publisher.new ≡ publisher.old)) }
-        ensures handed_back { IfErr result (λ r. r.1 ≡ update) }
         ensures unsigned { IfErr result (λ r. HasRefused S.made_of S.refused_of S.last_of signer.old signer.new (refusals r.0)) }
-        ensures unasked { IfErr result
-            (λ r. LeavesSigner S.signs (NextBody H.digest_of X.index_of self.old (shown_after self.old.state update t)) signer.old signer.new r.0) }
+        ensures unasked { IfErr result (λ r. LeavesSigner S.signs (update_body H.digest_of X.index_of self.old update t) signer.old signer.new r.0) }
     {
         let (published, capacity) = (publisher.published(), board.capacity());
         if let Err(fault) = may_install(&self.held, update.base, t, published, capacity) {
@@ -350,7 +332,8 @@ impl<H: Hash32, X: IndexSource> Directory<H, X> {
 impl<H: Hash32 + Sync, X: IndexSource> Directory<H, X> {
     ghost use Rattle.coniks_directory.specs.Built.{AddsFew};
     ghost use Rattle.coniks_directory.specs.Nodes.{epoch_nodes};
-    ghost use Rattle.coniks_directory.specs.Updates.{CommitLeavesSigner, Grows, IsCommitFault, MayInstall, commit_refusals, nodes_added, registry_after, shown_with};
+    ghost use Rattle.coniks_directory.specs.Installs.{AddsBatch, HasSigned, IsCommitResult, IsReady, Keeps, batch_body};
+    ghost use Rattle.coniks_directory.specs.Updates.{CommitLeavesSigner, commit_refusals, nodes_added, registry_after};
 
     /// Checks a batch and prepares its update, which `install` installs.
     ///
@@ -391,8 +374,7 @@ impl<H: Hash32 + Sync, X: IndexSource> Directory<H, X> {
     {
         let build = Build {
             rt,
-            depth,
-            workers,
+            parallelism: parallelism_of(depth, workers)?,
             gate,
         };
         self.prepared(&build, None, ops)
@@ -427,8 +409,7 @@ impl<H: Hash32 + Sync, X: IndexSource> Directory<H, X> {
     {
         let build = Build {
             rt,
-            depth,
-            workers,
+            parallelism: parallelism_of(depth, workers)?,
             gate,
         };
         self.prepared(&build, Some(nonce), ops)
@@ -446,10 +427,10 @@ impl<H: Hash32 + Sync, X: IndexSource> Directory<H, X> {
         ensures registry { IfOk result (λ p. registry_after self.now.state p ≡ after (registry self.now) (operations ops.now)) }
         ensures nodes { IfOk result (λ p. nodes_added p ≡ epoch_nodes (X.index_of self.now.index) (history self.now) (nonce_bytes nonce) (operations ops.now)) }
         ensures few { IfOk result (AddsFew self.now.state (nonce_bytes nonce) ops.now) }
-        ensures accepted { OnOk result (IsAccepted (X.index_of self.now.index) (registry self.now) (operations ops.now) build.now.depth build.now.workers) }
-        ensures refused { IfErr result (IsBatchFault (X.index_of self.now.index) (registry self.now) (operations ops.now) build.now.depth build.now.workers) }
+        ensures accepted { OnOk result (IsAccepted (X.index_of self.now.index) (registry self.now) (operations ops.now) build.now.parallelism.depth build.now.parallelism.workers) }
+        ensures refused { IfErr result (IsBatchFault (X.index_of self.now.index) (registry self.now) (operations ops.now) build.now.parallelism.depth build.now.parallelism.workers) }
     {
-        within_limits(ops, build.depth, build.workers)?;
+        check_length(ops)?;
         let origin = Origin {
             alloc: self.alloc,
             h: &self.h,
@@ -483,45 +464,36 @@ impl<H: Hash32 + Sync, X: IndexSource> Directory<H, X> {
         publisher: &mut Publisher,
         board: &Board,
     ) -> Result<Entry, CommitFault>
-        requires made { S.made_of signer.old < 2 ^ 64 - 1 }
-        requires refused { S.refused_of signer.old < 2 ^ 64 - 1 }
-        requires table { publisher.old.table ≡ board.now.table }
-        requires published { publisher.old.heads ≡ heads H.digest_of self.old }
+        requires { IsReady H.digest_of S.made_of S.refused_of self.old signer.old publisher.old board.now }
 
-        // What is installed.
-        ensures history { OnOk result (history self.new ≡ history self.old ++ shown_with self.old.state None (operations ops.now) t ∷ []) }
-        ensures chain { IfOk result (λ entry. self.new.state.chain ≡ self.old.state.chain ++ entry ∷ []) }
-        ensures nodes { OnOk result (length self.new.state.nodes ≤ length self.old.state.nodes + most_nodes (history self.old) (length ops.now)) }
-        ensures none { OnOk result (length ops.now ≡ 0 → length self.new.state.nodes ≡ length self.old.state.nodes + most_nodes (history self.old) 0) }
-        ensures accepted { OnOk result (IsAccepted (X.index_of self.old.index) (registry self.old) (operations ops.now) depth workers) }
-        ensures may { OnOk result (MayInstall self.old.state (length self.old.state.epochs) t (length publisher.old.heads) board.now.capacity) }
+        // An entry.
+        ensures installed { IfOk result (AddsBatch H.digest_of X.index_of self.old self.new None ops.now t) }
+        ensures signed { IfOk result (HasSigned S.made_of S.refused_of S.last_of S.signs S.verdict_of signer.old signer.new) }
+
+        // An entry or an error.
+        ensures outcome { IsCommitResult X.index_of self.old ops.now depth workers t (length publisher.old.heads) board.now.capacity result }
         ensures same { IsAlike self.new self.old }
-        ensures grows { Grows self.old.state self.new.state }
-
-        // The one signature that the signer made is the one that is stored in the chain.
-        ensures made { OnOk result ((S.made_of signer.new ≡ S.made_of signer.old + 1) × (S.refused_of signer.new ≡ S.refused_of signer.old)) }
-        ensures signed { IfOk result (λ entry. S.last_of signer.new ≡ Some entry) }
-        ensures asked { IfOk result (λ entry. S.signs signer.old (body_bytes entry.body) (Some entry.signature) signer.new) }
-        ensures verdict { IfOk result (λ entry. S.verdict_of signer.new (body_bytes entry.body) entry.signature.0 ≡ true) }
-        ensures good { HasGoodChain H.digest_of (S.verdict_of signer.old) self.old → HasGoodChain H.digest_of (S.verdict_of signer.new) self.new }
-        ensures verdicts_kept { (bytes signature : Octets) → S.verdict_of signer.new bytes signature ≡ S.verdict_of signer.old bytes signature }
-
-        // The heads on the board.
-        ensures heads { publisher.new.heads ≡ heads H.digest_of self.new }
-        ensures table { publisher.new.table ≡ publisher.old.table }
+        ensures kept { Keeps H.digest_of S.verdict_of self.old self.new signer.old signer.new publisher.old publisher.new }
 
         // An error.
-        ensures refused { IfErr result
-            (IsCommitFault (X.index_of self.old.index) self.old.state (operations ops.now) depth workers t (length publisher.old.heads) board.now.capacity) }
         ensures unchanged { OnErr result ((self.new ≡ self.old) × (publisher.new ≡ publisher.old)) }
         ensures unsigned { IfErr result (λ fault. HasRefused S.made_of S.refused_of S.last_of signer.old signer.new (commit_refusals fault)) }
-        ensures unasked { IfErr result
-            (CommitLeavesSigner S.signs (NextBody H.digest_of X.index_of self.old (shown_with self.old.state None (operations ops.now) t))
-            signer.old signer.new) }
+        ensures unasked { IfErr result (CommitLeavesSigner S.signs (batch_body H.digest_of X.index_of self.old None ops.now t) signer.old signer.new) }
     {
-        self.commit_with(
-            rt, None, ops, depth, workers, gate, t, signer, publisher, board,
-        )
+        match parallelism_of(depth, workers) {
+            Ok(parallelism) => self.commit_with(
+                rt,
+                None,
+                ops,
+                parallelism,
+                gate,
+                t,
+                signer,
+                publisher,
+                board,
+            ),
+            Err(fault) => Err(CommitFault::Batch(fault)),
+        }
     }
 
     /// Prepares a batch and installs its update, as `commit` does, with an optional new nonce.
@@ -537,58 +509,38 @@ impl<H: Hash32 + Sync, X: IndexSource> Directory<H, X> {
         rt: &R,
         nonce: Option<Nonce>,
         ops: &[Op],
-        depth: usize,
-        workers: usize,
+        parallelism: Parallelism,
         gate: &G,
         t: u64,
         signer: &mut S,
         publisher: &mut Publisher,
         board: &Board,
     ) -> Result<Entry, CommitFault>
-        requires made { S.made_of signer.old < 2 ^ 64 - 1 }
-        requires refused { S.refused_of signer.old < 2 ^ 64 - 1 }
-        requires table { publisher.old.table ≡ board.now.table }
-        requires published { publisher.old.heads ≡ heads H.digest_of self.old }
+        requires { IsReady H.digest_of S.made_of S.refused_of self.old signer.old publisher.old board.now }
 
-        // What is installed.
-        ensures history { OnOk result (history self.new ≡ history self.old ++ shown_with self.old.state (nonce_bytes nonce) (operations ops.now) t ∷ []) }
-        ensures chain { IfOk result (λ entry. self.new.state.chain ≡ self.old.state.chain ++ entry ∷ []) }
-        ensures nodes { OnOk result (length self.new.state.nodes ≡ length self.old.state.nodes + epoch_nodes
-            (X.index_of self.old.index) (history self.old) (nonce_bytes nonce) (operations ops.now)) }
-        ensures few { OnOk result (nonce ≡ None → length self.new.state.nodes ≤ length self.old.state.nodes + most_nodes (history self.old) (length ops.now)) }
-        ensures accepted { OnOk result (IsAccepted (X.index_of self.old.index) (registry self.old) (operations ops.now) depth workers) }
-        ensures may { OnOk result (MayInstall self.old.state (length self.old.state.epochs) t (length publisher.old.heads) board.now.capacity) }
+        // An entry.
+        ensures installed { IfOk result (AddsBatch H.digest_of X.index_of self.old self.new nonce ops.now t) }
+        ensures signed { IfOk result (HasSigned S.made_of S.refused_of S.last_of S.signs S.verdict_of signer.old signer.new) }
+
+        // An entry or an error.
+        ensures outcome { IsCommitResult X.index_of self.old ops.now parallelism.depth parallelism.workers t (length publisher.old.heads) board.now.capacity result }
         ensures same { IsAlike self.new self.old }
-        ensures grows { Grows self.old.state self.new.state }
-
-        // The one signature that the signer made is the one that is stored in the chain.
-        ensures made { OnOk result ((S.made_of signer.new ≡ S.made_of signer.old + 1) × (S.refused_of signer.new ≡ S.refused_of signer.old)) }
-        ensures signed { IfOk result (λ entry. S.last_of signer.new ≡ Some entry) }
-        ensures asked { IfOk result (λ entry. S.signs signer.old (body_bytes entry.body) (Some entry.signature) signer.new) }
-        ensures verdict { IfOk result (λ entry. S.verdict_of signer.new (body_bytes entry.body) entry.signature.0 ≡ true) }
-        ensures good { HasGoodChain H.digest_of (S.verdict_of signer.old) self.old → HasGoodChain H.digest_of (S.verdict_of signer.new) self.new }
-        ensures verdicts_kept { (bytes signature : Octets) → S.verdict_of signer.new bytes signature ≡ S.verdict_of signer.old bytes signature }
-
-        // The heads on the board.
-        ensures heads { publisher.new.heads ≡ heads H.digest_of self.new }
-        ensures table { publisher.new.table ≡ publisher.old.table }
+        ensures kept { Keeps H.digest_of S.verdict_of self.old self.new signer.old signer.new publisher.old publisher.new }
 
         // An error.
-        ensures refused { IfErr result
-            (IsCommitFault (X.index_of self.old.index) self.old.state (operations ops.now) depth workers t (length publisher.old.heads) board.now.capacity) }
         ensures unchanged { OnErr result ((self.new ≡ self.old) × (publisher.new ≡ publisher.old)) }
         ensures unsigned { IfErr result (λ fault. HasRefused S.made_of S.refused_of S.last_of signer.old signer.new (commit_refusals fault)) }
-        ensures unasked { IfErr result
-            (CommitLeavesSigner S.signs (NextBody H.digest_of X.index_of self.old (shown_with self.old.state (nonce_bytes nonce) (operations ops.now) t))
-            signer.old signer.new) }
+        ensures unasked { IfErr result (CommitLeavesSigner S.signs (batch_body H.digest_of X.index_of self.old nonce ops.now t) signer.old signer.new) }
     {
         let build = Build {
             rt,
-            depth,
-            workers,
+            parallelism,
             gate,
         };
         let update = in_prepare(self.prepared(&build, nonce, ops))?;
-        in_install(self.install(update, t, signer, publisher, board))
+        match self.install(update, t, signer, publisher, board) {
+            Ok(entry) => Ok(entry),
+            Err((fault, _)) => Err(in_install(fault)),
+        }
     }
 }

@@ -1,17 +1,17 @@
 //! The steps of an install.
 
-ghost use Rattle.std.specs.Prelude.{◌≡◌, ◌≢◌, ◌<◌, ◌≤◌, ◌+◌, ◌-◌, ◌^◌, ◌++◌, ◌∷◌, [], List, ℕ, Option, None, Some, IfErr, IfOk, OnOk, length, vec_len, vec_capacity, true};
+ghost use Rattle.std.specs.Prelude.{◌≡◌, ◌≢◌, ◌<◌, ◌+◌, ◌-◌, ◌^◌, ◌++◌, ◌∷◌, [], List, ℕ, Option, None, IfErr, IfOk, OnOk, length, vec_len, vec_capacity};
 ghost use Rattle.coniks_proof.specs.Octets.{Octets};
 ghost use Rattle.coniks_chain.specs.Chain.{before_at, link_before};
-ghost use Rattle.coniks_chain.specs.Entries.{body_bytes};
 ghost use Rattle.coniks_chain.specs.declared.auditor.AuditorState.{AuditorState};
 ghost use Rattle.coniks_chain.specs.declared.entry.Body.{Body};
 ghost use Rattle.coniks_shared.specs.Boards.{board_end};
-ghost use Rattle.coniks_tree.specs.Parts.{Fits, Placed, node_count};
+ghost use Rattle.coniks_tree.specs.Parts.{Fits, Placed};
 ghost use Rattle.coniks_directory.specs.Chain.{head_at, heads_of};
-ghost use Rattle.coniks_directory.specs.Installed.{IsAttached, IsEntered, IsSigned};
+ghost use Rattle.coniks_directory.specs.Installed.{HasRoom, IsAttached, IsEntered, IsSigned};
+ghost use Rattle.coniks_directory.specs.Installs.{HasSigned};
 ghost use Rattle.coniks_directory.specs.State.{State, state_of};
-ghost use Rattle.coniks_directory.specs.Updates.{IsRefused, LeavesSigner, MayInstall, nodes_added, refusals};
+ghost use Rattle.coniks_directory.specs.Updates.{HasRefused, IsRefused, LeavesSigner, MayInstall, nodes_added, refusals};
 
 use crate::epochs::Epoch;
 use crate::state::DirectoryState;
@@ -64,10 +64,7 @@ pub(crate) fn last_link(publisher: &Publisher) -> Digest
 pub(crate) fn make_room(held: &mut DirectoryState, update: &Prepared) -> Result<(), OutOfMemory>
     requires { Fits (length held.old.tree.nodes) 0 update.now.part }
     ensures same { state_of held.new ≡ state_of held.old }
-    ensures nodes { OnOk result (length held.new.tree.nodes + node_count update.now.part ≤ held.new.tree.node_room) }
-    ensures records { OnOk result (length held.new.tree.records + length update.now.records.items ≤ held.new.tree.record_room) }
-    ensures epochs { OnOk result (vec_len held.new.epochs < vec_capacity held.new.epochs) }
-    ensures chain { OnOk result (vec_len held.new.chain < vec_capacity held.new.chain) }
+    ensures room { OnOk result (HasRoom held.new update.now) }
 {
     held.tree.reserve(&update.part, update.records.len())?;
     held.epochs.try_reserve(1)?;
@@ -112,24 +109,16 @@ pub(crate) fn signed<H: Hash32, S: Sign>(
     requires made_below { S.made_of signer.old < 2 ^ 64 - 1 }
     requires refused_below { S.refused_of signer.old < 2 ^ 64 - 1 }
     ensures same { state_of held.new ≡ state_of held.old }
-    ensures nodes { OnOk result (length held.new.tree.nodes + node_count update.now.part ≤ held.new.tree.node_room) }
-    ensures records { OnOk result (length held.new.tree.records + length update.now.records.items ≤ held.new.tree.record_room) }
-    ensures epochs { OnOk result (vec_len held.new.epochs < vec_capacity held.new.epochs) }
-    ensures chain { OnOk result (vec_len held.new.chain < vec_capacity held.new.chain) }
+    ensures room { OnOk result (HasRoom held.new update.now) }
     ensures body { IfOk result (λ entry. IsSigned (H.digest_of h.now) (state_of held.old) update.now t previous.0 entry.body) }
-    ensures made { OnOk result ((S.made_of signer.new ≡ S.made_of signer.old + 1) × (S.refused_of signer.new ≡ S.refused_of signer.old)) }
-    ensures last { IfOk result (λ entry. S.last_of signer.new ≡ Some entry) }
-    ensures asked { IfOk result (λ entry. S.signs signer.old (body_bytes entry.body) (Some entry.signature) signer.new) }
+    ensures signed { IfOk result (HasSigned S.made_of S.refused_of S.last_of S.signs S.verdict_of signer.old signer.new) }
     ensures unasked { IfErr result
         (λ fault. (wanted : Body) → ((body : Body) → IsSigned (H.digest_of h.now) (state_of held.old) update.now t previous.0 body → body ≡ wanted)
         → LeavesSigner S.signs wanted signer.old signer.new fault) }
-    ensures verdict { IfOk result (λ entry. S.verdict_of signer.new (body_bytes entry.body) entry.signature.0 ≡ true) }
     ensures verdicts_kept { (bytes signature : Octets) → S.verdict_of signer.new bytes signature ≡ S.verdict_of signer.old bytes signature }
     ensures refused { IfErr result
         (λ fault. (s : State) (base published capacity : ℕ) → MayInstall s base t published capacity → IsRefused s base t published capacity fault) }
-    ensures unsigned { IfErr result
-        (λ fault. (S.made_of signer.new ≡ S.made_of signer.old) × (S.refused_of signer.new ≡ S.refused_of signer.old + refusals fault)
-        × (S.last_of signer.new ≡ S.last_of signer.old)) }
+    ensures unsigned { IfErr result (λ fault. HasRefused S.made_of S.refused_of S.last_of signer.old signer.new (refusals fault)) }
 {
     if make_room(held, update).is_err() {
         return Err(InstallFault::OutOfMemory);
@@ -187,10 +176,7 @@ pub(crate) fn enter<H: Hash32>(
 )
     requires fits { Fits (length held.old.tree.nodes) 0 update.part }
     requires placed { Placed (held.old.tree.records ++ update.records.items) update.part }
-    requires nodes { length held.old.tree.nodes + node_count update.part ≤ held.old.tree.node_room }
-    requires records { length held.old.tree.records + length update.records.items ≤ held.old.tree.record_room }
-    requires epochs { vec_len held.old.epochs < vec_capacity held.old.epochs }
-    requires chain { vec_len held.old.chain < vec_capacity held.old.chain }
+    requires room { HasRoom held.old update }
     ensures count { length held.new.tree.nodes ≡ length held.old.tree.nodes + nodes_added update }
     ensures last { held.new.chain.items ≡ held.old.chain.items ++ entry ∷ [] }
     ensures attached { (s : State) → state_of held.old ≡ s → IsAttached (H.digest_of h.now) s (state_of held.new) update t entry }

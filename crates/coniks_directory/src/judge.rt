@@ -7,7 +7,7 @@ ghost use Rattle.coniks_proof.specs.Registry.{Registered, Registry};
 ghost use Rattle.coniks_tree.specs.Trees.{table_of};
 ghost use Rattle.coniks_directory.specs.Batches.{fault_is, operation_of, operations};
 ghost use Rattle.coniks_directory.specs.Holders.{ShowsLatest};
-ghost use Rattle.coniks_directory.specs.Judged.{ArePendingRecords, AreSealed, IsJudgedFault, IsJudgedFaultAfter, IsSamePending};
+ghost use Rattle.coniks_directory.specs.Judged.{ArePendingRecords, AreCommitted, IsJudgedFault, IsJudgedFaultAfter, IsSamePending};
 
 use crate::batch::{BatchFault, Op, OpFault};
 use crate::conflicts::{holder_at, op_fault};
@@ -114,7 +114,7 @@ pub(crate) fn judged<H: Hash32, X: IndexSource>(
     requires { IfSome root (λ r. r.0 < length tree.now.nodes) }
     ensures pending { IfOk result (λ pending. ArePendingRecords (H.digest_of h.now)
         (X.index_of source.now) (map bound_by (operations ops.now)) pending.records.items pending.numbers) }
-    ensures sealed { IfOk result (λ pending. AreSealed (H.digest_of h.now) pending.records.items) }
+    ensures committed { IfOk result (λ pending. AreCommitted (H.digest_of h.now) pending.records.items) }
     ensures faultless { OnOk result ((nonce : Octets) (registry : Registry)
         → ShowsLatest (H.digest_of h.now) (X.index_of source.now) nonce (table_of tree.now) root registry
         → first_fault (X.index_of source.now) registry (operations ops.now) ≡ None) }
@@ -126,6 +126,6 @@ pub(crate) fn judged<H: Hash32, X: IndexSource>(
         return Err(BatchFault::OutOfMemory);
     };
     judge_all(alloc, source, tree, root, &mut pending, ops)?;
-    pending.seal(h);
+    pending.commit_records(h);
     Ok(pending)
 }

@@ -50,7 +50,8 @@
 //!     ops: &ops,
 //!     indices: &indices,
 //! };
-//! let update = directory.prepare_supplied(rt, &batch, 1, 2, &Open)?;
+//! let parallelism = Parallelism::new(2, 1)?;
+//! let update = directory.prepare_supplied(rt, &batch, parallelism, &Open)?;
 //! let installed = directory.install_supplied(update, 1, &mut signer, &mut publisher, &board);
 //! ```
 //!
@@ -64,6 +65,7 @@
 pub mod batch;
 pub mod bindings;
 mod changes;
+mod commitments;
 mod conflicts;
 pub mod directory;
 pub mod epochs;
@@ -76,7 +78,6 @@ pub mod lookup;
 mod pending;
 mod preparing;
 pub mod restoring;
-mod sealing;
 pub mod source;
 mod state;
 pub mod supplied;

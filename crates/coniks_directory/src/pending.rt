@@ -6,19 +6,19 @@ ghost use Rattle.coniks_proof.specs.Octets.{Octets};
 ghost use Rattle.coniks_proof.specs.Registry.{AreWithin, IsFree, IsLength, Registered, has_name};
 ghost use Rattle.coniks_directory.specs.Batches.{operation_of};
 ghost use Rattle.coniks_directory.specs.Holders.{HolderIs};
-ghost use Rattle.coniks_directory.specs.Judged.{ArePendingRecords, AreSealed, IsPendingRecord, IsSamePending};
+ghost use Rattle.coniks_directory.specs.Judged.{ArePendingRecords, AreCommitted, IsPendingRecord, IsSamePending};
 ghost use Rattle.coniks_directory.specs.State.{registered_of};
 
 use crate::batch::Op;
+use crate::commitments::commit_all;
 use crate::conflicts::is_of;
-use crate::sealing::seal_all;
 use coniks_proof::{Binding, Bytes, Digest, Hash32, Index, MAX_KEY, MAX_NAME};
 use coniks_tree::Record;
 use std::alloc::{AllocError, Global};
 use std::collections::BTreeMap;
 
 /// The commitment of a record until all operations of the batch are checked.
-const UNSEALED: Digest = Digest([0; 32]);
+const UNCOMMITTED: Digest = Digest([0; 32]);
 
 /// The records of the checked operations, in their order, and the number of the record at each index.
 #[derive(Drop)]
@@ -119,14 +119,14 @@ impl PendingRecords {
     }
 
     /// Stores its commitment in each record.
-    pub(crate) fn seal<H: Hash32>(&mut self, h: &H)
+    pub(crate) fn commit_records<H: Hash32>(&mut self, h: &H)
         requires { AreWithin (map registered_of self.old.records.items) }
-        ensures sealed { AreSealed (H.digest_of h.now) self.new.records.items }
+        ensures committed { AreCommitted (H.digest_of h.now) self.new.records.items }
         ensures pending { (hash index_of : Octets → Octets) (bound : List Registered)
             → ArePendingRecords hash index_of bound self.old.records.items self.old.numbers
             → ArePendingRecords hash index_of bound self.new.records.items self.new.numbers }
     {
-        seal_all(h, &mut self.records);
+        commit_all(h, &mut self.records);
     }
 }
 
@@ -152,6 +152,6 @@ pub(crate) fn record_of(alloc: Global, index: Index, op: &Op) -> Result<Record, 
         index,
         binding: Binding { name, key },
         opening: op.opening,
-        commitment: UNSEALED,
+        commitment: UNCOMMITTED,
     })
 }

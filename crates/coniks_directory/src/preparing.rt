@@ -1,17 +1,17 @@
 //! The update of a batch.
 
-ghost use Rattle.std.specs.Prelude.{◌≡◌, ◌<◌, ◌≤◌, ◌-◌, ◌^◌, All, IfErr, IfOk, IfSome, List, None, OnOk, false, length, map};
+ghost use Rattle.std.specs.Prelude.{◌≡◌, ◌<◌, ◌-◌, ◌^◌, All, IfErr, IfOk, IfSome, List, None, OnOk, false, length, map};
 ghost use Rattle.std.specs.BTreeMap.{values};
 ghost use Rattle.coniks_proof.specs.Batches.{Operation, bound_by, first_fault};
 ghost use Rattle.coniks_proof.specs.Octets.{Octets};
 ghost use Rattle.coniks_proof.specs.Registry.{Registry};
 ghost use Rattle.coniks_tree.specs.Trees.{table_of};
 ghost use Rattle.coniks_tree.specs.Parts.{Fits, node_count};
-ghost use Rattle.coniks_directory.specs.Batches.{AreWorkers, operations};
+ghost use Rattle.coniks_directory.specs.Batches.{operations};
 ghost use Rattle.coniks_directory.specs.Built.{IsBuilt, IsUpdateBy};
 ghost use Rattle.coniks_directory.specs.History.{latest_registry, nonce_after, nonce_bytes, version_after};
 ghost use Rattle.coniks_directory.specs.Holders.{ShowsLatest};
-ghost use Rattle.coniks_directory.specs.Judged.{ArePendingRecords, AreSealed, IsJudgedFault};
+ghost use Rattle.coniks_directory.specs.Judged.{ArePendingRecords, AreCommitted, IsJudgedFault};
 ghost use Rattle.coniks_directory.specs.State.{Whole, history_of, state_of};
 
 use crate::batch::{BatchFault, Op};
@@ -24,7 +24,7 @@ use crate::state::DirectoryState;
 use crate::update::Prepared;
 use coniks_proof::{Hash32, Nonce};
 use coniks_tree::{OutOfMemory, Part, Root};
-use coniks_work::{Gate, MAX_DEPTH};
+use coniks_work::{Gate, Parallelism};
 use std::alloc::Global;
 use std::thread::Threads;
 
@@ -37,12 +37,11 @@ pub(crate) struct Origin<'a, H: Hash32, X: IndexSource> {
     pub(crate) held: &'a DirectoryState,
 }
 
-/// The way in which an epoch's tree is built: the worker threads, the gate before each job, and the split depth.
+/// The way in which an epoch's tree is built: the worker threads and the split depth, and the gate before each job.
 #[derive(Drop)]
 pub(crate) struct Build<'a, G: Gate + Sync, R: Threads + Sync> {
     pub(crate) rt: &'a R,
-    pub(crate) depth: usize,
-    pub(crate) workers: usize,
+    pub(crate) parallelism: Parallelism,
     pub(crate) gate: &'a G,
 }
 
@@ -80,13 +79,11 @@ pub(crate) fn part_of<H: Hash32 + Sync, X: IndexSource, G: Gate + Sync, R: Threa
 ) -> Result<Part, OutOfMemory>
     requires numbered { All (λ n. n < length pending.now.records.items) (values pending.now.numbers) }
     requires root { IfSome root (λ r. r.0 < length origin.now.held.now.tree.nodes) }
-    requires depth { build.now.depth ≤ MAX_DEPTH }
-    requires workers { AreWorkers build.now.workers }
     ensures { IfOk result (λ part. (index_of : Octets → Octets) (latest : Octets) (registry : Registry) (ops : List Operation)
         → (is_anew ≡ false → latest ≡ nonce.now.0)
         → ShowsLatest (H.digest_of origin.now.h.now) index_of latest (table_of origin.now.held.now.tree) root registry
         → ArePendingRecords (H.digest_of origin.now.h.now) index_of (map bound_by ops) pending.now.records.items pending.now.numbers
-        → AreSealed (H.digest_of origin.now.h.now) pending.now.records.items → first_fault index_of registry ops ≡ None
+        → AreCommitted (H.digest_of origin.now.h.now) pending.now.records.items → first_fault index_of registry ops ≡ None
         → IsBuilt (H.digest_of origin.now.h.now) index_of nonce.now.0
         (table_of origin.now.held.now.tree) root registry ops is_anew part pending.now.records.items) }
 {
@@ -101,8 +98,8 @@ pub(crate) fn part_of<H: Hash32 + Sync, X: IndexSource, G: Gate + Sync, R: Threa
         &held.tree,
         growth.root,
         &growth.changes,
-        build.depth,
-        build.workers,
+        build.parallelism.depth(),
+        build.parallelism.workers(),
         build.gate,
     )?)
 }
@@ -139,7 +136,7 @@ pub(crate) fn update_of(
 
 /// Prepares the update of a batch, with a new nonce or under the latest one.
 ///
-/// The batch is checked before any node is made. Workers, split depth and the batch's length are within their limits.
+/// The batch is checked before any node is made. Its length is within its limit.
 pub(crate) fn update_on<H: Hash32 + Sync, X: IndexSource, G: Gate + Sync, R: Threads + Sync>(
     build: &Build<'_, G, R>,
     origin: &Origin<'_, H, X>,
@@ -147,8 +144,6 @@ pub(crate) fn update_on<H: Hash32 + Sync, X: IndexSource, G: Gate + Sync, R: Thr
     ops: &[Op],
 ) -> Result<Prepared, BatchFault>
     requires whole { Whole (H.digest_of origin.now.h.now) (X.index_of origin.now.source.now) (state_of origin.now.held.now) }
-    requires depth { build.now.depth ≤ MAX_DEPTH }
-    requires workers { AreWorkers build.now.workers }
     ensures update { IfOk result (IsUpdateBy (H.digest_of origin.now.h.now)
         (X.index_of origin.now.source.now) (state_of origin.now.held.now) (nonce_bytes new_nonce) ops.now) }
     ensures faultless { OnOk result

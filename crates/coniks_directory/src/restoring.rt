@@ -5,7 +5,6 @@ ghost use Rattle.coniks_proof.specs.Batches.{Operation, after};
 ghost use Rattle.coniks_proof.specs.Octets.{Octets};
 ghost use Rattle.coniks_proof.specs.Registry.{root_of};
 ghost use Rattle.coniks_tree.specs.Parts.{Fits, Placed};
-ghost use Rattle.coniks_directory.specs.Batches.{AreWorkers};
 ghost use Rattle.coniks_directory.specs.Installed.{IsFirst};
 ghost use Rattle.coniks_directory.specs.Nodes.{epoch_nodes};
 ghost use Rattle.coniks_directory.specs.Restored.{IsEntryFault, IsRestorable, IsRestoreFault, IsRestoring, MayBegin, Restores, registrations, said_before};
@@ -21,7 +20,7 @@ use crate::update::Prepared;
 use coniks_chain::{AuditorState, Entry};
 use coniks_proof::{Digest, Hash32};
 use coniks_tree::OutOfMemory;
-use coniks_work::{Gate, MAX_DEPTH, MAX_WORKERS};
+use coniks_work::Gate;
 use std::alloc::Global;
 use std::thread::Threads;
 use thiserror::Error;
@@ -33,10 +32,6 @@ pub enum RestoreFault {
     NotLater,
     #[error("the entry's version is neither 1 nor 2")]
     Version,
-    #[error("the number of workers isn't 1 to {}", MAX_WORKERS)]
-    Workers,
-    #[error("the depth is more than {}", MAX_DEPTH)]
-    Depth,
     #[error("the root of the bindings isn't the entry's")]
     RootDiffers,
     #[error("out of memory")]
@@ -70,22 +65,6 @@ fn said_before(entry: &Entry) -> AuditorState
     }
 }
 
-/// Checks that the workers and the split depth are within their limits.
-fn build_limits(depth: usize, workers: usize) -> Result<(), RestoreFault>
-    ensures workers { OnOk result (AreWorkers workers) }
-    ensures depth { OnOk result (depth ≤ MAX_DEPTH) }
-    ensures refused { IfErr result (λ fault. (hash index_of : Octets → Octets) (entry : Entry) (ops : List Operation)
-        → IsRestoreFault hash index_of entry ops depth workers fault) }
-{
-    if workers == 0 || workers > MAX_WORKERS {
-        return Err(RestoreFault::Workers);
-    }
-    if depth > MAX_DEPTH {
-        return Err(RestoreFault::Depth);
-    }
-    Ok(())
-}
-
 /// Returns the update of all bindings on the state of `open`, with the version and the nonce of the entry.
 fn first_update<H: Hash32 + Sync, X: IndexSource, G: Gate + Sync, R: Threads + Sync>(
     build: &Build<'_, G, R>,
@@ -93,8 +72,6 @@ fn first_update<H: Hash32 + Sync, X: IndexSource, G: Gate + Sync, R: Threads + S
     entry: &Entry,
     mut pending: PendingRecords,
 ) -> Result<Prepared, OutOfMemory>
-    requires depth { build.now.depth ≤ MAX_DEPTH }
-    requires workers { AreWorkers build.now.workers }
     requires restoring { IsRestoring (H.digest_of origin.now.h.now) (X.index_of origin.now.source.now)
         entry.now (state_of origin.now.held.now) pending.records.items pending.numbers }
     ensures update { IfOk result (IsUpdate (H.digest_of origin.now.h.now) (X.index_of origin.now.source.now) (state_of origin.now.held.now)) }
@@ -104,7 +81,7 @@ fn first_update<H: Hash32 + Sync, X: IndexSource, G: Gate + Sync, R: Threads + S
     ensures nodes { IfOk result (λ p. nodes_added p ≡ epoch_nodes (X.index_of origin.now.source.now) [] None (registrations pending.records.items)) }
 {
     let nonce = entry.body.nonce;
-    pending.seal(origin.h);
+    pending.commit_records(origin.h);
     let part = part_of(build, origin, &pending, None, false, &nonce)?;
     let update = update_of(origin.held, entry.body.version, nonce, part, pending)?;
     Ok(update)
@@ -159,11 +136,10 @@ pub(crate) fn restored<H: Hash32 + Sync, X: IndexSource, G: Gate + Sync, R: Thre
     ensures restored { IfOk result (λ later. Restores entry (registrations pending.records.items) (state_of later)) }
     ensures nodes { IfOk result (λ later. length (state_of later).nodes ≡ epoch_nodes (X.index_of source.now) [] None (registrations pending.records.items)) }
     ensures accepted { OnOk result (IsRestorable (H.digest_of h.now) (X.index_of source.now)
-        entry (registrations pending.records.items) build.now.depth build.now.workers) }
+        entry (registrations pending.records.items)) }
     ensures refused { IfErr result (IsRestoreFault (H.digest_of h.now) (X.index_of source.now)
-        entry (registrations pending.records.items) build.now.depth build.now.workers) }
+        entry (registrations pending.records.items)) }
 {
-    build_limits(build.depth, build.workers)?;
     let origin = Origin {
         alloc,
         h,

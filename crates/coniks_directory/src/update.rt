@@ -5,7 +5,6 @@ ghost use Rattle.coniks_directory.specs.declared.update.CommitFault.TheVariants.
 ghost use Rattle.coniks_tree.specs.Parts.{node_count};
 
 use crate::batch::BatchFault;
-use coniks_chain::Entry;
 use coniks_proof::Nonce;
 use coniks_tree::{Part, Record};
 use thiserror::Error;
@@ -96,15 +95,9 @@ pub(crate) fn in_prepare(prepared: Result<Prepared, BatchFault>) -> Result<Prepa
     }
 }
 
-/// Returns the entry that a commit installed. The error is the install's, also if an allocation failed.
-pub(crate) fn in_install(
-    installed: Result<Entry, (InstallFault, Prepared)>,
-) -> Result<Entry, CommitFault>
-    ensures entry { IfOk installed (λ entry. result ≡ Ok entry) }
-    ensures fault { IfErr installed (λ r. result ≡ Err (Install r.0)) }
+/// Returns the error of a commit whose install returned this one, also if an allocation failed.
+pub(crate) fn in_install(fault: InstallFault) -> CommitFault
+    ensures { result ≡ Install fault }
 {
-    match installed {
-        Ok(entry) => Ok(entry),
-        Err((fault, _)) => Err(CommitFault::Install(fault)),
-    }
+    CommitFault::Install(fault)
 }

@@ -49,7 +49,7 @@ pub(crate) fn splat(k: u32) -> Four
     Four::splat(k)
 }
 
-/// The words shifted right (SHR).
+/// The words shifted right, SHR of FIPS 180-4.
 #[inline(always)]
 pub(crate) fn shift(a: Four, by: u32) -> Four
     requires { by < 32 }
@@ -58,7 +58,7 @@ pub(crate) fn shift(a: Four, by: u32) -> Four
     a >> Four::splat(by)
 }
 
-/// The words rotated right (ROTR): what falls out on the right comes in on the left, which is `left` bits away.
+/// The words rotated right, ROTR of FIPS 180-4: what falls out on the right comes in on the left, which is `left` bits away.
 #[inline(always)]
 pub(crate) fn rotate(a: Four, right: u32, left: u32) -> Four
     requires { (0 < right) × (right < 32) × (right + left ≡ 32) }
@@ -67,7 +67,7 @@ pub(crate) fn rotate(a: Four, right: u32, left: u32) -> Four
     (a >> Four::splat(right)) | (a << Four::splat(left))
 }
 
-/// Ch.
+/// The function Ch of FIPS 180-4: each bit is that of y where x has a one, and else that of z.
 #[inline(always)]
 pub(crate) fn choose(x: Four, y: Four, z: Four) -> Four
     ensures { (j : ℕ) → j < 4 → slice_index result j ≡ ch (slice_index x j) (slice_index y j) (slice_index z j) }
@@ -75,7 +75,7 @@ pub(crate) fn choose(x: Four, y: Four, z: Four) -> Four
     xor(and(x, y), and(not(x), z))
 }
 
-/// Maj, with one and: it is x if y and z differ, else y.
+/// The function Maj of FIPS 180-4: each bit is the one that most of x, y and z have. It is x's if y and z differ, else y's.
 #[inline(always)]
 pub(crate) fn majority(x: Four, y: Four, z: Four) -> Four
     ensures { (j : ℕ) → j < 4 → slice_index result j ≡ maj (slice_index x j) (slice_index y j) (slice_index z j) }
@@ -83,7 +83,7 @@ pub(crate) fn majority(x: Four, y: Four, z: Four) -> Four
     xor(y, and(xor(x, y), xor(y, z)))
 }
 
-/// The upper case Σ 0.
+/// The function Σ0 of FIPS 180-4: the exclusive or of three rotations.
 #[inline(always)]
 pub(crate) fn upper_sigma0(x: Four) -> Four
     ensures { (j : ℕ) → j < 4 → slice_index result j ≡ big_sigma0 (slice_index x j) }
@@ -91,7 +91,7 @@ pub(crate) fn upper_sigma0(x: Four) -> Four
     xor(xor(rotate(x, 2, 30), rotate(x, 13, 19)), rotate(x, 22, 10))
 }
 
-/// The upper case Σ 1.
+/// The function Σ1 of FIPS 180-4: the exclusive or of three rotations.
 #[inline(always)]
 pub(crate) fn upper_sigma1(x: Four) -> Four
     ensures { (j : ℕ) → j < 4 → slice_index result j ≡ big_sigma1 (slice_index x j) }
@@ -99,7 +99,7 @@ pub(crate) fn upper_sigma1(x: Four) -> Four
     xor(xor(rotate(x, 6, 26), rotate(x, 11, 21)), rotate(x, 25, 7))
 }
 
-/// The lower case σ 0.
+/// The function σ0 of FIPS 180-4: the exclusive or of two rotations and a shift.
 #[inline(always)]
 pub(crate) fn lower_sigma0(x: Four) -> Four
     ensures { (j : ℕ) → j < 4 → slice_index result j ≡ small_sigma0 (slice_index x j) }
@@ -107,7 +107,7 @@ pub(crate) fn lower_sigma0(x: Four) -> Four
     xor(xor(rotate(x, 7, 25), rotate(x, 18, 14)), shift(x, 3))
 }
 
-/// The lower case σ 1.
+/// The function σ1 of FIPS 180-4: the exclusive or of two rotations and a shift.
 #[inline(always)]
 pub(crate) fn lower_sigma1(x: Four) -> Four
     ensures { (j : ℕ) → j < 4 → slice_index result j ≡ small_sigma1 (slice_index x j) }

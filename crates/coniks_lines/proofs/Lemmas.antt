@@ -1,2 +1,2 @@
 -- The lemmas that proofs of other crates may cite; all others are this crate's own.
-pub use Rattle.coniks_lines.proofs.WholeRunLemmas.{run_of, run_with_board}
+pub use Rattle.coniks_lines.proofs.WholeRunLemmas.{run_of}

@@ -7,8 +7,8 @@ use Rattle.coniks_lines.specs.Known.{Source, Sink, Takes, Appends, HasNoneLeft, 
 use Rattle.coniks_lines.specs.Lines.{whole_after, rest_after, last_line, lines_of, whole_lines}
 use Rattle.coniks_lines.specs.Machine.{Answer, replies, state_after, all_accepted, output}
 use Rattle.coniks_lines.specs.Runs.{IsBeginning, WritesOn, count_after, ComesToEnd, CannotWrite, CannotRead, AnswersLine, AnswersWhole, AnswersAll, WritesPart, Stops, Because, StopsFor, AreRead, EndsWell, EndsBadly, Streams, streams}
-use Rattle.coniks_lines.specs.declared.fault.RunFault.{RunFault}
-use Rattle.coniks_lines.specs.declared.fault.RunFault.TheVariants.{Read, Write, OutOfMemory, NoBoard}
+use Rattle.coniks_lines.specs.declared.fault.LineFault.{LineFault}
+use Rattle.coniks_lines.specs.declared.fault.LineFault.TheVariants.{Read, Write, OutOfMemory}
 use Rattle.coniks_lines.proofs.KnownLemmas.{Appends-then, taken_front, none_left-is}
 use Rattle.coniks_lines.proofs.LinesLemmas.{NoNewlineBefore, whole_after-append, rest_after-append, line_ended, lines_around, no_lines}
 use Rattle.coniks_lines.proofs.MachineLemmas.{replies-append, state_after-append, all_accepted-append}
@@ -219,23 +219,21 @@ module _ {S : Type 0} (answer : S → List ℕ → Answer S) where
   not_still still (ends, inr reads) = absurd (omega (arith, reads))
 
   -- what an error says, after other lines were answered, and with more lines after them
-  because-then : (e : RunFault) (still : Source) (old mid new : Sink) (left left' : List (List ℕ)) (part : List ℕ)
+  because-then : (e : LineFault) (still : Source) (old mid new : Sink) (left left' : List (List ℕ)) (part : List ℕ)
       → WritesOn old mid → Because e (streams still still mid new) left part → Because e (streams still still old new) left' part
   because-then Read still old mid new left left' part on h = absurd (not_still still h.0)
   because-then Write still old mid new left left' part on h = (refl, CannotWrite-then old mid new on h.1)
   because-then OutOfMemory still old mid new left left' part on h = (refl, (WritesOn-then old mid new on h.1.0, h.1.1))
-  because-then NoBoard still old mid new left left' part on h = h
 
   -- what an error says where the source went on before
-  because-read : (e : RunFault) (from from' : Source) (old new : Sink) (left : List (List ℕ)) (part : List ℕ)
+  because-read : (e : LineFault) (from from' : Source) (old new : Sink) (left : List (List ℕ)) (part : List ℕ)
       → from'.failed ≡ from.failed → Because e (streams from from old new) left part → Because e (streams from from' old new) left part
   because-read Read from from' old new left part on h = absurd (not_still from h.0)
   because-read Write from from' old new left part on h = (on, h.1)
   because-read OutOfMemory from from' old new left part on h = (on, h.1)
-  because-read NoBoard from from' old new left part on h = h
 
   -- an error among later lines, after the first ones were answered
-  pub StopsFor-then : (s : S) (xs ys : List (List ℕ)) (still : Source) (old mid new : Sink) (e : RunFault) → WritesOn old mid
+  pub StopsFor-then : (s : S) (xs ys : List (List ℕ)) (still : Source) (old mid new : Sink) (e : LineFault) → WritesOn old mid
       → Appends old (replies answer s xs) mid → mid.flushes ≡ count_after old.flushes xs
       → StopsFor answer (state_after answer s xs) ys (streams still still mid new) e → StopsFor answer s (xs ++ ys) (streams still still old new) e
   unfolding Stops-then
@@ -243,13 +241,13 @@ module _ {S : Type 0} (answer : S → List ℕ → Answer S) where
       (Stops-then s xs ys old mid new wrote flushed h.0, because-then e still old mid new h.0.left h.0.left h.0.part on h.1)
 
   -- an error at the first of these lines
-  StopsFor-longer : (s : S) (xs ys : List (List ℕ)) (still : Source) (old new : Sink) (e : RunFault) → StopsFor answer s xs (streams still still old new) e
+  StopsFor-longer : (s : S) (xs ys : List (List ℕ)) (still : Source) (old new : Sink) (e : LineFault) → StopsFor answer s xs (streams still still old new) e
       → StopsFor answer s (xs ++ ys) (streams still still old new) e
   unfolding Stops-longer
   StopsFor-longer s xs ys still old new e h = (Stops-longer s xs ys old new h.0, because-then e still old old new h.0.left (h.0.left ++ ys) h.0.part (WritesOn-none old) h.1)
 
   -- an error at a line that ends in the chunk
-  pub stops_at_line : {s t : S} {held line chunk front : List ℕ} (xs ys : List ℕ) (still : Source) (e : RunFault) {old mid new : Sink} {a : Bool}
+  pub stops_at_line : {s t : S} {held line chunk front : List ℕ} (xs ys : List ℕ) (still : Source) (e : LineFault) {old mid new : Sink} {a : Bool}
       → chunk ≡ front ++ (xs ++ 10 ∷ ys) → NoNewlineBefore xs (length xs) → AnswersWhole answer s held front old mid t line a → StopsFor answer t ((line ++ xs) ∷ []) (streams still still mid new) e
       → StopsFor answer s (whole_after held chunk) (streams still still old new) e
   stops_at_line {s} {t} {held} {line} {chunk} {front} xs ys still e {old} {mid} {new} {a} parts none p h =
@@ -274,7 +272,7 @@ module _ {S : Type 0} (answer : S → List ℕ → Answer S) where
   )
 
   -- an error in a later chunk
-  pub ends_in_chunk : {s t : S} {line bytes : List ℕ} (chunk : List ℕ) {from from' : Source} {old mid new : Sink} {a : Bool} {e : RunFault}
+  pub ends_in_chunk : {s t : S} {line bytes : List ℕ} (chunk : List ℕ) {from from' : Source} {old mid new : Sink} {a : Bool} {e : LineFault}
       → Takes from (bytes ++ chunk) from' → from'.failed ≡ from.failed
       → AnswersWhole answer s [] bytes old mid t line a → StopsFor answer t (whole_after line chunk) (streams from from mid new) e
       → EndsBadly answer s (streams from from' old new) e
@@ -297,7 +295,7 @@ module _ {S : Type 0} (answer : S → List ℕ → Answer S) where
   lines_of-last line bytes some is = ap (λ (ls : List (List ℕ)). whole_after [] bytes ++ ls) (ap last_line (sym is) ∙ last_line-some line some)
 
   -- an error at the last line
-  pub ends_at_last : {s t : S} {line bytes : List ℕ} {from from' : Source} {old mid new : Sink} {a : Bool} {e : RunFault}
+  pub ends_at_last : {s t : S} {line bytes : List ℕ} {from from' : Source} {old mid new : Sink} {a : Bool} {e : LineFault}
       → line ≢ [] → Takes from bytes from' → from'.failed ≡ from.failed → ComesToEnd from from'
       → AnswersWhole answer s [] bytes old mid t line a → StopsFor answer t (line ∷ []) (streams from from mid new) e
       → EndsBadly answer s (streams from from' old new) e
@@ -420,7 +418,7 @@ module _ {S : Type 0} (answer : S → List ℕ → Answer S) where
       }
 
   -- after an error what was written begins the output of the whole input
-  pub part_of_input : {s : S} {input : List ℕ} {io : Streams} {e : RunFault}
+  pub part_of_input : {s : S} {input : List ℕ} {io : Streams} {e : LineFault}
       → io.from.left ≡ Some input → EndsBadly answer s io e → WritesPart (output answer s input) io.to io.to'
   part_of_input {s} {input} {io} {e} told h =
       let took = taken_front input io.from io.from' h.bytes told h.read in

@@ -3,8 +3,8 @@ use Rattle.std.specs.Prelude.{◌≡◌, ◌⊎◌, ℕ, ◌+◌, ◌%◌, ◌^�
 use Rattle.coniks_lines.specs.Known.{Source, Sink, Takes, Appends, HasNoneLeft, next_count}
 use Rattle.coniks_lines.specs.Lines.{whole_after, rest_after, whole_lines, lines_of}
 use Rattle.coniks_lines.specs.Machine.{Answer, replies, state_after, all_accepted, output}
-use Rattle.coniks_lines.specs.declared.fault.RunFault.{RunFault}
-use Rattle.coniks_lines.specs.declared.fault.RunFault.TheVariants.{Read, Write, OutOfMemory, NoBoard}
+use Rattle.coniks_lines.specs.declared.fault.LineFault.{LineFault}
+use Rattle.coniks_lines.specs.declared.fault.LineFault.TheVariants.{Read, Write, OutOfMemory}
 
 -- the two streams of a run, each before it and after it
 pub record Streams : Type 0 where
@@ -92,14 +92,13 @@ pub record Stops {S : Type 0} (answer : S → List ℕ → Answer S) (start : S)
   pub flushes_is : new.flushes ≡ count_after old.flushes done
 
 -- what each error means for the streams, for the lines without a reply, and for the written part of the next reply
-abbrev pub Because : RunFault → Streams → List (List ℕ) → List ℕ → Type 0
+abbrev pub Because : LineFault → Streams → List (List ℕ) → List ℕ → Type 0
 Because Read io left part = CannotRead io.from io.from' × (WritesOn io.to io.to' × ((left ≡ []) × (part ≡ [])))
 Because Write io left part = (io.from'.failed ≡ io.from.failed) × CannotWrite io.to io.to'
 Because OutOfMemory io left part = (io.from'.failed ≡ io.from.failed) × (WritesOn io.to io.to' × (part ≡ []))
-Because NoBoard io left part = ⊥
 
 -- an error stopped the run at these lines
-abbrev pub StopsFor : {S : Type 0} → (S → List ℕ → Answer S) → S → List (List ℕ) → Streams → RunFault → Type 0
+abbrev pub StopsFor : {S : Type 0} → (S → List ℕ → Answer S) → S → List (List ℕ) → Streams → LineFault → Type 0
 StopsFor answer start lines io fault = (run : Stops answer start lines io.to io.to') × Because fault io run.left run.part
 
 -- a run that came to its source's end: each line that was read has its reply
@@ -115,22 +114,17 @@ abbrev pub AreRead : Source → Source → List ℕ → List (List ℕ) → Type
 AreRead from from' bytes lines = (lines ≡ whole_lines bytes) ⊎ (ComesToEnd from from' × (lines ≡ lines_of bytes))
 
 -- a run that an error ended: the bytes that it read, their lines, and how far it came over these
-pub record EndsBadly {S : Type 0} (answer : S → List ℕ → Answer S) (start : S) (io : Streams) (fault : RunFault) : Type 0 where
+pub record EndsBadly {S : Type 0} (answer : S → List ℕ → Answer S) (start : S) (io : Streams) (fault : LineFault) : Type 0 where
   pub bytes : List ℕ
   pub lines : List (List ℕ)
   pub read : Takes io.from bytes io.from'
   pub lines_are : AreRead io.from io.from' bytes lines
   pub stops : StopsFor answer start lines io fault
 
--- the streams after an error of a run that needs a board: those of `EndsBadly`; without a board, nothing was read or written
-abbrev pub FailsWithBoard : {S : Type 0} → (S → List ℕ → Answer S) → S → Streams → RunFault → Type 0
-FailsWithBoard answer start io NoBoard = (io.from' ≡ io.from) × (io.to' ≡ io.to)
-FailsWithBoard answer start io fault = EndsBadly answer start io fault
-
 -- how a run from this state ends: well, or by an error for which `Fails` holds. If the source's bytes are known, the run has
 -- replied to all of them if it ends well, and has written a beginning of the replies if it does not
-pub record IsRunOf {S : Type 0} (answer : S → List ℕ → Answer S) (start : S)
-    (Fails : Streams → RunFault → Type 0) (io : Streams) (result : Result Bool RunFault) : Type 0 where
+pub record IsRunOf {S Fault : Type 0} (answer : S → List ℕ → Answer S) (start : S)
+    (Fails : Streams → Fault → Type 0) (io : Streams) (result : Result Bool Fault) : Type 0 where
   pub ok : IfOk result (λ all. (state : S) × EndsWell answer start io state all)
   pub err : IfErr result (Fails io)
   pub all_of : (input : List ℕ) → io.from.left ≡ Some input

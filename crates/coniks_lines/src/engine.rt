@@ -4,10 +4,10 @@ ghost use Rattle.coniks_lines.specs.Known.{Source, Appends};
 ghost use Rattle.coniks_lines.specs.Lines.{whole_after};
 ghost use Rattle.coniks_lines.specs.Machine.{Answer, output};
 ghost use Rattle.coniks_lines.specs.Runs.{WritesOn, CannotWrite, AnswersLine, AnswersWhole, AnswersAll, WritesPart, StopsFor, EndsWell, EndsBadly, streams};
-ghost use Rattle.coniks_lines.specs.declared.fault.RunFault.TheVariants.{Write};
+ghost use Rattle.coniks_lines.specs.declared.fault.LineFault.TheVariants.{Write};
 
 use crate::bytes::{ByteIn, ByteOut};
-use crate::fault::RunFault;
+use crate::fault::LineFault;
 use memchr::memchr;
 use std::alloc::{AllocError, Global};
 
@@ -74,7 +74,7 @@ pub fn run_lines<M: LineMachine, R: ByteIn, W: ByteOut>(
     machine: &mut M,
     reader: &mut R,
     writer: &mut W,
-) -> Result<bool, RunFault>
+) -> Result<bool, LineFault>
     requires needs { M.Needs }
     requires reads { (R.source reader.old).failed + 1 < 2 ^ 64 }
     requires writes { (W.sink writer.old).failed + 1 < 2 ^ 64 }
@@ -95,7 +95,7 @@ pub fn run_lines<M: LineMachine, R: ByteIn, W: ByteOut>(
         (W.sink writer.old) (W.sink writer.new)) }
 {
     let Ok(mut buffer) = vec![in alloc; 0; CHUNK] else {
-        return Err(RunFault::OutOfMemory);
+        return Err(LineFault::OutOfMemory);
     };
     read_lines(alloc, machine, reader, writer, &mut buffer)
 }
@@ -107,7 +107,7 @@ fn read_lines<M: LineMachine, R: ByteIn, W: ByteOut>(
     reader: &mut R,
     writer: &mut W,
     buffer: &mut [u8],
-) -> Result<bool, RunFault>
+) -> Result<bool, LineFault>
     requires room { 0 < length buffer.old }
     requires needs { M.Needs }
     requires reads { (R.source reader.old).failed + 1 < 2 ^ 64 }
@@ -123,11 +123,11 @@ fn read_lines<M: LineMachine, R: ByteIn, W: ByteOut>(
     let mut all = true;
     for _reads in 0..MAX_READS {
         let Ok(count) = reader.read(buffer) else {
-            return Err(RunFault::Read);
+            return Err(LineFault::Read);
         };
         if count == 0 {
             if !held.is_empty() {
-                let accepted = answer_line(machine, &held, &mut out, writer)?;
+                let accepted = answer_line(machine, &[], &mut held, &mut out, writer)?;
                 all &= accepted;
             }
             return Ok(all);
@@ -135,7 +135,7 @@ fn read_lines<M: LineMachine, R: ByteIn, W: ByteOut>(
         let accepted = take_chunk(machine, &buffer[..count], &mut held, &mut out, writer)?;
         all &= accepted;
     }
-    Err(RunFault::Read)
+    Err(LineFault::Read)
 }
 
 /// Answers each line that ends in the chunk, and holds the bytes after the last newline.
@@ -145,7 +145,7 @@ fn take_chunk<M: LineMachine, W: ByteOut>(
     held: &mut Vec<u8>,
     out: &mut Vec<u8>,
     writer: &mut W,
-) -> Result<bool, RunFault>
+) -> Result<bool, LineFault>
     requires needs { M.Needs }
     requires writes { (W.sink writer.old).failed + 1 < 2 ^ 64 }
     ensures ok { IfOk result (AnswersWhole M.answer (M.state machine.old) held.old.items chunk.now
@@ -157,26 +157,37 @@ fn take_chunk<M: LineMachine, W: ByteOut>(
     let mut all = true;
     let mut start = 0;
     while let Some(ahead) = memchr(NEWLINE, &chunk[start..]) {
-        let accepted = end_line(machine, &chunk[start..start + ahead], held, out, writer)?;
+        let accepted = answer_line(machine, &chunk[start..start + ahead], held, out, writer)?;
         all &= accepted;
         start += ahead + 1;
     }
     if held.extend_from_slice(&chunk[start..]).is_err() {
-        return Err(RunFault::OutOfMemory);
+        return Err(LineFault::OutOfMemory);
     }
     Ok(all)
 }
 
-/// Answers the line that is held and ends with this part, and then holds nothing.
+/// Returns the line that is held and ends with this part. A line of which nothing was held is not copied.
+fn whole_line<'l>(held: &'l mut Vec<u8>, part: &'l [u8]) -> Result<&'l [u8], AllocError>
+    ensures { IfOk result (λ line. line.now ≡ held.old.items ++ part.now) }
+{
+    if held.is_empty() {
+        return Ok(part);
+    }
+    held.extend_from_slice(part)?;
+    Ok(held)
+}
+
+/// Answers the line that is held and ends with this part: its text, a newline and a flush. Nothing is held then.
 ///
-/// A line of which nothing was held is answered without a copy.
-fn end_line<M: LineMachine, W: ByteOut>(
+/// `out` is a buffer with any contents.
+fn answer_line<M: LineMachine, W: ByteOut>(
     machine: &mut M,
     part: &[u8],
     held: &mut Vec<u8>,
     out: &mut Vec<u8>,
     writer: &mut W,
-) -> Result<bool, RunFault>
+) -> Result<bool, LineFault>
     requires needs { M.Needs }
     requires writes { (W.sink writer.old).failed + 1 < 2 ^ 64 }
     ensures ok { IfOk result (AnswersLine M.answer (M.state machine.old) (held.old.items ++ part.now)
@@ -186,43 +197,21 @@ fn end_line<M: LineMachine, W: ByteOut>(
     ensures err { (still : Source) → IfErr result (StopsFor M.answer (M.state machine.old) ((held.old.items ++ part.now) ∷ [])
         (streams still still (W.sink writer.old) (W.sink writer.new))) }
 {
-    if held.is_empty() {
-        return answer_line(machine, part, out, writer);
-    }
-    if held.extend_from_slice(part).is_err() {
-        return Err(RunFault::OutOfMemory);
-    }
-    let accepted = answer_line(machine, held, out, writer)?;
-    held.clear();
-    Ok(accepted)
-}
-
-/// Answers one line: its text, a newline and a flush. `out` is a buffer with any contents.
-fn answer_line<M: LineMachine, W: ByteOut>(
-    machine: &mut M,
-    line: &[u8],
-    out: &mut Vec<u8>,
-    writer: &mut W,
-) -> Result<bool, RunFault>
-    requires needs { M.Needs }
-    requires writes { (W.sink writer.old).failed + 1 < 2 ^ 64 }
-    ensures ok { IfOk result (AnswersLine M.answer (M.state machine.old) line.now
-        (W.sink writer.old) (W.sink writer.new)
-        (M.state machine.new)) }
-    ensures err { (still : Source) → IfErr result (StopsFor M.answer (M.state machine.old) (line.now ∷ [])
-        (streams still still (W.sink writer.old) (W.sink writer.new))) }
-{
     out.clear();
+    let Ok(line) = whole_line(held, part) else {
+        return Err(LineFault::OutOfMemory);
+    };
     let Ok(accepted) = machine.step(line, out) else {
-        return Err(RunFault::OutOfMemory);
+        return Err(LineFault::OutOfMemory);
     };
     if out.push(NEWLINE).is_err() {
-        return Err(RunFault::OutOfMemory);
+        return Err(LineFault::OutOfMemory);
     }
     write_all(writer, out)?;
     if writer.flush().is_err() {
-        return Err(RunFault::Write);
+        return Err(LineFault::Write);
     }
+    held.clear();
     Ok(accepted)
 }
 
@@ -233,7 +222,7 @@ fn answer_line<M: LineMachine, W: ByteOut>(
 /// # Errors
 ///
 /// `Write` if a write failed or took 0 bytes. A prefix of the bytes was written.
-pub fn write_all<W: ByteOut>(writer: &mut W, bytes: &[u8]) -> Result<(), RunFault>
+pub fn write_all<W: ByteOut>(writer: &mut W, bytes: &[u8]) -> Result<(), LineFault>
     requires { (W.sink writer.old).failed + 1 < 2 ^ 64 }
     ensures ok { OnOk result (Appends (W.sink writer.old) bytes.now (W.sink writer.new)) }
     ensures writes_on { OnOk result (WritesOn (W.sink writer.old) (W.sink writer.new)) }
@@ -245,10 +234,10 @@ pub fn write_all<W: ByteOut>(writer: &mut W, bytes: &[u8]) -> Result<(), RunFaul
     let mut done = 0;
     while done < bytes.len() {
         let Ok(count) = writer.write(&bytes[done..]) else {
-            return Err(RunFault::Write);
+            return Err(LineFault::Write);
         };
         if count == 0 {
-            return Err(RunFault::Write);
+            return Err(LineFault::Write);
         }
         done += count;
     }

@@ -2,9 +2,9 @@
 
 use thiserror::Error;
 
-/// The error of a run that ended before its reader.
+/// The error of a run over lines that ended before its reader.
 #[derive(Clone, Copy, Debug, PartialEq, Eq, Drop, Error)]
-pub enum RunFault {
+pub enum LineFault {
     /// A read failed, or 2^63 reads met no end.
     #[error("read failed")]
     Read,
@@ -14,7 +14,4 @@ pub enum RunFault {
     /// An allocation failed.
     #[error("out of memory")]
     OutOfMemory,
-    /// The board of a run that publishes could not be allocated. `run_lines` never returns it.
-    #[error("no board")]
-    NoBoard,
 }

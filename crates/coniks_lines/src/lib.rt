@@ -38,7 +38,7 @@ pub mod system;
 
 pub use bytes::{ByteIn, ByteOut, Failed};
 pub use engine::{LineMachine, run_lines, write_all};
-pub use fault::RunFault;
+pub use fault::LineFault;
 pub use lines::lines_are_parts;
 pub use memory::{MemoryIn, MemoryOut};
 pub use system::{SystemIn, SystemOut};

@@ -19,23 +19,23 @@ use Rattle.coniks_proof.proofs.PreimageLemmas.{commitment_same, empty-not_joined
 -- ---- what is known of the entries
 
 -- each has an index of 32 bytes and the commitment to what is behind it, whose opening and name are of their lengths
-abbrev AreSealed : (List ℕ → List ℕ) → List (Entry Registered) → Type 0
-AreSealed hash [] = Unit {0}
-AreSealed hash (e ∷ es) =
-    (length e.index ≡ 32) × (e.commitment ≡ commitment_to hash e.behind) × (length e.behind.opening ≡ 32) × (length e.behind.name < 2 ^ 16) × AreSealed hash es
+abbrev AreCommitted : (List ℕ → List ℕ) → List (Entry Registered) → Type 0
+AreCommitted hash [] = Unit {0}
+AreCommitted hash (e ∷ es) =
+    (length e.index ≡ 32) × (e.commitment ≡ commitment_to hash e.behind) × (length e.behind.opening ≡ 32) × (length e.behind.name < 2 ^ 16) × AreCommitted hash es
 
-sealed-half : (hash : List ℕ → List ℕ) (b : Bool) (k : ℕ) (es : List (Entry Registered)) → AreSealed hash es → AreSealed hash (half b k es)
-sealed-half hash b k [] sealed = tt
-sealed-half hash b k (e ∷ es) sealed = elim (turns b k e.index) as (λ v. AreSealed hash (cond v (e ∷ half b k es) (half b k es))) [
-  | true ↦ (sealed.0, sealed.1, sealed.2, sealed.3, sealed-half hash b k es sealed.4)
-  | false ↦ sealed-half hash b k es sealed.4
+committed-half : (hash : List ℕ → List ℕ) (b : Bool) (k : ℕ) (es : List (Entry Registered)) → AreCommitted hash es → AreCommitted hash (half b k es)
+committed-half hash b k [] committed = tt
+committed-half hash b k (e ∷ es) committed = elim (turns b k e.index) as (λ v. AreCommitted hash (cond v (e ∷ half b k es) (half b k es))) [
+  | true ↦ (committed.0, committed.1, committed.2, committed.3, committed-half hash b k es committed.4)
+  | false ↦ committed-half hash b k es committed.4
 ]
 
-sealed-entries : (hash index_of : List ℕ → List ℕ) (registry : Registry) → IsMap (entries_of hash index_of registry) → AreWithin registry → AreOpenings registry
-    → AreSealed hash (entries_of hash index_of registry)
-sealed-entries hash index_of [] map within opened = tt
-sealed-entries hash index_of (b ∷ bs) map within opened =
-    (map.0.size, refl, opened.0, omega (arith, within.0.1), sealed-entries hash index_of bs map.2 within.2 opened.1)
+committed-entries : (hash index_of : List ℕ → List ℕ) (registry : Registry) → IsMap (entries_of hash index_of registry) → AreWithin registry → AreOpenings registry
+    → AreCommitted hash (entries_of hash index_of registry)
+committed-entries hash index_of [] map within opened = tt
+committed-entries hash index_of (b ∷ bs) map within opened =
+    (map.0.size, refl, opened.0, omega (arith, within.0.1), committed-entries hash index_of bs map.2 within.2 opened.1)
 
 -- ---- the two outcomes
 
@@ -89,7 +89,7 @@ turned es fs same = record { there = same.back; back = same.there }
 -- ---- a leaf
 
 -- two leaves of one hash
-one_leaf : (by : Hashing) (h : ℕ) (p : List Bool) (e f : Entry Registered) → AreSealed by.hash (e ∷ []) → AreSealed by.hash (f ∷ [])
+one_leaf : (by : Hashing) (h : ℕ) (p : List Bool) (e f : Entry Registered) → AreCommitted by.hash (e ∷ []) → AreCommitted by.hash (f ∷ [])
     → by.hash (leaf_preimage by.nonce e.index (length p) e.commitment) ≡ by.hash (leaf_preimage by.nonce f.index (length p) f.commitment)
     → Outcome by h p (e ∷ []) (f ∷ [])
 unfolding hashed_below
@@ -126,7 +126,7 @@ module _ (by : Hashing) (long : (bytes : List ℕ) → length (by.hash bytes) �
   side h p b es apart = subst (λ k. ApartWithin h k es) (sym (length-child p b)) apart
 
   same_tree : (h : ℕ) (p : List Bool) (es fs : List (Entry Registered)) → ApartWithin h (length p) es → ApartWithin h (length p) fs
-      → AreSealed by.hash es → AreSealed by.hash fs → node_below by h p es ≡ node_below by h p fs → Outcome by h p es fs
+      → AreCommitted by.hash es → AreCommitted by.hash fs → node_below by h p es ≡ node_below by h p fs → Outcome by h p es fs
   unfolding node_below hashed_below ApartWithin
   same_tree h p [] [] ae af se sf same = inl (record { there = λ e in_list. in_list; back = λ e in_list. in_list })
   same_tree h p [] (f ∷ []) ae af se sf same =
@@ -184,8 +184,8 @@ module _ (by : Hashing) (long : (bytes : List ℕ) → length (by.hash bytes) �
       node-size h left l (side h p false l ae.0) ∙ sym (node-size h left m (side h p false m af.0)) in
       let both = split_same (73 ∷ node_below by h left l) (73 ∷ node_below by h left m) (node_below by h right r) (node_below by h right s) (ap suc size) nodes in
       let one : node_below by h left l ≡ node_below by h left m = (split_same (73 ∷ []) (73 ∷ []) (node_below by h left l) (node_below by h left m) refl both.0).1 in
-      let in_left = same_tree h left l m (side h p false l ae.0) (side h p false m af.0) (sealed-half by.hash false k all se) (sealed-half by.hash false k others sf) one in
-      let in_right = same_tree h right r s (side h p true r ae.1) (side h p true s af.1) (sealed-half by.hash true k all se) (sealed-half by.hash true k others sf) both.1 in
+      let in_left = same_tree h left l m (side h p false l ae.0) (side h p false m af.0) (committed-half by.hash false k all se) (committed-half by.hash false k others sf) one in
+      let in_right = same_tree h right r s (side h p true r ae.1) (side h p true s af.1) (committed-half by.hash true k all se) (committed-half by.hash true k others sf) both.1 in
       elim in_left [
         | inr c ↦ inr (wider by.hash (hashed_below by h left l) (hashed_below by h left m) (x ∷ xs) (y ∷ ys)
             (λ z in_l. inr (IsIn-append_left z (hashed_below by h left l) (hashed_below by h right r) in_l))
@@ -213,4 +213,4 @@ same_registry hash index_of also nonce registry other long map map' within withi
     let es = entries_of hash index_of registry in
     let fs = entries_of hash also other in
     same_tree (hashing hash nonce) long 256 [] es fs (IsMap-apart es map) (IsMap-apart fs map')
-    (sealed-entries hash index_of registry map within opened) (sealed-entries hash also other map' within' opened') same
+    (committed-entries hash index_of registry map within opened) (committed-entries hash also other map' within' opened') same

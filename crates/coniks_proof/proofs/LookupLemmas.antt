@@ -178,9 +178,9 @@ end_node hash index_of nonce j registry n (Here name key o) map is =
     let b : Registered = record { name = name; key = key; opening = o.0 } in
     let e : Entry Registered = record { index = j; commitment = is.0; behind = b } in
     let own : entry_of hash index_of b ≡ e = (at_end hash index_of registry j e map is.1).0 in
-    let sealed : is.0 ≡ commitment_to hash b = ap (λ (x : Entry Registered). x.commitment) (sym own) in
+    let committed : is.0 ≡ commitment_to hash b = ap (λ (x : Entry Registered). x.commitment) (sym own) in
     ap (node (hashing hash nonce) (onwards [] j n)) is.1 ∙ node-leaf (hashing hash nonce) (onwards [] j n) e
-    ∙ ap (λ l. hash (leaf_preimage nonce j l is.0)) size ∙ ap (λ c. hash (leaf_preimage nonce j n c)) sealed
+    ∙ ap (λ l. hash (leaf_preimage nonce j l is.0)) size ∙ ap (λ c. hash (leaf_preimage nonce j n c)) committed
 
 -- the path carries the root up
 pub path_root : (hash index_of : List ℕ → List ℕ) (nonce : List ℕ) (registry : Registry) (j : List ℕ) (proof : Proof)

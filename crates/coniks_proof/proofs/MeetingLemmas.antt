@@ -3,7 +3,7 @@ use Rattle.std.proofs.Common.{◌≡◌, ◌≢◌, ℕ, ◌+◌, ◌<◌, List,
 use Rattle.coniks_proof.specs.Bits.{bit_at, first_bits}
 use Rattle.coniks_proof.specs.Preimages.{commitment_preimage, leaf_preimage}
 use Rattle.coniks_proof.specs.Proofs.{end_preimage, joined, preimage, LengthsFit, answer_of}
-use Rattle.coniks_proof.specs.Collisions.{sealed, KeepsOff, IsSized, Parts}
+use Rattle.coniks_proof.specs.Collisions.{committed, KeepsOff, IsSized, Parts}
 use Rattle.coniks_proof.specs.Hashing.{Hashing}
 use Rattle.coniks_proof.specs.Meetings.{PartsAt, CommitmentIs}
 use Rattle.coniks_proof.specs.declared.values.Digest.{Digest}
@@ -85,7 +85,7 @@ both_end by index level (s ∷ ss) a ts b none none' = absurd (omega arith)
 
 pub in_commitments : (by : Hashing) (index : List ℕ) (level : ℕ) (ss : List Digest) (a : End) (ts : List Digest) (b : End)
     → length ss ≡ 0 → length ts ≡ 0 → length index ≡ 32 → IsSized a → IsSized b → LengthsFit a → LengthsFit b → KeepsOff index a → KeepsOff index b → answer_of a ≢ answer_of b
-    → end_preimage by index level a ≡ end_preimage by index level b → Parts by index level ss a ts b (sealed a) (sealed b)
+    → end_preimage by index level a ≡ end_preimage by index level b → Parts by index level ss a ts b (committed a) (committed b)
 in_commitments by index level [] a [] b none none' size sa sb la lb ka kb differ same = parts_in_commitments by index level a b size sa sb la lb ka kb differ same
 in_commitments by index level [] a (t ∷ ts) b none none' size sa sb la lb ka kb differ same = absurd (omega arith)
 in_commitments by index level (s ∷ ss) a ts b none none' size sa sb la lb ka kb differ same = absurd (omega arith)

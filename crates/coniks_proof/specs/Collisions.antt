@@ -15,10 +15,10 @@ pub record IsCollision (hash : Octets → Octets) (x y : Octets) : Type 0 where
   pub same_hash : hash x ≡ hash y
 
 -- the byte list whose hash is an end's commitment
-abbrev pub sealed : End → Octets
-sealed Empty = []
-sealed (Other other commitment) = []
-sealed (Here name key opening) = commitment_preimage opening.0 name key
+abbrev pub committed : End → Octets
+committed Empty = []
+committed (Other other commitment) = []
+committed (Here name key opening) = commitment_preimage opening.0 name key
 
 -- the byte lists that are hashed at the end of a path
 abbrev pub hashed_at_end : Hashing → Octets → ℕ → End → List Octets

@@ -1,4 +1,4 @@
--- Finite maps from indices, as lists of entries with distinct indices. The order is of no account.
+-- Finite maps from indices, as lists of entries with distinct indices. The order does not matter.
 use Rattle.std.specs.Prelude.{◌≡◌, ◌⊎◌, ℕ, suc, List, [], ◌∷◌, Bool, filter}
 use Rattle.coniks_proof.specs.Bits.{turns}
 use Rattle.coniks_proof.specs.Octets.{Octets}

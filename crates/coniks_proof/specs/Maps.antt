@@ -1,4 +1,4 @@
--- A list of entries as a finite map: indices of 32 bytes, each once. The order is of no account.
+-- A list of entries as a finite map: indices of 32 bytes, each once. The order does not matter.
 use Rattle.std.specs.Prelude.{◌≡◌, ◌≢◌, ◌<◌, ℕ, List, [], ◌∷◌, length, slice_index}
 use Rattle.coniks_proof.specs.Entries.{Entry, IsIn}
 use Rattle.coniks_proof.specs.Octets.{Octets}

@@ -3,7 +3,7 @@ use Rattle.coniks_proof.specs.declared.values.TheConstants.{MAX_LEVEL}
 use Rattle.std.specs.Prelude.{◌≡◌, ◌≤◌, ℕ, ◌+◌, List, length, Option, None, MatchOption}
 use Rattle.coniks_proof.specs.Preimages.{commitment_preimage}
 use Rattle.coniks_proof.specs.Proofs.{preimage}
-use Rattle.coniks_proof.specs.Collisions.{Parts, sealed}
+use Rattle.coniks_proof.specs.Collisions.{Parts, committed}
 use Rattle.coniks_proof.specs.Hashing.{Hashing}
 use Rattle.coniks_proof.specs.Octets.{Octets}
 use Rattle.coniks_proof.specs.declared.values.Digest.{Digest}
@@ -17,7 +17,7 @@ abbrev pub PartsAt : Hashing → Octets → ℕ → List Digest → End → List
 PartsAt by index level siblings_a a siblings_b b (Level l ss ts) =
     Parts by index level siblings_a a siblings_b b (preimage by index l ss.now a) (preimage by index l ts.now b)
 PartsAt by index level siblings_a a siblings_b b Commitments =
-    Parts by index level siblings_a a siblings_b b (sealed a) (sealed b)
+    Parts by index level siblings_a a siblings_b b (committed a) (committed b)
 
 -- the place is at most 256 levels deep
 abbrev pub PlaceFits : Place → Type 0

@@ -15,7 +15,7 @@ pub record Registered : Type 0 where
   pub key : Octets
   pub opening : Octets
 
--- each name once, in an order of no account
+-- each name once, in an order that does not matter
 abbrev pub Registry : Type 0
 Registry = List Registered
 

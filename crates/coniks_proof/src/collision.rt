@@ -11,7 +11,7 @@ use crate::hashing::Hash32;
 use crate::meeting::parted;
 use crate::memory::OutOfMemory;
 use crate::paths::{Answer, Proof};
-use crate::strings::Way;
+use crate::preimages::Way;
 use crate::values::{Digest, Index, Nonce};
 use std::alloc::Global;
 

@@ -47,7 +47,7 @@ pub fn path_is_accepted<H: Hash32>(h: &H, nonce: &Nonce, root: &Digest, name: &[
 {}
 
 /// Proves that a node, its path's siblings and its path's end do not depend on the order of the entries.
-pub fn order_is_of_no_account<T>()
+pub fn nodes_ignore_order<T>()
     ensures node { (by : Hashing) (prefix : List Bool) (es fs : List (Entry T)) → IsMap es → IsMap fs → SameEntries es fs
         → node by prefix es ≡ node by prefix fs }
     ensures siblings { (by : Hashing) (prefix : List Bool) (index : Octets) (es fs : List (Entry T))
@@ -73,7 +73,7 @@ pub fn roots_bind()
 /// Proves that a node and its path's siblings do not depend on the data behind the commitments.
 ///
 /// If the data behind the commitments is mapped, the end of a path is mapped in the same way.
-pub fn what_stands_behind_is_of_no_account<T, U>()
+pub fn nodes_ignore_committed_data<T, U>()
     ensures node { (f : T → U) (by : Hashing) (prefix : List Bool) (entries : List (Entry T))
         → node by prefix (map (backed_by f) entries) ≡ node by prefix entries }
     ensures siblings { (f : T → U) (by : Hashing) (prefix : List Bool) (index : Octets) (entries : List (Entry T))

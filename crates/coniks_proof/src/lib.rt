@@ -27,8 +27,8 @@ mod meeting;
 mod memory;
 pub mod messages;
 pub mod paths;
+mod preimages;
 pub mod proof_ref;
-mod strings;
 pub mod values;
 pub mod wire;
 

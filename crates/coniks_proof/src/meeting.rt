@@ -10,8 +10,8 @@ use crate::bits::bit;
 use crate::bytes::Bytes;
 use crate::hashing::{Hash32, commit_hash};
 use crate::paths::{End, carried, joined_hash};
+use crate::preimages::{Way, committed_bytes, level_bytes};
 use crate::proof_ref::Siblings;
-use crate::strings::{Way, level_bytes, sealed_bytes};
 use crate::values::{Digest, Index, MAX_LEVEL, Nonce, in_range};
 use std::alloc::{AllocError, Global};
 
@@ -259,8 +259,8 @@ pub(crate) fn parted<H: Hash32>(
 {
     match meet(h, nonce, index, 0, a, b).place {
         Place::Commitments => {
-            let x = sealed_bytes(alloc, a.end)?;
-            let y = sealed_bytes(alloc, b.end)?;
+            let x = committed_bytes(alloc, a.end)?;
+            let y = committed_bytes(alloc, b.end)?;
             Ok((x, y))
         }
         Place::Level {

@@ -15,12 +15,12 @@ use std::process::Abort;
 const ZERO: Digest = Digest([0; 32]);
 
 /// Returns the commitment to a name with the key `k`.
-fn sealed(name: &[u8]) -> Digest {
-    sealed_with(name, b"k")
+fn committed(name: &[u8]) -> Digest {
+    committed_with(name, b"k")
 }
 
 /// Returns the commitment to a name and a key, or zeros if one of them is longer than its limit.
-fn sealed_with(name: &[u8], key: &[u8]) -> Digest {
+fn committed_with(name: &[u8], key: &[u8]) -> Digest {
     if name.len() <= MAX_NAME && key.len() <= MAX_KEY {
         commit_hash(&Sha256Hash, &OPENING, name, key)
     } else {
@@ -103,7 +103,7 @@ fn commitments(rt: HostRuntime) {
             "b0df976167a07eb1cfc063bac4fb4e15e2e93c6c8eff6d6f947763d202429992",
         ),
     ] {
-        assert!(rt; sealed(name) == digest(want));
+        assert!(rt; committed(name) == digest(want));
     }
 }
 
@@ -129,13 +129,19 @@ fn long_commitments(rt: HostRuntime) {
     ] {
         let name = repeated(&rt, rt.alloc(), b'n', name);
         let key = repeated(&rt, rt.alloc(), b'k', key);
-        assert!(rt; sealed_with(&name, &key) == digest(want));
+        assert!(rt; committed_with(&name, &key) == digest(want));
     }
 }
 
 /// Returns the hash of a leaf at level 1.
 fn half(name: &[u8], first: u8) -> Digest {
-    leaf_hash(&Sha256Hash, &NONCE, &index_of(first, 0), 1, &sealed(name))
+    leaf_hash(
+        &Sha256Hash,
+        &NONCE,
+        &index_of(first, 0),
+        1,
+        &committed(name),
+    )
 }
 
 #[test]
@@ -145,7 +151,7 @@ fn nodes(rt: HostRuntime) {
     for (prefix, want) in [(Prefix::root(), root), (Prefix::root().child(true), right)] {
         assert!(rt; empty_hash(&Sha256Hash, &NONCE, &prefix) == digest(want));
     }
-    let deepest = leaf_hash(&Sha256Hash, &NONCE, &index_of(0, 1), 256, &sealed(b"z"));
+    let deepest = leaf_hash(&Sha256Hash, &NONCE, &index_of(0, 1), 256, &committed(b"z"));
     let want = "35f0449094f01d65f8e5833f8a4c6325bbc804feee898e7bd83d5b996054ddcf";
     assert!(rt; deepest == digest(want));
     let inner = inner_hash(&Sha256Hash, &half(b"a", 0), &half(b"b", 0x80));
@@ -195,8 +201,8 @@ struct Parted {
 }
 
 fn two_leaves() -> Parted {
-    let a = leaf_hash(&Sha256Hash, &NONCE, &index_of(0, 0), 2, &sealed(b"a"));
-    let c = leaf_hash(&Sha256Hash, &NONCE, &index_of(0x40, 0), 2, &sealed(b"c"));
+    let a = leaf_hash(&Sha256Hash, &NONCE, &index_of(0, 0), 2, &committed(b"a"));
+    let c = leaf_hash(&Sha256Hash, &NONCE, &index_of(0x40, 0), 2, &committed(b"c"));
     let left = inner_hash(&Sha256Hash, &a, &c);
     let empty = empty_hash(&Sha256Hash, &NONCE, &Prefix::of(&index_of(0x80, 0), 1));
     Parted {
@@ -217,7 +223,7 @@ fn fault_beside_a(
 ) -> Option<CheckFault> {
     let end = End::Other {
         index: index_of(0, 0),
-        commitment: sealed(b"a"),
+        commitment: committed(b"a"),
     };
     let proof = proof_of(rt, alloc, siblings, end);
     let root = two_leaves().root;

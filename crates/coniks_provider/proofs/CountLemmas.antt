@@ -23,10 +23,11 @@ use Rattle.coniks_chain.specs.declared.entry.Entry.{Entry}
 use Rattle.coniks_directory.specs.History.{Shown, latest_registry}
 use Rattle.coniks_directory.specs.Supplied.{Supplied, is_supplied}
 use Rattle.coniks_directory.specs.SuppliedBatches.{Indexed, indices_by, operations_of, put_index, put_indices}
-use Rattle.coniks_tool.specs.EntryLines.{entry_in}
-use Rattle.coniks_tool.specs.Members.{array_in, digits_in, if_there, number_in, object_in, text_in}
-use Rattle.coniks_tool.specs.Turns.{refused}
-use Rattle.coniks_provider.specs.Answers.{ProviderOutcome, not_json}
+use Rattle.coniks_json.specs.EntryLines.{entry_in}
+use Rattle.coniks_json.specs.Members.{array_in, digits_in, if_there, number_in, object_in, text_in}
+use Rattle.coniks_json.specs.Turns.{refused}
+use Rattle.coniks_json.specs.Refusals.{not_json}
+use Rattle.coniks_provider.specs.Answers.{ProviderOutcome, because}
 use Rattle.coniks_provider.specs.Lines.{batch_in}
 use Rattle.coniks_provider.specs.Turns.{BatchLine, ProviderDirectory, Pending, ProviderTurn, ProviderState, Restore, nothing, restoring, serving}
 use Rattle.coniks_provider.specs.Turns.{batch_read_turn, bindings_read_turn, entry_refusal, index_for, install_on, install_turn, install_with, installed_with, prepare_on, prepare_turn, prepare_with}
@@ -408,7 +409,7 @@ command-counted s d (Some name) was =
     (either (λ (t : ProviderTurn). Counted t.state) (bytes_eq name (codes "restoring")) _ _ (restoring-counted s (array_in (codes "bindings") d) was)
     (either (λ (t : ProviderTurn). Counted t.state) (bytes_eq name (codes "restored")) _ _ (restored-counted s was) was))))))))
 
-object-counted : (s : ProviderState) (d : Option Data) → Counted s → Counted (option_map_or (λ x. provider_command_turn s x (text_in (codes "cmd") x)) d (refused s not_json)).state
+object-counted : (s : ProviderState) (d : Option Data) → Counted s → Counted (option_map_or (λ x. provider_command_turn s x (text_in (codes "cmd") x)) d (refused s (because not_json))).state
 object-counted s None was = was
 object-counted s (Some d) was = command-counted s d (text_in (codes "cmd") d) was
 

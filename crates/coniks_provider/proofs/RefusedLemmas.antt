@@ -1,5 +1,5 @@
 -- A refused line changes no directory.
-use Rattle.std.proofs.Common.{◌≡◌, ◌≢◌, ◌⊎◌, ℕ, List, Bool, true, false, Option, Some, None, inl, inr, refl, sym, ◌∙◌}
+use Rattle.std.proofs.Common.{◌≡◌, ℕ, List, Bool, true, false, Option, Some, None, inl, inr, refl, sym, ◌∙◌}
 use Rattle.std.specs.Prelude.{codes, Result, Ok, Err, if◌then◌else◌}
 use Rattle.std.specs.Option.{option_map_or}
 use Rattle.std.specs.Str.{bytes_eq}
@@ -8,12 +8,13 @@ use Rattle.std.proofs.lemmas.Slice.Eq.{bytes_eq-Decides}
 use Rattle.serde_json.specs.Data.{Data, Items}
 use Rattle.coniks_chain.specs.declared.entry.Entry.{Entry}
 use Rattle.coniks_directory.specs.SuppliedBatches.{Indexed}
-use Rattle.coniks_tool.specs.EntryLines.{entry_in}
-use Rattle.coniks_tool.specs.Members.{object_in, text_in, number_in, array_in, digits_in, if_there}
-use Rattle.coniks_tool.specs.Turns.{refused}
+use Rattle.coniks_json.specs.EntryLines.{entry_in}
+use Rattle.coniks_json.specs.Members.{object_in, text_in, number_in, array_in, digits_in, if_there}
+use Rattle.coniks_json.specs.Turns.{refused}
 use Rattle.coniks_chain.specs.Entries.{link_preimage}
 use Rattle.coniks_proof.specs.Sha256.{sha256}
-use Rattle.coniks_provider.specs.Answers.{ProviderOutcome, is_accepted_line, not_json, restored, root_differs}
+use Rattle.coniks_json.specs.Refusals.{not_json}
+use Rattle.coniks_provider.specs.Answers.{ProviderOutcome, because, is_accepted_line, restored, root_differs}
 use Rattle.coniks_provider.specs.Laws.{IsLeftBy}
 use Rattle.coniks_provider.specs.Lines.{batch_in}
 use Rattle.coniks_provider.specs.Turns.{BatchLine, ProviderDirectory, Pending, ProviderTurn, ProviderState, Restore, nothing, restoring, serving}
@@ -134,7 +135,7 @@ command-keeps s d (Some name) =
     (either (Keeps s) (bytes_eq name (codes "restoring")) _ _ (restoring-keeps s (array_in (codes "bindings") d))
     (either (Keeps s) (bytes_eq name (codes "restored")) _ _ (restored-keeps s) (λ off. same s)))))))))
 
-object-keeps : (s : ProviderState) (d : Option Data) → Keeps s (option_map_or (λ x. provider_command_turn s x (text_in (codes "cmd") x)) d (refused s not_json))
+object-keeps : (s : ProviderState) (d : Option Data) → Keeps s (option_map_or (λ x. provider_command_turn s x (text_in (codes "cmd") x)) d (refused s (because not_json)))
 object-keeps s None = λ off. same s
 object-keeps s (Some d) = command-keeps s d (text_in (codes "cmd") d)
 

@@ -9,9 +9,10 @@ use Rattle.coniks_proof.specs.declared.values.TheConstants.{MAX_OPERATIONS}
 use Rattle.coniks_directory.specs.Batches.{operations}
 use Rattle.coniks_directory.specs.Restored.{RestoringView}
 use Rattle.coniks_directory.specs.Supplied.{Supplied}
-use Rattle.coniks_directory.specs.SuppliedBatches.{Indexed, indexed, indices_by, of_operation, operations_of, put_indices}
+use Rattle.coniks_directory.specs.SuppliedBatches.{Indexed, indexed, indices_by, operations_of, put_indices}
 use Rattle.coniks_directory.specs.declared.batch.Op.{Op}
-use Rattle.coniks_provider.specs.Answers.{ProviderOutcome, bad_batch, batch_too_long, bindings_added}
+use Rattle.coniks_json.specs.Refusals.{bad_batch, batch_too_long}
+use Rattle.coniks_provider.specs.Answers.{ProviderOutcome, because, bindings_added}
 use Rattle.coniks_provider.specs.Stores.{restore_by}
 use Rattle.coniks_provider.specs.Turns.{Restore, bound_in, restore_and, restoring, restoring_index, restoring_on, restoring_refusal}
 use Rattle.coniks_provider.proofs.ServiceLemmas.{indexed_operations}
@@ -21,7 +22,7 @@ as_long ops indices same =
     sym (length-map (indexed ops indices) (λ (x : Indexed). x.op)) ∙ ap length (indexed_operations ops indices same) ∙ length-map ops _
 
 module _ (r : Restore) (bs : List Indexed) where
-  pub refused_length : MAX_OPERATIONS < length bs → restoring_refusal r bs ≡ Some batch_too_long
+  pub refused_length : MAX_OPERATIONS < length bs → restoring_refusal r bs ≡ Some (because batch_too_long)
   refused_length many = let off : nat_le (length bs) MAX_OPERATIONS ≡ false = grind (arith, nat_tests) in rw off refl
 
   few_on : length bs ≤ MAX_OPERATIONS → nat_le (length bs) MAX_OPERATIONS ≡ true
@@ -29,7 +30,7 @@ module _ (r : Restore) (bs : List Indexed) where
 
   pub refused_binding : (position : ℕ) (fault : Fault) → length bs ≤ MAX_OPERATIONS
       → fault_from (restoring_index r bs) [] (bound_in r) 0 (operations_of bs) ≡ Some (position, fault)
-      → restoring_refusal r bs ≡ Some (bad_batch position (of_operation fault))
+      → restoring_refusal r bs ≡ Some (because (bad_batch position fault))
   refused_binding position fault few is = let on = few_on few in rw (on, is) refl
 
   pub faultless : length bs ≤ MAX_OPERATIONS → fault_from (restoring_index r bs) [] (bound_in r) 0 (operations_of bs) ≡ None → restoring_refusal r bs ≡ None
@@ -46,12 +47,12 @@ module _ (r : Restore) (ops : List Op) (indices : List Index) (paired : length o
   few_bindings : length ops ≤ MAX_OPERATIONS → length bs ≤ MAX_OPERATIONS
   few_bindings few = let long = as_long ops indices paired in omega (arith, long)
 
-  pub too_many : MAX_OPERATIONS < length ops → restoring_refusal r bs ≡ Some batch_too_long
+  pub too_many : MAX_OPERATIONS < length ops → restoring_refusal r bs ≡ Some (because batch_too_long)
   too_many many = let long = as_long ops indices paired in refused_length r bs (omega (arith, long))
 
   pub first_bad : (position : ℕ) (fault : Fault) → length ops ≤ MAX_OPERATIONS
       → fault_from (restoring_index r bs) [] (bound_in r) 0 (operations ops) ≡ Some (position, fault)
-      → restoring_refusal r bs ≡ Some (bad_batch position (of_operation fault))
+      → restoring_refusal r bs ≡ Some (because (bad_batch position fault))
   first_bad position fault few is = refused_binding r bs position fault (few_bindings few) (ap (fault_from (restoring_index r bs) [] (bound_in r) 0) same_ops ∙ is)
 
   pub none_bad : length ops ≤ MAX_OPERATIONS → fault_from (restoring_index r bs) [] (bound_in r) 0 (operations ops) ≡ None → restoring_refusal r bs ≡ None

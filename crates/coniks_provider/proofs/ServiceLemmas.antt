@@ -1,5 +1,5 @@
 -- The results of an opened directory, in the terms of its definitions.
-use Rattle.std.proofs.Common.{◌≡◌, ◌⊎◌, ◌<◌, ◌≤◌, ◌+◌, ℕ, List, [], ◌∷◌, ◌++◌, length, true, false, refl, ap, subst, ◌∙◌, arith, inl, inr, Option, Some, None, if◌then◌else◌}
+use Rattle.std.proofs.Common.{◌≡◌, ◌<◌, ◌≤◌, ◌+◌, ℕ, List, [], ◌∷◌, ◌++◌, length, true, false, refl, ap, subst, ◌∙◌, arith, Option, Some, None, if◌then◌else◌}
 use Rattle.std.specs.Prelude.{is_some, nat_le, nat_lt, not, ◌&&◌, option_map}
 use Rattle.std.specs.Str.{bytes_eq}
 use Rattle.std.proofs.lemmas.Bool.{false≢true}
@@ -17,25 +17,25 @@ use Rattle.coniks_proof.specs.declared.values.TheConstants.{MAX_NAME, MAX_OPERAT
 use Rattle.coniks_chain.specs.Entries.{link_preimage, signed}
 use Rattle.coniks_chain.specs.declared.entry.Body.{Body}
 use Rattle.coniks_chain.specs.declared.entry.Entry.{Entry}
-use Rattle.coniks_directory.specs.Batches.{AreWorkers, operation_of, operations}
+use Rattle.coniks_directory.specs.Batches.{operation_of, operations}
 use Rattle.coniks_directory.specs.Chain.{head_at, heads_of}
 use Rattle.coniks_directory.specs.History.{Shown, latest_epoch, latest_registry, shown_at}
 use Rattle.coniks_directory.specs.Lookups.{IsFound}
 use Rattle.coniks_directory.specs.State.{history_of}
 use Rattle.coniks_directory.specs.Supplied.{AgreeOn, HasOtherIndex, MaySupply, supplied_index}
-use Rattle.coniks_directory.specs.SuppliedBatches.{Indexed, IsSuppliedFault, IsWithin, indexed, indices_of, operations_of, put_indices, supplied_fault}
+use Rattle.coniks_directory.specs.SuppliedBatches.{IsSuppliedFault, IsWithin, indexed, indices_of, operations_of, put_indices, supplied_fault}
 use Rattle.coniks_directory.specs.Updates.{RotatesTo, nodes_added, registry_after, shown_after}
 use Rattle.coniks_directory.specs.declared.batch.BatchFault.TheVariants as batch
 use Rattle.coniks_directory.specs.declared.batch.Op.{Op}
 use Rattle.coniks_directory.specs.declared.supplied_batch.SuppliedBatchFault.{SuppliedBatchFault}
 use Rattle.coniks_directory.specs.declared.supplied_batch.SuppliedBatchFault.TheVariants.{Batch as OfBatch, OtherIndex}
 use Rattle.coniks_directory.specs.declared.update.Prepared.{Prepared}
-use Rattle.coniks_shared.specs.Lists.{last_of}
-use Rattle.coniks_tool.specs.Paths.{path_of, path_to}
-use Rattle.coniks_tool.proofs.Lemmas.{path_is}
-use Rattle.coniks_provider.specs.Answers.{ProviderOutcome, bad_index, bad_name_length, board_full, epoch_not_later, installed, looked_up, prepared, unknown_epoch}
+use Rattle.coniks_json.specs.Refusals.{bad_name_length, board_full, epoch_not_later, unknown_epoch}
+use Rattle.coniks_json.specs.Paths.{path_of, path_to}
+use Rattle.coniks_json.proofs.Lemmas.{path_is}
+use Rattle.coniks_provider.specs.Answers.{ProviderOutcome, bad_index, because, installed, looked_up, prepared}
 use Rattle.coniks_provider.specs.Limits.{most_provider_epochs}
-use Rattle.coniks_provider.specs.Stores.{DirectoryView, IsRefusable, provided_by, pending_of, refused_as}
+use Rattle.coniks_provider.specs.Stores.{DirectoryView, IsSuppliedRefusable, provided_by, pending_of, supplied_refused_as}
 use Rattle.coniks_provider.specs.Turns.{BatchLine, ProviderDirectory, Pending, install_on, prepare_on, chain_entry_at, has_other_index, index_with, provider_lookup_at, provider_lookup_with, provider_number_refusal, pending_by, provider_refusal, epoch_next, serving}
 use Rattle.coniks_provider.specs.declared.service.Pending.{Pending as Update}
 
@@ -44,11 +44,9 @@ use Rattle.coniks_provider.specs.declared.service.Pending.{Pending as Update}
 pub as_many : (heads : List Head) (chain : List Entry) → heads ≡ heads_of sha256 chain → length heads ≡ length chain
 as_many heads chain same = ap length same ∙ length-map chain (head_at sha256)
 
--- the head of the last entry is the last head
-pub last_head : (chain : List Entry) (entry : Entry) → last_of (heads_of sha256 (chain ++ entry ∷ [])) ≡ Some (head_at sha256 entry)
-last_head [] entry = refl
-last_head (x ∷ []) entry = refl
-last_head (x ∷ y ∷ chain) entry = last_head (y ∷ chain) entry
+-- one more is no more than the board takes, if it was not full
+pub room_after : (n m : ℕ) → m ≡ n + 1 → n ≤ 65536 → (n ≡ 65536 → ⊥) → m ≤ 65536
+room_after n m next most apart = grind (arith, nat_tests)
 
 pub indexed_operations : (ops : List Op) (indices : List Index) → length ops ≡ length indices → operations_of (indexed ops indices) ≡ operations ops
 indexed_operations [] indices same = refl
@@ -57,15 +55,11 @@ indexed_operations (x ∷ ops) (y ∷ indices) same = ap (λ xs. operation_of x 
 
 -- ---- why a batch is refused
 
-none_crew : {n : ℕ} → AreWorkers n → (n ≡ 0) ⊎ (64 < n) → ⊥
-none_crew parallelism (inl zero_is) = let least = parallelism.0 in omega arith
-none_crew parallelism (inr more) = let most = parallelism.1 in omega arith
-
-module _ (o : ProviderDirectory) (b : BatchLine) (depth workers : ℕ) (parallelism : AreWorkers workers) (shallow : depth ≤ 12) where
+module _ (o : ProviderDirectory) (b : BatchLine) where
   -- the reason isn't the workers or the depth
-  pub refusable : (fault : SuppliedBatchFault) → IsSuppliedFault (supplied_index o.indices) (latest_registry o.history) b.ops depth workers fault → IsRefusable fault
-  refusable (OfBatch batch.Workers) f = none_crew parallelism f
-  refusable (OfBatch batch.Depth) f = let deep = f.1 in omega arith
+  pub refusable : (fault : SuppliedBatchFault) → IsSuppliedFault (supplied_index o.indices) (latest_registry o.history) b.ops fault → IsSuppliedRefusable fault
+  refusable (OfBatch batch.Workers) f = f
+  refusable (OfBatch batch.Depth) f = f
   refusable (OfBatch batch.BatchTooLong) f = tt
   refusable (OfBatch (batch.At position fault)) f = tt
   refusable (OfBatch batch.OutOfMemory) f = tt
@@ -75,23 +69,19 @@ module _ (o : ProviderDirectory) (b : BatchLine) (depth workers : ℕ) (parallel
   few_on few = grind (arith, nat_tests)
 
   pub refused_is : (fault : SuppliedBatchFault) (outcome : ProviderOutcome)
-      → IsSuppliedFault (supplied_index o.indices) (latest_registry o.history) b.ops depth workers fault → refused_as fault ≡ Some outcome
+      → IsSuppliedFault (supplied_index o.indices) (latest_registry o.history) b.ops fault → supplied_refused_as fault ≡ Some outcome
       → provider_refusal o b ≡ Some outcome
-  refused_is (OfBatch batch.Workers) outcome f is = absurd (none_crew parallelism f)
-  refused_is (OfBatch batch.Depth) outcome f is = absurd (let deep = f.1 in omega arith)
+  refused_is (OfBatch batch.Workers) outcome f is = absurd f
+  refused_is (OfBatch batch.Depth) outcome f is = absurd f
   refused_is (OfBatch batch.BatchTooLong) outcome f is =
-      let many = f.2 in
-      let size = length-map b.ops (λ (x : Indexed). x.op) in
-      let over : MAX_OPERATIONS < length b.ops = omega (arith, size, many) in
-      let off : nat_le (length b.ops) MAX_OPERATIONS ≡ false = grind (arith, nat_tests) in
-      rw off is
-  refused_is (OfBatch (batch.At position fault)) outcome f is = let on = few_on f.0.few in rw (on, f.1) is
+      let off : nat_le (length b.ops) MAX_OPERATIONS ≡ false = grind (arith, nat_tests) in rw off is
+  refused_is (OfBatch (batch.At position fault)) outcome f is = let on = few_on f.0 in rw (on, f.1) is
   refused_is (OfBatch batch.OutOfMemory) outcome f is = absurd (let never = is in cc)
-  refused_is (OtherIndex position) outcome f is = let on = few_on f.0.few in rw (on, f.1) is
+  refused_is (OtherIndex position) outcome f is = let on = few_on f.0 in rw (on, f.1) is
 
   -- a batch without an error can only be refused for its number
-  pub number_is : IsWithin b.ops depth workers → supplied_fault (supplied_index o.indices) (latest_registry o.history) b.ops ≡ None → provider_refusal o b ≡ provider_number_refusal o b.epoch
-  number_is within none = let on = few_on within.few in rw (on, none) refl
+  pub number_is : IsWithin b.ops → supplied_fault (supplied_index o.indices) (latest_registry o.history) b.ops ≡ None → provider_refusal o b ≡ provider_number_refusal o b.epoch
+  number_is within none = let on = few_on within in rw (on, none) refl
 
 -- ---- updates
 
@@ -131,11 +121,11 @@ is_other o name index other =
     rw (other.0, off) refl
 
 module _ (o : ProviderDirectory) (epoch : ℕ) (name index : List ℕ) where
-  pub missed_epoch : shown_at o.history epoch ≡ None → unknown_epoch ≡ provider_lookup_with (serving o) epoch name index
+  pub missed_epoch : shown_at o.history epoch ≡ None → because unknown_epoch ≡ provider_lookup_with (serving o) epoch name index
   missed_epoch none = rw none refl
 
-  pub missed_length : is_some (shown_at o.history epoch) ≡ true → fits MAX_NAME name ≡ false → bad_name_length ≡ provider_lookup_with (serving o) epoch name index
-  missed_length there long = (elim (shown_at o.history epoch) as (λ s. is_some s ≡ true → bad_name_length ≡ provider_lookup_at o epoch name index s) [
+  pub missed_length : is_some (shown_at o.history epoch) ≡ true → fits MAX_NAME name ≡ false → because bad_name_length ≡ provider_lookup_with (serving o) epoch name index
+  missed_length there long = (elim (shown_at o.history epoch) as (λ s. is_some s ≡ true → because bad_name_length ≡ provider_lookup_at o epoch name index s) [
     | None ↦ λ never. absurd (false≢true never)
     | Some shown ↦ λ _. rw long refl
   ]) there
@@ -161,12 +151,12 @@ module _ (o : ProviderDirectory) (epoch : ℕ) (name index : List ℕ) where
 pub number_none : (o : ProviderDirectory) (epoch : ℕ) → provider_number_refusal o epoch ≡ None → (latest_epoch o.history < epoch) × (length o.chain < most_provider_epochs)
 number_none o epoch none =
     (elim (nat_lt (latest_epoch o.history) epoch) as (λ b. nat_lt (latest_epoch o.history) epoch ≡ b
-    → (if b then (if nat_lt (length o.chain) most_provider_epochs then None else Some board_full) else Some (epoch_not_later (latest_epoch o.history))) ≡ None
+    → (if b then (if nat_lt (length o.chain) most_provider_epochs then None else Some (because board_full)) else Some (because (epoch_not_later (latest_epoch o.history)))) ≡ None
     → (latest_epoch o.history < epoch) × (length o.chain < most_provider_epochs)) [
       | false ↦ λ _ is. absurd (let never = is in cc)
       | true ↦ λ later.
           (elim (nat_lt (length o.chain) most_provider_epochs) as
-          (λ b. nat_lt (length o.chain) most_provider_epochs ≡ b → (if b then None else Some board_full) ≡ None → (latest_epoch o.history < epoch) × (length o.chain < most_provider_epochs)) [
+          (λ b. nat_lt (length o.chain) most_provider_epochs ≡ b → (if b then None else Some (because board_full)) ≡ None → (latest_epoch o.history < epoch) × (length o.chain < most_provider_epochs)) [
             | false ↦ λ _ is. absurd (let never = is in cc)
             | true ↦ λ room _. (grind (arith, nat_tests), grind (arith, nat_tests))
           ]) refl

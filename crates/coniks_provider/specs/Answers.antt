@@ -10,13 +10,12 @@ use Rattle.base64.specs.GeneralPurpose.{encode_of}
 use Rattle.coniks_chain.specs.Entries.{body_bytes, entry_bytes}
 use Rattle.coniks_chain.specs.declared.entry.Body.{Body}
 use Rattle.coniks_chain.specs.declared.entry.Entry.{Entry}
-use Rattle.coniks_directory.specs.Batches.{fault_is}
 use Rattle.coniks_directory.specs.Bindings.{Indexed as IndexedBinding}
 use Rattle.coniks_directory.specs.SuppliedBatches.{SuppliedFault, of_operation, other_index}
-use Rattle.coniks_tool.specs.Paths.{Path, path_of}
-use Rattle.coniks_tool.specs.ProofTexts.{digits}
-use Rattle.coniks_tool.specs.Replies.{bad_member_data, bad_operation_data, epoch_not_later_data, fault_data, fault_name, looked_up_data, member_name, opened_data, placed_fault_data}
-use Rattle.coniks_tool.specs.declared.lines.printing.Member.{Member}
+use Rattle.coniks_json.specs.Paths.{Path, path_of}
+use Rattle.coniks_json.specs.ProofTexts.{digits}
+use Rattle.coniks_json.specs.Refusals.{Refusal, bad_batch, refusal_data, refusal_of}
+use Rattle.coniks_json.specs.Replies.{fault_data, looked_up_data, opened_data, placed_fault_data}
 use Rattle.coniks_provider.specs.declared.reply.Reply.{Reply}
 use Rattle.coniks_provider.specs.declared.reply.Reply.TheVariants as reply
 
@@ -40,20 +39,10 @@ pub data ProviderOutcome : Type 0 where
   bindings_added : (names : ℕ) → ProviderOutcome
   -- the directory of this entry is restored and open: the entry and its link
   restored : (entry : Entry) (link : Octets) → ProviderOutcome
-  -- the line isn't a JSON object
-  not_json : ProviderOutcome
-  -- the line has no known command
-  no_command : ProviderOutcome
-  -- a member is missing, of another kind or of a wrong text
-  bad_member : Member → ProviderOutcome
-  -- the element of `ops` at this place is no operation
-  bad_operation : (place : ℕ) → ProviderOutcome
+  -- the line is refused for a reason that `run` has too
+  because : Refusal → ProviderOutcome
   -- the element of `bindings` at this place is no binding
   bad_binding : (place : ℕ) → ProviderOutcome
-  -- the directory isn't open yet
-  not_open : ProviderOutcome
-  -- a directory is open, or a restore has begun
-  already_open : ProviderOutcome
   -- no restore has begun
   not_restoring : ProviderOutcome
   -- the entry's epoch isn't later than the epoch before it
@@ -62,22 +51,17 @@ pub data ProviderOutcome : Type 0 where
   bad_version : ProviderOutcome
   -- the root of the bindings isn't the entry's
   root_differs : ProviderOutcome
-  -- a line has too many operations or bindings
-  batch_too_long : ProviderOutcome
-  -- the operation or the binding at this place has an error
-  bad_batch : (place : ℕ) → SuppliedFault → ProviderOutcome
-  -- the epoch isn't later than the latest one
-  epoch_not_later : (latest : ℕ) → ProviderOutcome
-  -- the board has no room for a further head
-  board_full : ProviderOutcome
+  -- the name of the operation at this place is registered with another index
+  other_index_at : (place : ℕ) → ProviderOutcome
   -- no update is pending
   not_prepared : ProviderOutcome
-  -- no epoch has exactly the number asked
-  unknown_epoch : ProviderOutcome
-  -- the name asked is empty or too long
-  bad_name_length : ProviderOutcome
   -- the name asked is registered with another index
   bad_index : ProviderOutcome
+
+-- the operation at this place has this error
+abbrev pub bad_supplied : ℕ → SuppliedFault → ProviderOutcome
+bad_supplied place (of_operation fault) = because (bad_batch place fault)
+bad_supplied place other_index = other_index_at place
 
 -- a reply, without the forms that the code gives to numbers and digests
 abbrev pub provider_outcome_of : Reply → ProviderOutcome
@@ -90,31 +74,15 @@ provider_outcome_of (reply.Bindings page) = listed (view page.value)
 provider_outcome_of reply.Restore = restore_begun
 provider_outcome_of (reply.Restoring names) = bindings_added names
 provider_outcome_of (reply.Restored entry link) = restored entry link.0
-provider_outcome_of reply.NotJson = not_json
-provider_outcome_of reply.NoCommand = no_command
-provider_outcome_of (reply.BadMember m) = bad_member m
-provider_outcome_of (reply.BadOperation place) = bad_operation place
+provider_outcome_of (reply.Refused why) = because (refusal_of why)
 provider_outcome_of (reply.BadBinding place) = bad_binding place
-provider_outcome_of reply.NotOpen = not_open
-provider_outcome_of reply.AlreadyOpen = already_open
 provider_outcome_of reply.NotRestoring = not_restoring
 provider_outcome_of reply.NotLater = not_later
 provider_outcome_of reply.Version = bad_version
 provider_outcome_of reply.RootDiffers = root_differs
-provider_outcome_of reply.BatchTooLong = batch_too_long
-provider_outcome_of (reply.BadBatch place fault) = bad_batch place (of_operation (fault_is fault))
-provider_outcome_of (reply.OtherIndex place) = bad_batch place other_index
-provider_outcome_of (reply.EpochNotLater latest) = epoch_not_later latest
-provider_outcome_of reply.BoardFull = board_full
+provider_outcome_of (reply.OtherIndex place) = other_index_at place
 provider_outcome_of reply.NotPrepared = not_prepared
-provider_outcome_of reply.UnknownEpoch = unknown_epoch
-provider_outcome_of reply.NameLength = bad_name_length
 provider_outcome_of reply.BadIndex = bad_index
-
--- the name of the error of an operation that comes with an index
-abbrev pub supplied_fault_name : SuppliedFault → Octets
-supplied_fault_name (of_operation fault) = fault_name fault
-supplied_fault_name other_index = codes "OtherIndex"
 
 -- {"body":DIGITS,"epoch":NUM,"nodes":NUM,"ok":"prepare","root":DIGITS}
 abbrev pub prepared_data : Body → ℕ → Data
@@ -194,24 +162,14 @@ provider_reply_data (listed page) = page
 provider_reply_data restore_begun = restore_begun_data
 provider_reply_data (bindings_added names) = restoring_data names
 provider_reply_data (restored entry link) = entry_data (codes "restored") entry link
-provider_reply_data not_json = fault_data (codes "Json")
-provider_reply_data no_command = fault_data (codes "Command")
-provider_reply_data (bad_member m) = bad_member_data (member_name m)
-provider_reply_data (bad_operation place) = bad_operation_data place
+provider_reply_data (because why) = refusal_data why
 provider_reply_data (bad_binding place) = bad_binding_data place
-provider_reply_data not_open = fault_data (codes "NotOpen")
-provider_reply_data already_open = fault_data (codes "AlreadyOpen")
 provider_reply_data not_restoring = fault_data (codes "NotRestoring")
 provider_reply_data not_later = fault_data (codes "NotLater")
 provider_reply_data bad_version = fault_data (codes "Version")
 provider_reply_data root_differs = fault_data (codes "RootDiffers")
-provider_reply_data batch_too_long = fault_data (codes "BatchTooLong")
-provider_reply_data (bad_batch place fault) = placed_fault_data (supplied_fault_name fault) place
-provider_reply_data (epoch_not_later latest) = epoch_not_later_data latest
-provider_reply_data board_full = fault_data (codes "BoardFull")
+provider_reply_data (other_index_at place) = placed_fault_data (codes "OtherIndex") place
 provider_reply_data not_prepared = fault_data (codes "NotPrepared")
-provider_reply_data unknown_epoch = fault_data (codes "UnknownEpoch")
-provider_reply_data bad_name_length = fault_data (codes "NameLength")
 provider_reply_data bad_index = fault_data (codes "OtherIndex")
 
 -- the line was accepted

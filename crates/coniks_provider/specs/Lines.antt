@@ -3,24 +3,16 @@ use Rattle.std.specs.Prelude.{ℕ, ◌+◌, List, [], ◌∷◌, codes, Option, 
 use Rattle.serde_json.specs.Data.{Data, Items, no_items, item}
 use Rattle.coniks_directory.specs.SuppliedBatches.{Indexed, indexed}
 use Rattle.coniks_proof.specs.Batches.{Operation, register}
-use Rattle.coniks_tool.specs.Members.{base64_in, digits_in, given, text_in}
-use Rattle.coniks_tool.specs.Operations.{operation_in}
+use Rattle.coniks_json.specs.Members.{digits_in, given}
+use Rattle.coniks_json.specs.Operations.{operation_in, operation_of_kind}
 use Rattle.coniks_provider.specs.declared.batch.Operations.{Operations}
 use Rattle.coniks_provider.specs.declared.operations.Elements.{Elements}
 use Rattle.coniks_provider.specs.declared.operations.Elements.TheVariants as elements
 
--- the operation that registers a binding: `key` in base64, `name`, and `opening` in 64 digits
-abbrev pub registration_in : Data → Option Operation
-registration_in element =
-    given (base64_in (codes "key") element) (λ key.
-    given (text_in (codes "name") element) (λ name.
-    given (digits_in 32 (codes "opening") element) (λ opening.
-    Some (record { kind = register; name = name; key = key; opening = opening }))))
-
--- the operation that an element is, by what the elements are
+-- the operation that an element is, by what the elements are: a binding is the operation that registers it
 abbrev pub element_in : Elements → Data → Option Operation
 element_in elements.Operations element = operation_in element
-element_in elements.Bindings element = registration_in element
+element_in elements.Bindings element = operation_of_kind register element
 
 -- the operation that an element is, and `index`, 64 digits
 abbrev pub indexed_in : Elements → Data → Option Indexed

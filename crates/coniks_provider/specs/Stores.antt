@@ -1,25 +1,24 @@
 -- What a store holds, as a state, and what is true of it.
-use Rattle.std.specs.Prelude.{◌≡◌, ◌<◌, ◌≤◌, List, [], length, IfSome, Option, Some, None, option_map, Result, Ok, Err}
+use Rattle.std.specs.Prelude.{ℕ, ◌≡◌, ◌<◌, ◌≤◌, List, [], length, IfSome, Option, Some, option_map, Result, Ok, Err}
 use Rattle.coniks_proof.specs.Octets.{Octets}
 use Rattle.coniks_proof.specs.Sha256.{sha256}
 use Rattle.coniks_chain.specs.Chain.{before_at}
 use Rattle.coniks_directory.specs.Chain.{body_of, heads_of}
-use Rattle.coniks_directory.specs.History.{latest_epoch}
+use Rattle.coniks_directory.specs.History.{latest_epoch, nonce_bytes}
 use Rattle.coniks_directory.specs.Restored.{RestoringView}
 use Rattle.coniks_directory.specs.State.{View, history_of}
 use Rattle.coniks_directory.specs.Supplied.{Supplied, supplied_index}
-use Rattle.coniks_directory.specs.Batches.{fault_is}
-use Rattle.coniks_directory.specs.SuppliedBatches.{IsSuppliedUpdate, indices_of, indexed, of_operation, other_index}
-use Rattle.coniks_directory.specs.declared.batch.BatchFault.TheVariants as batch
+use Rattle.coniks_directory.specs.SuppliedBatches.{IsSuppliedUpdate, indices_of, indexed}
+use Rattle.coniks_json.specs.Refusals.{IsRefusable, refused_as}
 use Rattle.coniks_directory.specs.declared.supplied_batch.SuppliedBatchFault.{SuppliedBatchFault}
 use Rattle.coniks_directory.specs.declared.supplied_batch.SuppliedBatchFault.TheVariants.{Batch as OfBatch, OtherIndex}
 use Rattle.coniks_directory.specs.Updates.{base_of, nodes_added, shown_after}
 use Rattle.coniks_shared.specs.Boards.{Boarded, BoardEnd}
 use Rattle.coniks_provider.specs.Limits.{most_provider_epochs}
-use Rattle.coniks_tool.specs.Turns.{refused}
-use Rattle.coniks_provider.specs.Answers.{ProviderOutcome, bad_batch, batch_too_long, provider_outcome_of, restore_begun}
+use Rattle.coniks_json.specs.Turns.{refused}
+use Rattle.coniks_provider.specs.Answers.{ProviderOutcome, because, other_index_at, provider_outcome_of, restore_begun}
 use Rattle.coniks_provider.specs.Turns.{BatchLine, ProviderDirectory, Pending, ProviderState, ProviderTurn, Restore, nothing, restoring, serving}
-use Rattle.coniks_provider.specs.declared.batch.BatchRead.{BatchRead}
+use Rattle.coniks_directory.specs.declared.supplied_batch.SuppliedBatch.{SuppliedBatch}
 use Rattle.coniks_provider.specs.declared.reply.Reply.{Reply}
 use Rattle.coniks_provider.specs.declared.restoring.Restore.{Restore as Restoring}
 use Rattle.coniks_provider.specs.declared.service.Pending.{Pending as Update}
@@ -32,8 +31,8 @@ abbrev pub DirectoryView : Type 0 → Type 0
 DirectoryView H = View H (List Supplied)
 
 -- a batch that was read
-abbrev pub batch_line_of : BatchRead → BatchLine
-batch_line_of b = record { epoch = b.epoch; new_nonce = b.new_nonce; ops = indexed b.ops.now b.indices.now }
+abbrev pub batch_line_of : ℕ → SuppliedBatch → BatchLine
+batch_line_of epoch b = record { epoch = epoch; new_nonce = nonce_bytes b.nonce; ops = indexed b.ops.now b.indices.now }
 
 -- an update of a directory
 abbrev pub pending_of : {H : Type 0} → DirectoryView H → Update → Pending
@@ -112,17 +111,14 @@ pub record IsProvided (board : Boarded) (published : BoardEnd) (held : Held) : T
   pub served : IsServingIf published held
 
 -- the error of a batch, as a reply; none if an allocation failed
-abbrev pub refused_as : SuppliedBatchFault → Option ProviderOutcome
-refused_as (OfBatch batch.BatchTooLong) = Some batch_too_long
-refused_as (OfBatch (batch.At position fault)) = Some (bad_batch position (of_operation (fault_is fault)))
-refused_as (OtherIndex position) = Some (bad_batch position other_index)
-refused_as _ = None
+abbrev pub supplied_refused_as : SuppliedBatchFault → Option ProviderOutcome
+supplied_refused_as (OfBatch fault) = option_map because (refused_as fault)
+supplied_refused_as (OtherIndex position) = Some (other_index_at position)
 
 -- it isn't the number of workers or the depth
-abbrev pub IsRefusable : SuppliedBatchFault → Type 0
-IsRefusable (OfBatch batch.Workers) = ⊥
-IsRefusable (OfBatch batch.Depth) = ⊥
-IsRefusable _ = Unit {0}
+abbrev pub IsSuppliedRefusable : SuppliedBatchFault → Type 0
+IsSuppliedRefusable (OfBatch fault) = IsRefusable fault
+IsSuppliedRefusable (OtherIndex position) = Unit {0}
 
 -- a restore that begins, or the refusal of its entry
 abbrev pub begun_turn : Result Restoring Reply → ProviderTurn

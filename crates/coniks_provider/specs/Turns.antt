@@ -22,15 +22,15 @@ use Rattle.coniks_directory.specs.Nodes.{epoch_nodes}
 use Rattle.coniks_directory.specs.Restored.{restored_epoch, said_before}
 use Rattle.coniks_directory.specs.Runs.{shown_by}
 use Rattle.coniks_directory.specs.Supplied.{Supplied, supplied_index}
-use Rattle.coniks_directory.specs.SuppliedBatches.{Indexed, SuppliedFault, index_in, indices_by, of_operation, operations_of, put_indices, supplied_fault}
-use Rattle.coniks_tool.specs.EntryLines.{entry_in}
-use Rattle.coniks_tool.specs.Members.{array_in, digits_in, given, if_there, number_in, object_in, text_in}
-use Rattle.coniks_tool.specs.Paths.{path_to}
-use Rattle.coniks_tool.specs.Turns.{Turn, answer_by, refused}
-use Rattle.coniks_tool.specs.declared.lines.printing.Member.TheVariants.{Nonce, Policy, Epoch, Ops, Name, Index as IndexMember, Signature, Entry as EntryMember, After, Most, Bindings as BindingsMember}
-use Rattle.coniks_provider.specs.Answers.{ProviderOutcome, already_open, at_latest, bad_batch, bad_binding, bad_index, bad_member, bad_name_length, bad_operation, bad_version, batch_too_long, bindings_added, board_full}
-use Rattle.coniks_provider.specs.Answers.{epoch_not_later, installed, is_accepted_line, listed, looked_up, no_command, not_json, not_later, not_open, not_prepared, not_restoring, opened, page_data, prepared, provider_reply_data}
-use Rattle.coniks_provider.specs.Answers.{restore_begun, restored, root_differs, unknown_epoch}
+use Rattle.coniks_directory.specs.SuppliedBatches.{Indexed, SuppliedFault, index_in, indices_by, operations_of, put_indices, supplied_fault}
+use Rattle.coniks_json.specs.EntryLines.{entry_in}
+use Rattle.coniks_json.specs.Members.{array_in, digits_in, given, if_there, number_in, object_in, text_in}
+use Rattle.coniks_json.specs.Paths.{path_to}
+use Rattle.coniks_json.specs.Turns.{Turn, answer_by, refused}
+use Rattle.coniks_json.specs.declared.printing.Member.TheVariants.{Nonce, Policy, Epoch, Ops, Name, Index as IndexMember, Signature, Entry as EntryMember, After, Most, Bindings as BindingsMember}
+use Rattle.coniks_json.specs.Refusals.{already_open, bad_batch, bad_member, bad_name_length, bad_operation, batch_too_long, board_full, epoch_not_later, no_command, not_json, not_open, unknown_epoch}
+use Rattle.coniks_provider.specs.Answers.{ProviderOutcome, at_latest, bad_binding, bad_index, bad_supplied, bad_version, because, bindings_added, installed, is_accepted_line, listed, looked_up, not_later}
+use Rattle.coniks_provider.specs.Answers.{not_prepared, not_restoring, opened, page_data, prepared, provider_reply_data, restore_begun, restored, root_differs}
 use Rattle.coniks_provider.specs.Limits.{most_provider_epochs}
 use Rattle.coniks_provider.specs.Lines.{batch_in}
 use Rattle.coniks_provider.specs.declared.operations.Elements.TheVariants.{Operations, Bindings}
@@ -82,13 +82,13 @@ nothing_yet nonce policy = record { nonce = nonce; policy = policy; before = Non
 -- a directory is opened once, and not while one is restored
 abbrev pub provider_open_with : ProviderState → Octets → Octets → ProviderTurn
 provider_open_with nothing nonce policy = record { outcome = opened; state = serving (nothing_yet nonce policy) }
-provider_open_with (restoring r) nonce policy = refused (restoring r) already_open
-provider_open_with (serving o) nonce policy = refused (serving o) already_open
+provider_open_with (restoring r) nonce policy = refused (restoring r) (because already_open)
+provider_open_with (serving o) nonce policy = refused (serving o) (because already_open)
 
 -- `open`, by its members in the order of reading
 abbrev pub provider_open_turn : ProviderState → Option Octets → Option Octets → ProviderTurn
-provider_open_turn s None _ = refused s (bad_member Nonce)
-provider_open_turn s (Some nonce) None = refused s (bad_member Policy)
+provider_open_turn s None _ = refused s (because (bad_member Nonce))
+provider_open_turn s (Some nonce) None = refused s (because (bad_member Policy))
 provider_open_turn s (Some nonce) (Some policy) = provider_open_with s nonce policy
 
 -- ---- prepare
@@ -122,12 +122,12 @@ pending_by o b = record {
 abbrev pub provider_number_refusal : ProviderDirectory → ℕ → Option ProviderOutcome
 provider_number_refusal o epoch =
     if nat_lt (latest_epoch o.history) epoch
-    then (if nat_lt (length o.chain) most_provider_epochs then None else Some board_full)
-    else Some (epoch_not_later (latest_epoch o.history))
+    then (if nat_lt (length o.chain) most_provider_epochs then None else Some (because board_full))
+    else Some (because (epoch_not_later (latest_epoch o.history)))
 
 -- the first operation with an error refuses the batch, else its number may
 abbrev pub provider_refusal_from : ProviderDirectory → ℕ → Option (ℕ × SuppliedFault) → Option ProviderOutcome
-provider_refusal_from o epoch (Some at) = Some (bad_batch at.0 at.1)
+provider_refusal_from o epoch (Some at) = Some (bad_supplied at.0 at.1)
 provider_refusal_from o epoch None = provider_number_refusal o epoch
 
 -- why a batch is refused
@@ -135,7 +135,7 @@ abbrev pub provider_refusal : ProviderDirectory → BatchLine → Option Provide
 provider_refusal o b =
     if nat_le (length b.ops) MAX_OPERATIONS
     then provider_refusal_from o b.epoch (supplied_fault (supplied_index o.indices) (latest_registry o.history) b.ops)
-    else Some batch_too_long
+    else Some (because batch_too_long)
 
 -- a batch is refused, or its update takes the place of the pending one
 abbrev pub prepare_on : ProviderDirectory → BatchLine → Option ProviderOutcome → ProviderTurn
@@ -148,20 +148,20 @@ prepare_on o b None = record {
 
 -- a batch that was read
 abbrev pub prepare_with : ProviderState → BatchLine → ProviderTurn
-prepare_with nothing b = refused nothing not_open
-prepare_with (restoring r) b = refused (restoring r) not_open
+prepare_with nothing b = refused nothing (because not_open)
+prepare_with (restoring r) b = refused (restoring r) (because not_open)
 prepare_with (serving o) b = prepare_on o b (provider_refusal o b)
 
 -- the operations were read, or one was not
 abbrev pub batch_read_turn : ProviderState → ℕ → Option Octets → Result (List Indexed) ℕ → ProviderTurn
-batch_read_turn s epoch new_nonce (Err place) = refused s (bad_operation place)
+batch_read_turn s epoch new_nonce (Err place) = refused s (because (bad_operation place))
 batch_read_turn s epoch new_nonce (Ok ops) = prepare_with s (record { epoch = epoch; new_nonce = new_nonce; ops = ops })
 
 -- `prepare`, by its members in the order of reading; the nonce may be missing
 abbrev pub prepare_turn : ProviderState → Option ℕ → Option (Option Octets) → Option Items → ProviderTurn
-prepare_turn s None new_nonce items = refused s (bad_member Epoch)
-prepare_turn s (Some epoch) None items = refused s (bad_member Nonce)
-prepare_turn s (Some epoch) (Some new_nonce) None = refused s (bad_member Ops)
+prepare_turn s None new_nonce items = refused s (because (bad_member Epoch))
+prepare_turn s (Some epoch) None items = refused s (because (bad_member Nonce))
+prepare_turn s (Some epoch) (Some new_nonce) None = refused s (because (bad_member Ops))
 prepare_turn s (Some epoch) (Some new_nonce) (Some items) = batch_read_turn s epoch new_nonce (batch_in Operations items)
 
 -- ---- install
@@ -186,13 +186,13 @@ install_on o signature (Some p) = record {
 
 -- a signature that was read
 abbrev pub install_with : ProviderState → Octets → ProviderTurn
-install_with nothing signature = refused nothing not_open
-install_with (restoring r) signature = refused (restoring r) not_open
+install_with nothing signature = refused nothing (because not_open)
+install_with (restoring r) signature = refused (restoring r) (because not_open)
 install_with (serving o) signature = install_on o signature o.pending
 
 -- `install`, by its member
 abbrev pub install_turn : ProviderState → Option Octets → ProviderTurn
-install_turn s None = refused s (bad_member Signature)
+install_turn s None = refused s (because (bad_member Signature))
 install_turn s (Some signature) = install_with s signature
 
 -- ---- lookup
@@ -211,37 +211,37 @@ index_with o name index = supplied_index ((name, index) ∷ o.indices)
 
 -- the entry of an epoch, with the path to an index in its tree
 abbrev pub found_at : ProviderDirectory → Octets → Octets → Shown → Option Entry → ProviderOutcome
-found_at o name index shown None = unknown_epoch
+found_at o name index shown None = because unknown_epoch
 found_at o name index shown (Some entry) = looked_up entry index name
     (path_to sha256 (index_with o name index) shown.nonce shown.registry index)
 
 -- the outcome of a lookup of a name at an index, at an epoch that shows this
 abbrev pub provider_lookup_at : ProviderDirectory → ℕ → Octets → Octets → Option Shown → ProviderOutcome
-provider_lookup_at o number name index None = unknown_epoch
+provider_lookup_at o number name index None = because unknown_epoch
 provider_lookup_at o number name index (Some shown) =
     if fits MAX_NAME name
     then (if has_other_index o name index then bad_index else found_at o name index shown (chain_entry_at o number))
-    else bad_name_length
+    else because bad_name_length
 
 -- a lookup that was read
 abbrev pub provider_lookup_with : ProviderState → ℕ → Octets → Octets → ProviderOutcome
-provider_lookup_with nothing number name index = not_open
-provider_lookup_with (restoring r) number name index = not_open
+provider_lookup_with nothing number name index = because not_open
+provider_lookup_with (restoring r) number name index = because not_open
 provider_lookup_with (serving o) number name index = provider_lookup_at o number name index (shown_at o.history number)
 
 -- `lookup`, by its members in the order of reading
 abbrev pub provider_lookup_outcome : ProviderState → Option ℕ → Option Octets → Option Octets → ProviderOutcome
-provider_lookup_outcome s None name index = bad_member Epoch
-provider_lookup_outcome s (Some epoch) None index = bad_member Name
-provider_lookup_outcome s (Some epoch) (Some name) None = bad_member IndexMember
+provider_lookup_outcome s None name index = because (bad_member Epoch)
+provider_lookup_outcome s (Some epoch) None index = because (bad_member Name)
+provider_lookup_outcome s (Some epoch) (Some name) None = because (bad_member IndexMember)
 provider_lookup_outcome s (Some epoch) (Some name) (Some index) = provider_lookup_with s epoch name index
 
 -- ---- latest
 
 -- the latest epoch, its entry's link, and how many names and nodes there are
 abbrev pub latest_outcome : ProviderState → ProviderOutcome
-latest_outcome nothing = not_open
-latest_outcome (restoring r) = not_open
+latest_outcome nothing = because not_open
+latest_outcome (restoring r) = because not_open
 latest_outcome (serving o) = at_latest (latest_epoch o.history)
     (link_before (before_at sha256 o.before o.chain (length o.chain))) (length o.indices) o.nodes
 
@@ -261,21 +261,21 @@ index_of_bytes bytes = record { 0 = bytes }
 
 -- the page of an epoch that shows this
 abbrev pub bindings_at : ProviderDirectory → ℕ → Option Octets → ℕ → Option Shown → ProviderOutcome
-bindings_at o number after most None = unknown_epoch
+bindings_at o number after most None = because unknown_epoch
 bindings_at o number after most (Some shown) =
     page_of_found number most (bindings_page sha256 (supplied_index o.indices) shown.registry (option_map index_of_bytes after) (most + 1))
 
 -- a page that was asked for
 abbrev pub bindings_with : ProviderState → ℕ → Option Octets → ℕ → ProviderOutcome
-bindings_with nothing number after most = not_open
-bindings_with (restoring r) number after most = not_open
+bindings_with nothing number after most = because not_open
+bindings_with (restoring r) number after most = because not_open
 bindings_with (serving o) number after most = bindings_at o number after most (shown_at o.history number)
 
 -- `bindings`, by its members in the order of reading; the index may be missing
 abbrev pub bindings_outcome : ProviderState → Option ℕ → Option (Option Octets) → Option ℕ → ProviderOutcome
-bindings_outcome s None after most = bad_member Epoch
-bindings_outcome s (Some epoch) None most = bad_member After
-bindings_outcome s (Some epoch) (Some after) None = bad_member Most
+bindings_outcome s None after most = because (bad_member Epoch)
+bindings_outcome s (Some epoch) None most = because (bad_member After)
+bindings_outcome s (Some epoch) (Some after) None = because (bad_member Most)
 bindings_outcome s (Some epoch) (Some after) (Some most) = bindings_with s epoch after most
 
 -- ---- restore
@@ -299,12 +299,12 @@ restore_from entry None = record { outcome = restore_begun; state = restoring (n
 -- an entry that was read
 abbrev pub restore_with : ProviderState → Entry → ProviderTurn
 restore_with nothing entry = restore_from entry (entry_refusal entry)
-restore_with (restoring r) entry = refused (restoring r) already_open
-restore_with (serving o) entry = refused (serving o) already_open
+restore_with (restoring r) entry = refused (restoring r) (because already_open)
+restore_with (serving o) entry = refused (serving o) (because already_open)
 
 -- `restore`, by its member
 abbrev pub restore_turn : ProviderState → Option Entry → ProviderTurn
-restore_turn s None = refused s (bad_member EntryMember)
+restore_turn s None = refused s (because (bad_member EntryMember))
 restore_turn s (Some entry) = restore_with s entry
 
 -- ---- restoring
@@ -326,7 +326,7 @@ restore_and r bs = record r {
 
 -- the first binding with an error refuses them all
 abbrev pub restoring_refusal_from : Option (ℕ × Fault) → Option ProviderOutcome
-restoring_refusal_from (Some at) = Some (bad_batch at.0 (of_operation at.1))
+restoring_refusal_from (Some at) = Some (because (bad_batch at.0 at.1))
 restoring_refusal_from None = None
 
 -- why bindings aren't added
@@ -334,7 +334,7 @@ abbrev pub restoring_refusal : Restore → List Indexed → Option ProviderOutco
 restoring_refusal r bs =
     if nat_le (length bs) MAX_OPERATIONS
     then restoring_refusal_from (fault_from (restoring_index r bs) [] (bound_in r) 0 (operations_of bs))
-    else Some batch_too_long
+    else Some (because batch_too_long)
 
 -- bindings are refused, or added
 abbrev pub restoring_on : Restore → List Indexed → Option ProviderOutcome → ProviderTurn
@@ -354,7 +354,7 @@ bindings_read_turn s (Ok bs) = restoring_with s bs
 
 -- `restoring`, by its member
 abbrev pub restoring_turn : ProviderState → Option Items → ProviderTurn
-restoring_turn s None = refused s (bad_member BindingsMember)
+restoring_turn s None = refused s (because (bad_member BindingsMember))
 restoring_turn s (Some items) = bindings_read_turn s (batch_in Bindings items)
 
 -- ---- restored
@@ -397,7 +397,7 @@ reads s outcome = record { outcome = outcome; state = s }
 
 -- an object, by its command
 abbrev pub provider_command_turn : ProviderState → Data → Option Octets → ProviderTurn
-provider_command_turn s d None = refused s no_command
+provider_command_turn s d None = refused s (because no_command)
 provider_command_turn s d (Some name) =
     if bytes_eq name (codes "open") then provider_open_turn s (digits_in 32 (codes "nonce") d) (digits_in 32 (codes "policy") d)
     else (if bytes_eq name (codes "prepare") then prepare_turn s (number_in (codes "epoch") d)
@@ -411,11 +411,11 @@ provider_command_turn s d (Some name) =
     else (if bytes_eq name (codes "restore") then restore_turn s (entry_in d)
     else (if bytes_eq name (codes "restoring") then restoring_turn s (array_in (codes "bindings") d)
     else (if bytes_eq name (codes "restored") then restored_turn s
-    else refused s no_command))))))))
+    else refused s (because no_command)))))))))
 
 -- what comes of a line
 abbrev pub provider_turn : ProviderState → Octets → ProviderTurn
-provider_turn s line = option_map_or (λ d. provider_command_turn s d (text_in (codes "cmd") d)) (object_in line) (refused s not_json)
+provider_turn s line = option_map_or (λ d. provider_command_turn s d (text_in (codes "cmd") d)) (object_in line) (refused s (because not_json))
 
 -- the reply to a line
 abbrev pub provider_answer : ProviderState → Octets → Answer ProviderState

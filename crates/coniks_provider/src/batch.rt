@@ -12,15 +12,3 @@ pub(crate) struct Operations {
     pub(crate) indices: Vec<Index>,
     pub(crate) ghost paired: { length ops.items ≡ length indices.items },
 }
-
-/// A batch of a line.
-///
-/// It contains the number of its epoch, and the operations with the indices of their names. It also contains the nonce
-/// under which the tree is rehashed, if any.
-#[derive(Clone, Copy)]
-pub(crate) struct BatchRead<'a> {
-    pub(crate) epoch: u64,
-    pub(crate) new_nonce: Option<[u8; 32]>,
-    pub(crate) ops: &'a [Op],
-    pub(crate) indices: &'a [Index],
-}

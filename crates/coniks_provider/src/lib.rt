@@ -8,7 +8,8 @@
 //! ```rust
 //! let mut reader = MemoryIn::new(Vec::from_slice(alloc, LINES)?);
 //! let mut writer = MemoryOut::new(alloc);
-//! let all = run_provider(rt, alloc, &mut reader, &mut writer, 2, 1)?;
+//! let parallelism = Parallelism::new(2, 1)?;
+//! let all = run_provider(rt, alloc, &mut reader, &mut writer, parallelism)?;
 //! ```
 #![tactic(auto)]
 

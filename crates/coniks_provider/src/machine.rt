@@ -2,27 +2,28 @@
 
 ghost use Rattle.std.specs.Prelude.{◌≡◌, ◌<◌, ◌≤◌, ◌+◌, ◌^◌, IfOk, IfSome, OnOk, codes};
 ghost use Rattle.coniks_proof.specs.declared.values.TheConstants.{MAX_OPERATIONS};
-ghost use Rattle.coniks_tool.specs.EntryLines.{entry_in};
+ghost use Rattle.coniks_json.specs.EntryLines.{entry_in};
 ghost use Rattle.serde_json.specs.View.{view};
-ghost use Rattle.coniks_directory.specs.Batches.{AreWorkers};
-ghost use Rattle.coniks_lines.specs.Runs.{FailsWithBoard, IsRunOf, streams};
-ghost use Rattle.coniks_work.specs.declared.jobs.TheConstants.{MAX_DEPTH};
-ghost use Rattle.coniks_tool.specs.Members.{array_in, digits_in, if_there, number_in, text_in};
+ghost use Rattle.coniks_lines.specs.Runs.{IsRunOf, streams};
+ghost use Rattle.coniks_json.specs.Faults.{FailsWithBoard};
+ghost use Rattle.coniks_json.specs.Members.{array_in, digits_in, if_there, number_in, text_in};
 ghost use Rattle.coniks_provider.specs.Answers.{provider_outcome_of};
-ghost use Rattle.coniks_provider.specs.Turns.{bindings_outcome, install_turn, most_in, nothing, prepare_turn, provider_answer, provider_command_turn, provider_lookup_outcome, provider_open_turn, provider_turn, restore_turn, restoring_turn};
+ghost use Rattle.coniks_provider.specs.Turns.{bindings_outcome, install_turn, most_in, nothing, prepare_turn, provider_answer, provider_command_turn, provider_lookup_outcome, provider_open_turn, restore_turn, restoring_turn};
 
-use crate::batch::BatchRead;
 use crate::operations::{Elements, read_operations};
 use crate::reply::Reply;
 use crate::store::Store;
-use coniks_lines::{ByteIn, ByteOut, LineMachine, RunFault, run_lines};
-use coniks_proof::MAX_OPERATIONS;
-use coniks_tool::Parallelism;
-use coniks_tool::lines::entries::read_entry;
-use coniks_tool::lines::members::{
-    array, bytes_of_digits, digits32, digits32_if_there, number, read_object, text,
+use coniks_directory::SuppliedBatch;
+use coniks_json::entries::read_entry;
+use coniks_json::fault::{RunFault, of_run};
+use coniks_json::members::{
+    array, bytes_of_digits, digits32, digits32_if_there, nonce_of, number, read_object, text,
 };
-use coniks_tool::lines::printing::Member;
+use coniks_json::printing::Member;
+use coniks_json::refusal::Refusal;
+use coniks_lines::{ByteIn, ByteOut, LineMachine, run_lines};
+use coniks_proof::MAX_OPERATIONS;
+use coniks_work::Parallelism;
 use serde_json::Value;
 use std::alloc::{AllocError, Global};
 use std::thread::Threads;
@@ -31,7 +32,8 @@ use std::thread::Threads;
 #[derive(Drop)]
 pub(crate) struct Providing<'r, T: Threads + Sync> {
     alloc: Global,
-    parallelism: Parallelism<'r, T>,
+    rt: &'r T,
+    parallelism: Parallelism,
     store: Store,
 }
 
@@ -56,6 +58,7 @@ fn most_in(object: &Value) -> Option<usize>
 }
 
 impl<'r, T: Threads + Sync> Providing<'r, T> {
+    /// Opens a directory under the line's nonce and policy digest.
     fn open(&mut self, object: &Value) -> Reply
         ensures reply { provider_outcome_of result ≡
             (provider_open_turn self.old.store (digits_in 32 (codes "nonce") (view object.now)) (digits_in 32 (codes "policy") (view object.now))).outcome }
@@ -63,14 +66,15 @@ impl<'r, T: Threads + Sync> Providing<'r, T> {
             (provider_open_turn self.old.store (digits_in 32 (codes "nonce") (view object.now)) (digits_in 32 (codes "policy") (view object.now))).state }
     {
         let Some(nonce) = digits32(object, "nonce") else {
-            return Reply::BadMember(Member::Nonce);
+            return Reply::Refused(Refusal::BadMember(Member::Nonce));
         };
         let Some(policy) = digits32(object, "policy") else {
-            return Reply::BadMember(Member::Policy);
+            return Reply::Refused(Refusal::BadMember(Member::Policy));
         };
         self.store.open_with(nonce, policy)
     }
 
+    /// Prepares the update of the line's batch.
     fn prepare(&mut self, object: &Value) -> Result<Reply, AllocError>
         ensures reply { IfOk result (λ reply. provider_outcome_of reply ≡ (prepare_turn self.old.store (number_in (codes "epoch") (view object.now))
             (if_there (codes "nonce") (view object.now) (digits_in 32 (codes "nonce") (view object.now))) (array_in (codes "ops") (view object.now))).outcome) }
@@ -78,28 +82,28 @@ impl<'r, T: Threads + Sync> Providing<'r, T> {
             (if_there (codes "nonce") (view object.now) (digits_in 32 (codes "nonce") (view object.now))) (array_in (codes "ops") (view object.now))).state) }
     {
         let Some(epoch) = number(object, "epoch") else {
-            return Ok(Reply::BadMember(Member::Epoch));
+            return Ok(Reply::Refused(Refusal::BadMember(Member::Epoch)));
         };
         let Some(new_nonce) = digits32_if_there(object, "nonce") else {
-            return Ok(Reply::BadMember(Member::Nonce));
+            return Ok(Reply::Refused(Refusal::BadMember(Member::Nonce)));
         };
         let Some(elements) = array(object, "ops") else {
-            return Ok(Reply::BadMember(Member::Ops));
+            return Ok(Reply::Refused(Refusal::BadMember(Member::Ops)));
         };
         match read_operations(self.alloc, Elements::Operations, elements)? {
             Ok(read) => {
-                let batch = BatchRead {
-                    epoch,
-                    new_nonce,
+                let batch = SuppliedBatch {
+                    nonce: nonce_of(new_nonce),
                     ops: &read.ops,
                     indices: &read.indices,
                 };
-                self.store.prepare(&self.parallelism, &batch)
+                self.store.prepare(self.rt, self.parallelism, epoch, &batch)
             }
-            Err(place) => Ok(Reply::BadOperation(place)),
+            Err(place) => Ok(Reply::Refused(Refusal::BadOperation(place))),
         }
     }
 
+    /// Installs the pending update under the line's signature.
     fn install(&mut self, object: &Value) -> Result<Reply, AllocError>
         ensures reply { IfOk result (λ reply. provider_outcome_of reply ≡
             (install_turn self.old.store (digits_in 64 (codes "signature") (view object.now))).outcome) }
@@ -107,59 +111,63 @@ impl<'r, T: Threads + Sync> Providing<'r, T> {
     {
         match signature_in(object) {
             Some(signature) => self.store.install(signature),
-            None => Ok(Reply::BadMember(Member::Signature)),
+            None => Ok(Reply::Refused(Refusal::BadMember(Member::Signature))),
         }
     }
 
+    /// Looks up the line's name at the line's epoch.
     fn lookup(&self, object: &Value) -> Result<Reply, AllocError>
         ensures { IfOk result (λ reply. provider_outcome_of reply ≡ provider_lookup_outcome self.now.store
             (number_in (codes "epoch") (view object.now)) (text_in (codes "name") (view object.now)) (digits_in 32 (codes "index") (view object.now))) }
     {
         let Some(epoch) = number(object, "epoch") else {
-            return Ok(Reply::BadMember(Member::Epoch));
+            return Ok(Reply::Refused(Refusal::BadMember(Member::Epoch)));
         };
         let Some(name) = text(object, "name") else {
-            return Ok(Reply::BadMember(Member::Name));
+            return Ok(Reply::Refused(Refusal::BadMember(Member::Name)));
         };
         let Some(index) = digits32(object, "index") else {
-            return Ok(Reply::BadMember(Member::Index));
+            return Ok(Reply::Refused(Refusal::BadMember(Member::Index)));
         };
         self.store.look_up(epoch, name, index)
     }
 
+    /// Returns a page of the bindings of the line's epoch.
     fn bindings(&self, object: &Value) -> Result<Reply, AllocError>
         ensures { IfOk result (λ reply. provider_outcome_of reply ≡ bindings_outcome self.now.store (number_in (codes "epoch") (view object.now))
             (if_there (codes "after") (view object.now) (digits_in 32 (codes "after") (view object.now))) (most_in (view object.now))) }
     {
         let Some(epoch) = number(object, "epoch") else {
-            return Ok(Reply::BadMember(Member::Epoch));
+            return Ok(Reply::Refused(Refusal::BadMember(Member::Epoch)));
         };
         let Some(after) = digits32_if_there(object, "after") else {
-            return Ok(Reply::BadMember(Member::After));
+            return Ok(Reply::Refused(Refusal::BadMember(Member::After)));
         };
         let Some(most) = most_in(object) else {
-            return Ok(Reply::BadMember(Member::Most));
+            return Ok(Reply::Refused(Refusal::BadMember(Member::Most)));
         };
         self.store.bindings(epoch, after, most)
     }
 
+    /// Begins a restore from the line's entry.
     fn restore(&mut self, object: &Value) -> Result<Reply, AllocError>
         ensures reply { IfOk result (λ reply. provider_outcome_of reply ≡ (restore_turn self.old.store (entry_in (view object.now))).outcome) }
         ensures state { OnOk result (self.new.store ≡ (restore_turn self.old.store (entry_in (view object.now))).state) }
     {
         match read_entry(object) {
             Some(entry) => self.store.restore(entry),
-            None => Ok(Reply::BadMember(Member::Entry)),
+            None => Ok(Reply::Refused(Refusal::BadMember(Member::Entry))),
         }
     }
 
+    /// Adds the line's bindings to the restore.
     fn restoring(&mut self, object: &Value) -> Result<Reply, AllocError>
         ensures reply { IfOk result (λ reply. provider_outcome_of reply ≡
             (restoring_turn self.old.store (array_in (codes "bindings") (view object.now))).outcome) }
         ensures state { OnOk result (self.new.store ≡ (restoring_turn self.old.store (array_in (codes "bindings") (view object.now))).state) }
     {
         let Some(elements) = array(object, "bindings") else {
-            return Ok(Reply::BadMember(Member::Bindings));
+            return Ok(Reply::Refused(Refusal::BadMember(Member::Bindings)));
         };
         match read_operations(self.alloc, Elements::Bindings, elements)? {
             Ok(read) => self.store.restore_more(&read),
@@ -167,6 +175,7 @@ impl<'r, T: Threads + Sync> Providing<'r, T> {
         }
     }
 
+    /// Executes the command of an object.
     fn command(&mut self, object: &Value) -> Result<Reply, AllocError>
         ensures reply { IfOk result (λ reply. provider_outcome_of reply ≡
             (provider_command_turn self.old.store (view object.now) (text_in (codes "cmd") (view object.now))).outcome) }
@@ -174,7 +183,7 @@ impl<'r, T: Threads + Sync> Providing<'r, T> {
             (provider_command_turn self.old.store (view object.now) (text_in (codes "cmd") (view object.now))).state) }
     {
         let Some(name) = text(object, "cmd") else {
-            return Ok(Reply::NoCommand);
+            return Ok(Reply::Refused(Refusal::NoCommand));
         };
         if name == "open" {
             return Ok(self.open(object));
@@ -201,19 +210,9 @@ impl<'r, T: Threads + Sync> Providing<'r, T> {
             return self.restoring(object);
         }
         if name == "restored" {
-            return self.store.end_restore(&self.parallelism);
+            return self.store.end_restore(self.rt, self.parallelism);
         }
-        Ok(Reply::NoCommand)
-    }
-
-    fn reply(&mut self, line: &[u8]) -> Result<Reply, AllocError>
-        ensures reply { IfOk result (λ reply. provider_outcome_of reply ≡ (provider_turn self.old.store line.now).outcome) }
-        ensures state { OnOk result (self.new.store ≡ (provider_turn self.old.store line.now).state) }
-    {
-        match read_object(self.alloc, line)? {
-            Some(object) => self.command(&object),
-            None => Ok(Reply::NotJson),
-        }
+        Ok(Reply::Refused(Refusal::NoCommand))
     }
 }
 
@@ -230,7 +229,10 @@ impl<'r, T: Threads + Sync> LineMachine for Providing<'r, T> {
     ghost Needs = { IsSync T.row };
 
     fn step(&mut self, line: &[u8], out: &mut Vec<u8>) -> Result<bool, AllocError> {
-        let reply = self.reply(line)?;
+        let reply = match read_object(self.alloc, line)? {
+            Some(object) => self.command(&object)?,
+            None => Reply::Refused(Refusal::NotJson),
+        };
         let is_accepted = reply.is_accepted();
         reply.object(self.alloc)?.print(self.alloc, out)?;
         Ok(is_accepted)
@@ -240,8 +242,8 @@ impl<'r, T: Threads + Sync> LineMachine for Providing<'r, T> {
 /// Answers the lines of a provider over one directory, which `open` opens or a restore restores.
 ///
 /// Answers each line with one line and one flush, until a read returns 0. Returns whether each line was accepted.
-/// `workers` worker threads build the epochs, at the split depth `depth` in bits, both within the limits of
-/// `coniks_work::build`. No answer depends on either. The call can wait, because it joins its worker threads.
+/// Several worker threads build an epoch, with a split depth. No answer depends on either. The call can wait, because it
+/// joins its worker threads.
 ///
 /// # Errors
 ///
@@ -252,11 +254,8 @@ pub fn run_provider<T: Threads + Sync, R: ByteIn, W: ByteOut>(
     alloc: Global,
     reader: &mut R,
     writer: &mut W,
-    workers: usize,
-    depth: usize,
+    parallelism: Parallelism,
 ) -> Result<bool, RunFault>
-    requires workers { AreWorkers workers }
-    requires depth { depth ≤ MAX_DEPTH }
     requires reads { (R.source reader.old).failed + 1 < 2 ^ 64 }
     requires writes { (W.sink writer.old).failed + 1 < 2 ^ 64 }
     ensures run { IsRunOf provider_answer nothing (FailsWithBoard provider_answer nothing)
@@ -264,11 +263,11 @@ pub fn run_provider<T: Threads + Sync, R: ByteIn, W: ByteOut>(
         result }
 {
     let store = Store::new(alloc)?;
-    let parallelism = Parallelism { rt, workers, depth };
     let mut providing = Providing {
         alloc,
+        rt,
         parallelism,
         store,
     };
-    run_lines(alloc, &mut providing, reader, writer)
+    of_run(run_lines(alloc, &mut providing, reader, writer))
 }

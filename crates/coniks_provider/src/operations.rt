@@ -3,13 +3,13 @@
 ghost use Rattle.std.specs.Prelude.{IfOk, option_map, ◌≡◌};
 ghost use Rattle.serde_json.specs.View.{view, items_view};
 ghost use Rattle.coniks_directory.specs.Batches.{operation_of};
-ghost use Rattle.coniks_provider.specs.Lines.{batch_in, batch_line_read, element_in, indexed_in, registration_in};
+ghost use Rattle.coniks_provider.specs.Lines.{batch_in, batch_line_read, element_in, indexed_in};
 
 use crate::batch::Operations;
 use coniks_directory::{Op, OpKind};
-use coniks_proof::{Bytes, Index, Opening};
-use coniks_tool::lines::members::{base64, digits32, text};
-use coniks_tool::read_op;
+use coniks_json::members::digits32;
+use coniks_json::operations::{read_op, read_op_of};
+use coniks_proof::Index;
 use serde_json::Value;
 use std::alloc::{AllocError, Global};
 
@@ -22,35 +22,13 @@ pub(crate) enum Elements {
     Bindings,
 }
 
-/// Reads the operation that registers a binding: `key` in base64, `name`, and `opening` in 64 digits.
-fn read_binding(alloc: Global, element: &Value) -> Result<Option<Op>, AllocError>
-    ensures { IfOk result (λ op. option_map operation_of op ≡ registration_in (view element.now)) }
-{
-    let Some(key) = base64(alloc, element, "key")? else {
-        return Ok(None);
-    };
-    let Some(name) = text(element, "name") else {
-        return Ok(None);
-    };
-    let Some(opening) = digits32(element, "opening") else {
-        return Ok(None);
-    };
-    let name = Bytes::copy_of(alloc, name.as_bytes())?;
-    Ok(Some(Op {
-        kind: OpKind::Register,
-        name,
-        key: Bytes::new(key),
-        opening: Opening(opening),
-    }))
-}
-
 /// Reads the operation of an element.
 fn read_element(alloc: Global, kind: Elements, element: &Value) -> Result<Option<Op>, AllocError>
     ensures { IfOk result (λ op. option_map operation_of op ≡ element_in kind (view element.now)) }
 {
     match kind {
         Elements::Operations => read_op(alloc, element),
-        Elements::Bindings => read_binding(alloc, element),
+        Elements::Bindings => read_op_of(alloc, OpKind::Register, element),
     }
 }
 

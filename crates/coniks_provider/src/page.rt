@@ -6,8 +6,8 @@ ghost use Rattle.coniks_directory.specs.Bindings.{indexed_binding};
 ghost use Rattle.coniks_provider.specs.Answers.{binding_data, page_data};
 
 use coniks_directory::IndexedBinding;
-use coniks_tool::lines::objects::{Field, Shown, object};
-use coniks_tool::lines::printable::Printable;
+use coniks_json::objects::{Field, Shown, object};
+use coniks_json::printable::Printable;
 use serde_json::{Value, json};
 use std::alloc::{AllocError, Global};
 

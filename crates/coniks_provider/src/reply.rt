@@ -6,14 +6,13 @@ ghost use Rattle.coniks_chain.specs.Entries.{body_bytes};
 ghost use Rattle.coniks_provider.specs.Answers.{bad_binding_data, entry_data, latest_data, provider_outcome_of, prepared_data, provider_reply_data, restoring_data};
 
 use coniks_chain::{Body, Entry};
-use coniks_directory::{OpFault, SignedProof};
+use coniks_directory::SignedProof;
+use coniks_json::objects::{Field, Shown, object};
+use coniks_json::printable::Printable;
+use coniks_json::printing::fault;
+use coniks_json::refusal::Refusal;
+use coniks_json::replies::{looked_up, opened, placed_fault};
 use coniks_proof::Digest;
-use coniks_tool::lines::objects::{Field, Shown, object};
-use coniks_tool::lines::printable::Printable;
-use coniks_tool::lines::printing::{Member, bad_member, fault, member_text};
-use coniks_tool::lines::replies::{
-    bad_operation, epoch_not_later, fault_text, looked_up, opened, placed_fault,
-};
 use std::alloc::{AllocError, Global};
 
 /// The answer of `provider` to a line.
@@ -56,20 +55,10 @@ pub(crate) enum Reply {
         entry: Entry,
         link: Digest,
     },
-    /// The line is not a JSON object.
-    NotJson,
-    /// The line has no known command.
-    NoCommand,
-    /// A member is missing, of another kind or of a wrong text.
-    BadMember(Member),
-    /// The element of `ops` at this position is no operation.
-    BadOperation(usize),
+    /// The line is refused for a reason that `run` has too.
+    Refused(Refusal),
     /// The element of `bindings` at this position is no binding.
     BadBinding(usize),
-    /// The directory is not open.
-    NotOpen,
-    /// A directory is open, or a restore has begun.
-    AlreadyOpen,
     /// No restore has begun.
     NotRestoring,
     /// The entry's epoch is not later than the epoch before it.
@@ -78,27 +67,10 @@ pub(crate) enum Reply {
     Version,
     /// The root of the bindings is not that of the entry.
     RootDiffers,
-    /// A line has too many operations or bindings.
-    BatchTooLong,
-    /// The operation or the binding at this position has an error.
-    BadBatch {
-        position: usize,
-        fault: OpFault,
-    },
     /// The name of the operation at this position is registered with another index.
     OtherIndex(usize),
-    /// The epoch is not later than the latest one.
-    EpochNotLater {
-        latest: u64,
-    },
-    /// The board has no room for another head.
-    BoardFull,
     /// No update is pending.
     NotPrepared,
-    /// No epoch has exactly the number asked.
-    UnknownEpoch,
-    /// The name asked is empty or too long.
-    NameLength,
     /// The name asked is registered with another index.
     BadIndex,
 }
@@ -120,25 +92,14 @@ impl Reply {
             | Reply::Restore
             | Reply::Restoring { .. }
             | Reply::Restored { .. } => true,
-            Reply::NotJson
-            | Reply::NoCommand
-            | Reply::BadMember(_)
-            | Reply::BadOperation(_)
+            Reply::Refused(_)
             | Reply::BadBinding(_)
-            | Reply::NotOpen
-            | Reply::AlreadyOpen
             | Reply::NotRestoring
             | Reply::NotLater
             | Reply::Version
             | Reply::RootDiffers
-            | Reply::BatchTooLong
-            | Reply::BadBatch { .. }
             | Reply::OtherIndex(_)
-            | Reply::EpochNotLater { .. }
-            | Reply::BoardFull
             | Reply::NotPrepared
-            | Reply::UnknownEpoch
-            | Reply::NameLength
             | Reply::BadIndex => false,
         }
     }
@@ -162,30 +123,20 @@ impl Reply {
             Reply::Restore => object(alloc, &[Field("ok", Shown::Text("restore"))]),
             Reply::Restoring { names } => restoring(alloc, names),
             Reply::Restored { entry, link } => with_entry(alloc, "restored", &entry, &link),
-            Reply::NotJson => fault(alloc, "Json"),
-            Reply::NoCommand => fault(alloc, "Command"),
-            Reply::BadMember(member) => bad_member(alloc, member_text(member)),
-            Reply::BadOperation(place) => bad_operation(alloc, place),
+            Reply::Refused(why) => why.object(alloc),
             Reply::BadBinding(place) => bad_binding(alloc, place),
-            Reply::NotOpen => fault(alloc, "NotOpen"),
-            Reply::AlreadyOpen => fault(alloc, "AlreadyOpen"),
             Reply::NotRestoring => fault(alloc, "NotRestoring"),
             Reply::NotLater => fault(alloc, "NotLater"),
             Reply::Version => fault(alloc, "Version"),
             Reply::RootDiffers => fault(alloc, "RootDiffers"),
-            Reply::BatchTooLong => fault(alloc, "BatchTooLong"),
-            Reply::BadBatch { position, fault } => placed_fault(alloc, fault_text(fault), position),
             Reply::OtherIndex(position) => placed_fault(alloc, "OtherIndex", position),
-            Reply::EpochNotLater { latest } => epoch_not_later(alloc, latest),
-            Reply::BoardFull => fault(alloc, "BoardFull"),
             Reply::NotPrepared => fault(alloc, "NotPrepared"),
-            Reply::UnknownEpoch => fault(alloc, "UnknownEpoch"),
-            Reply::NameLength => fault(alloc, "NameLength"),
             Reply::BadIndex => fault(alloc, "OtherIndex"),
         }
     }
 }
 
+/// Returns the object of a prepared update.
 fn prepared(alloc: Global, body: &Body, nodes: usize) -> Result<Printable, AllocError>
     ensures { IfOk result (λ object. view object.value ≡ prepared_data body.now nodes) }
 {
@@ -235,6 +186,7 @@ fn with_entry<'a>(
     )
 }
 
+/// Returns the object of a restore that has this number of names.
 fn restoring(alloc: Global, names: usize) -> Result<Printable, AllocError>
     ensures { IfOk result (λ object. view object.value ≡ restoring_data names) }
 {
@@ -247,6 +199,7 @@ fn restoring(alloc: Global, names: usize) -> Result<Printable, AllocError>
     )
 }
 
+/// Returns the object of a binding that cannot be read, with its position.
 fn bad_binding(alloc: Global, position: usize) -> Result<Printable, AllocError>
     ensures { IfOk result (λ object. view object.value ≡ bad_binding_data position) }
 {
@@ -260,6 +213,7 @@ fn bad_binding(alloc: Global, position: usize) -> Result<Printable, AllocError>
     )
 }
 
+/// Returns the object of the latest epoch.
 fn latest<'a>(
     alloc: Global,
     epoch: u64,

@@ -13,10 +13,10 @@ use crate::reply::Reply;
 use crate::service::Service;
 use coniks_chain::Entry;
 use coniks_directory::{BatchFault, RestoreFault, Restoring, SuppliedBindings, SuppliedIndices};
+use coniks_json::refusal::Refusal;
 use coniks_proof::{MAX_OPERATIONS, Sha256Hash};
 use coniks_shared::{Board, Publisher};
-use coniks_tool::Parallelism;
-use coniks_work::Open;
+use coniks_work::{Open, Parallelism};
 use std::alloc::{AllocError, Global};
 use std::thread::Threads;
 
@@ -37,9 +37,7 @@ impl Restore {
             Err(RestoreFault::NotLater) => Ok(Err(Reply::NotLater)),
             Err(RestoreFault::Version) => Ok(Err(Reply::Version)),
             Err(RestoreFault::OutOfMemory) => Err(AllocError),
-            Err(RestoreFault::Workers | RestoreFault::Depth | RestoreFault::RootDiffers) => {
-                unreachable!()
-            }
+            Err(RestoreFault::RootDiffers) => unreachable!(),
         }
     }
 
@@ -53,7 +51,7 @@ impl Restore {
             (restoring_refusal (restore_of self.old) (indexed read.now.ops.items read.now.indices.items))).state) }
     {
         if read.ops.len() > MAX_OPERATIONS {
-            return Ok(Reply::BatchTooLong);
+            return Ok(Reply::Refused(Refusal::BatchTooLong));
         }
         let bindings = SuppliedBindings {
             bindings: &read.ops,
@@ -63,7 +61,10 @@ impl Restore {
             Ok(()) => Ok(Reply::Restoring {
                 names: self.restoring.count(),
             }),
-            Err(BatchFault::At { position, fault }) => Ok(Reply::BadBatch { position, fault }),
+            Err(BatchFault::At { position, fault }) => Ok(Reply::Refused(Refusal::BadBatch {
+                position,
+                fault,
+            })),
             Err(BatchFault::OutOfMemory) => Err(AllocError),
             Err(BatchFault::Workers | BatchFault::Depth | BatchFault::BatchTooLong) => {
                 unreachable!()
@@ -76,7 +77,8 @@ impl Restore {
     /// If the root of the bindings is not the entry's, nothing is open.
     pub(crate) fn finish<T: Threads + Sync>(
         self,
-        parallelism: &Parallelism<'_, T>,
+        rt: &T,
+        parallelism: Parallelism,
         publisher: &mut Publisher,
         board: &Board,
     ) -> Result<(Held, Reply), AllocError>
@@ -89,14 +91,9 @@ impl Restore {
         ensures state { IfOk result (λ it. provider_state_of it.0 ≡ (end_restore (restore_of self)).state) }
         ensures unchanged { OnErr result (publisher.new ≡ publisher.old) }
     {
-        let restored = self.restoring.finish(
-            parallelism.rt,
-            parallelism.depth,
-            parallelism.workers,
-            &Open,
-            publisher,
-            board,
-        );
+        let restored = self
+            .restoring
+            .finish(rt, parallelism, &Open, publisher, board);
         match restored {
             Ok(directory) => {
                 let reply = Reply::Restored {
@@ -107,12 +104,7 @@ impl Restore {
             }
             Err(RestoreFault::RootDiffers) => Ok((Held::Nothing, Reply::RootDiffers)),
             Err(RestoreFault::OutOfMemory) => Err(AllocError),
-            Err(
-                RestoreFault::NotLater
-                | RestoreFault::Version
-                | RestoreFault::Workers
-                | RestoreFault::Depth,
-            ) => unreachable!(),
+            Err(RestoreFault::NotLater | RestoreFault::Version) => unreachable!(),
         }
     }
 }

@@ -1,31 +1,25 @@
 //! The directory that a line opens, and the pending update.
 
 ghost use Rattle.std.specs.Prelude.{◌≡◌, ◌≤◌, [], length, None, Some, IfOk, OnOk, option_map};
-ghost use Rattle.coniks_chain.specs.Entries.{link_preimage};
-ghost use Rattle.coniks_directory.specs.Chain.{head_at};
-ghost use Rattle.coniks_proof.specs.Sha256.{sha256};
 ghost use Rattle.coniks_proof.specs.declared.values.TheConstants.{MAX_OPERATIONS};
 ghost use Rattle.coniks_shared.specs.Boards.{BoardEnd};
-ghost use Rattle.coniks_shared.specs.Lists.{last_of};
-ghost use Rattle.coniks_provider.specs.Answers.{installed, provider_outcome_of};
+ghost use Rattle.coniks_provider.specs.Answers.{provider_outcome_of};
 ghost use Rattle.coniks_provider.specs.Limits.{most_provider_epochs};
-ghost use Rattle.coniks_provider.specs.Stores.{IsRefusable, IsServing, batch_line_of, provided_of, refused_as};
+ghost use Rattle.coniks_provider.specs.Stores.{IsServing, IsSuppliedRefusable, batch_line_of, provided_of, supplied_refused_as};
 ghost use Rattle.coniks_provider.specs.Turns.{bindings_with, index_of_bytes, install_on, latest_outcome, nothing_yet, prepare_on, provider_lookup_with, provider_number_refusal, provider_refusal, serving};
 
-use crate::batch::BatchRead;
 use crate::page::page_object;
 use crate::reply::Reply;
 use crate::signature::GivenSignature;
-use coniks_chain::{Body, Entry, Signature};
+use coniks_chain::{Body, Signature, link};
 use coniks_directory::{
-    BatchFault, BindingsFault, Directory, InstallFault, LookupAtFault, Prepared, SuppliedBatch,
+    BindingsFault, Directory, InstallFault, LookupAtFault, Prepared, SuppliedBatch,
     SuppliedBatchFault, SuppliedIndices,
 };
+use coniks_json::refusal::{Refusal, batch_refusal};
 use coniks_proof::{Index, Nonce, Sha256Hash};
 use coniks_shared::{Board, Publisher};
-use coniks_tool::Parallelism;
-use coniks_tool::lines::members::nonce_of;
-use coniks_work::Open;
+use coniks_work::{Open, Parallelism};
 use std::alloc::{AllocError, Global};
 use std::thread::Threads;
 
@@ -33,18 +27,13 @@ use std::thread::Threads;
 pub(crate) const BOARD_HEADS: usize = 65536;
 
 /// Returns the reply to a batch that is not accepted.
-fn batch_refusal(fault: SuppliedBatchFault) -> Result<Reply, AllocError>
-    requires { IsRefusable fault }
-    ensures { IfOk result (λ reply. refused_as fault ≡ Some (provider_outcome_of reply)) }
+fn supplied_refusal(fault: SuppliedBatchFault) -> Result<Reply, AllocError>
+    requires { IsSuppliedRefusable fault }
+    ensures { IfOk result (λ reply. supplied_refused_as fault ≡ Some (provider_outcome_of reply)) }
 {
     match fault {
-        SuppliedBatchFault::Batch(BatchFault::BatchTooLong) => Ok(Reply::BatchTooLong),
-        SuppliedBatchFault::Batch(BatchFault::At { position, fault }) => {
-            Ok(Reply::BadBatch { position, fault })
-        }
+        SuppliedBatchFault::Batch(fault) => Ok(Reply::Refused(batch_refusal(fault)?)),
         SuppliedBatchFault::OtherIndex { position } => Ok(Reply::OtherIndex(position)),
-        SuppliedBatchFault::Batch(BatchFault::OutOfMemory) => Err(AllocError),
-        SuppliedBatchFault::Batch(BatchFault::Workers | BatchFault::Depth) => unreachable!(),
     }
 }
 
@@ -55,20 +44,6 @@ fn index_of(bytes: Option<[u8; 32]>) -> Option<Index>
     match bytes {
         Some(bytes) => Some(Index(bytes)),
         None => None,
-    }
-}
-
-/// Returns the reply to an installed update, whose head is the last published one.
-fn installed_by(entry: Entry, publisher: &Publisher) -> Reply
-    requires { last_of publisher.now.heads ≡ Some (head_at sha256 entry) }
-    ensures { provider_outcome_of result ≡ installed entry (sha256 (link_preimage entry)) }
-{
-    let Some(head) = publisher.last() else {
-        unreachable!()
-    };
-    Reply::Installed {
-        entry,
-        link: head.link,
     }
 }
 
@@ -113,37 +88,31 @@ impl Service {
     /// Prepares the update of a batch, in place of the pending one.
     pub(crate) fn prepare<T: Threads + Sync>(
         &mut self,
-        parallelism: &Parallelism<'_, T>,
-        batch: &BatchRead<'_>,
+        rt: &T,
+        parallelism: Parallelism,
+        epoch: u64,
+        batch: &SuppliedBatch<'_>,
         publisher: &Publisher,
     ) -> Result<Reply, AllocError>
         requires paired { length batch.now.ops.now ≡ length batch.now.indices.now }
         requires served { IsServing publisher.now self.old.directory self.old.pending }
         ensures served { IsServing publisher.now self.new.directory self.new.pending }
         ensures reply { IfOk result (λ reply. provider_outcome_of reply ≡
-            (prepare_on (provided_of self.old) (batch_line_of batch.now) (provider_refusal (provided_of self.old) (batch_line_of batch.now))).outcome) }
+            (prepare_on (provided_of self.old) (batch_line_of epoch batch.now) (provider_refusal (provided_of self.old) (batch_line_of epoch batch.now))).outcome) }
         ensures state { OnOk result (serving (provided_of self.new) ≡
-            (prepare_on (provided_of self.old) (batch_line_of batch.now) (provider_refusal (provided_of self.old) (batch_line_of batch.now))).state) }
+            (prepare_on (provided_of self.old) (batch_line_of epoch batch.now) (provider_refusal (provided_of self.old) (batch_line_of epoch batch.now))).state) }
     {
-        let supplied = SuppliedBatch {
-            nonce: nonce_of(batch.new_nonce),
-            ops: batch.ops,
-            indices: batch.indices,
-        };
-        let update = match self.directory.prepare_supplied(
-            parallelism.rt,
-            &supplied,
-            parallelism.depth,
-            parallelism.workers,
-            &Open,
-        ) {
+        let update = match self
+            .directory
+            .prepare_supplied(rt, batch, parallelism, &Open)
+        {
             Ok(update) => update,
-            Err(fault) => return batch_refusal(fault),
+            Err(fault) => return supplied_refusal(fault),
         };
-        if let Some(refused) = self.number_refusal(batch.epoch, publisher) {
+        if let Some(refused) = self.number_refusal(epoch, publisher) {
             return Ok(refused);
         }
-        let body = self.directory.next_body(&update, batch.epoch, publisher);
+        let body = self.directory.next_body(&update, epoch, publisher);
         let nodes = update.new_nodes();
         self.pending = Some(Pending { update, body });
         Ok(Reply::Prepared { body, nodes })
@@ -156,10 +125,10 @@ impl Service {
     {
         let latest = self.directory.latest_epoch();
         if epoch <= latest {
-            return Some(Reply::EpochNotLater { latest });
+            return Some(Reply::Refused(Refusal::EpochNotLater { latest }));
         }
         if publisher.published() >= BOARD_HEADS {
-            return Some(Reply::BoardFull);
+            return Some(Reply::Refused(Refusal::BoardFull));
         }
         None
     }
@@ -192,7 +161,8 @@ impl Service {
             Err((InstallFault::OutOfMemory, _)) => return Err(AllocError),
             Err(_) => unreachable!(),
         };
-        Ok(installed_by(entry, publisher))
+        let link = link(&Sha256Hash, &entry);
+        Ok(Reply::Installed { entry, link })
     }
 
     /// Looks a name up at an epoch and an index.
@@ -210,8 +180,8 @@ impl Service {
             .signed_lookup_at(epoch, name.as_bytes(), Index(index))
         {
             Ok(found) => found,
-            Err(LookupAtFault::UnknownEpoch) => return Ok(Reply::UnknownEpoch),
-            Err(LookupAtFault::NameLength) => return Ok(Reply::NameLength),
+            Err(LookupAtFault::UnknownEpoch) => return Ok(Reply::Refused(Refusal::UnknownEpoch)),
+            Err(LookupAtFault::NameLength) => return Ok(Reply::Refused(Refusal::NameLength)),
             Err(LookupAtFault::OtherIndex) => return Ok(Reply::BadIndex),
             Err(LookupAtFault::OutOfMemory) => return Err(AllocError),
         };
@@ -234,7 +204,7 @@ impl Service {
     {
         let mut page = match self.directory.bindings(epoch, index_of(after), most + 1) {
             Ok(found) => found,
-            Err(BindingsFault::UnknownEpoch) => return Ok(Reply::UnknownEpoch),
+            Err(BindingsFault::UnknownEpoch) => return Ok(Reply::Refused(Refusal::UnknownEpoch)),
             Err(BindingsFault::OutOfMemory) => return Err(AllocError),
         };
         let more = page.len() > most;

@@ -3,20 +3,22 @@
 ghost use Rattle.std.specs.Prelude.{◌≡◌, ◌≢◌, ◌≤◌, IfErr, IfOk, OnOk, false, length, true};
 ghost use Rattle.coniks_directory.specs.SuppliedBatches.{indexed};
 ghost use Rattle.coniks_proof.specs.declared.values.TheConstants.{MAX_OPERATIONS};
-ghost use Rattle.coniks_lines.specs.declared.fault.RunFault.TheVariants.{NoBoard};
+ghost use Rattle.coniks_json.specs.declared.fault.RunFault.TheVariants.{NoBoard};
 ghost use Rattle.coniks_provider.specs.Answers.{provider_outcome_of};
 ghost use Rattle.coniks_provider.specs.Stores.{batch_line_of};
 ghost use Rattle.coniks_provider.specs.Turns.{bindings_with, install_with, latest_outcome, nothing, prepare_with, provider_lookup_with, provider_open_with, restore_with, restored_turn, restoring_with};
 
-use crate::batch::{BatchRead, Operations};
+use crate::batch::Operations;
 use crate::held::{Held, take_open, take_restore};
 use crate::reply::Reply;
 use crate::restoring::Restore;
 use crate::service::{BOARD_HEADS, Service};
 use coniks_chain::Entry;
-use coniks_lines::RunFault;
+use coniks_directory::SuppliedBatch;
+use coniks_json::fault::RunFault;
+use coniks_json::refusal::Refusal;
 use coniks_shared::{Board, Publisher};
-use coniks_tool::Parallelism;
+use coniks_work::Parallelism;
 use std::alloc::{AllocError, Global};
 use std::marker::Model;
 use std::thread::Threads;
@@ -80,7 +82,7 @@ impl Store {
         ensures state { self.new ≡ (provider_open_with self.old nonce policy).state }
     {
         if !self.is_free() {
-            return Reply::AlreadyOpen;
+            return Reply::Refused(Refusal::AlreadyOpen);
         }
         self.held = Held::Open(Service::open(self.alloc, nonce, policy));
         Reply::Opened
@@ -89,17 +91,19 @@ impl Store {
     /// Prepares the update of a batch that was read.
     pub(crate) fn prepare<T: Threads + Sync>(
         &mut self,
-        parallelism: &Parallelism<'_, T>,
-        batch: &BatchRead<'_>,
+        rt: &T,
+        parallelism: Parallelism,
+        epoch: u64,
+        batch: &SuppliedBatch<'_>,
     ) -> Result<Reply, AllocError>
         requires { length batch.now.ops.now ≡ length batch.now.indices.now }
-        ensures reply { IfOk result (λ reply. provider_outcome_of reply ≡ (prepare_with self.old (batch_line_of batch.now)).outcome) }
-        ensures state { OnOk result (self.new ≡ (prepare_with self.old (batch_line_of batch.now)).state) }
+        ensures reply { IfOk result (λ reply. provider_outcome_of reply ≡ (prepare_with self.old (batch_line_of epoch batch.now)).outcome) }
+        ensures state { OnOk result (self.new ≡ (prepare_with self.old (batch_line_of epoch batch.now)).state) }
     {
         let Some(mut service) = take_open(&mut self.held) else {
-            return Ok(Reply::NotOpen);
+            return Ok(Reply::Refused(Refusal::NotOpen));
         };
-        let reply = service.prepare(parallelism, batch, &self.publisher);
+        let reply = service.prepare(rt, parallelism, epoch, batch, &self.publisher);
         self.held = Held::Open(service);
         reply
     }
@@ -110,7 +114,7 @@ impl Store {
         ensures state { OnOk result (self.new ≡ (install_with self.old signature).state) }
     {
         let Some(mut service) = take_open(&mut self.held) else {
-            return Ok(Reply::NotOpen);
+            return Ok(Reply::Refused(Refusal::NotOpen));
         };
         let reply = service.install(signature, &mut self.publisher, &self.board);
         self.held = Held::Open(service);
@@ -128,7 +132,7 @@ impl Store {
     {
         match &self.held {
             Held::Open(service) => service.look_up(self.alloc, epoch, name, index),
-            Held::Nothing | Held::Restoring(_) => Ok(Reply::NotOpen),
+            Held::Nothing | Held::Restoring(_) => Ok(Reply::Refused(Refusal::NotOpen)),
         }
     }
 
@@ -138,7 +142,7 @@ impl Store {
     {
         match &self.held {
             Held::Open(service) => service.latest(&self.publisher),
-            Held::Nothing | Held::Restoring(_) => Reply::NotOpen,
+            Held::Nothing | Held::Restoring(_) => Reply::Refused(Refusal::NotOpen),
         }
     }
 
@@ -154,7 +158,7 @@ impl Store {
     {
         match &self.held {
             Held::Open(service) => service.bindings(self.alloc, epoch, after, most),
-            Held::Nothing | Held::Restoring(_) => Ok(Reply::NotOpen),
+            Held::Nothing | Held::Restoring(_) => Ok(Reply::Refused(Refusal::NotOpen)),
         }
     }
 
@@ -164,7 +168,7 @@ impl Store {
         ensures state { OnOk result (self.new ≡ (restore_with self.old entry).state) }
     {
         if !self.is_free() {
-            return Ok(Reply::AlreadyOpen);
+            return Ok(Reply::Refused(Refusal::AlreadyOpen));
         }
         match Restore::begin(self.alloc, entry)? {
             Ok(restore) => {
@@ -194,7 +198,8 @@ impl Store {
     /// If its root is not the entry's, nothing is open, and no restore has begun.
     pub(crate) fn end_restore<T: Threads + Sync>(
         &mut self,
-        parallelism: &Parallelism<'_, T>,
+        rt: &T,
+        parallelism: Parallelism,
     ) -> Result<Reply, AllocError>
         ensures reply { IfOk result (λ reply. provider_outcome_of reply ≡ (restored_turn self.old).outcome) }
         ensures state { OnOk result (self.new ≡ (restored_turn self.old).state) }
@@ -202,7 +207,7 @@ impl Store {
         let Some(restore) = take_restore(&mut self.held) else {
             return Ok(Reply::NotRestoring);
         };
-        let (held, reply) = restore.finish(parallelism, &mut self.publisher, &self.board)?;
+        let (held, reply) = restore.finish(rt, parallelism, &mut self.publisher, &self.board)?;
         self.held = held;
         Ok(reply)
     }

@@ -135,7 +135,7 @@ impl Board {
     }
 }
 
-// Stores one word of the next block.
+/// Stores one word of the next block.
 fn put(
     table: &Shared<u8, BoardView, usize, ByBoard>,
     seat: &mut Seat<u8, BoardView>,
@@ -152,7 +152,7 @@ fn put(
     table.store::<StoreWord>(seat, at, word);
 }
 
-// Stores the count, which publishes the next block.
+/// Stores the count, which publishes the next block.
 fn show(table: &Shared<u8, BoardView, usize, ByBoard>, seat: &mut Seat<u8, BoardView>, count: usize)
     requires table { (seat.old.table_id ≡ table.now.table_id) × (table.now.table_id.words ≡ 5 * table.now.key + 1) }
     requires publisher { seat.old.me.0 ≡ publisher_view seat.old.me.0.blocks seat.old.me.0.told seat.old.me.0.pending seat.old.me.0.room }
@@ -164,7 +164,7 @@ fn show(table: &Shared<u8, BoardView, usize, ByBoard>, seat: &mut Seat<u8, Board
     table.store::<StoreCount>(seat, 0, count as u64);
 }
 
-// Stores the five words of a block, and then the count, which is one more.
+/// Stores the five words of a block, and then the count, which is one more.
 fn put_block(
     table: &Shared<u8, BoardView, usize, ByBoard>,
     seat: &mut Seat<u8, BoardView>,
@@ -188,7 +188,7 @@ fn put_block(
     show(table, seat, *count);
 }
 
-// Loads the count. The seat has then seen this number of blocks.
+/// Loads the count. The seat has then seen this number of blocks.
 fn look(table: &Shared<u8, BoardView, usize, ByBoard>, seat: &mut Seat<u8, BoardView>) -> usize
     requires table { (seat.old.table_id ≡ table.now.table_id) × (0 < table.now.table_id.words) }
     requires watcher { seat.old.me.0 ≡ watcher_view seat.old.me.0.blocks seat.old.me.0.room }
@@ -200,7 +200,7 @@ fn look(table: &Shared<u8, BoardView, usize, ByBoard>, seat: &mut Seat<u8, Board
     table.load::<LoadCount>(seat, 0) as usize
 }
 
-// Loads a word of a block that was seen.
+/// Loads a word of a block that was seen.
 fn read(
     table: &Shared<u8, BoardView, usize, ByBoard>,
     seat: &mut Seat<u8, BoardView>,
@@ -214,7 +214,7 @@ fn read(
     table.load::<LoadWord>(seat, at)
 }
 
-// Loads the five words of the last block that was seen.
+/// Loads the five words of the last block that was seen.
 fn read_block(
     table: &Shared<u8, BoardView, usize, ByBoard>,
     seat: &mut Seat<u8, BoardView>,
@@ -234,7 +234,7 @@ fn read_block(
     [first, second, third, fourth, fifth]
 }
 
-// Returns the seat of a new watcher that has seen the blocks that this seat has seen.
+/// Returns the seat of a new watcher that has seen the blocks that this seat has seen.
 fn witness(
     table: &Shared<u8, BoardView, usize, ByBoard>,
     seat: &mut Seat<u8, BoardView>,
@@ -247,7 +247,7 @@ fn witness(
     table.split_seat::<Witness>(seat)
 }
 
-// Reports to the publisher's seat the blocks that the other seat has seen. The other seat ends.
+/// Reports to the publisher's seat the blocks that the other seat has seen. The other seat ends.
 fn tell(
     table: &Shared<u8, BoardView, usize, ByBoard>,
     seat: &mut Seat<u8, BoardView>,
@@ -261,7 +261,7 @@ fn tell(
     table.join_seat::<Tell>(seat, other);
 }
 
-// Loads the count by the publisher's seat: the blocks reported to it are a prefix of the published blocks.
+/// Loads the count by the publisher's seat: the blocks reported to it are a prefix of the published blocks.
 fn compare(table: &Shared<u8, BoardView, usize, ByBoard>, seat: &mut Seat<u8, BoardView>)
     requires table { (seat.old.table_id ≡ table.now.table_id) × (0 < table.now.table_id.words) }
     requires publisher { seat.old.me.0.writes ≡ true }

@@ -113,7 +113,7 @@ impl Claims {
     }
 }
 
-// The taker takes in all drawers.
+/// Takes all drawers into the taker.
 fn gather(
     table: &Shared<u8, DrawerView, usize, ByClaims>,
     taker: &mut Seat<u8, DrawerView>,
@@ -130,7 +130,7 @@ fn gather(
     }
 }
 
-// The taker takes in one drawer.
+/// Takes one drawer into the taker.
 fn take_in(
     table: &Shared<u8, DrawerView, usize, ByClaims>,
     taker: &mut Seat<u8, DrawerView>,
@@ -144,7 +144,7 @@ fn take_in(
     table.join_seat::<OnePart>(taker, drawer.into_seat());
 }
 
-// Adds 1 to the word, in one step, and returns the value before.
+/// Adds 1 to the word, in one step, and returns the value before.
 fn add_one(table: &Shared<u8, DrawerView, usize, ByClaims>, seat: &mut Seat<u8, DrawerView>) -> u64
     requires table { (seat.old.table_id ≡ table.now.table_id) × (table.now.table_id.words ≡ 1) }
     requires some { 0 < seat.old.me.0.parts }
@@ -156,7 +156,7 @@ fn add_one(table: &Shared<u8, DrawerView, usize, ByClaims>, seat: &mut Seat<u8, 
     table.fetch_add::<OneDraw>(seat, 0, 1)
 }
 
-// Splits one part off the seat, for a new one.
+/// Splits one part off the seat, for a new one.
 fn cut_off(
     table: &Shared<u8, DrawerView, usize, ByClaims>,
     seat: &mut Seat<u8, DrawerView>,
@@ -224,7 +224,7 @@ impl Drawer {
         }
     }
 
-    // Returns the seat of the drawer, which ends.
+    /// Returns the seat of the drawer, which ends.
     fn into_seat(self) -> Seat<u8, DrawerView>
         ensures { (result.table_id ≡ self.table) × (result.me ≡ (view_of self, [])) }
     {

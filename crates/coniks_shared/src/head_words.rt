@@ -35,21 +35,21 @@ pub(crate) fn head_from(words: &[u64; 5]) -> Head
     }
 }
 
-// There are 32 bytes, and each is a byte.
+/// Proves that there are 32 bytes, each less than 256.
 fn known(bytes: &[u8; 32])
     ensures { (length bytes.now ≡ 32) × ((i : ℕ) → slice_index bytes.now i < 256) }
 {
     known_bytes(bytes);
 }
 
-// What the type of bytes says of each.
+/// Proves that each byte is less than 256.
 fn known_bytes(bytes: &[u8])
     ensures { (i : ℕ) → slice_index bytes.now i < 256 }
 {
     let _length = bytes.len();
 }
 
-// The word of eight bytes.
+/// Returns the word of eight bytes, the most significant first.
 fn word(link: &[u8; 32], at: usize) -> u64
     requires { at + 8 ≤ 32 }
     ensures { result ≡ word_at link.now at }
@@ -66,7 +66,7 @@ fn word(link: &[u8; 32], at: usize) -> u64
     ])
 }
 
-// Four times eight bytes, one after the other.
+/// Returns four times eight bytes, one after another.
 fn joined(a: &[u8], b: &[u8], c: &[u8], d: &[u8]) -> [u8; 32]
     requires { (length a.now ≡ 8) × (length b.now ≡ 8) × (length c.now ≡ 8) × (length d.now ≡ 8) }
     ensures { result ≡ a.now ++ (b.now ++ (c.now ++ d.now)) }

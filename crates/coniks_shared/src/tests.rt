@@ -11,7 +11,7 @@ use std::test::Fail;
 use std::thread;
 use std::thread::Threads;
 
-// A drawer on its way through a thread, and what it drew.
+/// A drawer on its way through a thread, and what it drew.
 #[derive(Drop)]
 struct Hand {
     drawer: Drawer,
@@ -19,7 +19,7 @@ struct Hand {
     refused: bool,
 }
 
-// The hand of a drawer that has drawn nothing yet.
+/// The hand of a drawer that has drawn nothing yet.
 fn empty_hand(alloc: Global, drawer: Drawer) -> Hand
     ensures { result.drawer ≡ drawer }
 {
@@ -30,7 +30,7 @@ fn empty_hand(alloc: Global, drawer: Drawer) -> Hand
     }
 }
 
-// A loop over `draw` is bounded by the numbers that are left.
+/// A loop over `draw` is bounded by the numbers that are left.
 fn draw_all(hand: &mut Hand, claims: &Claims)
     requires { hand.old.drawer.table ≡ claims.now.table }
 {
@@ -41,7 +41,7 @@ fn draw_all(hand: &mut Hand, claims: &Claims)
     }
 }
 
-// What the hands drew, in order. No hand may have been refused memory.
+/// What the hands drew, in order. No hand may have been refused memory.
 fn all_drawn(rt: &impl Abort, alloc: Global, hands: &[Hand]) -> Vec<usize> {
     let mut all = Vec::new(alloc);
     for hand in hands {
@@ -53,7 +53,7 @@ fn all_drawn(rt: &impl Abort, alloc: Global, hands: &[Hand]) -> Vec<usize> {
     all
 }
 
-// Eight hands that draw from the same claims.
+/// Eight hands that draw from the same claims.
 fn eight_hands(rt: &impl Abort, alloc: Global, claims: &Claims, drawer: Drawer) -> Vec<Hand>
     requires { drawer.table ≡ claims.now.table }
     ensures { All (λ h. h.drawer.table ≡ claims.now.table) result.items }
@@ -74,7 +74,7 @@ fn eight_hands(rt: &impl Abort, alloc: Global, claims: &Claims, drawer: Drawer) 
     hands
 }
 
-// Draws all numbers, each hand in a thread of its own.
+/// Draws all numbers, each hand in a thread of its own.
 fn draw_beside<R: Threads + Sync>(rt: &R, claims: &Claims, hands: &mut [Hand])
     requires own { All (λ h. h.drawer.table ≡ claims.now.table) hands.old }
 {
@@ -143,7 +143,7 @@ fn no_numbers_to_draw(rt: HostRuntime) {
     assert!(rt; first.draw(&claims) == None);
 }
 
-// The head of an epoch, whose link has its number in each byte.
+/// The head of an epoch, whose link has its number in each byte.
 fn head(epoch: u8) -> Head {
     let mut link = [0; 32];
     link.as_mut_slice().fill(epoch);
@@ -153,7 +153,7 @@ fn head(epoch: u8) -> Head {
     }
 }
 
-// The head with epoch 7 and the link 00 01 02 .. 1f.
+/// The head with epoch 7 and the link 00 01 02 .. 1f.
 fn counting_head() -> Head {
     let mut link = [0; 32];
     for byte in 0..32u8 {
@@ -189,7 +189,7 @@ fn a_head_is_five_words(rt: HostRuntime) {
     assert!(rt; watcher.latest(&board) == Some(counting_head()));
 }
 
-// A board for as many heads as one can have.
+/// A board for as many heads as one can have.
 #[test]
 fn the_largest_board(rt: HostRuntime) {
     let (board, mut publisher) = Board::new(rt.alloc(), MAX_HEADS).expect(&rt, "a board");
@@ -228,8 +228,8 @@ fn watcher_follows(rt: HostRuntime) {
     assert!(rt; watcher.latest(&board) == Some(head(3)));
 }
 
-// A watcher on its way through a thread, the last epoch that it saw, and whether an answer was no published head or
-// one before an earlier answer.
+/// A watcher on its way through a thread, the last epoch that it saw, and whether an answer was no published head or
+/// one before an earlier answer.
 #[derive(Drop)]
 struct Watch {
     watcher: Watcher,
@@ -285,7 +285,7 @@ fn watch_each<R: Threads + Sync>(rt: &R, board: &Board, watches: &mut [Watch])
     );
 }
 
-// Publishes forty heads beside the watchers.
+/// Publishes forty heads beside the watchers.
 fn publish_beside<R: Threads + Sync>(
     rt: &R,
     board: &Board,
@@ -331,7 +331,7 @@ fn four_watchers(rt: HostRuntime) -> Result<(), Fail> {
     Ok(())
 }
 
-// Where a growth is refused, as `rt try --test --fail-alloc N` does it, a constructor says so, and can be called again.
+/// Where a growth is refused, as `rt try --test --fail-alloc N` does it, a constructor says so, and can be called again.
 #[test]
 fn growths_may_be_refused(rt: HostRuntime) {
     let made = match Claims::new(rt.alloc(), 4096) {
@@ -346,7 +346,7 @@ fn growths_may_be_refused(rt: HostRuntime) {
     assert!(rt; made.is_ok());
 }
 
-// Whether this is how an error is shown.
+/// Whether this is how an error is shown.
 fn is_shown(rt: &impl Abort, alloc: Global, error: &impl Display, wanted: &str) -> bool {
     let text = format!(in alloc; "{error}").expect(rt, "memory");
     text.as_str() == wanted

@@ -9,25 +9,26 @@ use Rattle.coniks_lines.specs.Known.{Sink}
 use Rattle.coniks_lines.specs.Lines.{lines_of}
 use Rattle.coniks_lines.specs.Machine.{all_accepted}
 use Rattle.coniks_lines.specs.Runs.{AnswersAll}
-use Rattle.coniks_lines.specs.declared.fault.RunFault.{RunFault}
+use Rattle.coniks_lines.specs.declared.fault.LineFault.{LineFault}
+use Rattle.coniks_json.specs.Faults.{of_run}
 use Rattle.coniks_proof.specs.Sha256.{sha256}
 use Rattle.coniks_chain.specs.declared.entry.Entry.{Entry}
 use Rattle.coniks_chain.specs.declared.auditor.AuditorState.{AuditorState}
 use Rattle.coniks_chain.specs.declared.auditor.AuditFault.{AuditFault}
-use Rattle.coniks_chain.specs.Chain.{Continues, Follows, before_at, before_of}
-use Rattle.coniks_tool.specs.Members.{object_in}
+use Rattle.coniks_chain.specs.Chain.{Continues, Follows, before_at, auditor_after}
+use Rattle.coniks_json.specs.Members.{object_in}
 use Rattle.coniks_tool.specs.Seal.{is_seal}
-use Rattle.coniks_tool.specs.EntryLines.{entry_in, entry_on}
+use Rattle.coniks_json.specs.EntryLines.{entry_in, entry_on}
 use Rattle.coniks_tool.specs.AuditFaults.{audit_fault}
 use Rattle.coniks_tool.specs.AuditReplies.{is_audited, not_json}
 use Rattle.coniks_tool.specs.Audit.{AuditState, AuditTurn, none_audited, judged_turn, entry_turn, audit_turn, audit_answer}
-use Rattle.coniks_tool.specs.Turns.{refused}
+use Rattle.coniks_json.specs.Turns.{refused}
 use Rattle.coniks_tool.specs.AuditChain.{HoldsGoodChain, if_accepted, accepted_entries}
 use Rattle.coniks_tool.proofs.AuditFaultLemmas.{follows-none, none-follows}
 
 -- the state after an accepted entry
 abbrev after : AuditState → Entry → AuditState
-after s e = record { key = s.key; before = Some (before_of sha256 e) }
+after s e = record { key = s.key; before = Some (auditor_after sha256 e) }
 
 -- the line contains this entry, it has no error, and this is the state after it
 record IsTaken (s : AuditState) (found : Option Entry) (state : AuditState) : Type 0 where
@@ -68,14 +69,14 @@ takes_object s None e there none = absurd (false≢true (ap is_some there))
 takes_object s (Some d) e there none = subst (λ found. Takes s e (entry_turn s found)) (sym there) (takes_entry s e none)
 
 -- an entry, followed by others that continue after it
-continues-cons : (hash : List ℕ → List ℕ) (v : List ℕ → List ℕ → Bool) (start : Option AuditorState) (e : Entry) (es : List Entry) → Follows v start e → Continues hash v (Some (before_of hash e)) es
+continues-cons : (hash : List ℕ → List ℕ) (v : List ℕ → List ℕ → Bool) (start : Option AuditorState) (e : Entry) (es : List Entry) → Follows v start e → Continues hash v (Some (auditor_after hash e)) es
     → (k : ℕ) (x : Entry) → slice_get (e ∷ es) k ≡ Some x → Follows v (before_at hash start (e ∷ es) k) x
 continues-cons hash v start e es follows rest zero x at = subst (λ y. Follows v start y) (same_Some e x at) follows
 continues-cons hash v start e es follows rest (suc zero) x at = rest zero x at
 continues-cons hash v start e es follows rest (suc (suc k)) x at = rest (suc k) x at
 
 continues-tail : (hash : List ℕ → List ℕ) (v : List ℕ → List ℕ → Bool) (start : Option AuditorState) (e : Entry) (es : List Entry) → Continues hash v start (e ∷ es)
-    → (k : ℕ) (x : Entry) → slice_get es k ≡ Some x → Follows v (before_at hash (Some (before_of hash e)) es k) x
+    → (k : ℕ) (x : Entry) → slice_get es k ≡ Some x → Follows v (before_at hash (Some (auditor_after hash e)) es k) x
 continues-tail hash v start e es all zero x at = all (suc zero) x at
 continues-tail hash v start e es all (suc k) x at = all (suc (suc k)) x at
 
@@ -141,9 +142,9 @@ holds-all s (line ∷ lines) (e ∷ es) held good =
     rw took.0 (holds-all (audit_turn s line).state lines es (rest_same (entry_on line) (Some e) (map entry_on lines) (map Some es) held) rest)
 
 -- a run that replies to all lines returns true exactly if the lines contain a good chain
-pub all-chain : (key input : List ℕ) (old new : Sink) (start state : AuditState) (result : Result Bool RunFault)
+pub all-chain : (key input : List ℕ) (old new : Sink) (start state : AuditState) (result : Result Bool LineFault)
     → start ≡ none_audited key → IfOk result (AnswersAll audit_answer start input old new state)
-    → IfOk result (λ all. (all ≡ true) ↔ HoldsGoodChain key (lines_of input))
+    → IfOk (of_run result) (λ all. (all ≡ true) ↔ HoldsGoodChain key (lines_of input))
 all-chain key input old new start state (Ok all) at answers =
     let all_is : all ≡ all_accepted audit_answer (none_audited key) (lines_of input) = subst (λ (s : AuditState). all ≡ all_accepted audit_answer s (lines_of input)) at answers.all_is in (
       λ is.

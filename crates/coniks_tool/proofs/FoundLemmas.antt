@@ -2,7 +2,7 @@
 use Rattle.std.proofs.Common.{◌≡◌, ℕ, List, [], ◌∷◌, map, true, false, refl, sym, ap, subst, ◌∙◌, Option, Some, None, if◌then◌else◌}
 use Rattle.std.specs.Prelude.{◌==◌, cond, find, is_some, zip}
 use Rattle.std.proofs.lemmas.Bool.{false≢true}
-use Rattle.coniks_chain.specs.Chain.{before_of}
+use Rattle.coniks_chain.specs.Chain.{auditor_after}
 use Rattle.coniks_chain.specs.declared.auditor.AuditorState.{AuditorState}
 use Rattle.coniks_chain.specs.declared.entry.Entry.{Entry}
 use Rattle.coniks_directory.specs.History.{Shown, shown_at}
@@ -17,10 +17,11 @@ use Rattle.coniks_proof.specs.declared.paths.Proof.{Proof}
 use Rattle.coniks_proof.specs.declared.values.TheConstants.{MAX_NAME}
 use Rattle.coniks_tool.specs.Chains.{chain_after, chain_of, entry_after}
 use Rattle.coniks_tool.specs.Demo.{demo_index}
-use Rattle.coniks_tool.specs.Paths.{Path, path_of, path_to}
-use Rattle.coniks_tool.specs.Replies.{bad_name_length, looked_up, unknown_epoch}
+use Rattle.coniks_json.specs.Paths.{Path, path_of, path_to}
+use Rattle.coniks_json.specs.Refusals.{bad_name_length, unknown_epoch}
+use Rattle.coniks_tool.specs.ScriptReplies.{because, looked_up}
 use Rattle.coniks_tool.specs.Script.{Chained, ScriptDirectory, epoch_at, epochs_of, lookup_at, lookup_with}
-use Rattle.coniks_tool.proofs.PathLemmas.{path_is}
+use Rattle.coniks_json.proofs.Lemmas.{path_is}
 
 -- the entry of exactly this epoch
 abbrev pub entry_at : List Entry → ℕ → Option Entry
@@ -43,11 +44,11 @@ module _ (key policy : List ℕ) (number : ℕ) where
   both before [] = refl
   both before (shown ∷ history) =
       let entry = entry_after key policy before shown in
-      let later = chain_after key policy (Some (before_of sha256 entry)) history in
+      let later = chain_after key policy (Some (auditor_after sha256 entry)) history in
       elim (shown.t == number) as (λ b. cond b (Some (record { shown = shown; entry = entry })) (epoch_at (paired history later) number)
       ≡ pair_up (cond b (Some shown) (shown_at history number)) (cond b (Some entry) (entry_at later number))) [
         | true ↦ refl
-        | false ↦ both (Some (before_of sha256 entry)) history
+        | false ↦ both (Some (auditor_after sha256 entry)) history
       ]
 
   -- and it finds one if there is such an epoch
@@ -55,30 +56,30 @@ module _ (key policy : List ℕ) (number : ℕ) where
   there before [] = refl
   there before (shown ∷ history) =
       let entry = entry_after key policy before shown in
-      let later = chain_after key policy (Some (before_of sha256 entry)) history in
+      let later = chain_after key policy (Some (auditor_after sha256 entry)) history in
       elim (shown.t == number) as (λ b. is_some (cond b (Some (record { shown = shown; entry = entry })) (epoch_at (paired history later) number)) ≡
       is_some (cond b (Some shown) (shown_at history number))) [
         | true ↦ refl
-        | false ↦ there (Some (before_of sha256 entry)) history
+        | false ↦ there (Some (auditor_after sha256 entry)) history
       ]
 
 -- a name whose length is out of range
-off : (index_of : List ℕ → List ℕ) (name : List ℕ) (e : Option Chained) → is_some e ≡ true → fits MAX_NAME name ≡ false → bad_name_length ≡ lookup_at index_of name e
+off : (index_of : List ℕ → List ℕ) (name : List ℕ) (e : Option Chained) → is_some e ≡ true → fits MAX_NAME name ≡ false → because bad_name_length ≡ lookup_at index_of name e
 off index_of name None is long = absurd (false≢true is)
-off index_of name (Some e) is long = ap (λ b. if b then looked_up e.entry (index_of name) name (path_to sha256 index_of e.shown.nonce e.shown.registry (index_of name)) else bad_name_length) (sym long)
+off index_of name (Some e) is long = ap (λ b. if b then looked_up e.entry (index_of name) name (path_to sha256 index_of e.shown.nonce e.shown.registry (index_of name)) else because bad_name_length) (sym long)
 
 -- a name whose length is in range
 into : (index_of : List ℕ → List ℕ) (name : List ℕ) (shown : Shown) (entry : Entry) → fits MAX_NAME name ≡ true
     → lookup_at index_of name (Some (record { shown = shown; entry = entry })) ≡ looked_up entry (index_of name) name (path_to sha256 index_of shown.nonce shown.registry (index_of name))
-into index_of name shown entry on = ap (λ b. if b then looked_up entry (index_of name) name (path_to sha256 index_of shown.nonce shown.registry (index_of name)) else bad_name_length) on
+into index_of name shown entry on = ap (λ b. if b then looked_up entry (index_of name) name (path_to sha256 index_of shown.nonce shown.registry (index_of name)) else because bad_name_length) on
 
 module _ (o : ScriptDirectory) (epoch : ℕ) (name bytes : List ℕ) (same : bytes ≡ name) where
-  pub missed_length : (fault : LookupFault) → fault ≡ NameLength → IsMissed o.history epoch bytes fault → bad_name_length ≡ lookup_with (Some o) epoch name
+  pub missed_length : (fault : LookupFault) → fault ≡ NameLength → IsMissed o.history epoch bytes fault → because bad_name_length ≡ lookup_with (Some o) epoch name
   missed_length fault is missed =
       let m : (is_some (shown_at o.history epoch) ≡ true) × (fits MAX_NAME bytes ≡ false) = subst (λ (f : LookupFault). IsMissed o.history epoch bytes f) is missed in
       off (demo_index o.key) name (epoch_at (epochs_of o) epoch) (there o.key o.policy epoch None o.history ∙ m.0) (ap (fits MAX_NAME) (sym same) ∙ m.1)
 
-  pub missed_epoch : (fault : LookupFault) → fault ≡ UnknownEpoch → IsMissed o.history epoch bytes fault → unknown_epoch ≡ lookup_with (Some o) epoch name
+  pub missed_epoch : (fault : LookupFault) → fault ≡ UnknownEpoch → IsMissed o.history epoch bytes fault → because unknown_epoch ≡ lookup_with (Some o) epoch name
   missed_epoch fault is missed =
       let none : shown_at o.history epoch ≡ None = subst (λ (f : LookupFault). IsMissed o.history epoch bytes f) is missed in
       sym (ap (lookup_at (demo_index o.key) name) (both o.key o.policy epoch None o.history ∙ ap (λ (s : Option Shown). pair_up s (entry_at (chain_of o.key o.policy o.history) epoch)) none))

@@ -5,16 +5,11 @@ mod CheckLemmas
 mod CommandLemmas
 mod FirstLemmas
 mod FoundLemmas
-pub mod Lemmas
 mod LimitLemmas
 mod MonitorLemmas
-mod OperationsLemmas
 mod OptionLemmas
-mod PathLemmas
 mod ProgramLemmas
-mod ProofObjectLemmas
 mod RefusedLemmas
-mod ReplyLemmas
 mod SealedLemmas
 mod StoreLemmas
 mod SubcommandLemmas

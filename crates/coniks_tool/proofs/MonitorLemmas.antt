@@ -8,7 +8,7 @@ use Rattle.coniks_proof.specs.Sha256.{sha256}
 use Rattle.coniks_proof.specs.Proofs.{answer_of}
 use Rattle.coniks_proof.specs.declared.paths.Proof.{Proof}
 use Rattle.coniks_proof.specs.declared.checker.CheckFault.{CheckFault}
-use Rattle.coniks_chain.specs.Chain.{Follows, before_of}
+use Rattle.coniks_chain.specs.Chain.{Follows, auditor_after}
 use Rattle.coniks_chain.specs.declared.auditor.AuditFault.{AuditFault}
 use Rattle.coniks_chain.specs.Seen.{seen_of}
 use Rattle.coniks_chain.specs.Watch.{IsFirstStepFault, IsSoundStep}
@@ -40,7 +40,7 @@ fault_in (at_fault fault) = Some fault
 module _ (s : MonitorState) (entry : Entry) (proof : Proof) where
   -- a sound step is watched, and its entry kept
   pub sound-step : IsSoundStep sha256 (is_seal s.key) s.before s.name s.index entry proof (answer_of proof.end)
-      → step_turn s entry proof ≡ record { outcome = watched entry.body.t (seen_of s.expected (answer_of proof.end)); state = record s { before = Some (before_of sha256 entry) } }
+      → step_turn s entry proof ≡ record { outcome = watched entry.body.t (seen_of s.expected (answer_of proof.end)); state = record s { before = Some (auditor_after sha256 entry) } }
   sound-step sound =
       ap (audited_turn s entry proof) (follows-none (is_seal s.key) s.before entry sound.follows)
       ∙ ap (checked_turn s entry proof) (accepts-none (hashing sha256 entry.body.nonce.0) entry.body.root.0 s.index s.name proof (answer_of proof.end) sound.accepted)

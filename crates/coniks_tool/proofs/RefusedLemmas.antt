@@ -21,20 +21,21 @@ use Rattle.coniks_tool.specs.AuditReplies.{is_audited}
 use Rattle.coniks_tool.specs.AuditReplies as audit
 use Rattle.coniks_tool.specs.CheckFaults.{check_fault}
 use Rattle.coniks_tool.specs.Demo.{demo_index}
-use Rattle.coniks_tool.specs.EntryLines.{entry_in}
+use Rattle.coniks_json.specs.EntryLines.{entry_in}
 use Rattle.coniks_tool.specs.Expectations.{expected_in}
-use Rattle.coniks_tool.specs.Members.{object_in, text_in, number_in, array_in, digits_in, if_there}
+use Rattle.coniks_json.specs.Members.{object_in, text_in, number_in, array_in, digits_in, if_there}
 use Rattle.coniks_tool.specs.Monitor.{MonitorState, MonitorTurn, audited_turn, checked_turn, expect_turn, is_expect, monitor_turn, object_turn, watch_turn}
 use Rattle.coniks_tool.specs.MonitorReplies.{expecting, watched}
 use Rattle.coniks_tool.specs.MonitorReplies as monitor
-use Rattle.coniks_tool.specs.Operations.{operations_in}
-use Rattle.coniks_tool.specs.ProofObjects.{proof_in}
-use Rattle.coniks_tool.specs.Refusals.{Refusal, refusal}
-use Rattle.coniks_tool.specs.Replies.{is_accepted, not_json}
+use Rattle.coniks_json.specs.Operations.{operations_in}
+use Rattle.coniks_json.specs.ProofObjects.{proof_in}
+use Rattle.coniks_tool.specs.Refusals.{refusal}
+use Rattle.coniks_json.specs.Refusals.{Refusal, not_json}
+use Rattle.coniks_tool.specs.ScriptReplies.{because, is_accepted}
 use Rattle.coniks_directory.specs.Runs.{Batch}
 use Rattle.coniks_tool.specs.Script.{ScriptDirectory, ScriptState, ScriptTurn, batch_on, batch_read, batch_turn, batch_with, command_turn, open_turn, open_with, turn}
 use Rattle.coniks_tool.specs.Seal.{is_seal}
-use Rattle.coniks_tool.specs.Turns.{refused}
+use Rattle.coniks_json.specs.Turns.{refused}
 
 -- what holds of both branches holds of the choice
 either : {T : Type 0} → (P : T → Type 0) (b : Bool) (t u : T) → P t → P u → P (if b then t else u)
@@ -81,7 +82,7 @@ command-keeps s d (Some name) =
     (either (Keeps s) (bytes_eq name (codes "batch")) _ _ (batch-keeps s (number_in (codes "epoch") d) (if_there (codes "nonce") d (digits_in 32 (codes "nonce") d)) (array_in (codes "ops") d))
     (either (Keeps s) (bytes_eq name (codes "lookup")) _ _ (λ off. refl) (λ off. refl)))
 
-object-keeps : (s : ScriptState) (d : Option Data) → Keeps s (option_map_or (λ d. command_turn s d (text_in (codes "cmd") d)) d (refused s not_json))
+object-keeps : (s : ScriptState) (d : Option Data) → Keeps s (option_map_or (λ d. command_turn s d (text_in (codes "cmd") d)) d (refused s (because not_json)))
 object-keeps s None = λ off. refl
 object-keeps s (Some d) = command-keeps s d (text_in (codes "cmd") d)
 

@@ -1,7 +1,7 @@
 -- Chains under the demonstration seal.
 use Rattle.std.proofs.Common.{◌≡◌, ℕ, zero, suc, List, [], ◌∷◌, ◌++◌, length, Bool, true, refl, sym, ap, ◌∙◌, arith, Option, Some, None, slice_get}
 use Rattle.std.proofs.lemmas.Slice.Eq.{bytes_eq-Decides}
-use Rattle.coniks_chain.specs.Chain.{Follows, GoodChain, before_at, before_of}
+use Rattle.coniks_chain.specs.Chain.{Follows, GoodChain, before_at, auditor_after}
 use Rattle.coniks_chain.specs.Entries.{body_bytes, signed}
 use Rattle.coniks_chain.specs.declared.auditor.AuditorState.{AuditorState}
 use Rattle.coniks_chain.specs.declared.entry.Body.{Body}
@@ -15,7 +15,7 @@ use Rattle.coniks_tool.specs.Demo.{demo_index}
 use Rattle.coniks_tool.specs.Seal.{is_seal, seal_of}
 
 -- the state before a later place
-before_at-next : (before : Option AuditorState) (e : Entry) (chain : List Entry) (k : ℕ) → before_at sha256 before (e ∷ chain) (suc k) ≡ before_at sha256 (Some (before_of sha256 e)) chain k
+before_at-next : (before : Option AuditorState) (e : Entry) (chain : List Entry) (k : ℕ) → before_at sha256 before (e ∷ chain) (suc k) ≡ before_at sha256 (Some (auditor_after sha256 e)) chain k
 before_at-next before e chain zero = refl
 before_at-next before e chain (suc k) = refl
 
@@ -41,9 +41,9 @@ module _ (key policy : List ℕ) where
   same_chain before (s ∷ history) [] long each = absurd (omega arith)
   same_chain before (s ∷ history) (e ∷ chain) long each =
       let first : e ≡ entry_after key policy before s = each 0 s e refl refl in
-      let rest : chain ≡ chain_after key policy (Some (before_of sha256 e)) history =
-      same_chain (Some (before_of sha256 e)) history chain (omega arith) (λ k x y at_x at_y. each (suc k) x y at_x at_y ∙ ap (λ b. entry_after key policy b x) (before_at-next before e chain k)) in
-      ap (λ (es : List Entry). e ∷ es) rest ∙ ap (λ (x : Entry). x ∷ chain_after key policy (Some (before_of sha256 x)) history) first
+      let rest : chain ≡ chain_after key policy (Some (auditor_after sha256 e)) history =
+      same_chain (Some (auditor_after sha256 e)) history chain (omega arith) (λ k x y at_x at_y. each (suc k) x y at_x at_y ∙ ap (λ b. entry_after key policy b x) (before_at-next before e chain k)) in
+      ap (λ (es : List Entry). e ∷ es) rest ∙ ap (λ (x : Entry). x ∷ chain_after key policy (Some (auditor_after sha256 x)) history) first
 
   -- one more epoch
   chain_after-push : (before : Option AuditorState) (history : List Shown) (s : Shown) → chain_after key policy before (history ++ s ∷ [])
@@ -51,9 +51,9 @@ module _ (key policy : List ℕ) where
   chain_after-push before [] s = refl
   chain_after-push before (x ∷ history) s =
       let e = entry_after key policy before x in
-      let chain = chain_after key policy (Some (before_of sha256 e)) history in
+      let chain = chain_after key policy (Some (auditor_after sha256 e)) history in
       ap (λ (es : List Entry). e ∷ es)
-      (chain_after-push (Some (before_of sha256 e)) history s ∙ ap (λ b. chain ++ entry_after key policy b s ∷ []) (sym (before_at-next before e chain (length chain))))
+      (chain_after-push (Some (auditor_after sha256 e)) history s ∙ ap (λ b. chain ++ entry_after key policy b s ∷ []) (sym (before_at-next before e chain (length chain))))
 
   module _ (verdict : List ℕ → List ℕ → Bool) (own : (bytes signature : List ℕ) → verdict bytes signature ≡ is_seal key bytes signature) where
     -- an entry of an epoch whose signature verifies is the sealed one

@@ -1,6 +1,6 @@
 -- Commits on an opened directory.
 use Rattle.std.proofs.Common.{◌≡◌, ◌≢◌, ◌<◌, ◌≤◌, ◌+◌, ◌⊎◌, ℕ, suc, List, [], ◌∷◌, ◌++◌, length, length-append, map, Bool, true, false, refl, sym, ap, subst, ◌∙◌, arith, inl, inr, Option, Some, None, Result, Ok, Err}
-use Rattle.std.specs.Prelude.{is_some, nat_le, nat_lt, IfOk, IfErr, OnOk, OnErr, option_map}
+use Rattle.std.specs.Prelude.{is_some, nat_le, nat_lt, IfOk, IfErr, OnOk, OnErr}
 use Rattle.std.proofs.lemmas.Bool.{false≢true}
 use Rattle.std.proofs.lemmas.Bool.Decides.{nat_tests}
 use Rattle.coniks_proof.specs.Sha256.{sha256}
@@ -11,24 +11,26 @@ use Rattle.coniks_chain.specs.Chain.{Continues, GoodChain}
 use Rattle.coniks_chain.specs.declared.auditor.AuditorState.{AuditorState}
 use Rattle.coniks_chain.specs.Entries.{link_preimage}
 use Rattle.coniks_chain.specs.declared.entry.Entry.{Entry}
-use Rattle.coniks_directory.specs.Batches.{AreWorkers, IsAccepted}
+use Rattle.coniks_directory.specs.Batches.{IsAccepted, operations}
+use Rattle.coniks_work.specs.Parallel.{AreWorkers}
 use Rattle.coniks_directory.specs.Chain.{IsChainOf, head_at, heads_of}
 use Rattle.coniks_directory.specs.History.{Shown, latest_epoch, latest_registry}
+use Rattle.coniks_directory.specs.Installs.{IsCommitResult}
 use Rattle.coniks_directory.specs.Runs.{Batch}
 use Rattle.coniks_directory.specs.State.{State, View, history_of}
 use Rattle.coniks_directory.specs.Updates.{Grows, IsCommitFault, MayInstall, commit_refusals}
 use Rattle.coniks_directory.specs.declared.batch.BatchFault.TheVariants as batch
+use Rattle.coniks_directory.specs.declared.batch.Op.{Op}
 use Rattle.coniks_directory.specs.declared.update.CommitFault.{CommitFault}
 use Rattle.coniks_directory.specs.declared.update.CommitFault.TheVariants.{Batch as OfBatch, Install}
 use Rattle.coniks_directory.specs.declared.update.InstallFault.TheVariants as install
-use Rattle.coniks_shared.specs.Lists.{last_of}
 use Rattle.coniks_work.specs.declared.jobs.TheConstants.{MAX_DEPTH}
 use Rattle.coniks_tool.specs.Demo.{demo_index}
-use Rattle.coniks_tool.specs.Refusals.{IsRefusedBy, Refusal, not_later, refusal}
-use Rattle.coniks_tool.specs.Replies.{Outcome, installed, outcome_of}
-use Rattle.coniks_tool.specs.declared.run.reply.Reply.{Reply}
-use Rattle.coniks_tool.specs.Script.{Installs, ScriptDirectory, ScriptState as Held, ScriptTurn, batch_on, batch_with, refusal_outcome, shown_next as shown_epoch}
-use Rattle.coniks_tool.specs.Turns.{refused}
+use Rattle.coniks_json.specs.Refusals.{Refusal, epoch_not_later}
+use Rattle.coniks_tool.specs.Refusals.{IsRefusedBy, refusal}
+use Rattle.coniks_tool.specs.ScriptReplies.{because, installed}
+use Rattle.coniks_tool.specs.Script.{Installs, ScriptDirectory, ScriptState as Held, ScriptTurn, batch_on, batch_with, shown_next as shown_epoch}
+use Rattle.coniks_json.specs.Turns.{refused}
 use Rattle.coniks_tool.specs.Seal.{is_seal}
 use Rattle.coniks_tool.specs.Stores.{opened_by, opened_of, shown_on, script_state_of}
 use Rattle.coniks_tool.specs.declared.run.store.Service.{Service}
@@ -70,7 +72,7 @@ refused_is index_of s ops depth workers epoch published capacity (Install (insta
     let same : latest ≡ latest_epoch (history_of s) = f.1.0 in
     let low : epoch ≤ latest = f.1.2 in
     let off : nat_lt (latest_epoch (history_of s)) epoch ≡ false = grind (arith, nat_tests) in
-    rw (on, f.0.faultless, off) (ap (λ n. Some (not_later n)) (sym same))
+    rw (on, f.0.faultless, off) (ap (λ n. Some (epoch_not_later n)) (sym same))
 refused_is index_of s ops depth workers epoch published capacity (Install install.BoardFull) parallelism shallow long full signed f =
     let few = f.0.few in
     let on : nat_le (length ops) MAX_OPERATIONS ≡ true = grind (arith, nat_tests) in
@@ -125,57 +127,67 @@ length-map f (x ∷ xs) = ap suc (length-map f xs)
 pub as_many : (heads : List Head) (chain : List Entry) → heads ≡ heads_of sha256 chain → length heads ≡ length chain
 as_many heads chain same = ap length same ∙ length-map (head_at sha256) chain
 
+-- what follows from a property of a commit's entry holds if there is one
+pub on_ok : {T E : Type 0} (r : Result T E) (P : T → Type 0) (Q : Type 0) → ((x : T) → P x → Q) → IfOk r P → OnOk r Q
+on_ok (Ok x) P Q follows is = follows x is
+on_ok (Err e) P Q follows is = tt
+
+pub if_ok : {T E : Type 0} (r : Result T E) (P Q : T → Type 0) → ((x : T) → P x → Q x) → IfOk r P → IfOk r Q
+if_ok (Ok x) P Q follows is = follows x is
+if_ok (Err e) P Q follows is = tt
+
 -- after a commit there are as many signatures as entries, and at most as many as the board takes
-pub made_and_room : {H X P : Type 0} (result : Result Entry CommitFault) (v v' : View H X) (p p' : P) (made made' refused refused' epoch published capacity : ℕ) (last last' : Option Entry)
-    → OnOk result ((made' ≡ made + 1) × (refused' ≡ refused)) → IfOk result (λ e. v'.state.chain ≡ v.state.chain ++ e ∷ [])
-    → OnOk result (MayInstall v.state (length v.state.epochs) epoch published capacity)
+pub made_and_room : {H X P : Type 0} (index : X → List ℕ → List ℕ) (result : Result Entry CommitFault) (v v' : View H X) (p p' : P) (ops : List Op)
+    (made made' refused refused' depth workers epoch published capacity : ℕ) (last last' : Option Entry)
+    → OnOk result (made' ≡ made + 1) → IfOk result (λ e. v'.state.chain ≡ v.state.chain ++ e ∷ [])
+    → IsCommitResult index v ops depth workers epoch published capacity result
     → IfErr result (λ fault. (made' ≡ made) × (refused' ≡ refused + commit_refusals fault) × (last' ≡ last)) → OnErr result ((v' ≡ v) × (p' ≡ p))
     → made ≡ length v.state.chain → length v.state.chain ≤ most_epochs → published ≡ length v.state.chain
     → capacity ≡ most_epochs → (made' ≡ length v'.state.chain) × (length v'.state.chain ≤ most_epochs)
-made_and_room {H} {X} {P} (Ok e) v v' p p' made made' refused refused' epoch published capacity last last' one more may kept same own most long full =
-    let up = one.0 in
+made_and_room {H} {X} {P} index (Ok e) v v' p p' ops made made' refused refused' depth workers epoch published capacity last last' one more outcome kept same own most long full =
     let longer : length v'.state.chain ≡ length v.state.chain + 1 = ap length more ∙ length-append v.state.chain (e ∷ []) in
-    let room : published ≢ most_epochs = subst (λ n. published ≢ n) full may.room in
+    let room : published ≢ most_epochs = subst (λ n. published ≢ n) full outcome.may.room in
     (omega arith, below (length v.state.chain) (length v'.state.chain) longer most (λ at. room (long ∙ at)))
   where
     below : (n m : ℕ) → m ≡ n + 1 → n ≤ 1024 → (n ≡ 1024 → ⊥) → m ≤ 1024
     below n m next most apart = grind (arith, nat_tests)
-made_and_room {H} {X} {P} (Err e) v v' p p' made made' refused refused' epoch published capacity last last' one more may kept same own most long full =
+made_and_room {H} {X} {P} index (Err e) v v' p p' ops made made' refused refused' depth workers epoch published capacity last last' one more outcome kept same own most long full =
     let long' : length v'.state.chain ≡ length v.state.chain = ap (λ (w : View H X). length w.state.chain) same.0 in
     (kept.0 ∙ own ∙ sym long', omega arith)
 
 -- any error of a commit
-pub refused_by : {H X P : Type 0} (index_of index_of' : List ℕ → List ℕ) (v v' : View H X) (p p' : P) (ops : List Operation)
+pub refused_by : {H X P : Type 0} (index : X → List ℕ → List ℕ) (index_of' : List ℕ → List ℕ) (v v' : View H X) (p p' : P) (ops : List Op)
     (depth workers epoch published capacity made made' : ℕ) (last last' : Option Entry) (result : Result Entry CommitFault) → AreWorkers workers → depth ≤ MAX_DEPTH
     → published ≡ length v.state.chain → capacity ≡ most_epochs → IfErr result (λ fault. (made' ≡ made) × (0 ≡ 0 + commit_refusals fault) × (last' ≡ last))
-    → IfErr result (IsCommitFault index_of v.state ops depth workers epoch published capacity)
+    → IsCommitResult index v ops depth workers epoch published capacity result
     → OnErr result ((v' ≡ v) × (p' ≡ p)) → IsChainOf sha256 index_of' v'.state.policy v'.state.before (history_of v'.state) v'.state.chain
-    → IfErr result (IsRefusedBy (refusal index_of (history_of v.state) epoch ops))
-refused_by {H} {X} {P} index_of index_of' v v' p p' ops depth workers epoch published capacity made made' last last' (Ok e) parallelism shallow long full unsigned f same is = tt
-refused_by {H} {X} {P} index_of index_of' v v' p p' ops depth workers epoch published capacity made made' last last' (Err fault) parallelism shallow long full unsigned f same is =
+    → IfErr result (IsRefusedBy (refusal (index v.index) (history_of v.state) epoch (operations ops)))
+refused_by {H} {X} {P} index index_of' v v' p p' ops depth workers epoch published capacity made made' last last' (Ok e) parallelism shallow long full unsigned f same is = tt
+refused_by {H} {X} {P} index index_of' v v' p p' ops depth workers epoch published capacity made made' last last' (Err fault) parallelism shallow long full unsigned f same is =
     let long' : length v.state.chain ≡ length (history_of v.state) = subst (λ (w : View H X). length w.state.chain ≡ length (history_of w.state)) same.0 is.long in
-    refused_is index_of v.state ops depth workers epoch published capacity fault parallelism shallow (long ∙ long') full unsigned.1 f
+    refused_is (index v.index) v.state (operations ops) depth workers epoch published capacity fault parallelism shallow (long ∙ long') full unsigned.1 f
+
+-- the batch of these operations
+abbrev pub batch_by : ℕ → Option (List ℕ) → List Op → Batch
+batch_by t new_nonce ops = record { t = t; new_nonce = new_nonce; ops = operations ops }
 
 -- a commit's entry, if there is one
-pub installed_by : (key key' : List ℕ) (s t : State) (b : Batch) (depth workers published capacity : ℕ) (verdict : List ℕ → List ℕ → Bool) (result : Result Entry CommitFault)
-    → ((bytes signature : List ℕ) → verdict bytes signature ≡ is_seal key bytes signature) → key' ≡ key → Grows s t
-    → OnOk result (history_of t ≡ history_of s ++ shown_on s b ∷ []) → IfOk result (λ entry. t.chain ≡ s.chain ++ entry ∷ [])
-    → t.before ≡ None → IsChainOf sha256 (demo_index key') t.policy t.before (history_of t) t.chain → Continues sha256 verdict t.before t.chain
-    → OnOk result (IsAccepted (demo_index key) (latest_registry (history_of s)) b.ops depth workers) → OnOk result (MayInstall s (length s.epochs) b.t published capacity)
-    → published ≡ length s.chain → capacity ≡ most_epochs → length s.chain ≤ most_epochs
-    → IfOk result (λ entry. Installs (opened_by key s) b entry (opened_by key' t))
-installed_by key key' s t b depth workers published capacity verdict (Err fault) own same_key grows history chain begun is good accepted may long full most = tt
-installed_by key key' s t b depth workers published capacity verdict (Ok entry) own same_key grows history chain begun is good accepted may long full most =
-    let entries : length t.chain ≡ length s.chain + 1 = ap length chain ∙ length-append s.chain (entry ∷ []) in
-    let epochs : length (history_of t) ≡ length (history_of s) + 1 = ap length history ∙ length-append (history_of s) (shown_on s b ∷ []) in
-    let long' : published ≡ length (history_of s) = (let both = is.long in omega arith) in
+pub installed_by : {H : Type 0} (v v' : View H (List ℕ)) (new_nonce : Option (List ℕ)) (ops : List Op) (depth workers t published capacity : ℕ)
+    (verdict : List ℕ → List ℕ → Bool) (result : Result Entry CommitFault)
+    → ((bytes signature : List ℕ) → verdict bytes signature ≡ is_seal v.index bytes signature) → v'.index ≡ v.index → Grows v.state v'.state
+    → OnOk result (history_of v'.state ≡ history_of v.state ++ shown_on v.state (batch_by t new_nonce ops) ∷ []) → IfOk result (λ entry. v'.state.chain ≡ v.state.chain ++ entry ∷ [])
+    → v'.state.before ≡ None → IsChainOf sha256 (demo_index v'.index) v'.state.policy v'.state.before (history_of v'.state) v'.state.chain → Continues sha256 verdict v'.state.before v'.state.chain
+    → IsCommitResult demo_index v ops depth workers t published capacity result
+    → published ≡ length v.state.chain → capacity ≡ most_epochs → length v.state.chain ≤ most_epochs
+    → IfOk result (λ entry. Installs (opened_by v.index v.state) (batch_by t new_nonce ops) entry (opened_by v'.index v'.state))
+installed_by {H} v v' new_nonce ops depth workers t published capacity verdict (Err fault) own same_key grows history chain begun is good outcome long full most = tt
+installed_by {H} v v' new_nonce ops depth workers t published capacity verdict (Ok entry) own same_key grows history chain begun is good outcome long full most =
+    let b = batch_by t new_nonce ops in
+    let entries : length v'.state.chain ≡ length v.state.chain + 1 = ap length chain ∙ length-append v.state.chain (entry ∷ []) in
+    let epochs : length (history_of v'.state) ≡ length (history_of v.state) + 1 = ap length history ∙ length-append (history_of v.state) (shown_on v.state b ∷ []) in
+    let long' : published ≡ length (history_of v.state) = (let both = is.long in omega arith) in
     let most' : published ≤ most_epochs = omega arith in
-    installs key key' s t b depth workers published capacity entry verdict own same_key grows history chain begun is good accepted may long' full most'
-
--- a refused batch
-pub refused_turn : (o : ScriptDirectory) (b : Batch) (why : Option Refusal) (outcome : Outcome) → option_map refusal_outcome why ≡ Some outcome → batch_on o b why ≡ refused (Some o) outcome
-refused_turn o b None outcome is = absurd (let never = is in cc)
-refused_turn o b (Some why) outcome is = let same : refusal_outcome why ≡ outcome = cc in ap (refused (Some o)) same
+    installs v.index v'.index v.state v'.state b depth workers published capacity entry verdict own same_key grows history chain begun is good outcome.accepted outcome.may long' full most'
 
 -- the turn of a batch that adds this entry
 abbrev pub turn_of : Entry → ScriptDirectory → ScriptTurn
@@ -189,21 +201,10 @@ installed_turn o o' b entry v same i =
     ∙ ap (λ (e : Entry). turn_of e (record o { history = o.history ++ shown_epoch o b ∷ [] })) (sym i.entry_is)
     ∙ ap (turn_of entry) (sym i.state_is)
 
--- the reply to a refused batch gives the reason
-pub reply_refused : {E : Type 0} (o : ScriptDirectory) (b : Batch) (v : Held) (result : Result Reply E) → v ≡ Some o
-    → IfOk result (λ reply. option_map refusal_outcome (refusal (demo_index o.key) o.history b.t b.ops) ≡ Some (outcome_of reply)) → IfOk result (λ reply. outcome_of reply ≡ (batch_with v b).outcome)
-reply_refused {E} o b v (Err e) same told = tt
-reply_refused {E} o b v (Ok reply) same told =
-    sym (ap (λ (s : Held). (batch_with s b).outcome) same ∙ ap (λ (t : ScriptTurn). t.outcome) (refused_turn o b (refusal (demo_index o.key) o.history b.t b.ops) (outcome_of reply) told))
-
--- and the state is unchanged
-pub state_refused : {E : Type 0} (o o' : ScriptDirectory) (b : Batch) (v : Held) (result : Result Reply E) → v ≡ Some o → o' ≡ o
-    → IfOk result (λ reply. option_map refusal_outcome (refusal (demo_index o.key) o.history b.t b.ops) ≡ Some (outcome_of reply))
-    → OnOk result ((let w : Held = Some o' in w) ≡ (batch_with v b).state)
-state_refused {E} o o' b v (Err e) same kept told = tt
-state_refused {E} o o' b v (Ok reply) same kept told =
-    ap (λ (p : ScriptDirectory). let w : Held = Some p in w) kept
-    ∙ sym (ap (λ (s : Held). (batch_with s b).state) same ∙ ap (λ (t : ScriptTurn). t.state) (refused_turn o b (refusal (demo_index o.key) o.history b.t b.ops) (outcome_of reply) told))
+-- the reply to a refused batch gives the reason, and the state is unchanged
+pub refused_turn : (o : ScriptDirectory) (b : Batch) (v : Held) (told : Refusal) → v ≡ Some o → refusal (demo_index o.key) o.history b.t b.ops ≡ Some told
+    → batch_with v b ≡ refused (Some o) (because told)
+refused_turn o b v told same why = ap (λ (s : Held). batch_with s b) same ∙ ap (batch_on o b) why
 
 -- the view of an open store
 pub shown_open : (opened : Option Service) (service : Service) (v : Held) → Some service ≡ opened → script_state_of opened ≡ v → v ≡ Some (opened_of service)
@@ -213,14 +214,3 @@ shown_open opened service v same view = sym view ∙ ap script_state_of (sym sam
 pub none_opened : (opened : Option Service) → is_some opened ≡ false → opened ≡ None
 none_opened None off = refl
 none_opened (Some s) off = absurd (false≢true (sym off))
-
-last_entry : (es : List Entry) (e : Entry) → last_of (heads_of sha256 (es ++ e ∷ [])) ≡ Some (head_at sha256 e)
-last_entry [] e = refl
-last_entry (x ∷ []) e = refl
-last_entry (x ∷ y ∷ es) e = last_entry (y ∷ es) e
-
--- the head of the entry that a commit adds is the last published one
-pub last_published : (result : Result Entry CommitFault) (old new : List Entry) (heads : List Head) → IfOk result (λ entry. new ≡ old ++ entry ∷ []) → heads ≡ heads_of sha256 new
-    → IfOk result (λ entry. last_of heads ≡ Some (head_at sha256 entry))
-last_published (Ok entry) old new heads is are = ap (λ (hs : List Head). last_of hs) (are ∙ ap (heads_of sha256) is) ∙ last_entry old entry
-last_published (Err fault) old new heads is are = tt

@@ -7,14 +7,14 @@ use Rattle.coniks_proof.specs.Sha256.{sha256}
 use Rattle.coniks_chain.specs.declared.entry.Entry.{Entry}
 use Rattle.coniks_chain.specs.declared.auditor.AuditorState.{AuditorState}
 use Rattle.coniks_chain.specs.declared.auditor.AuditFault.{AuditFault}
-use Rattle.coniks_chain.specs.Chain.{before_of}
+use Rattle.coniks_chain.specs.Chain.{auditor_after}
 use Rattle.coniks_chain.specs.Entries.{link_preimage}
-use Rattle.coniks_tool.specs.Members.{object_in}
+use Rattle.coniks_json.specs.Members.{object_in}
 use Rattle.coniks_tool.specs.Seal.{is_seal}
-use Rattle.coniks_tool.specs.EntryLines.{entry_in}
+use Rattle.coniks_json.specs.EntryLines.{entry_in}
 use Rattle.coniks_tool.specs.AuditFaults.{audit_fault}
 use Rattle.coniks_tool.specs.AuditReplies.{AuditOutcome, audited, not_json, no_entry, at_fault, audit_data, is_audited}
-use Rattle.coniks_tool.specs.Turns.{Turn, refused, answer_by}
+use Rattle.coniks_json.specs.Turns.{Turn, refused, answer_by}
 
 -- the key of the seal, and what the next entry is compared with
 pub record AuditState : Type 0 where
@@ -34,7 +34,7 @@ abbrev pub judged_turn : AuditState → Entry → Option AuditFault → AuditTur
 judged_turn s entry (Some fault) = refused s (at_fault fault)
 judged_turn s entry None = record {
   outcome = audited entry.body.t (sha256 (link_preimage entry));
-  state = record { key = s.key; before = Some (before_of sha256 entry) };
+  state = record { key = s.key; before = Some (auditor_after sha256 entry) };
 }
 
 -- an object, by its entry

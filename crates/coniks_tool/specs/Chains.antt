@@ -2,7 +2,7 @@
 use Rattle.std.specs.Prelude.{List, [], ◌∷◌, length, Option, Some, None}
 use Rattle.coniks_proof.specs.Octets.{Octets}
 use Rattle.coniks_proof.specs.Sha256.{sha256}
-use Rattle.coniks_chain.specs.Chain.{before_at, before_of}
+use Rattle.coniks_chain.specs.Chain.{before_at, auditor_after}
 use Rattle.coniks_chain.specs.Entries.{body_bytes, signed}
 use Rattle.coniks_chain.specs.declared.auditor.AuditorState.{AuditorState}
 use Rattle.coniks_chain.specs.declared.entry.Entry.{Entry}
@@ -22,7 +22,7 @@ abbrev pub chain_after : Octets → Octets → Option AuditorState → List Show
 chain_after key policy before [] = []
 chain_after key policy before (shown ∷ history) =
     let entry = entry_after key policy before shown in
-    entry ∷ chain_after key policy (Some (before_of sha256 entry)) history
+    entry ∷ chain_after key policy (Some (auditor_after sha256 entry)) history
 
 -- the chain of a history: one entry for each epoch, each after the entry before it
 abbrev pub chain_of : Octets → Octets → List Shown → List Entry

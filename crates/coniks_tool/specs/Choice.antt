@@ -1,14 +1,13 @@
 -- What the arguments choose, and why they may choose nothing.
-use Rattle.std.specs.Prelude.{◌≡◌, ◌⊎◌, ◌≤◌, List, [], ℕ, codes, ◌&&◌, Option, Some, None, is_none, is_some, option_and_then, option_map, unwrap_or, Bool, true, false, if◌then◌else◌}
+use Rattle.std.specs.Prelude.{◌≡◌, ◌⊎◌, List, [], ℕ, codes, ◌&&◌, Option, Some, None, is_none, is_some, option_and_then, option_map, unwrap_or, Bool, true, false, if◌then◌else◌}
 use Rattle.std.specs.Option.{option_map_or}
 use Rattle.std.specs.Result.{result_ok}
 use Rattle.std.specs.Str.{bytes_eq}
 use Rattle.coniks_proof.specs.Octets.{Octets}
 use Rattle.clap.specs.Walk.{byte_or_zero}
 use Rattle.clap.specs.Words.{Row, first_of}
-use Rattle.coniks_directory.specs.Batches.{AreWorkers}
+use Rattle.coniks_work.specs.Parallel.{AreWithinLimits}
 use Rattle.hex.specs.Hex.{decode_sized}
-use Rattle.coniks_work.specs.declared.jobs.TheConstants.{MAX_DEPTH}
 use Rattle.coniks_tool.specs.Expectations.{expectation_in}
 use Rattle.coniks_tool.specs.declared.cli.choice.Settings.{Settings}
 use Rattle.coniks_tool.specs.declared.cli.choice.Settings.TheVariants.{Run, Check, Audit, Monitor}
@@ -44,11 +43,11 @@ depth_of rows = number_of (codes "depth") 0 rows
 
 -- both are within their limits
 abbrev pub AreWordsWithin : List Row → Type 0
-AreWordsWithin rows = AreWorkers (workers_of rows) × (depth_of rows ≤ MAX_DEPTH)
+AreWordsWithin rows = AreWithinLimits (workers_of rows) (depth_of rows)
 
 -- the numbers of a run are within their limits
 abbrev pub IsWithinLimits : Settings → Type 0
-IsWithinLimits (Run workers depth) = AreWorkers workers × (depth ≤ MAX_DEPTH)
+IsWithinLimits (Run workers depth) = AreWithinLimits workers depth
 IsWithinLimits _ = Unit {0}
 
 -- what a subcommand chooses, by its name and the options that were found; there are four

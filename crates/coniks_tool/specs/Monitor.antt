@@ -10,7 +10,7 @@ use Rattle.coniks_proof.specs.Sha256.{sha256}
 use Rattle.coniks_proof.specs.Proofs.{answer_of}
 use Rattle.coniks_proof.specs.declared.paths.Proof.{Proof as ProofOf}
 use Rattle.coniks_proof.specs.declared.checker.CheckFault.{CheckFault}
-use Rattle.coniks_chain.specs.Chain.{before_of}
+use Rattle.coniks_chain.specs.Chain.{auditor_after}
 use Rattle.coniks_chain.specs.Seen.{seen_of}
 use Rattle.coniks_chain.specs.Watch.{Watched}
 use Rattle.coniks_chain.specs.declared.auditor.AuditFault.{AuditFault}
@@ -20,14 +20,14 @@ use Rattle.coniks_chain.specs.declared.seen.MonitorFault.TheVariants.{Audit, Che
 use Rattle.coniks_tool.specs.AuditFaults.{audit_fault}
 use Rattle.coniks_tool.specs.CheckFaults.{check_fault}
 use Rattle.coniks_tool.specs.Demo.{demo_index}
-use Rattle.coniks_tool.specs.EntryLines.{entry_in}
+use Rattle.coniks_json.specs.EntryLines.{entry_in}
 use Rattle.coniks_tool.specs.Expectations.{expected_in}
-use Rattle.coniks_tool.specs.Members.{object_in, text_in}
+use Rattle.coniks_json.specs.Members.{object_in, text_in}
 use Rattle.coniks_tool.specs.MonitorReplies.{MonitorOutcome, watched, expecting, not_json, no_member, at_fault, monitor_data, is_as_expected}
-use Rattle.coniks_tool.specs.ProofObjects.{proof_in}
+use Rattle.coniks_json.specs.ProofObjects.{proof_in}
 use Rattle.coniks_tool.specs.Seal.{is_seal}
-use Rattle.coniks_tool.specs.Turns.{Turn, refused, answer_by}
-use Rattle.coniks_tool.specs.declared.lines.printing.Member.TheVariants.{Key, Proof, Entry}
+use Rattle.coniks_json.specs.Turns.{Turn, refused, answer_by}
+use Rattle.coniks_json.specs.declared.printing.Member.TheVariants.{Key, Proof, Entry}
 
 -- the key of the seal, the name and its index, what the next entry is compared with, and the key that is expected, if one is
 pub record MonitorState : Type 0 where
@@ -55,7 +55,7 @@ checked_turn s entry proof (Some fault) = refused s (at_fault (Check fault))
 checked_turn s entry proof None =
     record {
       outcome = watched entry.body.t (seen_of s.expected (answer_of proof.end));
-      state = record s { before = Some (before_of sha256 entry) };
+      state = record s { before = Some (auditor_after sha256 entry) };
     }
 
 -- an entry with this first error is refused and the state stays; under one with none the proof is checked, for the name at its index

@@ -7,10 +7,11 @@ use Rattle.coniks_cli.specs.Help.{AsksForHelp, Fails, HasMistake, IsCutOff, IsId
 use Rattle.coniks_cli.specs.Telling.{TellsIf}
 use Rattle.coniks_cli.specs.declared.arguments.Unread.{Unread}
 use Rattle.coniks_cli.specs.declared.arguments.Unread.TheVariants as unread
+use Rattle.coniks_json.specs.Faults.{FailsOn, FailsWithBoard, Says}
 use Rattle.coniks_lines.specs.Known.{Sink}
-use Rattle.coniks_lines.specs.Runs.{EndsBadly, EndsWell, FailsWithBoard, Streams}
-use Rattle.coniks_lines.specs.declared.fault.RunFault.{RunFault}
-use Rattle.coniks_lines.specs.declared.fault.RunFault.TheVariants.{Read, Write, OutOfMemory, NoBoard}
+use Rattle.coniks_lines.specs.Runs.{EndsWell, Streams}
+use Rattle.coniks_json.specs.declared.fault.RunFault.{RunFault}
+use Rattle.coniks_json.specs.declared.fault.RunFault.TheVariants.{Read, Write, OutOfMemory, NoBoard}
 use Rattle.coniks_tool.specs.Audit.{AuditState, audit_answer, none_audited}
 use Rattle.coniks_tool.specs.Check.{Stateless, check_answer, stateless}
 use Rattle.coniks_tool.specs.Choice.{Choice, run, check, audit, monitor, chosen, key_in, lacks_key, lacks_expectation}
@@ -91,12 +92,12 @@ Runs (Some (monitor text name expect)) io all = Monitors text name expect io all
 abbrev pub BreaksOff : Option Choice → Streams → RunFault → Type 0
 BreaksOff None io fault = ⊥
 BreaksOff (Some (run workers depth)) io fault = FailsWithBoard script_answer None io fault
-BreaksOff (Some check) io fault = EndsBadly check_answer stateless io fault
+BreaksOff (Some check) io fault = FailsOn check_answer stateless io fault
 BreaksOff (Some (audit text)) io fault =
-    (key : Octets) × (key_in text ≡ Some key) × EndsBadly audit_answer (none_audited key) io fault
+    (key : Octets) × (key_in text ≡ Some key) × FailsOn audit_answer (none_audited key) io fault
 BreaksOff (Some (monitor text name expect)) io fault =
     (key : Octets) × (expected : Option Octets) × (key_in text ≡ Some key) × (expectation_in expect ≡ Some expected)
-    × EndsBadly monitor_answer (none_watched key name expected) io fault
+    × FailsOn monitor_answer (none_watched key name expected) io fault
 
 -- `clap` finds no mistake in the arguments, and what they choose was run
 pub record RunsFor (words : List Octets) (io : Streams) (all : Bool) : Type 0 where
@@ -112,7 +113,7 @@ pub record BreaksOffFor (words : List Octets) (io : Streams) (fault : RunFault) 
 abbrev pub StopsAt : List Octets → Streams → RunFault → Type 0
 StopsAt words io fault =
     BreaksOffFor words io fault ⊎
-    ((AsksForHelp (fault_of keydir words) × IsCutOff io fault) ⊎ NeverBegins io fault)
+    ((AsksForHelp (fault_of keydir words) × Says (IsCutOff io) ⊥ fault) ⊎ Says (NeverBegins io) ⊥ fault)
 
 -- `clap` finds no mistake in the arguments, but their key is not valid
 pub record HasBadKey (words : List Octets) : Type 0 where
@@ -147,7 +148,7 @@ EndsBy choice io (Ok (Done all)) = Runs choice io all
 EndsBy choice io (Ok (Refused text)) = ⊥
 EndsBy choice io (Ok BadKey) = (lacks_key choice ≡ true) × IsIdle io
 EndsBy choice io (Ok BadExpectation) = (lacks_expectation choice ≡ true) × IsIdle io
-EndsBy choice io (Err fault) = Fails (HasBoard choice) io fault × (BreaksOff choice io fault ⊎ NeverBegins io fault)
+EndsBy choice io (Err fault) = Says (Fails io) (HasBoard choice × IsIdle io) fault × (BreaksOff choice io fault ⊎ Says (NeverBegins io) ⊥ fault)
 
 -- `clap` refuses the arguments with a text that isn't empty
 pub record IsRefused (words : List Octets) (text : Octets) : Type 0 where
@@ -162,7 +163,7 @@ EndsFor words io (Ok (Done false)) = RunsFor words io false
 EndsFor words io (Ok (Refused text)) = IsRefused words (string_bytes text) × IsIdle io
 EndsFor words io (Ok BadKey) = HasBadKey words × IsIdle io
 EndsFor words io (Ok BadExpectation) = HasBadExpectation words × IsIdle io
-EndsFor words io (Err fault) = Fails (AsksForBoard words) io fault × StopsAt words io fault
+EndsFor words io (Err fault) = Says (Fails io) (AsksForBoard words × IsIdle io) fault × StopsAt words io fault
 
 -- the program ended in one of these ways, returned its status, and wrote its text to standard error, if it has one
 pub record IsOutcome (words : List Octets) (io : Streams) (old new : Sink) (status : ℕ) : Type 0 where

@@ -9,29 +9,19 @@ use Rattle.coniks_directory.specs.declared.batch.BatchFault.TheVariants as batch
 use Rattle.coniks_directory.specs.declared.update.CommitFault.{CommitFault}
 use Rattle.coniks_directory.specs.declared.update.CommitFault.TheVariants.{Batch, Install}
 use Rattle.coniks_directory.specs.declared.update.InstallFault.TheVariants as install
+use Rattle.coniks_json.specs.Refusals.{Refusal, bad_batch, batch_too_long, board_full, epoch_not_later}
 use Rattle.coniks_tool.specs.Limits.{most_epochs}
-
--- why a batch is refused
-pub data Refusal : Type 0 where
-  -- it has too many operations
-  too_long : Refusal
-  -- the operation at this place has this error
-  at : (position : ℕ) (fault : Fault) → Refusal
-  -- its epoch isn't later than the latest one
-  not_later : (latest : ℕ) → Refusal
-  -- the board has no room for a further head
-  full : Refusal
 
 -- why no batch is installed under a number: it isn't later, else there are as many epochs as the board takes heads
 abbrev pub number_refusal : List Shown → ℕ → Option Refusal
 number_refusal history epoch =
     if nat_lt (latest_epoch history) epoch
-    then (if nat_lt (length history) most_epochs then None else Some full)
-    else Some (not_later (latest_epoch history))
+    then (if nat_lt (length history) most_epochs then None else Some board_full)
+    else Some (epoch_not_later (latest_epoch history))
 
 -- the first operation with an error refuses the batch, else its number may
 abbrev pub refusal_from : List Shown → ℕ → Option (ℕ × Fault) → Option Refusal
-refusal_from history epoch (Some found) = Some (at found.0 found.1)
+refusal_from history epoch (Some found) = Some (bad_batch found.0 found.1)
 refusal_from history epoch None = number_refusal history epoch
 
 -- why the history refuses a batch under a number; `index_of` gives each name its index
@@ -39,17 +29,17 @@ abbrev pub refusal : (Octets → Octets) → List Shown → ℕ → List Operati
 refusal index_of history epoch ops =
     if nat_le (length ops) MAX_OPERATIONS
     then refusal_from history epoch (first_fault index_of (latest_registry history) ops)
-    else Some too_long
+    else Some batch_too_long
 
 -- a commit's error is this refusal; or an allocation failed
 abbrev pub IsRefusedBy : Option Refusal → CommitFault → Type 0
 IsRefusedBy why (Batch batch.Workers) = ⊥
 IsRefusedBy why (Batch batch.Depth) = ⊥
-IsRefusedBy why (Batch batch.BatchTooLong) = why ≡ Some too_long
-IsRefusedBy why (Batch (batch.At position fault)) = why ≡ Some (at position (fault_is fault))
+IsRefusedBy why (Batch batch.BatchTooLong) = why ≡ Some batch_too_long
+IsRefusedBy why (Batch (batch.At position fault)) = why ≡ Some (bad_batch position (fault_is fault))
 IsRefusedBy why (Batch batch.OutOfMemory) = Unit {0}
 IsRefusedBy why (Install (install.Stale latest)) = ⊥
-IsRefusedBy why (Install (install.EpochNotLater latest)) = why ≡ Some (not_later latest)
-IsRefusedBy why (Install install.BoardFull) = why ≡ Some full
+IsRefusedBy why (Install (install.EpochNotLater latest)) = why ≡ Some (epoch_not_later latest)
+IsRefusedBy why (Install install.BoardFull) = why ≡ Some board_full
 IsRefusedBy why (Install install.OutOfMemory) = Unit {0}
 IsRefusedBy why (Install install.SignerRefused) = ⊥

@@ -14,13 +14,14 @@ use Rattle.coniks_directory.specs.History.{Shown, latest_nonce, latest_registry,
 use Rattle.coniks_directory.specs.Runs.{Batch, shown_by}
 use Rattle.coniks_tool.specs.Chains.{chain_of, next_entry}
 use Rattle.coniks_tool.specs.Demo.{demo_index}
-use Rattle.coniks_tool.specs.Members.{object_in, text_in, number_in, array_in, digits_in, if_there}
-use Rattle.coniks_tool.specs.Operations.{operations_in}
-use Rattle.coniks_tool.specs.Paths.{path_to}
-use Rattle.coniks_tool.specs.Refusals.{Refusal, refusal, too_long, at, not_later, full}
-use Rattle.coniks_tool.specs.Replies.{Outcome, opened, installed, looked_up, unknown_epoch, bad_name_length, not_json, no_command, bad_member, bad_operation, not_open, already_open, batch_too_long, bad_batch, epoch_not_later, board_full, reply_data, is_accepted}
-use Rattle.coniks_tool.specs.Turns.{Turn, refused, answer_by}
-use Rattle.coniks_tool.specs.declared.lines.printing.Member.TheVariants.{Key, Nonce, Policy, Epoch, Ops, Name}
+use Rattle.coniks_json.specs.Members.{object_in, text_in, number_in, array_in, digits_in, if_there}
+use Rattle.coniks_json.specs.Operations.{operations_in}
+use Rattle.coniks_json.specs.Paths.{path_to}
+use Rattle.coniks_tool.specs.Refusals.{refusal}
+use Rattle.coniks_json.specs.Refusals.{Refusal, already_open, bad_member, bad_name_length, bad_operation, no_command, not_json, not_open, unknown_epoch}
+use Rattle.coniks_tool.specs.ScriptReplies.{Outcome, because, installed, is_accepted, looked_up, opened, reply_data}
+use Rattle.coniks_json.specs.Turns.{Turn, refused, answer_by}
+use Rattle.coniks_json.specs.declared.printing.Member.TheVariants.{Key, Nonce, Policy, Epoch, Ops, Name}
 
 -- a directory that was opened: its key, nonce and policy, and its history
 pub record ScriptDirectory : Type 0 where
@@ -41,21 +42,14 @@ ScriptTurn = Turn Outcome ScriptState
 abbrev pub open_with : ScriptState → Octets → Octets → Octets → ScriptTurn
 open_with None key nonce policy =
     record { outcome = opened; state = Some (record { key = key; nonce = nonce; policy = policy; history = [] }) }
-open_with (Some o) key nonce policy = refused (Some o) already_open
+open_with (Some o) key nonce policy = refused (Some o) (because already_open)
 
 -- `open`, by its members in the order of reading
 abbrev pub open_turn : ScriptState → Option Octets → Option Octets → Option Octets → ScriptTurn
-open_turn s None _ _ = refused s (bad_member Key)
-open_turn s (Some key) None _ = refused s (bad_member Nonce)
-open_turn s (Some key) (Some nonce) None = refused s (bad_member Policy)
+open_turn s None _ _ = refused s (because (bad_member Key))
+open_turn s (Some key) None _ = refused s (because (bad_member Nonce))
+open_turn s (Some key) (Some nonce) None = refused s (because (bad_member Policy))
 open_turn s (Some key) (Some nonce) (Some policy) = open_with s key nonce policy
-
--- why a batch is refused, as a reply
-abbrev pub refusal_outcome : Refusal → Outcome
-refusal_outcome too_long = batch_too_long
-refusal_outcome (at place fault) = bad_batch place fault
-refusal_outcome (not_later latest) = epoch_not_later latest
-refusal_outcome full = board_full
 
 -- the epoch that a batch makes after the latest one, or after `open`
 abbrev pub shown_next : ScriptDirectory → Batch → Shown
@@ -73,7 +67,7 @@ pub record Installs (old : ScriptDirectory) (batch : Batch) (entry : Entry) (new
 
 -- a batch on an opened directory: it is refused, or installed as an epoch of its own
 abbrev pub batch_on : ScriptDirectory → Batch → Option Refusal → ScriptTurn
-batch_on o batch (Some why) = refused (Some o) (refusal_outcome why)
+batch_on o batch (Some why) = refused (Some o) (because why)
 batch_on o batch None =
     let shown = shown_next o batch in
     let entry = entry_next o shown in
@@ -84,19 +78,19 @@ batch_on o batch None =
 
 -- a batch that was read
 abbrev pub batch_with : ScriptState → Batch → ScriptTurn
-batch_with None batch = refused None not_open
+batch_with None batch = refused None (because not_open)
 batch_with (Some o) batch = batch_on o batch (refusal (demo_index o.key) o.history batch.t batch.ops)
 
 -- the operations were read, or one was not
 abbrev pub batch_read : ScriptState → ℕ → Option Octets → Result (List Operation) ℕ → ScriptTurn
-batch_read s epoch new_nonce (Err place) = refused s (bad_operation place)
+batch_read s epoch new_nonce (Err place) = refused s (because (bad_operation place))
 batch_read s epoch new_nonce (Ok ops) = batch_with s (record { t = epoch; new_nonce = new_nonce; ops = ops })
 
 -- `batch`, by its members in the order of reading; the nonce may be missing
 abbrev pub batch_turn : ScriptState → Option ℕ → Option (Option Octets) → Option Items → ScriptTurn
-batch_turn s None new_nonce items = refused s (bad_member Epoch)
-batch_turn s (Some epoch) None items = refused s (bad_member Nonce)
-batch_turn s (Some epoch) (Some new_nonce) None = refused s (bad_member Ops)
+batch_turn s None new_nonce items = refused s (because (bad_member Epoch))
+batch_turn s (Some epoch) None items = refused s (because (bad_member Nonce))
+batch_turn s (Some epoch) (Some new_nonce) None = refused s (because (bad_member Ops))
 batch_turn s (Some epoch) (Some new_nonce) (Some items) = batch_read s epoch new_nonce (operations_in items)
 
 -- an epoch with its entry in the chain
@@ -114,20 +108,20 @@ epoch_at epochs number = find (λ (e : Chained). e.shown.t == number) epochs
 
 -- the outcome of a lookup at an epoch: its entry, with the path to the name's index in its tree
 abbrev pub lookup_at : (Octets → Octets) → Octets → Option Chained → Outcome
-lookup_at index_of name None = unknown_epoch
+lookup_at index_of name None = because unknown_epoch
 lookup_at index_of name (Some e) =
     if fits MAX_NAME name then looked_up e.entry (index_of name) name
-    (path_to sha256 index_of e.shown.nonce e.shown.registry (index_of name)) else bad_name_length
+    (path_to sha256 index_of e.shown.nonce e.shown.registry (index_of name)) else because bad_name_length
 
 -- a lookup that was read
 abbrev pub lookup_with : ScriptState → ℕ → Octets → Outcome
-lookup_with None number name = not_open
+lookup_with None number name = because not_open
 lookup_with (Some o) number name = lookup_at (demo_index o.key) name (epoch_at (epochs_of o) number)
 
 -- `lookup`, by its members in the order of reading
 abbrev pub lookup_outcome : ScriptState → Option ℕ → Option Octets → Outcome
-lookup_outcome s None name = bad_member Epoch
-lookup_outcome s (Some epoch) None = bad_member Name
+lookup_outcome s None name = because (bad_member Epoch)
+lookup_outcome s (Some epoch) None = because (bad_member Name)
 lookup_outcome s (Some epoch) (Some name) = lookup_with s epoch name
 
 -- a lookup leaves the state as it is
@@ -136,18 +130,18 @@ lookup_turn s epoch name = record { outcome = lookup_outcome s epoch name; state
 
 -- an object, by its command
 abbrev pub command_turn : ScriptState → Data → Option Octets → ScriptTurn
-command_turn s d None = refused s no_command
+command_turn s d None = refused s (because no_command)
 command_turn s d (Some name) =
     if bytes_eq name (codes "open") then open_turn s (digits_in 32 (codes "key") d)
     (digits_in 32 (codes "nonce") d) (digits_in 32 (codes "policy") d)
     else (if bytes_eq name (codes "batch") then batch_turn s (number_in (codes "epoch") d)
     (if_there (codes "nonce") d (digits_in 32 (codes "nonce") d)) (array_in (codes "ops") d)
     else (if bytes_eq name (codes "lookup") then lookup_turn s (number_in (codes "epoch") d) (text_in (codes "name") d)
-    else refused s no_command))
+    else refused s (because no_command)))
 
 -- what comes of a line
 abbrev pub turn : ScriptState → Octets → ScriptTurn
-turn s line = option_map_or (λ d. command_turn s d (text_in (codes "cmd") d)) (object_in line) (refused s not_json)
+turn s line = option_map_or (λ d. command_turn s d (text_in (codes "cmd") d)) (object_in line) (refused s (because not_json))
 
 -- the reply to a line
 abbrev pub script_answer : ScriptState → Octets → Answer ScriptState

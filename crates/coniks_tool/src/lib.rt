@@ -13,7 +13,6 @@ mod audit;
 mod check;
 mod cli;
 mod demo;
-pub mod lines;
 mod monitor;
 mod run;
 
@@ -25,14 +24,11 @@ pub use cli::choice::Settings;
 pub use cli::settings::settings;
 pub use cli::statuses::{program, unread_words};
 pub use coniks_cli::{Unread, WordsFault, words};
-pub use coniks_lines::{
-    ByteIn, ByteOut, Failed, MemoryIn, MemoryOut, RunFault, SystemIn, SystemOut,
-};
+pub use coniks_json::fault::RunFault;
+pub use coniks_lines::{ByteIn, ByteOut, Failed, MemoryIn, MemoryOut, SystemIn, SystemOut};
 pub use demo::index::DemoIndex;
 pub use demo::seal::DemoSeal;
 pub use monitor::laws as monitor_laws;
 pub use monitor::machine::run_monitor;
 pub use run::laws as script_laws;
 pub use run::machine::run_script;
-pub use run::operations::read_op;
-pub use run::parallelism::Parallelism;

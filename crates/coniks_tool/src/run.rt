@@ -3,7 +3,5 @@
 pub(crate) mod batch;
 pub mod laws;
 pub(crate) mod machine;
-pub(crate) mod operations;
-pub(crate) mod parallelism;
 pub(crate) mod reply;
 pub(crate) mod store;

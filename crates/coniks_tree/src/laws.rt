@@ -25,7 +25,7 @@ pub fn what_was_shown_is_shown()
 {}
 
 /// Proves that a node shows a map whatever the order of its entries, and that a part stands for one.
-pub fn order_is_of_no_account()
+pub fn shown_in_any_order()
     ensures shows { (by : Hashing) (t : Table) (number : ℕ) (prefix : List Bool) (es fs : List Numbered)
         → IsMap es → IsMap fs → SameEntries es fs
         → Shows by t number prefix es → Shows by t number prefix fs }

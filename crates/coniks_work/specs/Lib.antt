@@ -4,3 +4,4 @@ pub mod Jobs
 pub mod Places
 pub mod Sides
 pub mod Limits
+pub mod Parallel

@@ -25,6 +25,7 @@ mod gate;
 mod growing;
 mod jobs;
 pub mod laws;
+mod parallelism;
 mod places;
 mod pool;
 #[cfg(test)]
@@ -36,3 +37,4 @@ mod worker;
 pub use building::{MAX_WORKERS, build};
 pub use gate::{Gate, Open};
 pub use jobs::{Job, MAX_DEPTH, split};
+pub use parallelism::{Parallelism, ParallelismFault};

@@ -2,5 +2,6 @@
 
 mod batches;
 mod epochs;
+mod limits;
 mod pools;
 mod sharing;

@@ -4,6 +4,7 @@
 use coniks_tool::{SystemIn, SystemOut, program, unread_words, words};
 use std::process::ExitCode;
 
+/// Runs `keydir` on the arguments and the standard streams, and returns its exit status.
 fn main(rt: HostRuntime) -> ExitCode {
     let mut errors = SystemOut::new(rt.stderr());
     let words = match words(&rt) {

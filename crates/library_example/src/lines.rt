@@ -6,6 +6,7 @@ use anyhow::Result;
 use coniks_lines::{LineMachine, MemoryIn, MemoryOut, run_lines};
 use coniks_provider::run_provider;
 use coniks_tool::run_script;
+use coniks_work::Parallelism;
 use std::alloc::AllocError;
 use std::thread::Threads;
 
@@ -64,6 +65,7 @@ pub fn answer_provider<R: Threads + Sync + Print + AllocGlobal>(rt: &R) -> Resul
     let alloc = rt.alloc();
     let mut reader = MemoryIn::new(Vec::from_slice(alloc, LINES)?);
     let mut writer = MemoryOut::new(alloc);
-    let all = run_provider(rt, alloc, &mut reader, &mut writer, 2, 1)?;
+    let parallelism = Parallelism::new(2, 1)?;
+    let all = run_provider(rt, alloc, &mut reader, &mut writer, parallelism)?;
     print_run(rt, &writer, all)
 }

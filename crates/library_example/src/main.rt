@@ -14,6 +14,7 @@ mod tree;
 
 use anyhow::Result;
 
+/// Calls each part, and prints what it shows.
 fn main(rt: HostRuntime) -> Result<()> {
     let provider = provider::two_epochs(&rt)?;
     client::look_up(&rt, &provider, 1, "bob")?;

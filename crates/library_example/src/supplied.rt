@@ -7,7 +7,7 @@ use coniks_chain::Signer;
 use coniks_directory::{Directory, IndexSource, SuppliedBatch, SuppliedIndices};
 use coniks_proof::{Answer, check};
 use coniks_shared::Board;
-use coniks_work::Open;
+use coniks_work::{Open, Parallelism};
 use std::thread::Threads;
 
 /// Registers two names at the indices that come with their batch, and looks up a third one, whose index isn't stored.
@@ -27,7 +27,8 @@ pub fn supplied_indices<R: Threads + Sync + Print + AllocGlobal>(rt: &R) -> Resu
         ops: &ops,
         indices: &indices,
     };
-    let update = directory.prepare_supplied(rt, &batch, 1, 2, &Open)?;
+    let parallelism = Parallelism::new(2, 1)?;
+    let update = directory.prepare_supplied(rt, &batch, parallelism, &Open)?;
     let installed = directory.install_supplied(update, 1, &mut signer, &mut publisher, &board);
     if let Err((fault, _)) = installed {
         bail!("epoch 1: {fault}");

@@ -6,10 +6,11 @@ use Rattle.coniks_cli.specs.Help.{AsksForHelp, Fails, HasMistake, IsCutOff, IsId
 use Rattle.coniks_cli.specs.Telling.{TellsIf}
 use Rattle.coniks_cli.specs.declared.arguments.Unread.{Unread}
 use Rattle.coniks_cli.specs.declared.arguments.Unread.TheVariants as unread
+use Rattle.coniks_json.specs.Faults.{FailsWithBoard, Says}
 use Rattle.coniks_lines.specs.Known.{Sink}
-use Rattle.coniks_lines.specs.Runs.{EndsWell, FailsWithBoard, Streams}
-use Rattle.coniks_lines.specs.declared.fault.RunFault.{RunFault}
-use Rattle.coniks_lines.specs.declared.fault.RunFault.TheVariants.{Read, Write, OutOfMemory, NoBoard}
+use Rattle.coniks_lines.specs.Runs.{EndsWell, Streams}
+use Rattle.coniks_json.specs.declared.fault.RunFault.{RunFault}
+use Rattle.coniks_json.specs.declared.fault.RunFault.TheVariants.{Read, Write, OutOfMemory, NoBoard}
 use Rattle.coniks_proof.specs.Octets.{Octets}
 use Rattle.coniks_provider.specs.Turns.{ProviderState, nothing, provider_answer}
 use Rattle.provider.specs.Command.{provider}
@@ -61,7 +62,7 @@ pub record BreaksOffFor (words : List Octets) (io : Streams) (fault : RunFault) 
 abbrev pub StopsAt : List Octets → Streams → RunFault → Type 0
 StopsAt words io fault =
     BreaksOffFor words io fault ⊎
-    ((AsksForHelp (fault_of provider words) × IsCutOff io fault) ⊎ NeverBegins io fault)
+    ((AsksForHelp (fault_of provider words) × Says (IsCutOff io) ⊥ fault) ⊎ Says (NeverBegins io) ⊥ fault)
 
 -- `clap` refuses the arguments with a text that isn't empty
 pub record IsRefused (words : List Octets) (text : Octets) : Type 0 where
@@ -74,7 +75,7 @@ abbrev pub EndsFor : List Octets → Streams → Result Ending RunFault → Type
 EndsFor words io (Ok (Done true)) = RunsFor words io true ⊎ (AsksForHelp (fault_of provider words) × IsShown io)
 EndsFor words io (Ok (Done false)) = RunsFor words io false
 EndsFor words io (Ok (Refused text)) = IsRefused words (string_bytes text) × IsIdle io
-EndsFor words io (Err fault) = Fails (fault_of provider words ≡ []) io fault × StopsAt words io fault
+EndsFor words io (Err fault) = Says (Fails io) ((fault_of provider words ≡ []) × IsIdle io) fault × StopsAt words io fault
 
 -- the program ended in one of these ways, returned its status, and wrote its text to standard error, if it has one
 pub record IsOutcome (words : List Octets) (io : Streams) (old new : Sink) (status : ℕ) : Type 0 where

@@ -7,6 +7,7 @@ ghost use Rattle.provider.specs.Command.{depth_rule, provider, top, workers_rule
 
 use clap::{Arg, Command};
 use coniks_cli::with_option;
+use coniks_work::{MAX_DEPTH, MAX_WORKERS};
 use std::alloc::{AllocError, Global};
 
 /// The text at the end of the help.
@@ -31,7 +32,7 @@ fn workers_option<'a>(alloc: Global) -> Arg<'a>
     let numbers = clap::value_parser!(u8);
     Arg::new(alloc, "workers")
         .long("workers")
-        .value_parser(numbers.range(1..=64))
+        .value_parser(numbers.range(1..=MAX_WORKERS as i64))
         .value_name("1-64")
         .help(
             "The number of worker threads that build an epoch, 1 to 64; the default is the number of processors",
@@ -45,7 +46,7 @@ fn depth_option<'a>(alloc: Global) -> Arg<'a>
     let numbers = clap::value_parser!(u8);
     Arg::new(alloc, "depth")
         .long("depth")
-        .value_parser(numbers.range(0..=12))
+        .value_parser(numbers.range(0..=MAX_DEPTH as i64))
         .value_name("0-12")
         .default_value("12")
         .help("The split depth in bits, 0 to 12")
@@ -61,6 +62,7 @@ fn bare_command<'a>(alloc: Global) -> Command<'a>
         .after_help(EXAMPLE)
 }
 
+/// Returns the command with its options.
 pub(crate) fn command<'a>(alloc: Global) -> Result<Command<'a>, AllocError>
     ensures { IfOk result (λ command. app_of command ≡ provider) }
 {

@@ -3,7 +3,7 @@
 ghost use Rattle.std.specs.Prelude.{◌≡◌, option_map};
 ghost use Rattle.provider.specs.Program.{fault_line, status_of, told_of};
 
-use coniks_lines::RunFault;
+use coniks_json::fault::RunFault;
 
 /// The outcome of a command line.
 #[derive(Drop)]
@@ -14,6 +14,7 @@ pub(crate) enum Ending {
     Refused(String),
 }
 
+/// Returns the exit status of an outcome.
 pub(crate) fn status(outcome: &Result<Ending, RunFault>) -> u8
     ensures { result ≡ status_of outcome.now }
 {
@@ -36,6 +37,7 @@ pub(crate) fn told<'o>(outcome: &'o Result<Ending, RunFault>) -> Option<&'o str>
     }
 }
 
+/// Returns the error line of a fault.
 pub(crate) fn fault_text(fault: RunFault) -> &'static str
     ensures { result.now ≡ fault_line fault }
 {

@@ -11,6 +11,7 @@ use coniks_lines::{SystemIn, SystemOut};
 use program::{program, unread_words};
 use std::process::ExitCode;
 
+/// Runs `provider` on the arguments and the standard streams, and returns its exit status.
 fn main(rt: HostRuntime) -> ExitCode {
     let mut errors = SystemOut::new(rt.stderr());
     let words = match words(&rt) {

@@ -13,7 +13,8 @@ use crate::ending::{Ending, fault_text, status, told};
 use crate::settings::settings_of;
 use clap::Error;
 use coniks_cli::{Explained, Unread, WordsFault, explain, tell, tell_if};
-use coniks_lines::{ByteIn, ByteOut, RunFault};
+use coniks_json::fault::{RunFault, of_lines};
+use coniks_lines::{ByteIn, ByteOut};
 use coniks_provider::run_provider;
 use std::alloc::Global;
 use std::convert::AsStr;
@@ -43,7 +44,14 @@ pub(crate) fn program<T: Threads + Sync, S: AsStr, R: ByteIn, W: ByteOut, E: Byt
         (streams (R.source reader.old) (R.source reader.new) (W.sink writer.old) (W.sink writer.new))
         (E.sink errors.old) (E.sink errors.new) result }
 {
-    let outcome = dispatch(rt, alloc, words, reader, writer);
+    let outcome = match settings_of(rt, alloc, words) {
+        Ok(parallelism) => match run_provider(rt, alloc, reader, writer, parallelism) {
+            Ok(all) => Ok(Ending::Done(all)),
+            Err(fault) => Err(fault),
+        },
+        Err(WordsFault::Clap(error)) => show_or_refuse(alloc, &error, writer),
+        Err(WordsFault::OutOfMemory) => Err(RunFault::OutOfMemory),
+    };
     tell_if(errors, told(&outcome));
     status(&outcome)
 }
@@ -64,36 +72,13 @@ pub(crate) fn unread_words<E: ByteOut>(why: Unread, errors: &mut E) -> u8
     }
 }
 
+/// Returns the error line for arguments that cannot be read.
 fn unread_text(why: Unread) -> &'static str
     ensures { result.now ≡ unread_line why }
 {
     match why {
         Unread::NotText => "provider: an argument is not UTF-8\n",
         Unread::OutOfMemory => fault_text(RunFault::OutOfMemory),
-    }
-}
-
-fn dispatch<T: Threads + Sync, S: AsStr, R: ByteIn, W: ByteOut>(
-    rt: &T,
-    alloc: Global,
-    words: &[S],
-    reader: &mut R,
-    writer: &mut W,
-) -> Result<Ending, RunFault>
-    requires reads { (R.source reader.old).failed + 1 < 2 ^ 64 }
-    requires writes { (W.sink writer.old).failed + 1 < 2 ^ 64 }
-    ensures { EndsFor (map S.text words.entry.now)
-        (streams (R.source reader.old) (R.source reader.new) (W.sink writer.old) (W.sink writer.new)) result }
-{
-    match settings_of(rt, alloc, words) {
-        Ok(settings) => {
-            match run_provider(rt, alloc, reader, writer, settings.workers, settings.depth) {
-                Ok(all) => Ok(Ending::Done(all)),
-                Err(fault) => Err(fault),
-            }
-        }
-        Err(WordsFault::Clap(error)) => show_or_refuse(alloc, &error, writer),
-        Err(WordsFault::OutOfMemory) => Err(RunFault::OutOfMemory),
     }
 }
 
@@ -110,6 +95,6 @@ fn show_or_refuse<W: ByteOut>(
     match explain(alloc, error, writer) {
         Ok(Explained::Shown) => Ok(Ending::Done(true)),
         Ok(Explained::Refused(text)) => Ok(Ending::Refused(text)),
-        Err(fault) => Err(fault),
+        Err(fault) => Err(of_lines(fault)),
     }
 }

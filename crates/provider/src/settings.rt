@@ -1,31 +1,20 @@
 //! Reads the command line.
 
-ghost use Rattle.std.specs.Prelude.{◌≡◌, ◌≤◌, [], IfErr, IfOk, OnOk, map, true};
+ghost use Rattle.std.specs.Prelude.{◌≡◌, [], IfErr, OnOk, map, true};
 ghost use Rattle.clap.specs.Words.{fault_of, takes};
 ghost use Rattle.coniks_cli.specs.Refusals.{IsRefusal};
 ghost use Rattle.coniks_cli.specs.declared.refusing.WordsFault.TheVariants.{OutOfMemory};
-ghost use Rattle.coniks_directory.specs.Batches.{AreWorkers};
 ghost use Rattle.provider.specs.Command.{provider};
 
 use crate::command::command;
 use clap::ArgMatches;
 use coniks_cli::{WordsFault, refused};
-use coniks_work::{MAX_DEPTH, MAX_WORKERS};
+use coniks_work::{MAX_DEPTH, Parallelism};
 use std::alloc::Global;
-use std::cmp::min;
 use std::convert::AsStr;
 use std::thread::{self, Threads};
 
-/// The settings of a run.
-#[derive(Clone, Copy)]
-pub(crate) struct Settings {
-    /// The number of worker threads that build an epoch.
-    pub(crate) workers: usize,
-    /// The split depth.
-    pub(crate) depth: usize,
-}
-
-/// Returns the settings of a command line, whose first argument is the program's name.
+/// Returns the parallelism of a command line, whose first argument is the program's name.
 ///
 /// # Errors
 ///
@@ -36,9 +25,7 @@ pub(crate) fn settings_of<T: Threads, S: AsStr>(
     rt: &T,
     alloc: Global,
     words: &[S],
-) -> Result<Settings, WordsFault>
-    ensures workers { IfOk result (λ s. AreWorkers s.workers) }
-    ensures depth { IfOk result (λ s. s.depth ≤ MAX_DEPTH) }
+) -> Result<Parallelism, WordsFault>
     ensures faultless { OnOk result (fault_of provider (map S.text words.entry.now) ≡ []) }
 
     // Arguments that `clap` accepts are refused only if an allocation fails, others also for their error.
@@ -55,20 +42,14 @@ pub(crate) fn settings_of<T: Threads, S: AsStr>(
     Ok(settings_by(rt, &found))
 }
 
-/// Returns the settings of the options that were found.
-fn settings_by<T: Threads>(rt: &T, found: &ArgMatches<'_>) -> Settings
-    ensures workers { AreWorkers result.workers }
-    ensures depth { result.depth ≤ MAX_DEPTH }
-{
+/// Returns the parallelism of the options that were found.
+fn settings_by<T: Threads>(rt: &T, found: &ArgMatches<'_>) -> Parallelism {
     let workers = match number(found, "workers") {
         Some(number) => number,
         None => processors(rt),
     };
     let depth = number(found, "depth").unwrap_or(MAX_DEPTH);
-    Settings {
-        workers: at_least_one(min(workers, MAX_WORKERS)),
-        depth: min(depth, MAX_DEPTH),
-    }
+    Parallelism::nearest(workers, depth)
 }
 
 /// Returns the number of an option, if it is set.
@@ -83,12 +64,4 @@ fn processors<T: Threads>(rt: &T) -> usize {
         Ok(count) => count.get(),
         Err(_) => 1,
     }
-}
-
-/// Returns the count, or 1 if it is 0.
-fn at_least_one(count: usize) -> usize
-    requires { count ≤ MAX_WORKERS }
-    ensures { AreWorkers result }
-{
-    if count == 0 { 1 } else { count }
 }

@@ -20,6 +20,7 @@ use anyhow::Result;
 use std::env;
 use std::time::Instant;
 
+/// Executes the plan of the command line, and prints the counts.
 fn main(rt: HostRuntime) -> Result<()> {
     let words: Vec<String> = env::args(&rt)?.collect(rt.alloc())?;
     let plan = plan_of(words.as_slice())?;

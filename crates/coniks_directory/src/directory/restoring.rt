@@ -29,7 +29,7 @@ use crate::supplied_bindings::{judge_bindings, supply_since};
 use coniks_chain::Entry;
 use coniks_proof::Hash32;
 use coniks_shared::{Board, Publisher};
-use coniks_work::Gate;
+use coniks_work::{Gate, Parallelism};
 use std::alloc::Global;
 use std::marker::Model;
 use std::thread::Threads;
@@ -166,18 +166,14 @@ impl<H: Hash32 + Sync + Drop, X: IndexSource + Drop> Restoring<H, X> {
     ///
     /// # Errors
     ///
-    /// If several apply, the first in this order is returned. `OutOfMemory` can replace `RootDiffers`. After an error the
-    /// board is unchanged.
+    /// `OutOfMemory` can replace `RootDiffers`. After an error the board is unchanged.
     ///
-    /// - `Workers` if `workers` is not 1 to `coniks_work::MAX_WORKERS`.
-    /// - `Depth` if `depth` is more than `coniks_work::MAX_DEPTH`.
     /// - `RootDiffers` if the root of the bindings is not the entry's.
     /// - `OutOfMemory` if an allocation fails.
     pub fn finish<G: Gate + Sync, R: Threads + Sync>(
         self,
         rt: &R,
-        depth: usize,
-        workers: usize,
+        parallelism: Parallelism,
         gate: &G,
         publisher: &mut Publisher,
         board: &Board,
@@ -191,7 +187,7 @@ impl<H: Hash32 + Sync + Drop, X: IndexSource + Drop> Restoring<H, X> {
         ensures nodes { IfOk result (λ d. length d.state.nodes ≡ epoch_nodes (X.index_of self.index) [] None self.ops) }
         ensures hash { IfOk result (λ d. d.hash ≡ self.hash) }
         ensures index { IfOk result (λ d. d.index ≡ self.index) }
-        ensures accepted { OnOk result (IsRestorable (H.digest_of self.hash) (X.index_of self.index) self.entry self.ops depth workers) }
+        ensures accepted { OnOk result (IsRestorable (H.digest_of self.hash) (X.index_of self.index) self.entry self.ops) }
         ensures good { IfOk result (λ d. (verdict : Octets → Octets → Bool)
             → verdict (body_bytes self.entry.body) self.entry.signature.0 ≡ true → HasGoodChain H.digest_of verdict d) }
 
@@ -200,13 +196,12 @@ impl<H: Hash32 + Sync + Drop, X: IndexSource + Drop> Restoring<H, X> {
         ensures table { publisher.new.table ≡ publisher.old.table }
 
         // An error.
-        ensures refused { IfErr result (IsRestoreFault (H.digest_of self.hash) (X.index_of self.index) self.entry self.ops depth workers) }
+        ensures refused { IfErr result (IsRestoreFault (H.digest_of self.hash) (X.index_of self.index) self.entry self.ops) }
         ensures unchanged { OnErr result (publisher.new ≡ publisher.old) }
     {
         let build = Build {
             rt,
-            depth,
-            workers,
+            parallelism,
             gate,
         };
         let Restoring {

@@ -1,18 +1,17 @@
 //! A directory whose indices are supplied: lookups, batches and installs that come with the indices of names.
 
-ghost use Rattle.std.specs.Prelude.{◌≡◌, ◌≢◌, ◌<◌, ◌≤◌, ◌+◌, ◌-◌, ◌^◌, ◌++◌, ◌∷◌, [], List, None, Some, IfErr, IfOk, OnErr, OnOk, length, true, false};
-ghost use Rattle.coniks_chain.specs.Entries.{body_bytes};
+ghost use Rattle.std.specs.Prelude.{◌≡◌, ◌≢◌, ◌≤◌, ◌++◌, ◌∷◌, [], List, None, Some, IfErr, IfOk, OnErr, OnOk, length, true, false};
 ghost use Rattle.coniks_proof.specs.Batches.{after};
 ghost use Rattle.coniks_proof.specs.Octets.{Octets};
 ghost use Rattle.coniks_proof.specs.Registry.{has_name};
 ghost use Rattle.coniks_tree.specs.Parts.{KeepsNone};
 ghost use Rattle.coniks_directory.specs.Batches.{IsAccepted, most_anew, most_nodes, operations};
-ghost use Rattle.coniks_directory.specs.Directories.{FindsAt, HasGoodChain, NextBodyBy, ShowsAt, batch_index, entry, heads, history, registry};
+ghost use Rattle.coniks_directory.specs.Directories.{FindsAt, ShowsAt, batch_index, entry, history, registry};
 ghost use Rattle.coniks_directory.specs.History.{nonce_bytes};
 ghost use Rattle.coniks_directory.specs.Supplied.{IsMissedAt, MaySupply};
 ghost use Rattle.coniks_directory.specs.Updates.{HasRefused, IsUpdate, IsUpdateOf, RotatesTo};
 
-use crate::batch::{BatchFault, Op, within_limits};
+use crate::batch::{BatchFault, Op, check_length};
 use crate::directory::Directory;
 use crate::install::may_install;
 use crate::judge::judged;
@@ -28,7 +27,7 @@ use crate::update::{InstallFault, Prepared};
 use coniks_chain::{Entry, Sign};
 use coniks_proof::{Hash32, Index, Proof};
 use coniks_shared::{Board, Publisher};
-use coniks_work::Gate;
+use coniks_work::{Gate, Parallelism};
 use std::alloc::AllocError;
 use std::thread::Threads;
 
@@ -148,9 +147,10 @@ impl<H: Hash32, X: SupplyIndex> Directory<H, X> {
 
 impl<H: Hash32> Directory<H, SuppliedIndices> {
     ghost use Rattle.std.specs.Prelude.{length};
-    ghost use Rattle.coniks_directory.specs.Supplied.{AgreeOn, supplied_index};
-    ghost use Rattle.coniks_directory.specs.SuppliedBatches.{IsSuppliedUpdate, LeavesIndices, indices_of, put_indices};
-    ghost use Rattle.coniks_directory.specs.Updates.{Grows, IsRefused, LeavesSigner, MayInstall, base_of, nodes_added, refusals, registry_after, shown_after};
+    ghost use Rattle.coniks_directory.specs.Installs.{AddsSupplied, HasSigned, IsInstallResult, IsReady, Keeps, KeepsIndices, LeavesSupplied, SuppliedLeavesSigner};
+    ghost use Rattle.coniks_directory.specs.Supplied.{supplied_index};
+    ghost use Rattle.coniks_directory.specs.SuppliedBatches.{IsSuppliedUpdate};
+    ghost use Rattle.coniks_directory.specs.Updates.{refusals};
 
     /// Supplies the indices of an update's names and installs the update, as `install` does.
     ///
@@ -174,50 +174,21 @@ impl<H: Hash32> Directory<H, SuppliedIndices> {
         board: &Board,
     ) -> Result<Entry, (InstallFault, Prepared)>
         requires update { (index : Octets → Octets) × IsSuppliedUpdate (H.digest_of self.old.hash) (supplied_index self.old.index) self.old.state update index }
-        requires made { S.made_of signer.old < 2 ^ 64 - 1 }
-        requires refused { S.refused_of signer.old < 2 ^ 64 - 1 }
-        requires table { publisher.old.table ≡ board.now.table }
-        requires published { publisher.old.heads ≡ heads H.digest_of self.old }
+        requires ready { IsReady H.digest_of S.made_of S.refused_of self.old signer.old publisher.old board.now }
 
-        // What is installed.
-        ensures history { OnOk result (history self.new ≡ history self.old ++ shown_after self.old.state update t ∷ []) }
-        ensures chain { IfOk result (λ entry. self.new.state.chain ≡ self.old.state.chain ++ entry ∷ []) }
-        ensures nodes { OnOk result (length self.new.state.nodes ≡ length self.old.state.nodes + nodes_added update) }
-        ensures body { IfOk result (λ entry. (index : Octets → Octets)
-            → IsSuppliedUpdate (H.digest_of self.old.hash) (supplied_index self.old.index) self.old.state update index
-            → entry.body ≡ NextBodyBy H.digest_of self.old index (shown_after self.old.state update t)) }
-        ensures may { OnOk result (MayInstall self.old.state (base_of update) t (length publisher.old.heads) board.now.capacity) }
-        ensures hash { self.new.hash ≡ self.old.hash }
-        ensures grows { Grows self.old.state self.new.state }
+        // An entry.
+        ensures installed { IfOk result (AddsSupplied H.digest_of self.old self.new update t) }
+        ensures signed { IfOk result (HasSigned S.made_of S.refused_of S.last_of S.signs S.verdict_of signer.old signer.new) }
 
-        // The update's names have their indices from then on, and the registered ones keep theirs.
-        ensures indices { OnOk result (self.new.index ≡ put_indices self.old.index (indices_of update)) }
-        ensures kept { AgreeOn (supplied_index self.old.index) (supplied_index self.new.index) (registry self.old) }
-        ensures given { OnOk result ((index : Octets → Octets)
-            → IsSuppliedUpdate (H.digest_of self.old.hash) (supplied_index self.old.index) self.old.state update index
-            → AgreeOn index (supplied_index self.new.index) (registry_after self.old.state update)) }
-
-        // The one signature that the signer made is the one that is stored in the chain.
-        ensures made { OnOk result ((S.made_of signer.new ≡ S.made_of signer.old + 1) × (S.refused_of signer.new ≡ S.refused_of signer.old)) }
-        ensures signed { IfOk result (λ entry. S.last_of signer.new ≡ Some entry) }
-        ensures asked { IfOk result (λ entry. S.signs signer.old (body_bytes entry.body) (Some entry.signature) signer.new) }
-        ensures verdict { IfOk result (λ entry. S.verdict_of signer.new (body_bytes entry.body) entry.signature.0 ≡ true) }
-        ensures good { HasGoodChain H.digest_of (S.verdict_of signer.old) self.old → HasGoodChain H.digest_of (S.verdict_of signer.new) self.new }
-        ensures verdicts_kept { (bytes signature : Octets) → S.verdict_of signer.new bytes signature ≡ S.verdict_of signer.old bytes signature }
-
-        // The heads on the board.
-        ensures heads { publisher.new.heads ≡ heads H.digest_of self.new }
-        ensures table { publisher.new.table ≡ publisher.old.table }
+        // An entry or an error.
+        ensures outcome { IsInstallResult self.old.state update t (length publisher.old.heads) board.now.capacity result }
+        ensures same { KeepsIndices self.old self.new }
+        ensures kept { Keeps H.digest_of S.verdict_of self.old self.new signer.old signer.new publisher.old publisher.new }
 
         // An error.
-        ensures refused { IfErr result (λ r. IsRefused self.old.state (base_of update) t (length publisher.old.heads) board.now.capacity r.0) }
-        ensures unchanged { OnErr result ((self.new.state ≡ self.old.state) × (publisher.new ≡ publisher.old)) }
-        ensures left { IfErr result (λ r. LeavesIndices (indices_of update) self.old.index self.new.index r.0) }
-        ensures handed_back { IfErr result (λ r. r.1 ≡ update) }
+        ensures unchanged { IfErr result (λ r. LeavesSupplied update self.old self.new publisher.old publisher.new r.0) }
         ensures unsigned { IfErr result (λ r. HasRefused S.made_of S.refused_of S.last_of signer.old signer.new (refusals r.0)) }
-        ensures unasked { IfErr result
-            (λ r. (index : Octets → Octets) → IsSuppliedUpdate (H.digest_of self.old.hash) (supplied_index self.old.index) self.old.state update index
-            → LeavesSigner S.signs (NextBodyBy H.digest_of self.old index (shown_after self.old.state update t)) signer.old signer.new r.0) }
+        ensures unasked { IfErr result (λ r. SuppliedLeavesSigner H.digest_of S.signs self.old update t signer.old signer.new r.0) }
     {
         let (published, capacity) = (publisher.published(), board.capacity());
         if let Err(fault) = may_install(&self.held, update.base, t, published, capacity) {
@@ -323,15 +294,15 @@ impl<H: Hash32 + Sync, X: IndexSource> Directory<H, X> {
     ///
     /// # Errors
     ///
-    /// - `Batch` with the errors of `prepare`, in the same order. `OutOfMemory` can also replace `OtherIndex`.
+    /// - `Batch` with the errors of `prepare` but `Workers` and `Depth`, in the same order. `OutOfMemory` can also replace
+    ///   `OtherIndex`.
     /// - `OtherIndex` if a name is registered with another index; it contains the position of the first such operation.
     ///   An earlier operation's error comes first. So does an error of this operation that comes before `IndexClash`.
     pub fn prepare_supplied<G: Gate + Sync, R: Threads + Sync>(
         &self,
         rt: &R,
         batch: &SuppliedBatch<'_>,
-        depth: usize,
-        workers: usize,
+        parallelism: Parallelism,
         gate: &G,
     ) -> Result<Prepared, SuppliedBatchFault>
         requires { length batch.now.ops.now ≡ length batch.now.indices.now }
@@ -348,16 +319,16 @@ impl<H: Hash32 + Sync, X: IndexSource> Directory<H, X> {
         ensures anew { IfOk result (λ p. batch.now.nonce ≢ None
             → (nodes_added p ≤ most_anew (after (registry self.now) (operations batch.now.ops.now))) × KeepsNone p.part) }
         ensures accepted { OnOk result
-            (IsAccepted (batch_index X.index_of self.now batch.now) (registry self.now) (operations batch.now.ops.now) depth workers) }
-        ensures within { OnOk result (IsWithin (indexed batch.now.ops.now batch.now.indices.now) depth workers) }
+            (IsAccepted (batch_index X.index_of self.now batch.now) (registry self.now) (operations batch.now.ops.now) parallelism.depth parallelism.workers) }
+        ensures within { OnOk result (IsWithin (indexed batch.now.ops.now batch.now.indices.now)) }
         ensures faultless { OnOk result
             (supplied_fault (X.index_of self.now.index) (registry self.now) (indexed batch.now.ops.now batch.now.indices.now) ≡ None) }
         ensures refused { IfErr result
-            (IsSuppliedFault (X.index_of self.now.index) (registry self.now) (indexed batch.now.ops.now batch.now.indices.now) depth workers) }
+            (IsSuppliedFault (X.index_of self.now.index) (registry self.now) (indexed batch.now.ops.now batch.now.indices.now)) }
     {
         // Read for the contract alone.
         let _ = &self.held;
-        if let Err(fault) = within_limits(batch.ops, depth, workers) {
+        if let Err(fault) = check_length(batch.ops) {
             return Err(SuppliedBatchFault::Batch(fault));
         }
         let Ok((indices, other)) = self.indices_with(batch) else {
@@ -368,8 +339,7 @@ impl<H: Hash32 + Sync, X: IndexSource> Directory<H, X> {
         }
         let build = Build {
             rt,
-            depth,
-            workers,
+            parallelism,
             gate,
         };
         let origin = Origin {

@@ -2,7 +2,7 @@
 
 ghost use Rattle.std.specs.Prelude.{◌≡◌, length};
 
-use crate::tests::clerk::{Clerk, Written, ops_of, with_clerk};
+use crate::tests::clerk::{Clerk, Written, ops_of, two_workers, with_clerk};
 use crate::tests::runs::finish_first;
 use coniks_chain::Entry;
 use coniks_directory::OpKind::{Change, Register};
@@ -173,7 +173,7 @@ fn restored<R: Threads + Sync + Abort>(rt: &R, clerk: &mut Clerk<Sha256Hash>) {
     let begun = filled(rt, clerk, entry);
     assert!(rt; begun.count() == 4);
     let (board, mut publisher) = Board::new(clerk.alloc, 8).expect(rt, "a board");
-    let again = finish_first(rt, begun, &mut publisher, &board);
+    let again = finish_first(rt, begun, two_workers(rt), &mut publisher, &board);
     let again = again.expect(rt, "a directory");
     assert!(rt; again.chain() == [entry].as_slice());
     assert!(rt; publisher.last() == clerk.publisher.last());
@@ -213,7 +213,7 @@ fn refused<R: Threads + Sync + Abort>(
     assert!(rt; found == Err(BatchFault::At { position: 1, fault }));
     assert!(rt; begun.count() == 4);
     let (board, mut publisher) = Board::new(clerk.alloc, 8).expect(rt, "a board");
-    let again = finish_first(rt, begun, &mut publisher, &board);
+    let again = finish_first(rt, begun, two_workers(rt), &mut publisher, &board);
     let again = again.expect(rt, "a directory");
     assert!(rt; !again.source().has(b"e"));
 }

@@ -13,7 +13,7 @@ use coniks_directory::{
 use coniks_proof::{Bytes, Hash32, Index, Nonce, Sha256Hash};
 use coniks_shared::{Board, MAX_HEADS, Publisher, Watcher};
 use coniks_test_support::{NONCE, OPENING, POLICY, Stamp};
-use coniks_work::{Gate, Open};
+use coniks_work::{Gate, Open, Parallelism};
 use std::alloc::{AllocError, Global};
 use std::process::Abort;
 use std::thread::Threads;
@@ -191,6 +191,7 @@ impl<'a, H: Hash32 + Sync> Clerk<'a, H> {
     }
 
     /// Installs an update.
+    #[tactic(auto, using(crate::proofs::RunSteps::handed_back))]
     pub fn install(&mut self, update: Prepared, t: u64) -> Result<Entry, (InstallFault, Prepared)>
         requires { IsUpdateOf (H.digest_of self.old.directory.hash) index_of_letter self.old.directory.state update }
         ensures table { self.new.board.now.table ≡ self.old.board.now.table }
@@ -288,6 +289,11 @@ pub fn new_board(rt: &impl Abort, alloc: Global, heads: usize) -> (Board, Publis
         made => made,
     };
     made.expect(rt, "a board")
+}
+
+/// Returns the parallelism of two workers at depth 1.
+pub fn two_workers(rt: &impl Abort) -> Parallelism {
+    Parallelism::new(2, 1).expect(rt, "a parallelism")
 }
 
 /// Commits a batch at epoch `t` to a new directory over a source of indices, with a split depth and a number of

@@ -6,7 +6,7 @@ ghost use Rattle.coniks_directory.specs.SuppliedBatches.{IsSuppliedUpdate};
 ghost use Rattle.coniks_directory.specs.Updates.{IsUpdate};
 ghost use Rattle.coniks_proof.specs.Octets.{Octets};
 
-use crate::tests::clerk::{Written, ops_of, refusing};
+use crate::tests::clerk::{Written, ops_of, refusing, two_workers};
 use crate::tests::runs::{install_supplied_next, prepare_supplied_next};
 use coniks_directory::OpKind::{Change, Register};
 use coniks_directory::{
@@ -40,7 +40,7 @@ fn prepare<R: Threads + Sync + Abort>(
         ops: &ops,
         indices,
     };
-    prepare_supplied_next(rt, directory, &batch)
+    prepare_supplied_next(rt, directory, &batch, two_workers(rt))
 }
 
 /// Returns the error of the operation at a position.

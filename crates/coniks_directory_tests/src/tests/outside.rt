@@ -52,6 +52,7 @@ impl SignatureSource for Desk {
 }
 
 /// Installs an update at epoch 1.
+#[tactic(auto, using(crate::proofs::RunSteps::handed_back))]
 fn install_first(
     directory: &mut Directory<Sha256Hash, Letters>,
     update: Prepared,

@@ -2,7 +2,7 @@
 
 ghost use Rattle.std.specs.Prelude.{◌≡◌, ◌<◌, []};
 
-use crate::tests::clerk::{Clerk, Letters, Written, ops_of, refusing, with_clerk};
+use crate::tests::clerk::{Clerk, Letters, Written, ops_of, refusing, two_workers, with_clerk};
 use crate::tests::runs::finish_first;
 use coniks_chain::Entry;
 use coniks_directory::OpKind::{Change, Register};
@@ -84,7 +84,7 @@ fn filled<R: Abort>(
 }
 
 /// Finishes a restore at depth 1 with two workers. The directory's signer refuses nothing.
-fn finished<'a, R: Threads + Sync>(
+fn finished<'a, R: Threads + Sync + Abort>(
     rt: &R,
     alloc: Global,
     board: &'a Board,
@@ -95,7 +95,7 @@ fn finished<'a, R: Threads + Sync>(
     requires headed { publisher.heads ≡ [] }
     requires room { 0 < board.now.capacity }
 {
-    let directory = finish_first(rt, begun, &mut publisher, board)?;
+    let directory = finish_first(rt, begun, two_workers(rt), &mut publisher, board)?;
     Ok(Clerk {
         alloc,
         directory,

@@ -1,9 +1,10 @@
 //! Calls of a directory as steps of a run, each proved from public contracts alone, and the directory theorem for them.
 
-ghost use Rattle.std.specs.Prelude.{◌≡◌, ◌<◌, ◌-◌, ◌^◌, ◌++◌, [], ◌∷◌, ℕ, List, Option, None, Some, IfOk, OnOk, length, option_map};
+ghost use Rattle.std.specs.Prelude.{◌≡◌, ◌<◌, ◌++◌, [], ◌∷◌, ℕ, List, Option, None, Some, IfOk, OnOk, length, option_map};
 ghost use Rattle.coniks_directory.specs.Batches.{operations};
 ghost use Rattle.coniks_directory.specs.Chain.{heads_of};
 ghost use Rattle.coniks_directory.specs.History.{root_at, shown_at};
+ghost use Rattle.coniks_directory.specs.Installs.{IsReady};
 ghost use Rattle.coniks_directory.specs.Lookups.{IsAcceptedAt};
 ghost use Rattle.coniks_directory.specs.Runs.{Batch, IsPreparedOf, Run, Start, defined, restoring};
 ghost use Rattle.coniks_directory.specs.State.{State};
@@ -26,7 +27,7 @@ use coniks_directory::{
 use coniks_proof::{Digest, Hash32, Index, Nonce, Proof, Sha256Hash};
 use coniks_shared::{Board, Publisher};
 use coniks_test_support::{NEW_NONCE, digest};
-use coniks_work::Open;
+use coniks_work::{Open, Parallelism};
 use std::process::Abort;
 use std::thread::Threads;
 
@@ -64,10 +65,7 @@ pub fn install_next<H: Hash32, X: IndexSource, S: Sign>(
     board: &Board,
 ) -> Result<Entry, (InstallFault, Prepared)>
     requires update { IsUpdateOf (H.digest_of directory.old.hash) (X.index_of directory.old.index) directory.old.state update }
-    requires made { S.made_of signer.old < 2 ^ 64 - 1 }
-    requires refused { S.refused_of signer.old < 2 ^ 64 - 1 }
-    requires table { publisher.old.table ≡ board.now.table }
-    requires published { publisher.old.heads ≡ heads_of (H.digest_of directory.old.hash) directory.old.state.chain }
+    requires ready { IsReady H.digest_of S.made_of S.refused_of directory.old signer.old publisher.old board.now }
     ensures run { OnOk result ((then : Octets → Octets) (start : Start) (batches : List Batch)
         (earlier : State) (new_nonce : Option Octets) (ops : List Operation) (depth workers : ℕ)
         → Run (H.digest_of directory.old.hash) (X.index_of directory.old.index) start batches directory.old.state
@@ -87,16 +85,18 @@ pub fn prepare_supplied_next<H: Hash32 + Sync, X: IndexSource, R: Threads + Sync
     rt: &R,
     directory: &Directory<H, X>,
     batch: &SuppliedBatch<'_>,
+    parallelism: Parallelism,
 ) -> Result<Prepared, SuppliedBatchFault>
     requires { length batch.now.ops.now ≡ length batch.now.indices.now }
     ensures prepared { IfOk result
         (IsPreparedOf (H.digest_of directory.now.hash)
         (index_in (X.index_of directory.now.index) (registry directory.now) (indexed batch.now.ops.now batch.now.indices.now))
-        directory.now.state (option_map (λ (n : Nonce). n.0) batch.now.nonce) (operations batch.now.ops.now) 1 2) }
+        directory.now.state (option_map (λ (n : Nonce). n.0) batch.now.nonce) (operations batch.now.ops.now)
+        parallelism.depth parallelism.workers) }
     ensures installable { IfOk result (λ p. IsSuppliedUpdate (H.digest_of directory.now.hash) (X.index_of directory.now.index) directory.now.state p
         (index_in (X.index_of directory.now.index) (registry directory.now) (indexed batch.now.ops.now batch.now.indices.now))) }
 {
-    directory.prepare_supplied(rt, batch, 1, 2, &Open)
+    directory.prepare_supplied(rt, batch, parallelism, &Open)
 }
 
 /// Calls `install_supplied`, which adds one batch to a run, by the indices that the directory holds afterwards.
@@ -110,10 +110,7 @@ pub fn install_supplied_next<H: Hash32, S: Sign>(
 ) -> Result<Entry, (InstallFault, Prepared)>
     requires update { (index : Octets → Octets)
         × IsSuppliedUpdate (H.digest_of directory.old.hash) (supplied_index directory.old.index) directory.old.state update index }
-    requires made { S.made_of signer.old < 2 ^ 64 - 1 }
-    requires refused { S.refused_of signer.old < 2 ^ 64 - 1 }
-    requires table { publisher.old.table ≡ board.now.table }
-    requires published { publisher.old.heads ≡ heads_of (H.digest_of directory.old.hash) directory.old.state.chain }
+    requires ready { IsReady H.digest_of S.made_of S.refused_of directory.old signer.old publisher.old board.now }
     ensures run { OnOk result ((index : Octets → Octets) (start : Start)
         (batches : List Batch) (new_nonce : Option Octets) (ops : List Operation) (depth workers : ℕ)
         → Run (H.digest_of directory.old.hash) (supplied_index directory.old.index) start batches directory.old.state
@@ -171,10 +168,7 @@ pub fn commit_next<H: Hash32 + Sync, X: IndexSource, S: Sign, R: Threads + Sync>
     publisher: &mut Publisher,
     board: &Board,
 ) -> Result<Entry, CommitFault>
-    requires made { S.made_of signer.old < 2 ^ 64 - 1 }
-    requires refused { S.refused_of signer.old < 2 ^ 64 - 1 }
-    requires table { publisher.old.table ≡ board.now.table }
-    requires published { publisher.old.heads ≡ heads_of (H.digest_of directory.old.hash) directory.old.state.chain }
+    requires ready { IsReady H.digest_of S.made_of S.refused_of directory.old signer.old publisher.old board.now }
     ensures run { OnOk result ((start : Start) (batches : List Batch)
         → Run (H.digest_of directory.old.hash) (X.index_of directory.old.index) start batches directory.old.state
         → Run (H.digest_of directory.new.hash) (X.index_of directory.new.index) start
@@ -189,6 +183,7 @@ pub fn commit_next<H: Hash32 + Sync, X: IndexSource, S: Sign, R: Threads + Sync>
 pub fn finish_first<H: Hash32 + Sync + Drop, X: IndexSource + Drop, R: Threads + Sync>(
     rt: &R,
     begun: Restoring<H, X>,
+    parallelism: Parallelism,
     publisher: &mut Publisher,
     board: &Board,
 ) -> Result<Directory<H, X>, RestoreFault>
@@ -199,7 +194,7 @@ pub fn finish_first<H: Hash32 + Sync + Drop, X: IndexSource + Drop, R: Threads +
     ensures heads { IfOk result (λ directory. publisher.new.heads ≡ heads_of (H.digest_of directory.hash) directory.state.chain) }
     ensures table { publisher.new.table ≡ publisher.old.table }
 {
-    begun.finish(rt, 1, 2, &Open, publisher, board)
+    begun.finish(rt, parallelism, &Open, publisher, board)
 }
 
 /// Calls `root_at`. After a run, the root is that of the directory that the run's batches define.

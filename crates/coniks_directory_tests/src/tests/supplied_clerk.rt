@@ -10,6 +10,7 @@ ghost use Rattle.coniks_proof.specs.Octets.{Octets};
 
 use crate::tests::clerk::{Letters, refusing};
 use coniks_chain::{Entry, Sign, Signer};
+use coniks_directory::laws::supplied_updates_stay;
 use coniks_directory::{
     Directory, IndexSource, InstallFault, Op, Prepared, SuppliedBatch, SuppliedBatchFault,
     SuppliedIndices,
@@ -17,7 +18,7 @@ use coniks_directory::{
 use coniks_proof::{Hash32, Index, Sha256Hash};
 use coniks_shared::{Board, Publisher};
 use coniks_test_support::{NONCE, POLICY, Stamp};
-use coniks_work::Open;
+use coniks_work::{Open, Parallelism};
 use std::alloc::Global;
 use std::process::Abort;
 use std::thread::Threads;
@@ -88,7 +89,8 @@ impl<'a> SuppliedClerk<'a> {
             ops,
             indices,
         };
-        self.directory.prepare_supplied(rt, &batch, 1, 1, &Open)
+        self.directory
+            .prepare_supplied(rt, &batch, Parallelism::alone(), &Open)
     }
 
     /// Installs an update with its indices.
@@ -107,6 +109,7 @@ impl<'a> SuppliedClerk<'a> {
             × IsSuppliedUpdate (⟦<Sha256Hash as Hash32>⟧.digest_of self.new.directory.hash)
             (supplied_index self.new.directory.index) self.new.directory.state r.1 index) }
     {
+        supplied_updates_stay();
         assert!(rt; self.signer.made() < u64::MAX && self.signer.refused() < u64::MAX);
         self.directory.install_supplied(
             update,

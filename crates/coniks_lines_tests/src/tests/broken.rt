@@ -1,7 +1,7 @@
 //! Readers and writers of std that fail, each with several kinds of error. None of these is the end of the input.
 
 use crate::tests::machine::Echo;
-use coniks_lines::{ByteIn, ByteOut, MemoryOut, RunFault, SystemIn, SystemOut, run_lines};
+use coniks_lines::{ByteIn, ByteOut, LineFault, MemoryOut, SystemIn, SystemOut, run_lines};
 use std::alloc::Global;
 use std::io;
 use std::io::ErrorKind;
@@ -62,7 +62,7 @@ fn is_cut(alloc: Global, bytes: &'static [u8], kind: ErrorKind, wanted: &[u8]) -
     let mut reader = SystemIn::new(BrokenIn { bytes, kind });
     let mut writer = MemoryOut::new(alloc);
     let all = run_lines(alloc, &mut Echo { odd: false }, &mut reader, &mut writer);
-    all == Err(RunFault::Read) && reader.failures() == 1 && writer.bytes() == wanted
+    all == Err(LineFault::Read) && reader.failures() == 1 && writer.bytes() == wanted
 }
 
 #[test]
@@ -83,7 +83,7 @@ fn is_unwritten(alloc: Global, writes: u64, kind: ErrorKind) -> bool {
         kind,
     });
     let all = run_lines(alloc, &mut Echo { odd: false }, &mut reader, &mut writer);
-    all == Err(RunFault::Write) && writer.failures() == 1
+    all == Err(LineFault::Write) && writer.failures() == 1
 }
 
 #[test]

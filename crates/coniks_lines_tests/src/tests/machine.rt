@@ -3,7 +3,7 @@ ghost use Rattle.std.specs.Prelude.{◌≡◌, IfOk, Some, false};
 ghost use Rattle.coniks_lines.specs.Lines.{lines_of};
 ghost use Rattle.coniks_lines.specs.Machine.{output, all_accepted};
 
-use coniks_lines::{ByteIn, ByteOut, LineMachine, MemoryIn, MemoryOut, RunFault, run_lines};
+use coniks_lines::{ByteIn, ByteOut, LineFault, LineMachine, MemoryIn, MemoryOut, run_lines};
 use std::alloc::{AllocError, Global};
 
 /// A machine that echoes each line after a digit, 0 or 1, which changes with each accepted line. A line that begins
@@ -40,7 +40,7 @@ impl LineMachine for Echo {
 }
 
 /// Runs an `Echo` over bytes in memory. Returns the writer and whether each line was accepted.
-pub fn echoed(alloc: Global, input: Vec<u8>) -> Result<(MemoryOut, bool), RunFault>
+pub fn echoed(alloc: Global, input: Vec<u8>) -> Result<(MemoryOut, bool), LineFault>
     ensures written { IfOk result (λ r. (⟦<MemoryOut as ByteOut>⟧.sink r.0).written ≡ Some (output ⟦<Echo as LineMachine>⟧.answer false input.items)) }
     ensures accepted { IfOk result (λ r. r.1 ≡ all_accepted ⟦<Echo as LineMachine>⟧.answer false (lines_of input.items)) }
 {

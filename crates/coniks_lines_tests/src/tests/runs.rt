@@ -4,7 +4,7 @@ ghost use Rattle.std.specs.Prelude.{◌≡◌};
 use crate::tests::machine::{Echo, echoed};
 use crate::tests::traced::Traced;
 use coniks_lines::{
-    ByteIn, ByteOut, MemoryIn, MemoryOut, RunFault, SystemIn, SystemOut, run_lines,
+    ByteIn, ByteOut, LineFault, MemoryIn, MemoryOut, SystemIn, SystemOut, run_lines,
 };
 use coniks_test_support::{FailIn, FailOut, NEVER, Stop};
 use std::alloc::Global;
@@ -38,7 +38,7 @@ fn input_of(rt: &impl Abort, alloc: Global, bytes: &[u8]) -> Vec<u8> {
 /// reader and the writer.
 #[derive(Clone, Copy)]
 struct Ended {
-    all: Result<bool, RunFault>,
+    all: Result<bool, LineFault>,
     wrote: bool,
     unread: u64,
     unwritten: u64,
@@ -153,7 +153,7 @@ fn a_write_stops(rt: HostRuntime) {
         for k in 0..written.len() {
             let input = input_of(&rt, alloc, b"ab\n!c\nd");
             let ended = stopped_run(alloc, input, k as u64, stop, &wanted[..written[k]]);
-            assert!(rt; ended.all == Err(RunFault::Write), "at call {k}");
+            assert!(rt; ended.all == Err(LineFault::Write), "at call {k}");
             assert!(rt; ended.wrote, "at call {k}");
             let fails = stop == Stop::Fails || flushes.contains(&k);
             assert!(rt; ended.unwritten == (fails as u64), "at call {k}");
@@ -179,7 +179,7 @@ fn a_read_fails(rt: HostRuntime) {
     for k in 0..wanted.len() {
         let input = input_of(&rt, alloc, b"ab\ncd\nef");
         let ended = unread_run(alloc, input, k as u64, wanted[k]);
-        assert!(rt; ended.all == Err(RunFault::Read), "at read {k}");
+        assert!(rt; ended.all == Err(LineFault::Read), "at read {k}");
         assert!(rt; ended.wrote, "at read {k}");
         assert!(rt; ended.unread == 1, "at read {k}");
     }
@@ -250,9 +250,9 @@ fn memory_writes(rt: HostRuntime) {
 fn messages(rt: HostRuntime) {
     let alloc = rt.alloc();
     for (fault, wanted) in [
-        (RunFault::Read, "read failed"),
-        (RunFault::Write, "write failed"),
-        (RunFault::OutOfMemory, "out of memory"),
+        (LineFault::Read, "read failed"),
+        (LineFault::Write, "write failed"),
+        (LineFault::OutOfMemory, "out of memory"),
     ] {
         let text = fault.to_string(alloc).expect(&rt, "memory");
         assert!(rt; text.as_str() == wanted);

@@ -1,6 +1,6 @@
 //! Collisions under a hash that maps every message to 32 zero bytes.
 
-use crate::tests::{ZERO, beside, here, proof_of, repeated, sealed};
+use crate::tests::{ZERO, beside, committed, here, proof_of, repeated};
 use coniks_proof::{Collision, Digest, End, Flat, Proof, Sha256Hash, extract, leaf_hash};
 use coniks_test_support::{NONCE, OPENING, index_of};
 use std::alloc::Global;
@@ -191,7 +191,7 @@ fn refused_in_turn(rt: HostRuntime) {
 fn no_collision_known(rt: HostRuntime) {
     let alloc = rt.alloc();
     let index = index_of(0, 0);
-    let root = leaf_hash(&Sha256Hash, &NONCE, &index, 0, &sealed(b"a"));
+    let root = leaf_hash(&Sha256Hash, &NONCE, &index, 0, &committed(b"a"));
     let a = proof_of(&rt, alloc, &[], here(&rt, alloc, b"a", b"k"));
     let b = proof_of(&rt, alloc, &[], here(&rt, alloc, b"a", b"l"));
     for other in [&a, &b] {

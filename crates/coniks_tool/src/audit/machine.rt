@@ -3,17 +3,19 @@
 ghost use Rattle.std.specs.Prelude.{◌≡◌, ◌<◌, ◌+◌, ◌^◌, ◌↔◌, IfOk, OnOk, Some, true};
 ghost use Rattle.coniks_proof.specs.Octets.{Octets};
 ghost use Rattle.coniks_lines.specs.Lines.{lines_of};
-ghost use Rattle.coniks_lines.specs.Runs.{EndsBadly, IsRunOf, streams};
+ghost use Rattle.coniks_lines.specs.Runs.{IsRunOf, streams};
+ghost use Rattle.coniks_json.specs.Faults.{FailsOn};
 ghost use Rattle.coniks_tool.specs.Audit.{AuditState, audit_answer, audit_turn, entry_turn, none_audited};
 ghost use Rattle.coniks_tool.specs.AuditChain.{HoldsGoodChain};
 ghost use Rattle.coniks_tool.specs.AuditReplies.{audit_outcome};
 
 use crate::audit::reply::AuditReply;
 use crate::demo::seal::DemoSeal;
-use crate::lines::entries::read_entry;
-use crate::lines::members::read_object;
 use coniks_chain::{Auditor, Entry};
-use coniks_lines::{ByteIn, ByteOut, LineMachine, RunFault, run_lines};
+use coniks_json::entries::read_entry;
+use coniks_json::fault::{RunFault, of_run};
+use coniks_json::members::read_object;
+use coniks_lines::{ByteIn, ByteOut, LineMachine, run_lines};
 use coniks_proof::{Head, Sha256Hash};
 use std::alloc::{AllocError, Global};
 use std::marker::Model;
@@ -62,6 +64,7 @@ impl Auditing {
         AuditReply::Audited { epoch, link }
     }
 
+    /// Audits the entry of a line, and returns the reply.
     fn reply(&mut self, line: &[u8]) -> Result<AuditReply, AllocError>
         ensures reply { IfOk result (λ reply. audit_outcome reply ≡ (audit_turn self.old line.now).outcome) }
         ensures state { OnOk result (self.new ≡ (audit_turn self.old line.now).state) }
@@ -110,7 +113,7 @@ pub fn run_audit<R: ByteIn, W: ByteOut>(
 ) -> Result<bool, RunFault>
     requires reads { (R.source reader.old).failed + 1 < 2 ^ 64 }
     requires writes { (W.sink writer.old).failed + 1 < 2 ^ 64 }
-    ensures run { IsRunOf audit_answer (none_audited key) (EndsBadly audit_answer (none_audited key))
+    ensures run { IsRunOf audit_answer (none_audited key) (FailsOn audit_answer (none_audited key))
         (streams (R.source reader.old) (R.source reader.new) (W.sink writer.old) (W.sink writer.new))
         result }
 
@@ -119,5 +122,5 @@ pub fn run_audit<R: ByteIn, W: ByteOut>(
         → IfOk result (λ all. (all ≡ true) ↔ HoldsGoodChain key (lines_of input)) }
 {
     let mut auditing = Auditing::new(alloc, key);
-    run_lines(alloc, &mut auditing, reader, writer)
+    of_run(run_lines(alloc, &mut auditing, reader, writer))
 }

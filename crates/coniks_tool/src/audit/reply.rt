@@ -4,10 +4,10 @@ ghost use Rattle.std.specs.Prelude.{◌≡◌, IfOk};
 ghost use Rattle.serde_json.specs.View.{view};
 ghost use Rattle.coniks_tool.specs.AuditReplies.{audit_data, audit_fault_name, audit_outcome, audited_data};
 
-use crate::lines::objects::{Field, Shown, object};
-use crate::lines::printable::Printable;
-use crate::lines::printing::{bad_member, fault};
 use coniks_chain::AuditFault;
+use coniks_json::objects::{Field, Shown, object};
+use coniks_json::printable::Printable;
+use coniks_json::printing::{bad_member, fault};
 use coniks_proof::Digest;
 use std::alloc::{AllocError, Global};
 
@@ -70,6 +70,7 @@ pub fn audit_fault_text(fault: AuditFault) -> &'static str
     }
 }
 
+/// Returns the object of an accepted entry.
 fn audited(alloc: Global, epoch: u64, link: &Digest) -> Result<Printable, AllocError>
     ensures { IfOk result (λ object. view object.value ≡ audited_data epoch link.now.0) }
 {

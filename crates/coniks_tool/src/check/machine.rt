@@ -3,14 +3,16 @@
 ghost use Rattle.std.specs.Prelude.{◌≡◌, ◌<◌, ◌+◌, ◌^◌, ◌++◌, Ok, IfOk, OnOk, Some};
 ghost use Rattle.serde_json.specs.View.{view};
 ghost use Rattle.serde_json.specs.Written.{compact_text};
-ghost use Rattle.coniks_lines.specs.Runs.{EndsBadly, IsRunOf, streams};
+ghost use Rattle.coniks_lines.specs.Runs.{IsRunOf, streams};
+ghost use Rattle.coniks_json.specs.Faults.{FailsOn};
 ghost use Rattle.coniks_tool.specs.Check.{Stateless, asked_by, asked_in, check_answer, question_outcome, stateless};
 ghost use Rattle.coniks_tool.specs.CheckReplies.{check_data, check_outcome, is_answered};
 
 use crate::check::question::{Question, read_question};
 use crate::check::reply::CheckReply;
-use crate::lines::members::read_object;
-use coniks_lines::{ByteIn, ByteOut, LineMachine, RunFault, run_lines};
+use coniks_json::fault::{RunFault, of_run};
+use coniks_json::members::read_object;
+use coniks_lines::{ByteIn, ByteOut, LineMachine, run_lines};
 use coniks_proof::{Sha256Hash, check};
 use serde_json::Value;
 use std::alloc::{AllocError, Global};
@@ -91,10 +93,10 @@ pub fn run_check<R: ByteIn, W: ByteOut>(
 ) -> Result<bool, RunFault>
     requires reads { (R.source reader.old).failed + 1 < 2 ^ 64 }
     requires writes { (W.sink writer.old).failed + 1 < 2 ^ 64 }
-    ensures run { IsRunOf check_answer stateless (EndsBadly check_answer stateless)
+    ensures run { IsRunOf check_answer stateless (FailsOn check_answer stateless)
         (streams (R.source reader.old) (R.source reader.new) (W.sink writer.old) (W.sink writer.new))
         result }
 {
     let mut checking = Checking { alloc };
-    run_lines(alloc, &mut checking, reader, writer)
+    of_run(run_lines(alloc, &mut checking, reader, writer))
 }

@@ -5,9 +5,9 @@ ghost use Rattle.serde_json.specs.View.{view};
 ghost use Rattle.coniks_proof.specs.Proofs.{said};
 ghost use Rattle.coniks_tool.specs.CheckReplies.{answer_data, key_data, check_data, check_fault_name, check_outcome};
 
-use crate::lines::objects::{Field, Shown, object};
-use crate::lines::printable::Printable;
-use crate::lines::printing::{Member, bad_member, fault, member_text};
+use coniks_json::objects::{Field, Shown, object};
+use coniks_json::printable::Printable;
+use coniks_json::printing::{Member, bad_member, fault, member_text};
 use coniks_proof::{Answer, CheckFault};
 use std::alloc::{AllocError, Global};
 
@@ -54,6 +54,7 @@ impl CheckReply<'_> {
     }
 }
 
+/// Returns the object of an accepted proof.
 fn answer_value(alloc: Global, answer: &Answer<'_>) -> Result<Printable, AllocError>
     ensures { IfOk result (λ object. view object.value ≡ answer_data (said answer.now)) }
 {
@@ -69,6 +70,7 @@ fn answer_value(alloc: Global, answer: &Answer<'_>) -> Result<Printable, AllocEr
     }
 }
 
+/// Returns the object of a presence proof.
 fn key_value(alloc: Global, key: &[u8]) -> Result<Printable, AllocError>
     ensures { IfOk result (λ object. view object.value ≡ key_data key.now) }
 {

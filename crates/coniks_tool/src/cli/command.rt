@@ -10,6 +10,7 @@ use crate::cli::help;
 use clap::builder::ValueParser;
 use clap::{Arg, Command};
 use coniks_cli::{with_below, with_option};
+use coniks_work::{MAX_DEPTH, MAX_WORKERS};
 use std::alloc::{AllocError, Global};
 
 /// Returns a command of this name, with the first and the last text of its help.
@@ -55,12 +56,13 @@ fn text_option<'a>(
         .help(help)
 }
 
+/// Returns the subcommand `run`.
 fn run_command<'a>(alloc: Global) -> Result<Command<'a>, AllocError>
     ensures { IfOk result (IsCommand run_app) }
 {
     let numbers = clap::value_parser!(u8);
-    let many = numbers.range(1..=64);
-    let deep = numbers.range(0..=12);
+    let many = numbers.range(1..=MAX_WORKERS as i64);
+    let deep = numbers.range(0..=MAX_DEPTH as i64);
     let workers = number_option(alloc, "workers", "1", many, "1-64", help::WORKERS);
     let depth = number_option(alloc, "depth", "0", deep, "0-12", help::DEPTH);
     let bare = command(alloc, "run", help::RUN, help::OF_RUN);
@@ -68,18 +70,21 @@ fn run_command<'a>(alloc: Global) -> Result<Command<'a>, AllocError>
     with_option(with_workers, depth)
 }
 
+/// Returns the subcommand `check`.
 fn check_command<'a>(alloc: Global) -> Command<'a>
     ensures { IsCommand check_app result }
 {
     command(alloc, "check", help::CHECK, help::OF_CHECK)
 }
 
+/// Returns the option `--key`.
 fn key_option<'a>(alloc: Global) -> Arg<'a>
     ensures { IsOption key_rule result }
 {
     text_option(alloc, "key", true, "HEX64", help::KEY)
 }
 
+/// Returns the subcommand `audit`.
 fn audit_command<'a>(alloc: Global) -> Result<Command<'a>, AllocError>
     ensures { IfOk result (IsCommand audit_app) }
 {
@@ -87,6 +92,7 @@ fn audit_command<'a>(alloc: Global) -> Result<Command<'a>, AllocError>
     with_option(Ok(bare), key_option(alloc))
 }
 
+/// Returns the subcommand `monitor`.
 fn monitor_command<'a>(alloc: Global) -> Result<Command<'a>, AllocError>
     ensures { IfOk result (IsCommand monitor_app) }
 {
@@ -108,6 +114,7 @@ fn top_command<'a>(alloc: Global) -> Command<'a>
         .after_help(help::OF_KEYDIR)
 }
 
+/// Returns the command with its subcommands.
 pub(crate) fn keydir_command<'a>(alloc: Global) -> Result<Command<'a>, AllocError>
     ensures app { IfOk result (λ command. app_of command ≡ keydir) }
     ensures local { IfOk result (λ command. (fields_of command).has_globals ≡ false) }

@@ -3,7 +3,7 @@
 ghost use Rattle.std.specs.Prelude.{◌≡◌, option_map};
 ghost use Rattle.coniks_tool.specs.Program.{fault_line, status_of, told_of};
 
-use coniks_lines::RunFault;
+use coniks_json::fault::RunFault;
 
 /// The outcome of a command line.
 #[derive(Drop)]
@@ -24,6 +24,7 @@ const BAD_KEY: &str = "keydir: bad key\n";
 /// The error line for a bad expectation.
 const BAD_EXPECTATION: &str = "keydir: bad expectation\n";
 
+/// Returns the exit status of an outcome.
 pub(crate) fn status(outcome: &Result<Ending, RunFault>) -> u8
     ensures { result ≡ status_of outcome.now }
 {
@@ -48,6 +49,7 @@ pub(crate) fn told<'o>(outcome: &'o Result<Ending, RunFault>) -> Option<&'o str>
     }
 }
 
+/// Returns the error line of a fault.
 pub(crate) fn fault_text(fault: RunFault) -> &'static str
     ensures { result.now ≡ fault_line fault }
 {

@@ -4,7 +4,7 @@ ghost use Rattle.std.specs.Prelude.{◌≡◌, IfOk, option_map};
 ghost use Rattle.serde_json.specs.View.{view};
 ghost use Rattle.coniks_tool.specs.Expectations.{expectation_in, expectation_of, expected_in};
 
-use crate::lines::members::bytes_of_base64;
+use coniks_json::members::bytes_of_base64;
 use coniks_proof::Bytes;
 use serde_json::Value;
 use std::alloc::{AllocError, Global};
@@ -45,6 +45,7 @@ pub fn read_expectation(alloc: Global, object: &Value) -> Result<Option<Option<B
     }
 }
 
+/// Reads an expectation: a key in base64, or `null` for none.
 fn expectation_at(alloc: Global, value: &Value) -> Result<Option<Option<Bytes>>, AllocError>
     ensures { IfOk result (λ expected. expected ≡ expectation_of (view value.now)) }
 {

@@ -2,25 +2,27 @@
 
 ghost use Rattle.std.specs.Prelude.{◌≡◌, ◌<◌, ◌+◌, ◌^◌, codes, IfOk, OnOk, Some};
 ghost use Rattle.serde_json.specs.View.{view};
-ghost use Rattle.coniks_lines.specs.Runs.{EndsBadly, IsRunOf, streams};
-ghost use Rattle.coniks_tool.specs.EntryLines.{entry_in};
+ghost use Rattle.coniks_lines.specs.Runs.{IsRunOf, streams};
+ghost use Rattle.coniks_json.specs.EntryLines.{entry_in};
+ghost use Rattle.coniks_json.specs.Faults.{FailsOn};
 ghost use Rattle.coniks_tool.specs.Expectations.{expected_in};
-ghost use Rattle.coniks_tool.specs.Members.{text_in};
+ghost use Rattle.coniks_json.specs.Members.{text_in};
 ghost use Rattle.coniks_tool.specs.Monitor.{MonitorState, expect_turn, is_expect, monitor_answer, monitor_turn, none_watched, object_turn, step_turn, watch_turn};
 ghost use Rattle.coniks_tool.specs.MonitorReplies.{monitor_outcome};
-ghost use Rattle.coniks_tool.specs.ProofObjects.{proof_in};
+ghost use Rattle.coniks_json.specs.ProofObjects.{proof_in};
 
 use crate::demo::index::DemoIndex;
 use crate::demo::seal::DemoSeal;
-use crate::lines::entries::read_entry;
-use crate::lines::members::{read_object, text};
-use crate::lines::printing::Member;
-use crate::lines::proof_object::read_proof;
 use crate::monitor::expectation::read_expectation;
 use crate::monitor::reply::MonitorReply;
 use coniks_chain::{Entry, Monitor};
 use coniks_directory::IndexSource;
-use coniks_lines::{ByteIn, ByteOut, LineMachine, RunFault, run_lines};
+use coniks_json::entries::read_entry;
+use coniks_json::fault::{RunFault, of_run};
+use coniks_json::members::{read_object, text};
+use coniks_json::printing::Member;
+use coniks_json::proof_object::read_proof;
+use coniks_lines::{ByteIn, ByteOut, LineMachine, run_lines};
 use coniks_proof::{Bytes, Proof, Sha256Hash};
 use serde_json::Value;
 use std::alloc::{AllocError, Global};
@@ -74,6 +76,7 @@ impl Monitoring {
         }
     }
 
+    /// Checks the line's entry and proof.
     fn watch(&mut self, object: &Value) -> Result<MonitorReply, AllocError>
         ensures reply { IfOk result (λ reply. monitor_outcome reply ≡ (watch_turn self.old (entry_in (view object.now)) (proof_in (view object.now))).outcome) }
         ensures state { OnOk result (self.new ≡ (watch_turn self.old (entry_in (view object.now)) (proof_in (view object.now))).state) }
@@ -87,6 +90,7 @@ impl Monitoring {
         }
     }
 
+    /// Sets the expected key to the line's key.
     fn expect(&mut self, object: &Value) -> Result<MonitorReply, AllocError>
         ensures reply { IfOk result (λ reply. monitor_outcome reply ≡ (expect_turn self.old (expected_in (view object.now))).outcome) }
         ensures state { OnOk result (self.new ≡ (expect_turn self.old (expected_in (view object.now))).state) }
@@ -100,6 +104,7 @@ impl Monitoring {
         }
     }
 
+    /// Executes the command of an object: it sets the expectation, or is an entry with a proof.
     fn dispatch(&mut self, object: &Value) -> Result<MonitorReply, AllocError>
         ensures reply { IfOk result (λ reply. monitor_outcome reply ≡ (object_turn self.old (view object.now)).outcome) }
         ensures state { OnOk result (self.new ≡ (object_turn self.old (view object.now)).state) }
@@ -110,6 +115,7 @@ impl Monitoring {
         self.watch(object)
     }
 
+    /// Executes the command of a line, and returns the reply.
     fn reply(&mut self, line: &[u8]) -> Result<MonitorReply, AllocError>
         ensures reply { IfOk result (λ reply. monitor_outcome reply ≡ (monitor_turn self.old line.now).outcome) }
         ensures state { OnOk result (self.new ≡ (monitor_turn self.old line.now).state) }
@@ -172,10 +178,10 @@ pub fn run_monitor<R: ByteIn, W: ByteOut>(
 ) -> Result<bool, RunFault>
     requires reads { (R.source reader.old).failed + 1 < 2 ^ 64 }
     requires writes { (W.sink writer.old).failed + 1 < 2 ^ 64 }
-    ensures run { IsRunOf monitor_answer (none_watched key name expected) (EndsBadly monitor_answer (none_watched key name expected))
+    ensures run { IsRunOf monitor_answer (none_watched key name expected) (FailsOn monitor_answer (none_watched key name expected))
         (streams (R.source reader.old) (R.source reader.new) (W.sink writer.old) (W.sink writer.new))
         result }
 {
     let mut monitoring = Monitoring::new(alloc, key, name, expected);
-    run_lines(alloc, &mut monitoring, reader, writer)
+    of_run(run_lines(alloc, &mut monitoring, reader, writer))
 }

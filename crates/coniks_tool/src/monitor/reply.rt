@@ -6,10 +6,10 @@ ghost use Rattle.coniks_tool.specs.MonitorReplies.{expecting_data, monitor_data,
 
 use crate::audit::reply::audit_fault_text;
 use crate::check::reply::check_fault_text;
-use crate::lines::objects::{Field, Shown, object};
-use crate::lines::printable::Printable;
-use crate::lines::printing::{Member, bad_member, fault, member_text};
 use coniks_chain::{MonitorFault, Seen};
+use coniks_json::objects::{Field, Shown, object};
+use coniks_json::printable::Printable;
+use coniks_json::printing::{Member, bad_member, fault, member_text};
 use std::alloc::{AllocError, Global};
 
 /// The answer of `monitor` to a line.
@@ -59,6 +59,7 @@ impl MonitorReply {
     }
 }
 
+/// Returns the object of a watched epoch.
 fn watched(alloc: Global, epoch: u64, seen: &str) -> Result<Printable, AllocError>
     ensures { IfOk result (λ object. view object.value ≡ watched_data epoch seen.now) }
 {
@@ -72,12 +73,14 @@ fn watched(alloc: Global, epoch: u64, seen: &str) -> Result<Printable, AllocErro
     )
 }
 
+/// Returns the object of an expectation that was set.
 fn expecting(alloc: Global) -> Result<Printable, AllocError>
     ensures { IfOk result (λ object. view object.value ≡ expecting_data) }
 {
     object(alloc, &[Field("ok", Shown::Text("expect"))])
 }
 
+/// Returns the name of what was seen.
 fn seen_text(seen: Seen) -> &'static str
     ensures { result.now ≡ seen_name seen }
 {
@@ -88,6 +91,7 @@ fn seen_text(seen: Seen) -> &'static str
     }
 }
 
+/// Returns the name of an error.
 fn monitor_fault_text(fault: MonitorFault) -> &'static str
     ensures { result.now ≡ monitor_fault_name fault }
 {

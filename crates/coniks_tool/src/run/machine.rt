@@ -2,21 +2,24 @@
 
 ghost use Rattle.std.specs.Prelude.{◌≡◌, ◌<◌, ◌≤◌, ◌+◌, ◌^◌, None, Some, IfOk, OnOk, codes};
 ghost use Rattle.serde_json.specs.View.{view};
-ghost use Rattle.coniks_directory.specs.Batches.{AreWorkers};
-ghost use Rattle.coniks_lines.specs.Runs.{FailsWithBoard, IsRunOf, streams};
+ghost use Rattle.coniks_work.specs.Parallel.{AreWorkers};
+ghost use Rattle.coniks_lines.specs.Runs.{IsRunOf, streams};
 ghost use Rattle.coniks_work.specs.declared.jobs.TheConstants.{MAX_DEPTH};
-ghost use Rattle.coniks_tool.specs.Members.{array_in, digits_in, if_there, number_in, text_in};
-ghost use Rattle.coniks_tool.specs.Replies.{outcome_of};
-ghost use Rattle.coniks_tool.specs.Script.{ScriptState, batch_turn, command_turn, lookup_outcome, open_turn, script_answer, turn};
+ghost use Rattle.coniks_json.specs.Faults.{FailsWithBoard};
+ghost use Rattle.coniks_json.specs.Members.{array_in, digits_in, if_there, number_in, text_in};
+ghost use Rattle.coniks_tool.specs.ScriptReplies.{outcome_of};
+ghost use Rattle.coniks_tool.specs.Script.{ScriptState, batch_turn, command_turn, lookup_outcome, open_turn, script_answer};
 
-use crate::lines::members::{array, digits32, digits32_if_there, number, read_object, text};
-use crate::lines::printing::Member;
 use crate::run::batch::Batch;
-use crate::run::operations::read_ops;
-use crate::run::parallelism::Parallelism;
 use crate::run::reply::Reply;
 use crate::run::store::Store;
-use coniks_lines::{ByteIn, ByteOut, LineMachine, RunFault, run_lines};
+use coniks_json::fault::{RunFault, of_run};
+use coniks_json::members::{array, digits32, digits32_if_there, number, read_object, text};
+use coniks_json::operations::read_ops;
+use coniks_json::printing::Member;
+use coniks_json::refusal::Refusal;
+use coniks_lines::{ByteIn, ByteOut, LineMachine, run_lines};
+use coniks_work::Parallelism;
 use serde_json::Value;
 use std::alloc::{AllocError, Global};
 use std::thread::Threads;
@@ -25,11 +28,13 @@ use std::thread::Threads;
 #[derive(Drop)]
 pub struct Script<'r, T: Threads + Sync> {
     alloc: Global,
-    parallelism: Parallelism<'r, T>,
+    rt: &'r T,
+    parallelism: Parallelism,
     store: Store,
 }
 
 impl<'r, T: Threads + Sync> Script<'r, T> {
+    /// Opens a directory under the line's key, nonce and policy digest.
     fn open(&mut self, object: &Value) -> Reply
         ensures reply { outcome_of result ≡ (open_turn self.old.store (digits_in 32 (codes "key") (view object.now))
             (digits_in 32 (codes "nonce") (view object.now)) (digits_in 32 (codes "policy") (view object.now))).outcome }
@@ -37,17 +42,18 @@ impl<'r, T: Threads + Sync> Script<'r, T> {
             (digits_in 32 (codes "nonce") (view object.now)) (digits_in 32 (codes "policy") (view object.now))).state }
     {
         let Some(key) = digits32(object, "key") else {
-            return Reply::BadMember(Member::Key);
+            return Reply::Refused(Refusal::BadMember(Member::Key));
         };
         let Some(nonce) = digits32(object, "nonce") else {
-            return Reply::BadMember(Member::Nonce);
+            return Reply::Refused(Refusal::BadMember(Member::Nonce));
         };
         let Some(policy) = digits32(object, "policy") else {
-            return Reply::BadMember(Member::Policy);
+            return Reply::Refused(Refusal::BadMember(Member::Policy));
         };
         self.store.open_with(key, nonce, policy)
     }
 
+    /// Commits the line's batch.
     fn batch(&mut self, object: &Value) -> Result<Reply, AllocError>
         ensures reply { IfOk result (λ reply. outcome_of reply ≡ (batch_turn self.old.store (number_in (codes "epoch") (view object.now))
             (if_there (codes "nonce") (view object.now) (digits_in 32 (codes "nonce") (view object.now))) (array_in (codes "ops") (view object.now))).outcome) }
@@ -55,13 +61,13 @@ impl<'r, T: Threads + Sync> Script<'r, T> {
             (if_there (codes "nonce") (view object.now) (digits_in 32 (codes "nonce") (view object.now))) (array_in (codes "ops") (view object.now))).state) }
     {
         let Some(epoch) = number(object, "epoch") else {
-            return Ok(Reply::BadMember(Member::Epoch));
+            return Ok(Reply::Refused(Refusal::BadMember(Member::Epoch)));
         };
         let Some(new_nonce) = digits32_if_there(object, "nonce") else {
-            return Ok(Reply::BadMember(Member::Nonce));
+            return Ok(Reply::Refused(Refusal::BadMember(Member::Nonce)));
         };
         let Some(elements) = array(object, "ops") else {
-            return Ok(Reply::BadMember(Member::Ops));
+            return Ok(Reply::Refused(Refusal::BadMember(Member::Ops)));
         };
         match read_ops(self.alloc, elements)? {
             Ok(ops) => {
@@ -70,32 +76,34 @@ impl<'r, T: Threads + Sync> Script<'r, T> {
                     new_nonce,
                     ops: &ops,
                 };
-                self.store.install(&self.parallelism, &batch)
+                self.store.install(self.rt, self.parallelism, &batch)
             }
-            Err(place) => Ok(Reply::BadOperation(place)),
+            Err(place) => Ok(Reply::Refused(Refusal::BadOperation(place))),
         }
     }
 
+    /// Looks up the line's name at the line's epoch.
     fn lookup(&self, object: &Value) -> Result<Reply, AllocError>
         ensures { IfOk result (λ reply. outcome_of reply ≡ lookup_outcome self.now.store
             (number_in (codes "epoch") (view object.now)) (text_in (codes "name") (view object.now))) }
     {
         let Some(epoch) = number(object, "epoch") else {
-            return Ok(Reply::BadMember(Member::Epoch));
+            return Ok(Reply::Refused(Refusal::BadMember(Member::Epoch)));
         };
         let Some(name) = text(object, "name") else {
-            return Ok(Reply::BadMember(Member::Name));
+            return Ok(Reply::Refused(Refusal::BadMember(Member::Name)));
         };
         self.store.look_up(epoch, name)
     }
 
+    /// Executes the command of an object.
     fn command(&mut self, object: &Value) -> Result<Reply, AllocError>
         ensures reply { IfOk result (λ reply. outcome_of reply ≡
             (command_turn self.old.store (view object.now) (text_in (codes "cmd") (view object.now))).outcome) }
         ensures state { OnOk result (self.new.store ≡ (command_turn self.old.store (view object.now) (text_in (codes "cmd") (view object.now))).state) }
     {
         let Some(name) = text(object, "cmd") else {
-            return Ok(Reply::NoCommand);
+            return Ok(Reply::Refused(Refusal::NoCommand));
         };
         if name == "open" {
             return Ok(self.open(object));
@@ -106,17 +114,7 @@ impl<'r, T: Threads + Sync> Script<'r, T> {
         if name == "lookup" {
             return self.lookup(object);
         }
-        Ok(Reply::NoCommand)
-    }
-
-    fn reply(&mut self, line: &[u8]) -> Result<Reply, AllocError>
-        ensures reply { IfOk result (λ reply. outcome_of reply ≡ (turn self.old.store line.now).outcome) }
-        ensures state { OnOk result (self.new.store ≡ (turn self.old.store line.now).state) }
-    {
-        match read_object(self.alloc, line)? {
-            Some(object) => self.command(&object),
-            None => Ok(Reply::NotJson),
-        }
+        Ok(Reply::Refused(Refusal::NoCommand))
     }
 }
 
@@ -133,7 +131,10 @@ impl<'r, T: Threads + Sync> LineMachine for Script<'r, T> {
     ghost Needs = { IsSync T.row };
 
     fn step(&mut self, line: &[u8], out: &mut Vec<u8>) -> Result<bool, AllocError> {
-        let reply = self.reply(line)?;
+        let reply = match read_object(self.alloc, line)? {
+            Some(object) => self.command(&object)?,
+            None => Reply::Refused(Refusal::NotJson),
+        };
         reply.object(self.alloc)?.print(self.alloc, out)?;
         Ok(reply.is_accepted())
     }
@@ -166,11 +167,14 @@ pub fn run_script<T: Threads + Sync, R: ByteIn, W: ByteOut>(
         result }
 {
     let store = Store::new(alloc)?;
-    let parallelism = Parallelism { rt, workers, depth };
+    let Ok(parallelism) = Parallelism::new(workers, depth) else {
+        unreachable!()
+    };
     let mut script = Script {
         alloc,
+        rt,
         parallelism,
         store,
     };
-    run_lines(alloc, &mut script, reader, writer)
+    of_run(run_lines(alloc, &mut script, reader, writer))
 }

@@ -1,32 +1,29 @@
 //! The directory that a script opens, the signer of its entries, and the board of its heads.
 
 ghost use Rattle.std.specs.Prelude.{◌≡◌, [], Option, None, Some, IfErr, IfOk, OnErr, OnOk, option_map};
-ghost use Rattle.coniks_chain.specs.Entries.{link_preimage};
 ghost use Rattle.coniks_directory.specs.Batches.{fault_is, operations};
-ghost use Rattle.coniks_proof.specs.Sha256.{sha256};
-ghost use Rattle.coniks_directory.specs.Chain.{head_at};
 ghost use Rattle.coniks_shared.specs.Boards.{BoardEnd};
-ghost use Rattle.coniks_shared.specs.Lists.{last_of};
-ghost use Rattle.coniks_lines.specs.declared.fault.RunFault.TheVariants.{NoBoard};
+ghost use Rattle.coniks_json.specs.declared.fault.RunFault.TheVariants.{NoBoard};
 ghost use Rattle.coniks_tool.specs.Demo.{demo_index};
 ghost use Rattle.coniks_tool.specs.Limits.{most_epochs};
-ghost use Rattle.coniks_tool.specs.Refusals.{Refusal, IsRefusedBy, refusal};
-ghost use Rattle.coniks_tool.specs.Replies.{already_open, installed, not_open, outcome_of};
-ghost use Rattle.coniks_tool.specs.Script.{batch_with, lookup_with, open_with, refusal_outcome, Installs};
+ghost use Rattle.coniks_json.specs.Refusals.{Refusal as Why, already_open, not_open, refusal_of};
+ghost use Rattle.coniks_tool.specs.Refusals.{IsRefusedBy, refusal};
+ghost use Rattle.coniks_tool.specs.ScriptReplies.{because, outcome_of};
+ghost use Rattle.coniks_tool.specs.Script.{batch_with, lookup_with, open_with, Installs};
 ghost use Rattle.coniks_tool.specs.Stores.{batch_of, opened_of, IsServed};
 
 use crate::demo::index::DemoIndex;
 use crate::demo::seal::DemoSeal;
-use crate::lines::members::nonce_of;
 use crate::run::batch::Batch;
-use crate::run::parallelism::Parallelism;
 use crate::run::reply::Reply;
-use coniks_chain::Entry;
-use coniks_directory::{BatchFault, CommitFault, Directory, InstallFault, LookupFault};
-use coniks_lines::RunFault;
+use coniks_chain::{Entry, link};
+use coniks_directory::{CommitFault, Directory, InstallFault, LookupFault};
+use coniks_json::fault::RunFault;
+use coniks_json::members::nonce_of;
+use coniks_json::refusal::{Refusal, batch_refusal};
 use coniks_proof::{Nonce, Sha256Hash};
 use coniks_shared::{Board, Publisher};
-use coniks_work::Open;
+use coniks_work::{Open, Parallelism};
 use std::alloc::{AllocError, Global};
 use std::marker::Model;
 use std::thread::Threads;
@@ -57,7 +54,8 @@ impl Service {
     /// Commits a batch, under a new nonce if it has one, and publishes the head of its entry.
     fn commit<T: Threads + Sync>(
         &mut self,
-        parallelism: &Parallelism<'_, T>,
+        rt: &T,
+        parallelism: Parallelism,
         batch: &Batch<'_>,
         publisher: &mut Publisher,
         board: &Board,
@@ -68,17 +66,15 @@ impl Service {
         ensures table { publisher.new.table ≡ publisher.old.table }
         ensures served { IsServed publisher.new self.new }
         ensures ok { IfOk result (λ entry. Installs (opened_of self.old) (batch_of batch.now) entry (opened_of self.new)) }
-        ensures last { IfOk result (λ entry. last_of publisher.new.heads ≡ Some (head_at sha256 entry)) }
         ensures refused { IfErr result
             (IsRefusedBy (refusal (demo_index (opened_of self.old).key) (opened_of self.old).history batch.now.epoch (operations batch.now.ops.now))) }
         ensures unchanged { OnErr result (opened_of self.new ≡ opened_of self.old) }
     {
         let committed = self.directory.commit_with(
-            parallelism.rt,
+            rt,
             nonce_of(batch.new_nonce),
             batch.ops,
-            parallelism.depth,
-            parallelism.workers,
+            parallelism,
             &Open,
             batch.epoch,
             &mut self.signer,
@@ -97,8 +93,8 @@ impl Service {
     {
         let found = match self.directory.signed_lookup(epoch, name.as_bytes()) {
             Ok(found) => found,
-            Err(LookupFault::UnknownEpoch) => return Ok(Reply::UnknownEpoch),
-            Err(LookupFault::NameLength) => return Ok(Reply::NameLength),
+            Err(LookupFault::UnknownEpoch) => return Ok(Reply::Refused(Refusal::UnknownEpoch)),
+            Err(LookupFault::NameLength) => return Ok(Reply::Refused(Refusal::NameLength)),
             Err(LookupFault::OutOfMemory) => return Err(AllocError),
         };
         // Read for the contract alone.
@@ -108,52 +104,23 @@ impl Service {
     }
 }
 
-/// Returns the reply to an installed batch, whose head is the last published one.
-fn installed_by(entry: Entry, publisher: &Publisher) -> Reply
-    requires { last_of publisher.now.heads ≡ Some (head_at sha256 entry) }
-    ensures { outcome_of result ≡ installed entry (sha256 (link_preimage entry)) }
-{
-    let Some(head) = publisher.last() else {
-        unreachable!()
-    };
-    Reply::Installed {
-        entry,
-        link: head.link,
-    }
-}
-
-/// Returns the reply to a batch that is not accepted.
-fn batch_refusal(fault: BatchFault) -> Result<Reply, AllocError>
-    requires { (why : Option Refusal) × IsRefusedBy why (CommitFault.Batch fault) }
-    ensures { (why : Option Refusal) → IsRefusedBy why (CommitFault.Batch fault)
-        → IfOk result (λ reply. option_map refusal_outcome why ≡ Some (outcome_of reply)) }
+/// Returns why an update is not installed.
+fn install_refusal(fault: InstallFault) -> Result<Refusal, AllocError>
+    requires { (why : Option Why) × IsRefusedBy why (CommitFault.Install fault) }
+    ensures { (why : Option Why) → IsRefusedBy why (CommitFault.Install fault) → IfOk result (λ told. why ≡ Some (refusal_of told)) }
 {
     match fault {
-        BatchFault::BatchTooLong => Ok(Reply::BatchTooLong),
-        BatchFault::At { position, fault } => Ok(Reply::BadBatch { position, fault }),
-        BatchFault::OutOfMemory => Err(AllocError),
-        BatchFault::Workers | BatchFault::Depth => unreachable!(),
-    }
-}
-
-/// Returns the reply to an update that is not installed.
-fn install_refusal(fault: InstallFault) -> Result<Reply, AllocError>
-    requires { (why : Option Refusal) × IsRefusedBy why (CommitFault.Install fault) }
-    ensures { (why : Option Refusal) → IsRefusedBy why (CommitFault.Install fault)
-        → IfOk result (λ reply. option_map refusal_outcome why ≡ Some (outcome_of reply)) }
-{
-    match fault {
-        InstallFault::EpochNotLater { latest } => Ok(Reply::EpochNotLater { latest }),
-        InstallFault::BoardFull => Ok(Reply::BoardFull),
+        InstallFault::EpochNotLater { latest } => Ok(Refusal::EpochNotLater { latest }),
+        InstallFault::BoardFull => Ok(Refusal::BoardFull),
         InstallFault::OutOfMemory => Err(AllocError),
         InstallFault::Stale { .. } | InstallFault::SignerRefused => unreachable!(),
     }
 }
 
-/// Returns the reply to a batch that is not committed.
-fn refusal_of(fault: CommitFault) -> Result<Reply, AllocError>
-    requires { (why : Option Refusal) × IsRefusedBy why fault }
-    ensures { (why : Option Refusal) → IsRefusedBy why fault → IfOk result (λ reply. option_map refusal_outcome why ≡ Some (outcome_of reply)) }
+/// Returns why a batch is not committed.
+fn commit_refusal(fault: CommitFault) -> Result<Refusal, AllocError>
+    requires { (why : Option Why) × IsRefusedBy why fault }
+    ensures { (why : Option Why) → IsRefusedBy why fault → IfOk result (λ told. why ≡ Some (refusal_of told)) }
 {
     match fault {
         CommitFault::Batch(fault) => batch_refusal(fault),
@@ -211,7 +178,7 @@ impl Store {
         ensures state { self.new ≡ (open_with self.old key nonce policy).state }
     {
         if self.opened.is_some() {
-            return Reply::AlreadyOpen;
+            return Reply::Refused(Refusal::AlreadyOpen);
         }
         self.opened = Some(Service::open(self.alloc, key, nonce, policy));
         Reply::Opened
@@ -224,22 +191,24 @@ impl Store {
     /// `AllocError` if an allocation fails.
     pub fn install<T: Threads + Sync>(
         &mut self,
-        parallelism: &Parallelism<'_, T>,
+        rt: &T,
+        parallelism: Parallelism,
         batch: &Batch<'_>,
     ) -> Result<Reply, AllocError>
         ensures reply { IfOk result (λ reply. outcome_of reply ≡ (batch_with self.old (batch_of batch.now)).outcome) }
         ensures state { OnOk result (self.new ≡ (batch_with self.old (batch_of batch.now)).state) }
     {
         let Some(mut service) = self.opened.take() else {
-            return Ok(Reply::NotOpen);
+            return Ok(Reply::Refused(Refusal::NotOpen));
         };
-        let committed = service.commit(parallelism, batch, &mut self.publisher, &self.board);
+        let committed = service.commit(rt, parallelism, batch, &mut self.publisher, &self.board);
         self.opened = Some(service);
         let entry = match committed {
             Ok(entry) => entry,
-            Err(fault) => return refusal_of(fault),
+            Err(fault) => return Ok(Reply::Refused(commit_refusal(fault)?)),
         };
-        Ok(installed_by(entry, &self.publisher))
+        let link = link(&Sha256Hash, &entry);
+        Ok(Reply::Installed { entry, link })
     }
 
     /// Looks up a name at an epoch, and returns the reply.
@@ -252,7 +221,7 @@ impl Store {
     {
         match &self.opened {
             Some(service) => service.look_up(self.alloc, epoch, name),
-            None => Ok(Reply::NotOpen),
+            None => Ok(Reply::Refused(Refusal::NotOpen)),
         }
     }
 }

@@ -1,4 +1,4 @@
-use Rattle.std.proofs.Common.{add-zero, refl, sym}
+use Rattle.std.proofs.Common.{add-zero, refl, rules, sym}
 use Rattle.coniks_directory.proofs.install.signed.Goals as goal
 
 -- nothing is signed if there is no room
@@ -6,8 +6,11 @@ pub returns-then-is_err-clause-unsigned : goal.returns-then-is_err-clause-unsign
 returns-then-is_err-clause-unsigned g c = (refl, sym (add-zero _), refl)
 
 -- and one signature is made if there is room
-pub returns-in-Some-clause-made : goal.returns-in-Some-clause-made
-returns-in-Some-clause-made g c = c.in-Some.ensures.made
-
-pub returns-in-Some-clause-verdict : goal.returns-in-Some-clause-verdict
-returns-in-Some-clause-verdict g c = rw (← c.bytes.ensures) c.in-Some.ensures.verdict
+pub returns-in-Some-clause-signed : goal.returns-in-Some-clause-signed
+returns-in-Some-clause-signed g c = record {
+  made = c.in-Some.ensures.made.0;
+  refused = c.in-Some.ensures.made.1;
+  last = c.in-Some.ensures.last c.make_body-body.result (search rules) (sym c.bytes.ensures);
+  asked = rw (← c.bytes.ensures) (search rules);
+  verdict = rw (← c.bytes.ensures) c.in-Some.ensures.verdict;
+}

@@ -1,10 +1,10 @@
 use Rattle.std.proofs.Common.{◌≡◌, [], Err, map, rules}
 use Rattle.coniks_directory.proofs.Words.{bound_by, operations}
-use Rattle.coniks_directory.proofs.SealLemmas.{drafts_within}
+use Rattle.coniks_directory.proofs.CommitmentLemmas.{drafts_within}
 use Rattle.coniks_directory.proofs.judge.judged.Goals as goal
 
-pub seal-requires : goal.seal-requires
-seal-requires g c =
+pub commit_records-requires : goal.commit_records-requires
+commit_records-requires g c =
     let hash = g.H.Hash32.digest_of c.args.h.now in
     let index_of = g.X.IndexSource.index_of c.args.source.now in
     drafts_within hash index_of (map bound_by (operations c.args.ops.now)) _ _ (c.in_ok-judge_all.ensures.pending hash [] (c.in-Ok.ensures hash index_of))
@@ -13,7 +13,7 @@ pub returns-clause-pending : goal.returns-clause-pending
 returns-clause-pending g c =
     let hash = g.H.Hash32.digest_of c.args.h.now in
     let index_of = g.X.IndexSource.index_of c.args.source.now in
-    c.seal.ensures.pending hash index_of (map bound_by (operations c.args.ops.now)) (c.in_ok-judge_all.ensures.pending hash [] (c.in-Ok.ensures hash index_of))
+    c.commit_records.ensures.pending hash index_of (map bound_by (operations c.args.ops.now)) (c.in_ok-judge_all.ensures.pending hash [] (c.in-Ok.ensures hash index_of))
 
 pub returns-clause-faultless : goal.returns-clause-faultless
 returns-clause-faultless g c = λ nonce registry shown.

@@ -6,7 +6,7 @@ use Rattle.coniks_tree.specs.Parts.{entries_in}
 use Rattle.coniks_directory.proofs.preparing.part_of.Goals as goal
 
 pub returns : goal.returns
-returns g c = λ index_of latest registry ops under shown pending sealed none.
+returns g c = λ index_of latest registry ops under shown pending committed none.
     let hash = g.H.Hash32.digest_of c.args.origin.now.h.now in
     let tree = c.args.origin.now.held.now.tree in
     let new = c.args.pending.now in
@@ -14,7 +14,7 @@ returns g c = λ index_of latest registry ops under shown pending sealed none.
     let made = c.in_ok-changes.ensures hash index_of (map bound_by ops) pending in
     let at = subst (λ n. AreChangesOf n new.records.items (entries_in c.in_ok-changes.changes.items)) c.records.ensures.count made in
     built hash index_of c.args.nonce.now.0 latest (table_of tree) c.args.root registry ops new.records.items new.numbers c.in_ok-changes.changes.items
-    c.in_ok-growth.growth _ shown none pending sealed at
+    c.in_ok-growth.growth _ shown none pending committed at
     c.args.is_anew c.in_ok-growth.ensures under
     (record {
       fits = e.fits;

@@ -38,7 +38,7 @@ built_in g c =
     let shown = (c.latest_root-root.ensures (g.H.Hash32.digest_of c.args.origin.now.h.now) index_of c.requires.whole).shows _ refl in
     let under = latest_kept c.args.new_nonce c.is_some.result c.nonce_after-nonce.result.0 (latest_nonce s.nonce (history_of s)) c.is_some.ensures
     (rw c.latest_nonce.ensures at c.nonce_after-nonce.ensures) in
-    c.in-Ok.ensures index_of _ registry (operations c.args.ops.now) under shown c.in_ok-pending.ensures.pending c.in_ok-pending.ensures.sealed (c.in_ok-pending.ensures.faultless _ registry shown)
+    c.in-Ok.ensures index_of _ registry (operations c.args.ops.now) under shown c.in_ok-pending.ensures.pending c.in_ok-pending.ensures.committed (c.in_ok-pending.ensures.faultless _ registry shown)
 
 pub update_of-requires : goal.update_of-requires
 update_of-requires g c = record { fits = (built_in g c).fits }

@@ -1,15 +1,9 @@
-use Rattle.std.proofs.Common.{◌≡◌, Err, rules}
 use Rattle.coniks_directory.proofs.Words.{Whole, state_of}
 use Rattle.coniks_directory.specs.Restored.{Restores, registrations}
 use Rattle.coniks_directory.proofs.RestoreLemmas.{first_of}
 use Rattle.coniks_directory.proofs.restoring.restored.Goals.{In-Ok-enter_first}
 use Rattle.coniks_directory.proofs.restoring.restored.Given as given
 use Rattle.coniks_directory.proofs.restoring.restored.Goals as goal
-
-pub returns-in_err-build_limits-clause-refused : goal.returns-in_err-build_limits-clause-refused
-returns-in_err-build_limits-clause-refused g c =
-    let is : c.from_residual.result ≡ Err c.in_err-build_limits.field-0.0 = search rules in
-    rw is (c.in_err-build_limits.ensures.refused (g.H.Hash32.digest_of c.args.h.now) (g.X.IndexSource.index_of c.args.source.now) c.args.entry (registrations c.args.pending.records.items))
 
 -- what the last step leaves
 left_in : (g : given.Over) (c : In-Ok-enter_first g) → Whole (g.H.Hash32.digest_of c.args.h.now) (g.X.IndexSource.index_of c.args.source.now) (state_of c.enter_first.new.held)

@@ -2,7 +2,7 @@
 
 ghost use Rattle.std.specs.Prelude.{◌≡◌, length};
 
-use crate::tests::clerk::{Clerk, Letters, new_board};
+use crate::tests::clerk::{Clerk, Letters, new_board, two_workers};
 use crate::tests::refused::{FIRST, batch, first_epoch, tell};
 use crate::tests::runs::finish_first;
 use coniks_chain::Entry;
@@ -92,7 +92,7 @@ fn restore_at_last<R: Threads + Sync + Abort>(
     assert!(rt; board.capacity() == 4);
     let mut begun = begun_at_last(rt, clerk.alloc, entry);
     let in_add = add_at_last(rt, clerk.alloc, &mut begun);
-    let is_finished = match finish_first(rt, begun, &mut publisher, &board) {
+    let is_finished = match finish_first(rt, begun, two_workers(rt), &mut publisher, &board) {
         Ok(again) => {
             assert!(rt; again.chain() == clerk.directory.chain());
             assert!(rt; publisher.last() == clerk.publisher.last());

@@ -1,4 +1,5 @@
 use Rattle.std.proofs.Common.{◌≡◌, ◌≢◌, ℕ, ◌+◌, ◌%◌, ◌^◌, List, [], ◌∷◌, ◌++◌, take, arith, ap, ◌∙◌, subst, inl, inr}
+use Rattle.std.proofs.lemmas.List.{append-nil}
 use Rattle.std.proofs.lemmas.Result.{err_from_is_err_and}
 use Rattle.std.proofs.lemmas.Grind.{common_steps}
 use Rattle.std.proofs.KnownBytes.{Consumes-kept}
@@ -27,7 +28,7 @@ returns-in_err-accepted-clause-err g c =
     let took = Takes-end from (source loop.reader) from' loop.invariant.0 c.read.new.buffer c.in-Ok.count inv.taken c.in-Ok.ensures.taken c.if-count-eq0.true in
     -- and the last line wasn't answered
     let at_line = subst (λ (line : List ℕ). StopsFor g.M.LineMachine.answer (g.M.LineMachine.state loop.machine) (line ∷ [])
-    (streams from from (g.W.ByteOut.sink loop.writer) (g.W.ByteOut.sink c.answer_line.new.writer)) c.in_err-accepted.field-0.0) c.deref.ensures.value (c.in_err-accepted.ensures.err from) in
+    (streams from from (g.W.ByteOut.sink loop.writer) (g.W.ByteOut.sink c.answer_line.new.writer)) c.in_err-accepted.field-0.0) (append-nil loop.held.items) (c.in_err-accepted.ensures.err from) in
     rw (p.1, p.2) (ends_at_last g.M.LineMachine.answer some took (failed ∙ inv.reads_on.none_failed) ended inv.answers at_line)
 
 pub returns-then-count-eq0-clause-ok : goal.returns-then-count-eq0-clause-ok
@@ -52,7 +53,7 @@ returns-then-count-eq0-clause-ok g c =
         | then-not-is_empty+in_ok-accepted w ↦
             let some : loop.held.items ≢ [] = grind (arith, common_steps, w.if-not-is_empty.true) in
             let line = subst (λ (l : List ℕ). AnswersLine answer (state loop.machine) l (sink loop.writer) (sink w.answer_line.new.writer)
-            (state w.answer_line.new.machine) w.in_ok-accepted.accepted) w.deref.ensures.value w.in_ok-accepted.ensures.ok in
+            (state w.answer_line.new.machine) w.in_ok-accepted.accepted) (append-nil loop.held.items) w.in_ok-accepted.ensures.ok in
             AnswersAll-same answer (ends_with_line answer some inv.answers line) (ap state w.machine-is) (ap sink w.writer-is) w.all-is
         -- nothing was held
         | else-not-is_empty w ↦

@@ -13,4 +13,4 @@ returns-in-Ok-Refused g c = λ still words among untaken.
 
 pub returns-in-Err : goal.returns-in-Err
 returns-in-Err g c = λ still words among untaken.
-    stopped-ends_for words _ (kind_of c.args.error.now) among c.in-Err.fault (c.in-Err.ensures.fails still) (c.in-Err.ensures.stops still)
+    rw c.of_lines.ensures (stopped-ends_for words _ (kind_of c.args.error.now) among c.in-Err.fault (c.in-Err.ensures.fails still) (c.in-Err.ensures.stops still))

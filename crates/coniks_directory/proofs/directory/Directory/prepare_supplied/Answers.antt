@@ -4,7 +4,7 @@ use Rattle.coniks_directory.specs.SuppliedBatches.{given_index, index_in, indexe
 use Rattle.coniks_directory.proofs.AgreementLemmas.{whole_agree}
 use Rattle.coniks_directory.proofs.FreshLemmas.{prepared_of}
 use Rattle.coniks_directory.proofs.PrepareLemmas.{few_anew, few_kept}
-use Rattle.coniks_directory.proofs.SuppliedBatchLemmas.{given_agree, held_is, judged_fault, limit_fault, no_fault, other_fault, within_is}
+use Rattle.coniks_directory.proofs.SuppliedBatchLemmas.{given_agree, held_is, judged_fault, long_fault, no_fault, other_fault, within_is}
 use Rattle.coniks_directory.proofs.directory.Directory.prepare_supplied.Goals.{In-Ok, In-Ok-update_on}
 use Rattle.coniks_directory.proofs.directory.Directory.prepare_supplied.Given as given
 use Rattle.coniks_directory.proofs.directory.Directory.prepare_supplied.Goals as goal
@@ -17,15 +17,13 @@ pub returns-in-Err-clause-refused : goal.returns-in-Err-clause-refused
 returns-in-Err-clause-refused g c =
     let index_of = g.X.IndexSource.index_of c.args.self.now.index in
     let registry = latest_registry (history_of c.args.self.now.state) in
-    limit_fault index_of registry c.args.batch.now.ops.now c.args.batch.now.indices.now c.requires c.args.depth
-    c.args.workers c.in-Err.fault c.in-Err.ensures.limit (c.in-Err.ensures.refused index_of registry)
+    long_fault index_of registry c.args.batch.now.ops.now c.args.batch.now.indices.now c.requires c.in-Err.fault c.in-Err.ensures.refused
 
 pub returns-in_default-indices_with-clause-refused : goal.returns-in_default-indices_with-clause-refused
 returns-in_default-indices_with-clause-refused g c =
     let index_of = g.X.IndexSource.index_of c.args.self.now.index in
     let registry = latest_registry (history_of c.args.self.now.state) in
-    within_is index_of registry c.args.batch.now.ops.now c.args.batch.now.indices.now c.requires c.args.depth
-    c.args.workers c.in_default.ensures.workers c.in_default.ensures.depth c.in_default.ensures.few
+    within_is index_of registry c.args.batch.now.ops.now c.args.batch.now.indices.now c.requires c.in_default.ensures.few
 
 -- the directory is one with the indices with which the batch is checked
 whole_in : (g : given.Over) (c : In-Ok g) → (let d = c.self.inside in let s = state_of d.held in let it = c.in-Ok.indices in
@@ -49,8 +47,8 @@ returns-in-Some-clause-refused g c =
     let registry = latest_registry (history_of c.args.self.now.state) in
     let ops = c.args.batch.now.ops.now in
     let indices = c.args.batch.now.indices.now in
-    let within = within_is index_of registry ops indices c.requires c.args.depth c.args.workers c.in_default.ensures.workers c.in_default.ensures.depth c.in_default.ensures.few in
-    other_fault index_of registry ops indices c.requires c.args.depth c.args.workers c.in-Some.position c.fault_or_other.result
+    let within = within_is index_of registry ops indices c.requires c.in_default.ensures.few in
+    other_fault index_of registry ops indices c.requires c.in-Some.position c.fault_or_other.result
     within (other_is c.in-Ok.ensures.other c.in-Some.is) (rw c.in-Ok.ensures.indices at c.fault_or_other.ensures)
 
 pub update_on-requires-clause-whole : goal.update_on-requires-clause-whole
@@ -121,8 +119,7 @@ pub returns-in-Ok-update_on-clause-within : goal.returns-in-Ok-update_on-clause-
 returns-in-Ok-update_on-clause-within g c =
     let index_of = g.X.IndexSource.index_of c.args.self.now.index in
     let registry = latest_registry (history_of c.args.self.now.state) in
-    within_is index_of registry c.args.batch.now.ops.now c.args.batch.now.indices.now c.requires c.args.depth
-    c.args.workers c.in_default.ensures.workers c.in_default.ensures.depth c.in_default.ensures.few
+    within_is index_of registry c.args.batch.now.ops.now c.args.batch.now.indices.now c.requires c.in_default.ensures.few
 
 pub returns-in-Ok-update_on-clause-faultless : goal.returns-in-Ok-update_on-clause-faultless
 returns-in-Ok-update_on-clause-faultless g c =
@@ -131,7 +128,7 @@ returns-in-Ok-update_on-clause-faultless g c =
     let index_of = g.X.IndexSource.index_of d.source in
     let other = other_is c.in-Ok.ensures.other c.in_default-other.is in
     rw (← c.self.view_is)
-    (no_fault index_of (latest_registry (history_of s)) c.args.batch.now.ops.now c.args.batch.now.indices.now c.requires c.args.depth c.args.workers (rw (← c.self.view_is) at other)
+    (no_fault index_of (latest_registry (history_of s)) c.args.batch.now.ops.now c.args.batch.now.indices.now c.requires (rw (← c.self.view_is) at other)
     (rw (rw (← c.self.view_is) at c.in-Ok.ensures.indices) at c.in-Ok-update_on.ensures.faultless))
 
 pub returns-clause-refused : goal.returns-clause-refused
@@ -145,8 +142,8 @@ returns-clause-refused g c =
     let indices = c.args.batch.now.indices.now in
     let fault = c.in-Err-update_on.fault in
     let other = other_is c.in-Ok.ensures.other c.in_default-other.is in
-    let within = within_is index_of registry' ops indices c.requires c.args.depth c.args.workers c.in_default.ensures.workers c.in_default.ensures.depth c.in_default.ensures.few in
-    judged_fault index_of registry' ops indices c.requires c.args.depth c.args.workers fault within other
+    let within = within_is index_of registry' ops indices c.requires c.in_default.ensures.few in
+    judged_fault index_of registry' ops indices c.requires fault within other
     (subst (λ (r : Registry). IsJudgedFault (index_in index_of registry' (indexed ops indices)) r (operations ops) fault) same
     (subst (λ (f : List ℕ → List ℕ). IsJudgedFault f registry (operations ops) fault) c.in-Ok.ensures.indices c.in-Err-update_on.ensures.fault))
 
@@ -154,8 +151,8 @@ pub returns-in-Ok-update_on-clause-accepted : goal.returns-in-Ok-update_on-claus
 returns-in-Ok-update_on-clause-accepted g c =
     rw (← c.self.view_is)
     (record {
-      worker_count = c.in_default.ensures.workers;
-      shallow = c.in_default.ensures.depth;
+      worker_count = c.args.parallelism.within.0;
+      shallow = c.args.parallelism.within.1;
       few = rw (length-map c.args.batch.now.ops.now operation_of) c.in_default.ensures.few;
       faultless = rw (rw (← c.self.view_is) at c.in-Ok.ensures.indices) at c.in-Ok-update_on.ensures.faultless;
     })

@@ -4,6 +4,7 @@ use Rattle.coniks_directory_tests.proofs.tests.runs.install_next.Goals as goal
 
 pub returns-clause-run : goal.returns-clause-run
 returns-clause-run g c =
+    let e = c.install.ensures in
     install_step g.H.Hash32.digest_of g.X.IndexSource.index_of c.install.result c.args.directory.now
     c.install.new.self c.args.update c.args.t (length c.args.publisher.now.heads) c.args.board.now.capacity
-    c.install.ensures.history c.install.ensures.may c.install.ensures.same c.install.ensures.grows
+    e.installed e.outcome e.same e.kept.grows

@@ -1,10 +1,9 @@
-use Rattle.std.proofs.Common.{◌≡◌, ◌<◌, ◌≤◌, List, length, Some, None, Err, ap, arith, ◌∙◌}
-use Rattle.coniks_proof.specs.declared.values.Index.{Index}
+use Rattle.std.proofs.Common.{◌≡◌, ◌≤◌, length, Some, None, ap, arith, ◌∙◌}
 use Rattle.coniks_proof.specs.declared.values.TheConstants.{MAX_OPERATIONS}
-use Rattle.coniks_directory.specs.SuppliedBatches.{indexed, of_operation}
+use Rattle.coniks_directory.specs.SuppliedBatches.{indexed}
 use Rattle.coniks_directory.specs.Batches.{fault_is}
-use Rattle.coniks_directory.specs.declared.batch.Op.{Op}
-use Rattle.coniks_provider.specs.Answers.{bad_batch, batch_too_long, bindings_added}
+use Rattle.coniks_json.specs.Refusals.{bad_batch, batch_too_long}
+use Rattle.coniks_provider.specs.Answers.{because, bindings_added}
 use Rattle.coniks_provider.specs.Stores.{restore_by, restore_of}
 use Rattle.coniks_provider.specs.Turns.{restore_and, restoring, restoring_refusal}
 use Rattle.coniks_provider.proofs.RestoringLemmas.{added, added_reply, added_state, first_bad, none_bad, refused_reply, refused_state, too_many}
@@ -17,7 +16,7 @@ returns-then-len-gt-MAX_OPERATIONS-clause-reply c =
     let r = restore_of c.args.self.now in
     let over = c.if-len-gt-MAX_OPERATIONS.true in
     let long = c.len.ensures in
-    refused_reply r read.ops.items read.indices.items read.paired batch_too_long (too_many r read.ops.items read.indices.items read.paired (omega (arith, over, long)))
+    refused_reply r read.ops.items read.indices.items read.paired (because batch_too_long) (too_many r read.ops.items read.indices.items read.paired (omega (arith, over, long)))
 
 pub returns-then-len-gt-MAX_OPERATIONS-clause-state : goal.returns-then-len-gt-MAX_OPERATIONS-clause-state
 returns-then-len-gt-MAX_OPERATIONS-clause-state c =
@@ -25,7 +24,7 @@ returns-then-len-gt-MAX_OPERATIONS-clause-state c =
     let r = restore_of c.args.self.now in
     let over = c.if-len-gt-MAX_OPERATIONS.true in
     let long = c.len.ensures in
-    refused_state r read.ops.items read.indices.items read.paired batch_too_long (too_many r read.ops.items read.indices.items read.paired (omega (arith, over, long)))
+    refused_state r read.ops.items read.indices.items read.paired (because batch_too_long) (too_many r read.ops.items read.indices.items read.paired (omega (arith, over, long)))
 
 -- the line isn't too long
 few : (c : In-Ok) → length c.args.read.now.ops.items ≤ MAX_OPERATIONS
@@ -60,7 +59,7 @@ returns-in-Ok-clause-state c =
     added_state (restore_of c.args.self.now) read.ops.items read.indices.items read.paired c.add_supplied.new.self (none_in at) (added_in at)
 
 bad_in : (c : In-Err-At) → restoring_refusal (restore_of c.args.self.now) (indexed c.args.read.now.ops.items c.args.read.now.indices.items)
-    ≡ Some (bad_batch c.in-Err-At.position (of_operation (fault_is c.in-Err-At.fault)))
+    ≡ Some (because (bad_batch c.in-Err-At.position (fault_is c.in-Err-At.fault)))
 bad_in c =
     let read = c.args.read.now in
     let under = c.if-len-gt-MAX_OPERATIONS.false in

@@ -1,4 +1,4 @@
-use Rattle.std.proofs.Common.{ℕ, List, ap, ap₂, length, map, ◌∙◌}
+use Rattle.std.proofs.Common.{ℕ, List, ap, ap₂, map, ◌∙◌}
 use Rattle.std.specs.Prelude.{nat_lt}
 use Rattle.coniks_directory.specs.Bindings.{indexed_binding}
 use Rattle.coniks_directory.specs.declared.bindings.IndexedBinding.{IndexedBinding}

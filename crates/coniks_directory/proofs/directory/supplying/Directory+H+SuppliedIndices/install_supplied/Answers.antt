@@ -1,4 +1,4 @@
-use Rattle.std.proofs.Common.{◌≡◌, List, ℕ, ap, length, subst, sym, take, ◌∙◌}
+use Rattle.std.proofs.Common.{◌≡◌, List, ℕ, ap, length, refl, subst, sym, take, ◌∙◌}
 use Rattle.std.specs.declared.alloc.AllocError.{AllocError}
 use Rattle.coniks_directory.proofs.Words.{Body, Record, Whole, before_at, history_of, latest_registry, registry_after, shown_after, state_of}
 use Rattle.coniks_directory.specs.Supplied.{AgreeOn, Supplied, supplied_index}
@@ -6,7 +6,8 @@ use Rattle.coniks_directory.specs.SuppliedBatches.{IsSuppliedUpdate, LeavesIndic
 use Rattle.coniks_directory.specs.Updates.{LeavesSigner}
 use Rattle.coniks_directory.specs.declared.update.InstallFault.TheVariants.{OutOfMemory}
 use Rattle.coniks_directory.proofs.AgreementLemmas.{body_agree, update_of_agree, whole_agree}
-use Rattle.coniks_directory.proofs.SuppliedBatchLemmas.{all_ok, held_take, if_err-map, if_ok-map, kept_agree, left_all, left_none, left_some, of_ok, supplied_all}
+use Rattle.coniks_directory.proofs.InstallLemmas.{kept_still}
+use Rattle.coniks_directory.proofs.SuppliedBatchLemmas.{held_take, if_err-map, if_ok-map, kept_agree, left_none, left_some, left_supplied, of_ok, supplied_all}
 use Rattle.coniks_directory.proofs.directory.supplying.Directory+H+SuppliedIndices.install_supplied.Goals.{After-install, After-supply_all, Else-is_err}
 use Rattle.coniks_directory.proofs.directory.supplying.Directory+H+SuppliedIndices.install_supplied.Given as given
 use Rattle.coniks_directory.proofs.directory.supplying.Directory+H+SuppliedIndices.install_supplied.Goals as goal
@@ -67,39 +68,50 @@ install-requires-clause-update g c =
     update_of_agree (g.H.Hash32.digest_of d.h) c.requires.update.0 (supplied_index c.supply_all.new.source) (state_of d.held) c.args.update
     (agree_in g (goal.at.install-requires-clause-update g c).Else-is_err c.requires.update.0 u) u.update
 
-pub returns-clause-body : goal.returns-clause-body
-returns-clause-body g c =
+pub returns-clause-installed : goal.returns-clause-installed
+returns-clause-installed g c =
     let d = c.self.inside in
     let s = state_of d.held in
     let hash = g.H.Hash32.digest_of d.h in
+    let put = (goal.at.returns-clause-installed g c).Else-is_err in
+    let same = index_in g (goal.at.returns-clause-installed g c).After-install in
     rw (← c.self.view_is)
-    (if_ok-map c.install.result _ _ (λ entry is index u.
-    let agree = agree_in g (goal.at.returns-clause-body g c).Else-is_err index u in
-    is ∙ sym (body_agree hash index (supplied_index c.supply_all.new.source) s.policy (before_at hash s.before s.chain (length s.chain)) (shown_after s c.args.update c.args.t) agree))
-    c.install.ensures.body)
+    (if_ok-map c.install.result _ _ (λ entry added. record {
+      epoch = λ index u. record {
+        history = added.history;
+        chain = added.chain;
+        nodes = added.nodes;
+        body = added.body ∙ sym (body_agree hash index (supplied_index c.supply_all.new.source) s.policy (before_at hash s.before s.chain (length s.chain))
+            (shown_after s c.args.update c.args.t) (agree_in g put index u));
+      };
+      indices = sym same ∙ put_in g put;
+      given = λ index u. subst (λ (xs : List Supplied). AgreeOn index (supplied_index xs) (registry_after s c.args.update)) same (agree_in g put index u);
+    })
+    c.install.ensures.installed)
+
+pub returns-then-is_err-clause-same : goal.returns-then-is_err-clause-same
+returns-then-is_err-clause-same g c = rw (← c.self.view_is) (record { hash = refl; agree = kept_in g (goal.at.returns-then-is_err-clause-same g c).After-supply_all })
+
+pub returns-clause-same : goal.returns-clause-same
+returns-clause-same g c =
+    rw (← c.self.view_is) (record {
+      hash = c.install.ensures.same.hash;
+      agree = subst (λ (xs : List Supplied). AgreeOn (supplied_index c.self.inside.source) (supplied_index xs) (latest_registry (history_of (state_of c.self.inside.held))))
+          (index_in g (goal.at.returns-clause-same g c).After-install)
+          (kept_in g (goal.at.returns-clause-same g c).After-supply_all);
+    })
 
 pub returns-then-is_err-clause-kept : goal.returns-then-is_err-clause-kept
-returns-then-is_err-clause-kept g c = rw (← c.self.view_is) (kept_in g (goal.at.returns-then-is_err-clause-kept g c).After-supply_all)
+returns-then-is_err-clause-kept g c =
+    rw (← c.self.view_is)
+    (kept_still g.H.Hash32.digest_of g.S.Verify.verdict_of _ _ c.args.signer.now c.args.signer.now c.args.publisher.now
+    refl refl (λ b x. refl) (rw (← c.self.view_is) at c.requires.ready.published))
 
+-- the indices are no part of what an install keeps
 pub returns-clause-kept : goal.returns-clause-kept
 returns-clause-kept g c =
-    rw (← c.self.view_is)
-    (subst (λ (xs : List Supplied). AgreeOn (supplied_index c.self.inside.source) (supplied_index xs) (latest_registry (history_of (state_of c.self.inside.held))))
-    (index_in g (goal.at.returns-clause-kept g c).After-install)
-    (kept_in g (goal.at.returns-clause-kept g c).After-supply_all))
-
-pub returns-clause-given : goal.returns-clause-given
-returns-clause-given g c =
-    rw (← c.self.view_is)
-    (all_ok c.install.result _ (λ index u.
-    subst (λ (xs : List Supplied). AgreeOn index (supplied_index xs) (registry_after (state_of c.self.inside.held) c.args.update)) (index_in g (goal.at.returns-clause-given g c).After-install)
-    (agree_in g (goal.at.returns-clause-given g c).Else-is_err index u)))
-
-pub returns-then-is_err-clause-good : goal.returns-then-is_err-clause-good
-returns-then-is_err-clause-good g c = λ good. rw (← c.self.view_is) at good
-
-pub returns-clause-good : goal.returns-clause-good
-returns-clause-good g c = λ good. c.install.ensures.good (rw (← c.self.view_is) at good)
+    let k = c.install.ensures.kept in
+    rw (← c.self.view_is) (record { grows = k.grows; good = k.good; verdicts_kept = k.verdicts_kept; heads = k.heads; table = k.table })
 
 -- the body that the signer was asked for is that of the function with which the update was prepared
 pub returns-clause-unasked : goal.returns-clause-unasked
@@ -116,29 +128,32 @@ returns-clause-unasked g c =
     c.install.ensures.unasked)
 
 -- before the indices are supplied, the source is as it was
-pub returns-in-Err-clause-left : goal.returns-in-Err-clause-left
-returns-in-Err-clause-left g c =
-    rw (← c.self.view_is) (left_none (indices_in c.args.update.records.items) c.self.inside.source c.in-Err.fault c.in-Err.ensures.unsigned)
+pub returns-in-Err-clause-unchanged : goal.returns-in-Err-clause-unchanged
+returns-in-Err-clause-unchanged g c =
+    rw (← c.self.view_is) (record {
+      state = refl;
+      publisher = refl;
+      indices = left_none (indices_in c.args.update.records.items) c.self.inside.source c.in-Err.fault c.in-Err.ensures.unsigned;
+    })
 
 -- an allocation failed after the first of them
-pub returns-then-is_err-clause-left : goal.returns-then-is_err-clause-left
-returns-then-is_err-clause-left g c =
+pub returns-then-is_err-clause-unchanged : goal.returns-then-is_err-clause-unchanged
+returns-then-is_err-clause-unchanged g c =
     let source = c.self.inside.source in
     let records = c.args.update.records.items in
     let some = rw c.deref.ensures.value at c.supply_all.ensures.some.1 in
-    rw (← c.self.view_is)
-    (subst (λ (xs : List Supplied). LeavesIndices (indices_in records) source xs OutOfMemory) (sym some) (left_some records source c.supply_all.ensures.some.0))
+    rw (← c.self.view_is) (record {
+      state = refl;
+      publisher = refl;
+      indices = subst (λ (xs : List Supplied). LeavesIndices (indices_in records) source xs OutOfMemory) (sym some) (left_some records source c.supply_all.ensures.some.0);
+    })
 
 -- and an install does not change the source
-pub returns-clause-left : goal.returns-clause-left
-returns-clause-left g c =
+pub returns-clause-unchanged : goal.returns-clause-unchanged
+returns-clause-unchanged g c =
     let d = c.self.inside in
-    let s = state_of d.held in
-    let given = indices_in c.args.update.records.items in
     let may = rw (c.published-published.ensures, c.capacity-capacity.ensures) at c.in_default.ensures.ok in
-    let put = sym (put_in g (goal.at.returns-clause-left g c).Else-is_err) ∙ index_in g (goal.at.returns-clause-left g c).After-install in
+    let put = sym (index_in g (goal.at.returns-clause-unchanged g c).After-install) ∙ put_in g (goal.at.returns-clause-unchanged g c).Else-is_err in
     rw (← c.self.view_is)
-    (if_err-map c.install.result _ _ (λ r why.
-    subst (λ (xs : List Supplied). LeavesIndices given d.source xs r.0) put
-    (left_all s c.args.update.base c.args.t (length c.args.publisher.now.heads) c.args.board.now.capacity given d.source r.0 may why))
-    c.install.ensures.refused)
+    (left_supplied c.args.update c.args.t (length c.args.publisher.now.heads) c.args.board.now.capacity _ _ c.install.new.self c.args.publisher.now c.install.new.publisher
+    c.install.result may refl put c.install.ensures.unchanged c.install.ensures.outcome)

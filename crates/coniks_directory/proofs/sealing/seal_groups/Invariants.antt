@@ -1,9 +1,0 @@
-use Rattle.std.proofs.Common.{◌≡◌, ◌*◌, map}
-use Rattle.coniks_directory.proofs.Words.{AreSealedTo, registered_of}
-use Rattle.coniks_directory.proofs.sealing.seal_groups.Given as goal
-
-abbrev pub invariant-loop-group : goal.invariant-loop-group
-invariant-loop-group g l = record {
-  binds : map registered_of l.records ≡ map registered_of l.initial.records;
-  sealed : AreSealedTo (g.H.Hash32.digest_of l.h) l.initial.records (4 * l.group) l.records;
-}

@@ -1,0 +1,11 @@
+pub mod EntryLines
+pub mod Faults
+pub mod Members
+pub mod Objects
+pub mod Operations
+pub mod Paths
+pub mod ProofObjects
+pub mod ProofTexts
+pub mod Refusals
+pub mod Replies
+pub mod Turns

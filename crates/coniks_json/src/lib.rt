@@ -1,0 +1,24 @@
+//! Lines of JSON: their members, the entries, proofs and operations in them, and the replies that several engines print.
+//!
+//! `read_object` reads a line, `text`, `number`, `array` and the others read its members, and `object` prints a reply:
+//!
+//! ```rust
+//! let Some(line) = read_object(alloc, br#"{"name":"alice"}"#)? else {
+//!     return Ok(());
+//! };
+//! let name = text(&line, "name").unwrap_or("");
+//! object(alloc, &[Field("ok", Shown::Text(name))])?.print(alloc, &mut out)?;
+//! ```
+#![tactic(auto)]
+
+pub mod entries;
+pub mod fault;
+pub mod members;
+pub mod objects;
+pub mod operations;
+pub mod printable;
+pub mod printing;
+pub mod proof_object;
+pub mod proof_text;
+pub mod refusal;
+pub mod replies;
