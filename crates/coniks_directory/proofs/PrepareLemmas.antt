@@ -95,14 +95,3 @@ latest_kept (Some n) anew nonce latest same is off = absurd (let never = sym sam
 pub is_some-map : {S T : Type 0} (f : S → T) (x : Option S) → is_some (option_map f x) ≡ is_some x
 is_some-map f None = refl
 is_some-map f (Some x) = refl
-
--- what the bound says of an update without a new nonce, and of one with a new nonce
-pub few_kept : (s : State) (new_nonce : Option Nonce) (ops : List Op) (p : Prepared) → AddsFew s (option_map (λ (n : Nonce). n.0) new_nonce) ops p → new_nonce ≡ None
-    → (p.new_nodes ≤ most_nodes (history_of s) (length ops)) × (length ops ≡ 0 → p.new_nodes ≡ most_nodes (history_of s) 0)
-few_kept s None ops p few none = few
-few_kept s (Some n) ops p few none = absurd (let never = none in cc)
-
-pub few_anew : (s : State) (new_nonce : Option Nonce) (ops : List Op) (p : Prepared) → AddsFew s (option_map (λ (n : Nonce). n.0) new_nonce) ops p → new_nonce ≢ None
-    → (p.new_nodes ≤ most_anew (after (latest_registry (history_of s)) (operations ops))) × KeepsNone p.part
-few_anew s None ops p few some = absurd (some refl)
-few_anew s (Some n) ops p few some = few

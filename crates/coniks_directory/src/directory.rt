@@ -1,16 +1,14 @@
 //! The directory.
 
 ghost use Rattle.std.specs.Prelude.{◌≡◌, ◌≤◌, None, Some, IfErr, IfOk, OnErr, OnOk, length, option_map};
-ghost use Rattle.coniks_proof.specs.Batches.{after};
 ghost use Rattle.coniks_proof.specs.Octets.{Octets};
 ghost use Rattle.coniks_proof.specs.Registry.{has_name};
-ghost use Rattle.coniks_tree.specs.Parts.{KeepsNone};
-ghost use Rattle.coniks_directory.specs.Batches.{IsAccepted, IsBatchFault, most_anew, most_nodes, operations};
+ghost use Rattle.coniks_directory.specs.Batches.{IsAccepted, IsBatchFault, operations};
 ghost use Rattle.coniks_directory.specs.Chain.{IsChainOf};
 ghost use Rattle.coniks_directory.specs.Directories.{IsAlike, NextBodyBy, entry, heads, history, registry, root_of_epoch};
 ghost use Rattle.coniks_directory.specs.History.{AllHaveOwnIndices, AreRising, AreUnder, nonce_bytes, numbers_of};
 ghost use Rattle.coniks_directory.specs.Lookups.{IsAcceptedAt, IsAcceptedUnder, IsFound, IsMissed};
-ghost use Rattle.coniks_directory.specs.Updates.{HasRefused, IsUpdate, IsUpdateOf, RotatesTo};
+ghost use Rattle.coniks_directory.specs.Updates.{HasRefused, IsUpdate, IsUpdateOf};
 
 mod restoring;
 mod supplying;
@@ -330,10 +328,9 @@ impl<H: Hash32, X: IndexSource> Directory<H, X> {
 }
 
 impl<H: Hash32 + Sync, X: IndexSource> Directory<H, X> {
-    ghost use Rattle.coniks_directory.specs.Built.{AddsFew};
-    ghost use Rattle.coniks_directory.specs.Nodes.{epoch_nodes};
+    ghost use Rattle.coniks_directory.specs.Built.{IsUpdateBy};
     ghost use Rattle.coniks_directory.specs.Installs.{AddsBatch, HasSigned, IsCommitResult, IsReady, Keeps, batch_body};
-    ghost use Rattle.coniks_directory.specs.Updates.{CommitLeavesSigner, commit_refusals, nodes_added, registry_after};
+    ghost use Rattle.coniks_directory.specs.Updates.{CommitLeavesSigner, commit_refusals};
 
     /// Checks a batch and prepares its update, which `install` installs.
     ///
@@ -363,12 +360,7 @@ impl<H: Hash32 + Sync, X: IndexSource> Directory<H, X> {
         workers: usize,
         gate: &G,
     ) -> Result<Prepared, BatchFault>
-        ensures update { IfOk result (IsUpdate (H.digest_of self.now.hash) (X.index_of self.now.index) self.now.state) }
-        ensures keeps { IfOk result (RotatesTo self.now.state None) }
-        ensures registry { IfOk result (λ p. registry_after self.now.state p ≡ after (registry self.now) (operations ops.now)) }
-        ensures nodes { IfOk result (λ p. nodes_added p ≡ epoch_nodes (X.index_of self.now.index) (history self.now) None (operations ops.now)) }
-        ensures few { IfOk result (λ p. nodes_added p ≤ most_nodes (history self.now) (length ops.now)) }
-        ensures none { IfOk result (λ p. length ops.now ≡ 0 → nodes_added p ≡ most_nodes (history self.now) 0) }
+        ensures update { IfOk result (IsUpdateBy (H.digest_of self.now.hash) (X.index_of self.now.index) self.now.state None ops.now) }
         ensures accepted { OnOk result (IsAccepted (X.index_of self.now.index) (registry self.now) (operations ops.now) depth workers) }
         ensures refused { IfErr result (IsBatchFault (X.index_of self.now.index) (registry self.now) (operations ops.now) depth workers) }
     {
@@ -398,12 +390,7 @@ impl<H: Hash32 + Sync, X: IndexSource> Directory<H, X> {
         workers: usize,
         gate: &G,
     ) -> Result<Prepared, BatchFault>
-        ensures update { IfOk result (IsUpdate (H.digest_of self.now.hash) (X.index_of self.now.index) self.now.state) }
-        ensures rotates { IfOk result (RotatesTo self.now.state (Some nonce.0)) }
-        ensures registry { IfOk result (λ p. registry_after self.now.state p ≡ after (registry self.now) (operations ops.now)) }
-        ensures nodes { IfOk result (λ p. nodes_added p ≡ epoch_nodes (X.index_of self.now.index) (history self.now) (Some nonce.0) (operations ops.now)) }
-        ensures few { IfOk result (λ p. nodes_added p ≤ most_anew (after (registry self.now) (operations ops.now))) }
-        ensures anew { IfOk result (λ p. KeepsNone p.part) }
+        ensures update { IfOk result (IsUpdateBy (H.digest_of self.now.hash) (X.index_of self.now.index) self.now.state (Some nonce.0) ops.now) }
         ensures accepted { OnOk result (IsAccepted (X.index_of self.now.index) (registry self.now) (operations ops.now) depth workers) }
         ensures refused { IfErr result (IsBatchFault (X.index_of self.now.index) (registry self.now) (operations ops.now) depth workers) }
     {
@@ -422,11 +409,7 @@ impl<H: Hash32 + Sync, X: IndexSource> Directory<H, X> {
         nonce: Option<Nonce>,
         ops: &[Op],
     ) -> Result<Prepared, BatchFault>
-        ensures update { IfOk result (IsUpdate (H.digest_of self.now.hash) (X.index_of self.now.index) self.now.state) }
-        ensures rotates { IfOk result (RotatesTo self.now.state (nonce_bytes nonce)) }
-        ensures registry { IfOk result (λ p. registry_after self.now.state p ≡ after (registry self.now) (operations ops.now)) }
-        ensures nodes { IfOk result (λ p. nodes_added p ≡ epoch_nodes (X.index_of self.now.index) (history self.now) (nonce_bytes nonce) (operations ops.now)) }
-        ensures few { IfOk result (AddsFew self.now.state (nonce_bytes nonce) ops.now) }
+        ensures update { IfOk result (IsUpdateBy (H.digest_of self.now.hash) (X.index_of self.now.index) self.now.state (nonce_bytes nonce) ops.now) }
         ensures accepted { OnOk result (IsAccepted (X.index_of self.now.index) (registry self.now) (operations ops.now) build.now.parallelism.depth build.now.parallelism.workers) }
         ensures refused { IfErr result (IsBatchFault (X.index_of self.now.index) (registry self.now) (operations ops.now) build.now.parallelism.depth build.now.parallelism.workers) }
     {

@@ -5,6 +5,7 @@ ghost use Rattle.coniks_chain.specs.Chain.{Continues, GoodChain, epoch_before};
 ghost use Rattle.coniks_chain.specs.declared.auditor.AuditorState.{AuditorState};
 ghost use Rattle.coniks_chain.specs.declared.entry.Entry.{Entry};
 ghost use Rattle.coniks_directory.specs.Alike.{AreAlikeEpochs, IsAlikeEpoch, SameBindings};
+ghost use Rattle.coniks_directory.specs.Built.{IsUpdateBy};
 ghost use Rattle.coniks_directory.specs.Chain.{IsChainOf, heads_of};
 ghost use Rattle.coniks_directory.specs.History.{AreRising, Shown, latest_registry, numbers_of, root_at, shown_at};
 ghost use Rattle.coniks_directory.specs.Lookups.{IsAcceptedAt, IsFound};
@@ -15,6 +16,7 @@ ghost use Rattle.coniks_directory.specs.State.{State, Whole, history_of};
 ghost use Rattle.coniks_directory.specs.Supplied.{AgreeOn};
 ghost use Rattle.coniks_directory.specs.SuppliedBatches.{IsSuppliedUpdate};
 ghost use Rattle.coniks_directory.specs.Updates.{Grows, IsUpdate, IsUpdateOf, base_of, registry_after};
+ghost use Rattle.coniks_directory.specs.declared.batch.Op.{Op};
 ghost use Rattle.coniks_directory.specs.declared.update.Prepared.{Prepared};
 ghost use Rattle.coniks_proof.specs.Batches.{Operation, after, first_fault};
 ghost use Rattle.coniks_proof.specs.Collisions.{Disagree};
@@ -31,8 +33,10 @@ ghost use Rattle.coniks_shared.specs.Lists.{Begins, last_of};
 ///
 /// An update belongs to the directory that it was prepared from. After another install it is stale, and `install` returns
 /// `Stale`.
-#[tactic(auto, using(crate::proofs::FreshLemmas::prepared_of, crate::proofs::FreshLemmas::stays))]
+#[tactic(auto, using(crate::proofs::CommitLemmas::update_by, crate::proofs::FreshLemmas::prepared_of, crate::proofs::FreshLemmas::stays))]
 pub fn updates_stay()
+    ensures of_batch { (hash index_of : Octets → Octets) (s : State) (new_nonce : Option Octets) (ops : List Op) (update : Prepared)
+        → IsUpdateBy hash index_of s new_nonce ops update → IsUpdateOf hash index_of s update }
     ensures prepared { (hash index_of : Octets → Octets) (s : State) (update : Prepared) → IsUpdate hash index_of s update → IsUpdateOf hash index_of s update }
     ensures stays { (hash index_of : Octets → Octets) (s later : State) (update : Prepared)
         → Grows s later → IsUpdateOf hash index_of s update → IsUpdateOf hash index_of later update }

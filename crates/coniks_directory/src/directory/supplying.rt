@@ -1,15 +1,13 @@
 //! A directory whose indices are supplied: lookups, batches and installs that come with the indices of names.
 
 ghost use Rattle.std.specs.Prelude.{◌≡◌, ◌≢◌, ◌≤◌, ◌++◌, ◌∷◌, [], List, None, Some, IfErr, IfOk, OnErr, OnOk, length, true, false};
-ghost use Rattle.coniks_proof.specs.Batches.{after};
 ghost use Rattle.coniks_proof.specs.Octets.{Octets};
 ghost use Rattle.coniks_proof.specs.Registry.{has_name};
-ghost use Rattle.coniks_tree.specs.Parts.{KeepsNone};
-ghost use Rattle.coniks_directory.specs.Batches.{IsAccepted, most_anew, most_nodes, operations};
+ghost use Rattle.coniks_directory.specs.Batches.{IsAccepted, operations};
 ghost use Rattle.coniks_directory.specs.Directories.{FindsAt, ShowsAt, batch_index, entry, history, registry};
 ghost use Rattle.coniks_directory.specs.History.{nonce_bytes};
 ghost use Rattle.coniks_directory.specs.Supplied.{IsMissedAt, MaySupply};
-ghost use Rattle.coniks_directory.specs.Updates.{HasRefused, IsUpdate, IsUpdateOf, RotatesTo};
+ghost use Rattle.coniks_directory.specs.Updates.{HasRefused, IsUpdateOf};
 
 use crate::batch::{BatchFault, Op, check_length};
 use crate::directory::Directory;
@@ -282,9 +280,8 @@ impl<H: Hash32, X: IndexSource> Directory<H, X> {
 }
 
 impl<H: Hash32 + Sync, X: IndexSource> Directory<H, X> {
-    ghost use Rattle.coniks_directory.specs.Nodes.{epoch_nodes};
+    ghost use Rattle.coniks_directory.specs.Built.{IsUpdateBy};
     ghost use Rattle.coniks_directory.specs.SuppliedBatches.{IsSuppliedFault, IsSuppliedUpdate, IsWithin, indexed, indices_by, indices_of, supplied_fault};
-    ghost use Rattle.coniks_directory.specs.Updates.{nodes_added, registry_after};
 
     /// Prepares a batch whose operations come with the indices of their names, as `prepare` and `prepare_with` do.
     ///
@@ -306,18 +303,11 @@ impl<H: Hash32 + Sync, X: IndexSource> Directory<H, X> {
         gate: &G,
     ) -> Result<Prepared, SuppliedBatchFault>
         requires { length batch.now.ops.now ≡ length batch.now.indices.now }
-        ensures update { IfOk result (λ p. IsUpdate (H.digest_of self.now.hash) (batch_index X.index_of self.now batch.now) self.now.state p) }
+        ensures update { IfOk result
+            (IsUpdateBy (H.digest_of self.now.hash) (batch_index X.index_of self.now batch.now) self.now.state (nonce_bytes batch.now.nonce) batch.now.ops.now) }
         ensures installable { IfOk result
             (λ p. IsSuppliedUpdate (H.digest_of self.now.hash) (X.index_of self.now.index) self.now.state p (batch_index X.index_of self.now batch.now)) }
-        ensures rotates { IfOk result (RotatesTo self.now.state (nonce_bytes batch.now.nonce)) }
-        ensures registry { IfOk result (λ p. registry_after self.now.state p ≡ after (registry self.now) (operations batch.now.ops.now)) }
         ensures indices { IfOk result (λ p. indices_of p ≡ indices_by (batch_index X.index_of self.now batch.now) (operations batch.now.ops.now)) }
-        ensures nodes { IfOk result (λ p. nodes_added p ≡ epoch_nodes (batch_index X.index_of self.now batch.now)
-            (history self.now) (nonce_bytes batch.now.nonce) (operations batch.now.ops.now)) }
-        ensures few { IfOk result (λ p. batch.now.nonce ≡ None → nodes_added p ≤ most_nodes (history self.now) (length batch.now.ops.now)) }
-        ensures none { IfOk result (λ p. batch.now.nonce ≡ None → length batch.now.ops.now ≡ 0 → nodes_added p ≡ most_nodes (history self.now) 0) }
-        ensures anew { IfOk result (λ p. batch.now.nonce ≢ None
-            → (nodes_added p ≤ most_anew (after (registry self.now) (operations batch.now.ops.now))) × KeepsNone p.part) }
         ensures accepted { OnOk result
             (IsAccepted (batch_index X.index_of self.now batch.now) (registry self.now) (operations batch.now.ops.now) parallelism.depth parallelism.workers) }
         ensures within { OnOk result (IsWithin (indexed batch.now.ops.now batch.now.indices.now)) }

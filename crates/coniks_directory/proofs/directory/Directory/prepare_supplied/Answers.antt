@@ -3,7 +3,6 @@ use Rattle.coniks_directory.proofs.Words.{IsJudgedFault, IsUpdateBy, Nonce, Regi
 use Rattle.coniks_directory.specs.SuppliedBatches.{given_index, index_in, indexed}
 use Rattle.coniks_directory.proofs.AgreementLemmas.{whole_agree}
 use Rattle.coniks_directory.proofs.FreshLemmas.{prepared_of}
-use Rattle.coniks_directory.proofs.PrepareLemmas.{few_anew, few_kept}
 use Rattle.coniks_directory.proofs.SuppliedBatchLemmas.{given_agree, held_is, judged_fault, long_fault, no_fault, other_fault, within_is}
 use Rattle.coniks_directory.proofs.directory.Directory.prepare_supplied.Goals.{In-Ok, In-Ok-update_on}
 use Rattle.coniks_directory.proofs.directory.Directory.prepare_supplied.Given as given
@@ -66,7 +65,7 @@ made_in g c =
     (rw (← c.self.view_is) at c.in-Ok.ensures.indices) c.in-Ok-update_on.ensures.update
 
 pub returns-in-Ok-update_on-clause-update : goal.returns-in-Ok-update_on-clause-update
-returns-in-Ok-update_on-clause-update g c = rw (← c.self.view_is) (made_in g (goal.at.returns-in-Ok-update_on-clause-update g c).In-Ok-update_on).update
+returns-in-Ok-update_on-clause-update g c = rw (← c.self.view_is) (made_in g (goal.at.returns-in-Ok-update_on-clause-update g c).In-Ok-update_on)
 
 pub returns-in-Ok-update_on-clause-installable : goal.returns-in-Ok-update_on-clause-installable
 returns-in-Ok-update_on-clause-installable g c =
@@ -93,27 +92,6 @@ returns-in-Ok-update_on-clause-indices g c =
     rw (← c.self.view_is)
     (held_is (index_in index_of (latest_registry (history_of s)) (indexed c.args.batch.now.ops.now c.args.batch.now.indices.now))
     c.in-Ok-update_on.update.records.items (operations c.args.batch.now.ops.now) made.binds made.held)
-
-pub returns-in-Ok-update_on-clause-nodes : goal.returns-in-Ok-update_on-clause-nodes
-returns-in-Ok-update_on-clause-nodes g c = rw (← c.self.view_is) (made_in g (goal.at.returns-in-Ok-update_on-clause-nodes g c).In-Ok-update_on).nodes
-
-pub returns-in-Ok-update_on-clause-few : goal.returns-in-Ok-update_on-clause-few
-returns-in-Ok-update_on-clause-few g c = λ none.
-    rw (← c.self.view_is)
-    (few_kept (state_of c.self.inside.held) c.args.batch.now.nonce c.args.batch.now.ops.now c.in-Ok-update_on.update
-    (made_in g (goal.at.returns-in-Ok-update_on-clause-few g c).In-Ok-update_on).few none).0
-
-pub returns-in-Ok-update_on-clause-none : goal.returns-in-Ok-update_on-clause-none
-returns-in-Ok-update_on-clause-none g c = λ none empty.
-    rw (← c.self.view_is)
-    ((few_kept (state_of c.self.inside.held) c.args.batch.now.nonce c.args.batch.now.ops.now c.in-Ok-update_on.update
-    (made_in g (goal.at.returns-in-Ok-update_on-clause-none g c).In-Ok-update_on).few none).1 empty)
-
-pub returns-in-Ok-update_on-clause-anew : goal.returns-in-Ok-update_on-clause-anew
-returns-in-Ok-update_on-clause-anew g c = λ some.
-    rw (← c.self.view_is)
-    (few_anew (state_of c.self.inside.held) c.args.batch.now.nonce c.args.batch.now.ops.now c.in-Ok-update_on.update
-    (made_in g (goal.at.returns-in-Ok-update_on-clause-anew g c).In-Ok-update_on).few some)
 
 pub returns-in-Ok-update_on-clause-within : goal.returns-in-Ok-update_on-clause-within
 returns-in-Ok-update_on-clause-within g c =

@@ -38,13 +38,13 @@ shown_in g c =
     let s = c.args.self.now in
     let e = c.in-Ok.ensures in
     let registry = latest_registry (history_of s.directory.state) in
-    shown_is s.directory s.pending (batch_line_of c.args.epoch c.args.batch.now) c.in-Ok.update (e.rotates) (e.registry ∙ ap (after registry) (sym (operations_in g c)))
+    shown_is s.directory s.pending (batch_line_of c.args.epoch c.args.batch.now) c.in-Ok.update e.update.rotates (e.update.registry ∙ ap (after registry) (sym (operations_in g c)))
 
 -- and the body is that of this epoch
 body_in : (g : given.Over) (c : Joined-self g) → (let s = c.args.self.now.directory.state in
     c.next_body-body.result ≡ body_of sha256 (index_for (provided_of c.args.self.now) (batch_line_of c.args.epoch c.args.batch.now))
     s.policy (before_at sha256 s.before s.chain (length s.chain)) (shown_after s c.in-Ok.update c.args.epoch))
-body_in g c = c.next_body-body.ensures (index_for (provided_of c.args.self.now) (batch_line_of c.args.epoch c.args.batch.now)) (c.in-Ok.ensures.installable.agree c.in-Ok.ensures.update.base) c.in-Ok.ensures.update
+body_in g c = c.next_body-body.ensures (index_for (provided_of c.args.self.now) (batch_line_of c.args.epoch c.args.batch.now)) (c.in-Ok.ensures.installable.agree c.in-Ok.ensures.update.update.base) c.in-Ok.ensures.update.update
 
 body_is : (g : given.Over) (c : Joined-self g) → c.next_body-body.result ≡ (pending_by (provided_of c.args.self.now) (batch_line_of c.args.epoch c.args.batch.now)).body
 body_is g c =
@@ -58,7 +58,7 @@ indices_in g c = c.in-Ok.ensures.indices ∙ ap (indices_by (index_for (provided
 nodes_in : (g : given.Over) (c : Joined-self g) → nodes_added c.in-Ok.update ≡ (pending_by (provided_of c.args.self.now) (batch_line_of c.args.epoch c.args.batch.now)).nodes
 nodes_in g c =
     let o = provided_of c.args.self.now in
-    c.in-Ok.ensures.nodes ∙ ap
+    c.in-Ok.ensures.update.nodes ∙ ap
     (λ (ops : List Operation). epoch_nodes (index_for o (batch_line_of c.args.epoch c.args.batch.now)) o.history (nonce_bytes c.args.batch.now.nonce) ops) (sym (operations_in g c))
 
 pub returns-clause-served : goal.returns-clause-served
@@ -74,7 +74,7 @@ returns-clause-served g c =
       pending = record {
         index = index_for o (batch_line_of c.args.epoch c.args.batch.now);
         supplied = e.installable;
-        fresh = e.update.base;
+        fresh = e.update.update.base;
         later = rw number free.0;
         room = free.1;
         body = body_in g c ∙ ap (λ (n : ℕ). body_of sha256 (index_for o (batch_line_of c.args.epoch c.args.batch.now)) d.state.policy
