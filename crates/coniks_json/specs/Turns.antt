@@ -1,5 +1,5 @@
 -- The outcome of a line, and the reply to it.
-use Rattle.std.specs.Prelude.{Bool}
+use Rattle.std.specs.Prelude.{◌≡◌, Bool}
 use Rattle.serde_json.specs.Data.{Data}
 use Rattle.serde_json.specs.Written.{compact_text}
 use Rattle.coniks_lines.specs.Machine.{Answer}
@@ -8,6 +8,10 @@ use Rattle.coniks_lines.specs.Machine.{Answer}
 pub record Turn (Outcome State : Type 0) : Type 0 where
   pub outcome : Outcome
   pub state : State
+
+-- the outcome and the state are those of the turn
+abbrev pub Takes : {Outcome State : Type 0} → Turn Outcome State → Outcome → State → Type 0
+Takes turn outcome state = (outcome ≡ turn.outcome) × (state ≡ turn.state)
 
 -- the line is refused with this, and the state stays
 abbrev pub refused : {Outcome State : Type 0} → State → Outcome → Turn Outcome State

@@ -7,6 +7,7 @@ ghost use Rattle.serde_json.specs.View.{view};
 ghost use Rattle.coniks_lines.specs.Runs.{IsRunOf, streams};
 ghost use Rattle.coniks_json.specs.Faults.{FailsWithBoard};
 ghost use Rattle.coniks_json.specs.Members.{array_in, digits_in, if_there, number_in, text_in};
+ghost use Rattle.coniks_json.specs.Turns.{Takes};
 ghost use Rattle.coniks_provider.specs.Answers.{provider_outcome_of};
 ghost use Rattle.coniks_provider.specs.Turns.{bindings_outcome, install_turn, most_in, nothing, prepare_turn, provider_answer, provider_command_turn, provider_lookup_outcome, provider_open_turn, restore_turn, restoring_turn};
 
@@ -60,10 +61,8 @@ fn most_in(object: &Value) -> Option<usize>
 impl<'r, T: Threads + Sync> Providing<'r, T> {
     /// Opens a directory under the line's nonce and policy digest.
     fn open(&mut self, object: &Value) -> Reply
-        ensures reply { provider_outcome_of result ≡
-            (provider_open_turn self.old.store (digits_in 32 (codes "nonce") (view object.now)) (digits_in 32 (codes "policy") (view object.now))).outcome }
-        ensures state { self.new.store ≡
-            (provider_open_turn self.old.store (digits_in 32 (codes "nonce") (view object.now)) (digits_in 32 (codes "policy") (view object.now))).state }
+        ensures { Takes (provider_open_turn self.old.store (digits_in 32 (codes "nonce") (view object.now))
+            (digits_in 32 (codes "policy") (view object.now))) (provider_outcome_of result) self.new.store }
     {
         let Some(nonce) = digits32(object, "nonce") else {
             return Reply::Refused(Refusal::BadMember(Member::Nonce));
@@ -76,10 +75,9 @@ impl<'r, T: Threads + Sync> Providing<'r, T> {
 
     /// Prepares the update of the line's batch.
     fn prepare(&mut self, object: &Value) -> Result<Reply, AllocError>
-        ensures reply { IfOk result (λ reply. provider_outcome_of reply ≡ (prepare_turn self.old.store (number_in (codes "epoch") (view object.now))
-            (if_there (codes "nonce") (view object.now) (digits_in 32 (codes "nonce") (view object.now))) (array_in (codes "ops") (view object.now))).outcome) }
-        ensures state { OnOk result (self.new.store ≡ (prepare_turn self.old.store (number_in (codes "epoch") (view object.now))
-            (if_there (codes "nonce") (view object.now) (digits_in 32 (codes "nonce") (view object.now))) (array_in (codes "ops") (view object.now))).state) }
+        ensures { IfOk result (λ reply. Takes (prepare_turn self.old.store (number_in (codes "epoch") (view object.now))
+            (if_there (codes "nonce") (view object.now) (digits_in 32 (codes "nonce") (view object.now))) (array_in (codes "ops") (view object.now)))
+            (provider_outcome_of reply) self.new.store) }
     {
         let Some(epoch) = number(object, "epoch") else {
             return Ok(Reply::Refused(Refusal::BadMember(Member::Epoch)));
@@ -105,9 +103,8 @@ impl<'r, T: Threads + Sync> Providing<'r, T> {
 
     /// Installs the pending update under the line's signature.
     fn install(&mut self, object: &Value) -> Result<Reply, AllocError>
-        ensures reply { IfOk result (λ reply. provider_outcome_of reply ≡
-            (install_turn self.old.store (digits_in 64 (codes "signature") (view object.now))).outcome) }
-        ensures state { OnOk result (self.new.store ≡ (install_turn self.old.store (digits_in 64 (codes "signature") (view object.now))).state) }
+        ensures { IfOk result (λ reply. Takes (install_turn self.old.store (digits_in 64 (codes "signature") (view object.now)))
+            (provider_outcome_of reply) self.new.store) }
     {
         match signature_in(object) {
             Some(signature) => self.store.install(signature),
@@ -151,8 +148,7 @@ impl<'r, T: Threads + Sync> Providing<'r, T> {
 
     /// Begins a restore from the line's entry.
     fn restore(&mut self, object: &Value) -> Result<Reply, AllocError>
-        ensures reply { IfOk result (λ reply. provider_outcome_of reply ≡ (restore_turn self.old.store (entry_in (view object.now))).outcome) }
-        ensures state { OnOk result (self.new.store ≡ (restore_turn self.old.store (entry_in (view object.now))).state) }
+        ensures { IfOk result (λ reply. Takes (restore_turn self.old.store (entry_in (view object.now))) (provider_outcome_of reply) self.new.store) }
     {
         match read_entry(object) {
             Some(entry) => self.store.restore(entry),
@@ -162,9 +158,8 @@ impl<'r, T: Threads + Sync> Providing<'r, T> {
 
     /// Adds the line's bindings to the restore.
     fn restoring(&mut self, object: &Value) -> Result<Reply, AllocError>
-        ensures reply { IfOk result (λ reply. provider_outcome_of reply ≡
-            (restoring_turn self.old.store (array_in (codes "bindings") (view object.now))).outcome) }
-        ensures state { OnOk result (self.new.store ≡ (restoring_turn self.old.store (array_in (codes "bindings") (view object.now))).state) }
+        ensures { IfOk result (λ reply. Takes (restoring_turn self.old.store (array_in (codes "bindings") (view object.now)))
+            (provider_outcome_of reply) self.new.store) }
     {
         let Some(elements) = array(object, "bindings") else {
             return Ok(Reply::Refused(Refusal::BadMember(Member::Bindings)));
@@ -177,10 +172,8 @@ impl<'r, T: Threads + Sync> Providing<'r, T> {
 
     /// Executes the command of an object.
     fn command(&mut self, object: &Value) -> Result<Reply, AllocError>
-        ensures reply { IfOk result (λ reply. provider_outcome_of reply ≡
-            (provider_command_turn self.old.store (view object.now) (text_in (codes "cmd") (view object.now))).outcome) }
-        ensures state { OnOk result (self.new.store ≡
-            (provider_command_turn self.old.store (view object.now) (text_in (codes "cmd") (view object.now))).state) }
+        ensures { IfOk result (λ reply. Takes (provider_command_turn self.old.store (view object.now) (text_in (codes "cmd") (view object.now)))
+            (provider_outcome_of reply) self.new.store) }
     {
         let Some(name) = text(object, "cmd") else {
             return Ok(Reply::Refused(Refusal::NoCommand));

@@ -7,6 +7,7 @@ ghost use Rattle.coniks_lines.specs.Runs.{IsRunOf, streams};
 ghost use Rattle.coniks_work.specs.declared.jobs.TheConstants.{MAX_DEPTH};
 ghost use Rattle.coniks_json.specs.Faults.{FailsWithBoard};
 ghost use Rattle.coniks_json.specs.Members.{array_in, digits_in, if_there, number_in, text_in};
+ghost use Rattle.coniks_json.specs.Turns.{Takes};
 ghost use Rattle.coniks_tool.specs.ScriptReplies.{outcome_of};
 ghost use Rattle.coniks_tool.specs.Script.{ScriptState, batch_turn, command_turn, lookup_outcome, open_turn, script_answer};
 
@@ -36,10 +37,8 @@ pub struct Script<'r, T: Threads + Sync> {
 impl<'r, T: Threads + Sync> Script<'r, T> {
     /// Opens a directory under the line's key, nonce and policy digest.
     fn open(&mut self, object: &Value) -> Reply
-        ensures reply { outcome_of result ≡ (open_turn self.old.store (digits_in 32 (codes "key") (view object.now))
-            (digits_in 32 (codes "nonce") (view object.now)) (digits_in 32 (codes "policy") (view object.now))).outcome }
-        ensures state { self.new.store ≡ (open_turn self.old.store (digits_in 32 (codes "key") (view object.now))
-            (digits_in 32 (codes "nonce") (view object.now)) (digits_in 32 (codes "policy") (view object.now))).state }
+        ensures { Takes (open_turn self.old.store (digits_in 32 (codes "key") (view object.now)) (digits_in 32 (codes "nonce") (view object.now))
+            (digits_in 32 (codes "policy") (view object.now))) (outcome_of result) self.new.store }
     {
         let Some(key) = digits32(object, "key") else {
             return Reply::Refused(Refusal::BadMember(Member::Key));
@@ -55,10 +54,9 @@ impl<'r, T: Threads + Sync> Script<'r, T> {
 
     /// Commits the line's batch.
     fn batch(&mut self, object: &Value) -> Result<Reply, AllocError>
-        ensures reply { IfOk result (λ reply. outcome_of reply ≡ (batch_turn self.old.store (number_in (codes "epoch") (view object.now))
-            (if_there (codes "nonce") (view object.now) (digits_in 32 (codes "nonce") (view object.now))) (array_in (codes "ops") (view object.now))).outcome) }
-        ensures state { OnOk result (self.new.store ≡ (batch_turn self.old.store (number_in (codes "epoch") (view object.now))
-            (if_there (codes "nonce") (view object.now) (digits_in 32 (codes "nonce") (view object.now))) (array_in (codes "ops") (view object.now))).state) }
+        ensures { IfOk result (λ reply. Takes (batch_turn self.old.store (number_in (codes "epoch") (view object.now))
+            (if_there (codes "nonce") (view object.now) (digits_in 32 (codes "nonce") (view object.now))) (array_in (codes "ops") (view object.now)))
+            (outcome_of reply) self.new.store) }
     {
         let Some(epoch) = number(object, "epoch") else {
             return Ok(Reply::Refused(Refusal::BadMember(Member::Epoch)));
@@ -98,9 +96,8 @@ impl<'r, T: Threads + Sync> Script<'r, T> {
 
     /// Executes the command of an object.
     fn command(&mut self, object: &Value) -> Result<Reply, AllocError>
-        ensures reply { IfOk result (λ reply. outcome_of reply ≡
-            (command_turn self.old.store (view object.now) (text_in (codes "cmd") (view object.now))).outcome) }
-        ensures state { OnOk result (self.new.store ≡ (command_turn self.old.store (view object.now) (text_in (codes "cmd") (view object.now))).state) }
+        ensures { IfOk result (λ reply. Takes (command_turn self.old.store (view object.now) (text_in (codes "cmd") (view object.now)))
+            (outcome_of reply) self.new.store) }
     {
         let Some(name) = text(object, "cmd") else {
             return Ok(Reply::Refused(Refusal::NoCommand));
