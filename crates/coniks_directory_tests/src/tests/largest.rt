@@ -1,4 +1,4 @@
-//! The largest batch, and the largest number of epochs.
+//! The largest batch, the largest number of epochs, and boards up to that size.
 
 use crate::tests::batches::sized;
 use crate::tests::clerk::{Clerk, committed};
@@ -91,4 +91,15 @@ fn most_epochs(rt: HostRuntime) {
     let (board, publisher) = Board::new(rt.alloc(), MAX_HEADS).expect(&rt, "a board");
     let mut clerk = Clerk::new(rt.alloc(), Flat, &board, publisher, u64::MAX);
     fill(&rt, &mut clerk);
+}
+
+/// A board for each number of heads can be made.
+#[test]
+fn boards_of_many_sizes(rt: HostRuntime) {
+    assert!(rt; Board::new(rt.alloc(), 1).is_ok());
+    assert!(rt; Board::new(rt.alloc(), 1_024).is_ok());
+    assert!(rt; Board::new(rt.alloc(), 1_025).is_ok());
+    assert!(rt; Board::new(rt.alloc(), 4_097).is_ok());
+    assert!(rt; Board::new(rt.alloc(), 40_000).is_ok());
+    assert!(rt; Board::new(rt.alloc(), 65_535).is_ok());
 }
