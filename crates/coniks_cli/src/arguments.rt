@@ -1,5 +1,8 @@
 //! The arguments of a program.
 
+ghost use Rattle.std.specs.Prelude.{◌≡◌};
+ghost use Rattle.coniks_cli.specs.Endings.{unread_status};
+
 use std::alloc::Global;
 use std::env::{self, Env};
 use std::io::ErrorKind;
@@ -11,6 +14,18 @@ pub enum Unread {
     NotText,
     /// An allocation failed.
     OutOfMemory,
+}
+
+impl Unread {
+    /// Returns the exit status for arguments that cannot be read: 2 if one is not UTF-8, 3 if an allocation failed.
+    pub fn status(self) -> u8
+        ensures { result ≡ unread_status self }
+    {
+        match self {
+            Unread::NotText => 2,
+            Unread::OutOfMemory => 3,
+        }
+    }
 }
 
 /// Returns the arguments that the program was called with. The first is its name.

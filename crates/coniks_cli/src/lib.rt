@@ -1,25 +1,27 @@
 //! The command lines of the programs: their arguments, the texts of `clap`, and texts on standard error.
 //!
-//! `words` returns the arguments, which `clap` parses. `explain` shows help or the version, and returns the text of a
+//! `words` returns the arguments, which `clap` parses. `explain` shows help or the version, or returns the text of a
 //! mistake:
 //!
 //! ```rust
-//! match explain(alloc, error, writer) {
-//!     Ok(Explained::Shown) => Ok(Ending::Done(true)),
-//!     Ok(Explained::Refused(text)) => Ok(Ending::Refused(text)),
-//!     Err(fault) => Err(fault),
-//! }
+//! let outcome = match command.try_get_matches_from(words) {
+//!     Ok(found) => run_by(&found),
+//!     Err(error) => explain(alloc, &error, writer),
+//! };
+//! status(&outcome)
 //! ```
 #![tactic(auto)]
 
 pub mod arguments;
 pub mod commands;
+pub mod ending;
 pub mod explaining;
 pub mod refusing;
 pub mod telling;
 
 pub use arguments::{Unread, words};
 pub use commands::{with_below, with_option};
-pub use explaining::{Explained, explain};
+pub use ending::{Ending, status};
+pub use explaining::explain;
 pub use refusing::{WordsFault, refused};
 pub use telling::{tell, tell_if};

@@ -5,20 +5,12 @@ use Rattle.coniks_lines.specs.Runs.{EndsBadly, IsRunOf, Streams}
 use Rattle.coniks_lines.specs.declared.fault.LineFault.{LineFault}
 use Rattle.coniks_lines.specs.declared.fault.LineFault.TheVariants as lines
 use Rattle.coniks_json.specs.Faults.{Says, of_lines, of_run}
-use Rattle.coniks_json.specs.declared.fault.RunFault.{RunFault}
-use Rattle.coniks_json.specs.declared.fault.RunFault.TheVariants.{Read, Write, OutOfMemory, NoBoard}
 
 -- an error of lines says the same of their run
-pub says-of_lines : (P : LineFault → Type 0) (Q : Type 0) (fault : LineFault) → P fault → Says P Q (of_lines fault)
+says-of_lines : (P : LineFault → Type 0) (Q : Type 0) (fault : LineFault) → P fault → Says P Q (of_lines fault)
 says-of_lines P Q lines.Read h = h
 says-of_lines P Q lines.Write h = h
 says-of_lines P Q lines.OutOfMemory h = h
-
-pub says-weaker : {P P' : LineFault → Type 0} {Q Q' : Type 0} (fault : RunFault) → ((e : LineFault) → P e → P' e) → (Q → Q') → Says P Q fault → Says P' Q' fault
-says-weaker Read to to' h = to lines.Read h
-says-weaker Write to to' h = to lines.Write h
-says-weaker OutOfMemory to to' h = to lines.OutOfMemory h
-says-weaker NoBoard to to' h = to' h
 
 -- a run over lines, as a run
 pub run_is : {S : Type 0} {answer : S → List ℕ → Answer S} {s : S} {io : Streams} (Boardless : Streams → Type 0) (result : Result Bool LineFault)

@@ -1,38 +1,18 @@
-//! The outcome of a command line, its status, and the error text.
+//! The error lines of the program.
 
 ghost use Rattle.std.specs.Prelude.{◌≡◌, option_map};
-ghost use Rattle.provider.specs.Program.{fault_line, status_of, told_of};
+ghost use Rattle.coniks_cli.specs.Endings.{told_of};
+ghost use Rattle.provider.specs.Program.{fault_line, unread_line};
 
+use coniks_cli::{Ending, Unread};
 use coniks_json::fault::RunFault;
-
-/// The outcome of a command line.
-#[derive(Drop)]
-pub(crate) enum Ending {
-    /// A run ended, or help or the version was shown. Contains whether everything was accepted.
-    Done(bool),
-    /// `clap` refused the arguments. Contains its text.
-    Refused(String),
-}
-
-/// Returns the exit status of an outcome.
-pub(crate) fn status(outcome: &Result<Ending, RunFault>) -> u8
-    ensures { result ≡ status_of outcome.now }
-{
-    match outcome {
-        Ok(Ending::Done(true)) => 0,
-        Ok(Ending::Done(false)) => 1,
-        Ok(Ending::Refused(_)) => 2,
-        Err(_) => 3,
-    }
-}
 
 /// Returns the error text of an outcome, if any.
 pub(crate) fn told<'o>(outcome: &'o Result<Ending, RunFault>) -> Option<&'o str>
-    ensures { option_map (λ text. text.now) result ≡ told_of outcome.now }
+    ensures { option_map (λ text. text.now) result ≡ told_of fault_line outcome.now }
 {
     match outcome {
-        Ok(Ending::Done(_)) => None,
-        Ok(Ending::Refused(text)) => Some(text.as_str()),
+        Ok(ending) => ending.text(),
         Err(fault) => Some(fault_text(*fault)),
     }
 }
@@ -46,5 +26,15 @@ pub(crate) fn fault_text(fault: RunFault) -> &'static str
         RunFault::Write => "provider: write failed\n",
         RunFault::OutOfMemory => "provider: out of memory\n",
         RunFault::NoBoard => "provider: no board\n",
+    }
+}
+
+/// Returns the error line for arguments that cannot be read.
+pub(crate) fn unread_text(why: Unread) -> &'static str
+    ensures { result.now ≡ unread_line why }
+{
+    match why {
+        Unread::NotText => "provider: an argument is not UTF-8\n",
+        Unread::OutOfMemory => fault_text(RunFault::OutOfMemory),
     }
 }

@@ -1,19 +1,15 @@
 //! The whole program over its streams.
 
-ghost use Rattle.std.specs.Prelude.{◌≡◌, ◌≢◌, ◌<◌, ◌+◌, ◌^◌, List, map, true};
-ghost use Rattle.clap.specs.Words.{IsAmong, fault_of, kind_of, takes};
+ghost use Rattle.std.specs.Prelude.{◌≡◌, ◌<◌, ◌+◌, ◌^◌, map};
+ghost use Rattle.coniks_cli.specs.Endings.{IsOutcome, unread_status};
 ghost use Rattle.coniks_cli.specs.Telling.{Tells};
-ghost use Rattle.coniks_lines.specs.Known.{Source};
 ghost use Rattle.coniks_lines.specs.Runs.{streams};
-ghost use Rattle.coniks_proof.specs.Octets.{Octets};
-ghost use Rattle.provider.specs.Command.{provider};
-ghost use Rattle.provider.specs.Program.{EndsFor, IsOutcome, unread_line, unread_status};
+ghost use Rattle.provider.specs.Program.{Ends, fault_line, unread_line};
 
-use crate::ending::{Ending, fault_text, status, told};
+use crate::ending::{told, unread_text};
 use crate::settings::settings_of;
-use clap::Error;
-use coniks_cli::{Explained, Unread, WordsFault, explain, tell, tell_if};
-use coniks_json::fault::{RunFault, of_lines};
+use coniks_cli::{Ending, Unread, WordsFault, explain, status, tell, tell_if};
+use coniks_json::fault::RunFault;
 use coniks_lines::{ByteIn, ByteOut};
 use coniks_provider::run_provider;
 use std::alloc::Global;
@@ -40,16 +36,15 @@ pub(crate) fn program<T: Threads + Sync, S: AsStr, R: ByteIn, W: ByteOut, E: Byt
     requires reads { (R.source reader.old).failed + 1 < 2 ^ 64 }
     requires writes { (W.sink writer.old).failed + 1 < 2 ^ 64 }
     requires tells { (E.sink errors.old).failed + 1 < 2 ^ 64 }
-    ensures { IsOutcome (map S.text words.entry.now)
-        (streams (R.source reader.old) (R.source reader.new) (W.sink writer.old) (W.sink writer.new))
-        (E.sink errors.old) (E.sink errors.new) result }
+    ensures { IsOutcome (Ends (map S.text words.entry.now) (streams (R.source reader.old) (R.source reader.new) (W.sink writer.old) (W.sink writer.new)))
+        fault_line (E.sink errors.old) (E.sink errors.new) result }
 {
     let outcome = match settings_of(rt, alloc, words) {
         Ok(parallelism) => match run_provider(rt, alloc, reader, writer, parallelism) {
             Ok(all) => Ok(Ending::Done(all)),
             Err(fault) => Err(fault),
         },
-        Err(WordsFault::Clap(error)) => show_or_refuse(alloc, &error, writer),
+        Err(WordsFault::Clap(error)) => explain(alloc, &error, writer),
         Err(WordsFault::OutOfMemory) => Err(RunFault::OutOfMemory),
     };
     tell_if(errors, told(&outcome));
@@ -66,35 +61,5 @@ pub(crate) fn unread_words<E: ByteOut>(why: Unread, errors: &mut E) -> u8
     ensures told { Tells (E.sink errors.old) (unread_line why) (E.sink errors.new) }
 {
     let _ = tell(errors, unread_text(why));
-    match why {
-        Unread::NotText => 2,
-        Unread::OutOfMemory => 3,
-    }
-}
-
-/// Returns the error line for arguments that cannot be read.
-fn unread_text(why: Unread) -> &'static str
-    ensures { result.now ≡ unread_line why }
-{
-    match why {
-        Unread::NotText => "provider: an argument is not UTF-8\n",
-        Unread::OutOfMemory => fault_text(RunFault::OutOfMemory),
-    }
-}
-
-/// Writes help or the version, or returns why the arguments are refused.
-fn show_or_refuse<W: ByteOut>(
-    alloc: Global,
-    error: &Error,
-    writer: &mut W,
-) -> Result<Ending, RunFault>
-    requires { (W.sink writer.old).failed + 1 < 2 ^ 64 }
-    ensures { (still : Source) (words : List Octets) → IsAmong (kind_of error.now) (fault_of provider words)
-        → takes provider words ≢ true → EndsFor words (streams still still (W.sink writer.old) (W.sink writer.new)) result }
-{
-    match explain(alloc, error, writer) {
-        Ok(Explained::Shown) => Ok(Ending::Done(true)),
-        Ok(Explained::Refused(text)) => Ok(Ending::Refused(text)),
-        Err(fault) => Err(of_lines(fault)),
-    }
+    why.status()
 }

@@ -1,50 +1,24 @@
-//! The outcome of a command line, its status, and the error text.
+//! The error lines of the program.
 
 ghost use Rattle.std.specs.Prelude.{◌≡◌, option_map};
-ghost use Rattle.coniks_tool.specs.Program.{fault_line, status_of, told_of};
+ghost use Rattle.coniks_cli.specs.Endings.{told_of};
+ghost use Rattle.coniks_tool.specs.Program.{fault_line, unread_line};
 
+use coniks_cli::{Ending, Unread};
 use coniks_json::fault::RunFault;
 
-/// The outcome of a command line.
-#[derive(Drop)]
-pub(crate) enum Ending {
-    /// A run ended, or help or the version was shown. Contains whether everything was accepted.
-    Done(bool),
-    /// `clap` refused the arguments. Contains its text.
-    Refused(String),
-    /// The text of a key is not 64 hexadecimal digits.
-    BadKey,
-    /// The text of an expectation is not base64.
-    BadExpectation,
-}
-
 /// The error line for a bad key.
-const BAD_KEY: &str = "keydir: bad key\n";
+pub(crate) const BAD_KEY: &str = "keydir: bad key\n";
 
 /// The error line for a bad expectation.
-const BAD_EXPECTATION: &str = "keydir: bad expectation\n";
-
-/// Returns the exit status of an outcome.
-pub(crate) fn status(outcome: &Result<Ending, RunFault>) -> u8
-    ensures { result ≡ status_of outcome.now }
-{
-    match outcome {
-        Ok(Ending::Done(true)) => 0,
-        Ok(Ending::Done(false)) => 1,
-        Ok(_) => 2,
-        Err(_) => 3,
-    }
-}
+pub(crate) const BAD_EXPECTATION: &str = "keydir: bad expectation\n";
 
 /// Returns the error text of an outcome, if any.
 pub(crate) fn told<'o>(outcome: &'o Result<Ending, RunFault>) -> Option<&'o str>
-    ensures { option_map (λ text. text.now) result ≡ told_of outcome.now }
+    ensures { option_map (λ text. text.now) result ≡ told_of fault_line outcome.now }
 {
     match outcome {
-        Ok(Ending::Done(_)) => None,
-        Ok(Ending::Refused(text)) => Some(text.as_str()),
-        Ok(Ending::BadKey) => Some(BAD_KEY),
-        Ok(Ending::BadExpectation) => Some(BAD_EXPECTATION),
+        Ok(ending) => ending.text(),
         Err(fault) => Some(fault_text(*fault)),
     }
 }
@@ -58,5 +32,15 @@ pub(crate) fn fault_text(fault: RunFault) -> &'static str
         RunFault::Write => "keydir: write failed\n",
         RunFault::OutOfMemory => "keydir: out of memory\n",
         RunFault::NoBoard => "keydir: no board\n",
+    }
+}
+
+/// Returns the error line for arguments that cannot be read.
+pub(crate) fn unread_text(why: Unread) -> &'static str
+    ensures { result.now ≡ unread_line why }
+{
+    match why {
+        Unread::NotText => "keydir: a word is not UTF-8\n",
+        Unread::OutOfMemory => fault_text(RunFault::OutOfMemory),
     }
 }

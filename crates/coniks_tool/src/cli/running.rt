@@ -10,10 +10,11 @@ ghost use Rattle.coniks_tool.specs.Program.{EndsBy};
 use crate::audit::machine::run_audit;
 use crate::check::machine::run_check;
 use crate::cli::choice::Settings;
-use crate::cli::ending::Ending;
+use crate::cli::ending::{BAD_EXPECTATION, BAD_KEY};
 use crate::monitor::expectation::expectation;
 use crate::monitor::machine::run_monitor;
 use crate::run::machine::run_script;
+use coniks_cli::Ending;
 use coniks_json::fault::RunFault;
 use coniks_json::members::bytes_of_digits;
 use coniks_lines::{ByteIn, ByteOut};
@@ -62,7 +63,7 @@ fn audit_under<R: ByteIn, W: ByteOut>(
 {
     match bytes_of_digits(key) {
         Some(key) => Ok(Ending::Done(run_audit(alloc, key, reader, writer)?)),
-        None => Ok(Ending::BadKey),
+        None => Ok(Ending::Unusable(BAD_KEY)),
     }
 }
 
@@ -81,10 +82,10 @@ fn watch_under<R: ByteIn, W: ByteOut>(
         (streams (R.source reader.old) (R.source reader.new) (W.sink writer.old) (W.sink writer.new)) result }
 {
     let Some(key) = bytes_of_digits(key) else {
-        return Ok(Ending::BadKey);
+        return Ok(Ending::Unusable(BAD_KEY));
     };
     let Some(expected) = expectation_of(alloc, expect)? else {
-        return Ok(Ending::BadExpectation);
+        return Ok(Ending::Unusable(BAD_EXPECTATION));
     };
     let name = copy_of(alloc, name)?;
     let all = run_monitor(alloc, key, name, expected, reader, writer)?;

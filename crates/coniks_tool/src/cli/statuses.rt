@@ -1,20 +1,16 @@
 //! The whole program over its streams.
 
-ghost use Rattle.std.specs.Prelude.{◌≡◌, ◌≢◌, ◌<◌, ◌+◌, ◌^◌, List, map, true};
-ghost use Rattle.clap.specs.Words.{IsAmong, fault_of, kind_of, takes};
+ghost use Rattle.std.specs.Prelude.{◌≡◌, ◌<◌, ◌+◌, ◌^◌, map};
+ghost use Rattle.coniks_cli.specs.Endings.{IsOutcome, unread_status};
 ghost use Rattle.coniks_cli.specs.Telling.{Tells};
-ghost use Rattle.coniks_lines.specs.Known.{Source};
 ghost use Rattle.coniks_lines.specs.Runs.{streams};
-ghost use Rattle.coniks_proof.specs.Octets.{Octets};
-ghost use Rattle.coniks_tool.specs.Keydir.{keydir};
-ghost use Rattle.coniks_tool.specs.Program.{EndsFor, IsOutcome, unread_line, unread_status};
+ghost use Rattle.coniks_tool.specs.Program.{Ends, fault_line, unread_line};
 
-use crate::cli::ending::{Ending, fault_text, status, told};
+use crate::cli::ending::{told, unread_text};
 use crate::cli::running::run_settings;
 use crate::cli::settings::settings;
-use clap::Error;
-use coniks_cli::{Explained, Unread, WordsFault, explain, tell, tell_if};
-use coniks_json::fault::{RunFault, of_lines};
+use coniks_cli::{Unread, WordsFault, explain, status, tell, tell_if};
+use coniks_json::fault::RunFault;
 use coniks_lines::{ByteIn, ByteOut};
 use std::alloc::Global;
 use std::convert::AsStr;
@@ -44,13 +40,12 @@ pub fn program<T: Threads + Sync, S: AsStr, R: ByteIn, W: ByteOut, E: ByteOut>(
     // The result of `clap` for the arguments decides between a run, help or the version, and an error. A run is that of
     // the settings, under their key and expectation. Arguments that select no run leave the input unread, whatever the
     // status, and refused ones leave the output unwritten too. Nothing is written to `errors` if the run ends.
-    ensures { IsOutcome (map S.text words.entry.now)
-        (streams (R.source reader.old) (R.source reader.new) (W.sink writer.old) (W.sink writer.new))
-        (E.sink errors.old) (E.sink errors.new) result }
+    ensures { IsOutcome (Ends (map S.text words.entry.now) (streams (R.source reader.old) (R.source reader.new) (W.sink writer.old) (W.sink writer.new)))
+        fault_line (E.sink errors.old) (E.sink errors.new) result }
 {
     let outcome = match settings(alloc, words) {
         Ok(settings) => run_settings(rt, alloc, settings, reader, writer),
-        Err(WordsFault::Clap(error)) => show_or_refuse(alloc, &error, writer),
+        Err(WordsFault::Clap(error)) => explain(alloc, &error, writer),
         Err(WordsFault::OutOfMemory) => Err(RunFault::OutOfMemory),
     };
     tell_if(errors, told(&outcome));
@@ -67,35 +62,5 @@ pub fn unread_words<E: ByteOut>(why: Unread, errors: &mut E) -> u8
     ensures told { Tells (E.sink errors.old) (unread_line why) (E.sink errors.new) }
 {
     let _ = tell(errors, unread_text(why));
-    match why {
-        Unread::NotText => 2,
-        Unread::OutOfMemory => 3,
-    }
-}
-
-/// Returns the error line for arguments that cannot be read.
-fn unread_text(why: Unread) -> &'static str
-    ensures { result.now ≡ unread_line why }
-{
-    match why {
-        Unread::NotText => "keydir: a word is not UTF-8\n",
-        Unread::OutOfMemory => fault_text(RunFault::OutOfMemory),
-    }
-}
-
-/// Writes help or the version, or returns why the arguments are refused.
-fn show_or_refuse<W: ByteOut>(
-    alloc: Global,
-    error: &Error,
-    writer: &mut W,
-) -> Result<Ending, RunFault>
-    requires { (W.sink writer.old).failed + 1 < 2 ^ 64 }
-    ensures { (still : Source) (words : List Octets) → IsAmong (kind_of error.now) (fault_of keydir words)
-        → takes keydir words ≢ true → EndsFor words (streams still still (W.sink writer.old) (W.sink writer.new)) result }
-{
-    match explain(alloc, error, writer) {
-        Ok(Explained::Shown) => Ok(Ending::Done(true)),
-        Ok(Explained::Refused(text)) => Ok(Ending::Refused(text)),
-        Err(fault) => Err(of_lines(fault)),
-    }
+    why.status()
 }
