@@ -20,7 +20,7 @@ import pytest
 
 TOP = Path(__file__).resolve().parents[2]
 PROGRAMS = ["keydir", "provider"]
-FILES = [*PROGRAMS, "scripts/install", "scripts/launch", "scripts/crates", "scripts/built"]
+FILES = [*PROGRAMS, "scripts/install", "scripts/launch", "scripts/crates", "scripts/built", "scripts/processor"]
 FOLDERS = ["docs/man", "embed/python/src/coniks"]
 SITE = "lib/python3/site-packages"
 PACKAGE = f"{SITE}/coniks"
@@ -30,8 +30,10 @@ SECONDS = 60
 SECTIONS = ["NAME", "SYNOPSIS", "DESCRIPTION", "OPTIONS", "EXIT STATUS", "EXAMPLES", "SEE ALSO", "CAVEATS"]
 SETTERS = [["groff", "-mandoc", "-ww", "-z", "-Tutf8"], ["mandoc", "-T", "lint", "-W", "warning"]]
 
-# In the place of `rt`: it makes a program that prints its name and its version, or fails if the file `broken` names the crate.
+# In the place of `rt`: it makes a program that prints its name and its version, or fails if the file `broken` names the crate. It
+# notes the processors that it is asked for.
 FAKE_RT = """#!/bin/sh
+[ "$2" != --cpu ] || echo "$3" >>ROOM/asked
 if [ "$(cat ROOM/broken)" = "${PWD##*/}" ]; then
     echo "error: broken"
     exit 1
@@ -57,6 +59,11 @@ def run(*words: Union[str, Path], home: Path = Path("/"), **more: str) -> subpro
 
 def is_built(file: Path) -> bool:
     return run(TOP / "scripts/built", "is", file).returncode == 0
+
+
+def processor() -> str:
+    """What the launchers build for here."""
+    return run(TOP / "scripts/processor").stdout.strip()
 
 
 def write_program(room: Path, file: Path, text: str) -> None:
@@ -90,8 +97,8 @@ def lay_out_tree(room: Path) -> Path:
     return room
 
 
-def install(room: Path, *words: Union[str, Path]) -> subprocess.CompletedProcess[str]:
-    return run(room / "scripts/install", *words, home=room, PATH=search_path(room))
+def install(room: Path, *words: Union[str, Path], **more: str) -> subprocess.CompletedProcess[str]:
+    return run(room / "scripts/install", *words, home=room, PATH=search_path(room), **more)
 
 
 def files(prefix: Path) -> dict[str, int]:
@@ -152,7 +159,8 @@ def test_first(room: Path, prefix: Path) -> None:
     """The files of an installation, into a folder that isn't there yet."""
     prefix = prefix / "below"
     ran = install(room, prefix)
-    said = f"{prefix}: keydir, provider, their manual pages, and coniks for Python without libconiks.so, which embed/build makes\n"
+    what = f"keydir and provider for {processor()}, their manual pages, and coniks for Python"
+    said = f"{prefix}: {what} without libconiks.so, which embed/build makes\n"
     assert (ran.returncode, ran.stdout, ran.stderr) == (0, said, ""), f"install: {ran}"
     assert files(prefix) == wanted(), f"its files: {files(prefix)}"
     check_moved("a moved folder", prefix)
@@ -199,6 +207,17 @@ def test_build(room: Path, prefix: Path) -> None:
     ran = install(room, prefix)
     texts = [run(prefix / "bin" / it).stdout for it in PROGRAMS]
     assert texts == ["keydir 0.2.0\n", "provider 0.2.0\n"] and ran.returncode == 0, ("a build", f"{texts} {ran}")
+
+
+def test_processor(room: Path, prefix: Path) -> None:
+    """CONIKS_CPU names what the programs are built for, and another value than two installs nothing."""
+    ran = install(room, prefix, CONIKS_CPU="x86-64-v4")
+    said = 'processor: CONIKS_CPU is "x86-64-v4", expected x86-64-v2 or x86-64-v3\n'
+    assert (ran.returncode, ran.stdout, ran.stderr, prefix.exists()) == (2, "", said, False)
+    for cpu in ["x86-64-v2", "x86-64-v3"]:
+        ran = install(room, prefix, CONIKS_CPU=cpu)
+        assert (ran.returncode, ran.stdout.partition(",")[0]) == (0, f"{prefix}: keydir and provider for {cpu}"), ran
+        assert (room / "asked").read_text().split()[-2:] == [cpu, cpu]
 
 
 @pytest.fixture(scope="module")
