@@ -1,7 +1,8 @@
-"""What the gate counts by the end of a command's output."""
+"""What the gate counts: by the end of a command's output, and over the programs for a newer processor."""
 
 from __future__ import annotations
 
+import os
 import sys
 from importlib.machinery import SourceFileLoader
 from importlib.util import module_from_spec, spec_from_loader
@@ -40,3 +41,37 @@ ENDS = {
 def test_counts(gate: Any, what: str) -> None:
     text, status, wanted = ENDS[what]
     assert gate.counts_of(text, status) == wanted
+
+
+def newer(gate: Any, monkeypatch: pytest.MonkeyPatch, here: str, said: str, status: int) -> tuple[list[str], str, str]:
+    """Has the gate run the cases for a newer processor on a machine, where the launchers print this. The programs whose cases ran with
+    that processor asked for, the counts, and the processor that is asked for afterwards."""
+    ran = []
+    monkeypatch.setenv("CONIKS_CPU", gate.OLDER)
+    monkeypatch.setattr(gate, "processor", lambda: here)
+    monkeypatch.setattr(gate, "shown", lambda words: (f"{words[0].name} 1.0.0\n{said}", status))
+    monkeypatch.setattr(gate, "run_cases", lambda tally, program: ran.append(f"{program.name} {os.environ['CONIKS_CPU']}"))
+    tally = gate.Tally()
+    gate.run_cases_by_newer(tally)
+    return ran, tally.line(), os.environ["CONIKS_CPU"]
+
+
+def test_newer(gate: Any, monkeypatch: pytest.MonkeyPatch) -> None:
+    """The cases run over both programs, which stay. A machine without the features skips them, and keeps the older programs."""
+    told, both = "built for x86-64-v3\n", ["keydir x86-64-v3", "provider x86-64-v3"]
+    assert newer(gate, monkeypatch, "x86-64-v3", told, 0) == (both, "0 passed, 0 failed", "x86-64-v3")
+    assert newer(gate, monkeypatch, "x86-64-v2", told, 0) == ([], "0 passed, 0 failed, 1 skipped", "x86-64-v2")
+
+
+@pytest.mark.parametrize("said, status", [("", 70), ("built for x86-64-v2\n", 0), ("", 0), ("built for x86-64-v3\n", 1)])
+def test_newer_not_built(gate: Any, monkeypatch: pytest.MonkeyPatch, said: str, status: int) -> None:
+    """A program that isn't built for the newer processor fails the gate, and no case runs."""
+    assert newer(gate, monkeypatch, "x86-64-v3", said, status)[:2] == ([], "0 passed, 2 failed")
+
+
+def test_processor(gate: Any, monkeypatch: pytest.MonkeyPatch) -> None:
+    """What is asked for doesn't change what the machine has."""
+    had = gate.processor()
+    for asked in ["x86-64-v2", "x86-64-v3", "another"]:
+        monkeypatch.setenv("CONIKS_CPU", asked)
+        assert gate.processor() == had in ["x86-64-v2", "x86-64-v3"]
