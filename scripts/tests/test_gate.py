@@ -43,30 +43,28 @@ def test_counts(gate: Any, what: str) -> None:
     assert gate.counts_of(text, status) == wanted
 
 
-def newer(gate: Any, monkeypatch: pytest.MonkeyPatch, here: str, said: str, status: int) -> tuple[list[str], str, str]:
-    """Has the gate run the cases for a newer processor on a machine, where the launchers print this. The programs whose cases ran with
-    that processor asked for, the counts, and the processor that is asked for afterwards."""
-    ran = []
-    monkeypatch.setenv("CONIKS_CPU", gate.OLDER)
+def newer(gate: Any, monkeypatch: pytest.MonkeyPatch, here: str, compiles: set[str]) -> tuple[list[str], str]:
+    """Has the gate run the cases for a newer processor on a machine, where these programs compile. The programs whose cases ran, and
+    the counts."""
+    ran: list[str] = []
     monkeypatch.setattr(gate, "processor", lambda: here)
-    monkeypatch.setattr(gate, "shown", lambda words: (f"{words[0].name} 1.0.0\n{said}", status))
-    monkeypatch.setattr(gate, "run_cases", lambda tally, program: ran.append(f"{program.name} {os.environ['CONIKS_CPU']}"))
+    monkeypatch.setattr(gate, "compiled", lambda program, cpu, room: room / f"{program.name} {cpu}" if program.name in compiles else None)
+    monkeypatch.setattr(gate, "run_cases", lambda tally, program, copied: ran.append(copied.name))
     tally = gate.Tally()
     gate.run_cases_by_newer(tally)
-    return ran, tally.line(), os.environ["CONIKS_CPU"]
+    return ran, tally.line()
 
 
 def test_newer(gate: Any, monkeypatch: pytest.MonkeyPatch) -> None:
-    """The cases run over both programs, which stay. A machine without the features skips them, and keeps the older programs."""
-    told, both = "built for x86-64-v3\n", ["keydir x86-64-v3", "provider x86-64-v3"]
-    assert newer(gate, monkeypatch, "x86-64-v3", told, 0) == (both, "0 passed, 0 failed", "x86-64-v3")
-    assert newer(gate, monkeypatch, "x86-64-v2", told, 0) == ([], "0 passed, 0 failed, 1 skipped", "x86-64-v2")
+    """The cases run over both programs as they are compiled for the newer processor. A machine without its features skips them."""
+    both = {"keydir", "provider"}
+    assert newer(gate, monkeypatch, "x86-64-v3", both) == (["keydir x86-64-v3", "provider x86-64-v3"], "0 passed, 0 failed")
+    assert newer(gate, monkeypatch, "x86-64-v2", both) == ([], "0 passed, 0 failed, 1 skipped")
 
 
-@pytest.mark.parametrize("said, status", [("", 70), ("built for x86-64-v2\n", 0), ("", 0), ("built for x86-64-v3\n", 1)])
-def test_newer_not_built(gate: Any, monkeypatch: pytest.MonkeyPatch, said: str, status: int) -> None:
-    """A program that isn't built for the newer processor fails the gate, and no case runs."""
-    assert newer(gate, monkeypatch, "x86-64-v3", said, status)[:2] == ([], "0 passed, 2 failed")
+def test_newer_not_compiled(gate: Any, monkeypatch: pytest.MonkeyPatch) -> None:
+    """A program that can't be compiled for the newer processor fails the gate."""
+    assert newer(gate, monkeypatch, "x86-64-v3", {"keydir"}) == (["keydir x86-64-v3"], "0 passed, 1 failed")
 
 
 def test_processor(gate: Any, monkeypatch: pytest.MonkeyPatch) -> None:
