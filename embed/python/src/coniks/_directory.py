@@ -12,7 +12,18 @@ from ._engine import Engine, Record
 from ._host import Evidence, Host
 from ._lines import Index, Latest, Lookup, grouped, lookup_line, lookup_of, sized, text
 from ._threads import Worker
-from .faults import Closed, Fault, LogForked, NoDirectory, NotText, OtherIndex, ProgramFailed, ProviderError, ReplayDiffers
+from .faults import (
+    ChildrenDiffer,
+    Closed,
+    Fault,
+    LogForked,
+    NoDirectory,
+    NotText,
+    OtherIndex,
+    ProgramFailed,
+    ProviderError,
+    ReplayDiffers,
+)
 from .faults import RestartNeeded, UnknownEpoch
 from .log import Closing, Log
 from .policy import Policy
@@ -20,8 +31,6 @@ from .policy import Policy
 Result = TypeVar("Result")
 # How long a snapshot may take to be stored after the directory was closed.
 _STORE_SECONDS = 60
-# How often another child reads on before changes wait for it.
-_ROUNDS = 3
 
 
 def drop(work: Worker, compacting: Worker, host: Host) -> None:
@@ -32,7 +41,7 @@ def drop(work: Worker, compacting: Worker, host: Host) -> None:
 
 
 class Directory(Closing):
-    """What `Provider` and `coniks.replica.Replica` share: a child that answers lookups, and a thread that changes the
+    """What `Provider` and `coniks.replica.Replica` share: children that answer lookups, and a thread that changes the
     directory."""
 
     def __init__(self, host: Host, index: Index, log: Log, check_indices: bool, policy: Union[bytes, Policy]):
@@ -41,10 +50,9 @@ class Directory(Closing):
         # A closed directory begins no other call. What is under way then ends before the directory is over, or fails.
         self._is_closed = self._is_over = False
         self._work, self._owner = Worker(), os.getpid()
-        # Takes snapshots, beside the changes.
-        self._compacting = Worker()
-        # Why the directory can't be changed before a restart. `_is_logging` is set while a line is appended.
-        self._broken: Optional[Exception] = None
+        # Takes snapshots, and fills the place of a child that ended, beside the changes.
+        self._compacting = Worker(host.fill)
+        # Set while a line is appended.
         self._is_logging = False
         # A directory that nobody closes ends with its last reference.
         self._unused = weakref.finalize(self, drop, self._work, self._compacting, host)
@@ -59,11 +67,12 @@ class Directory(Closing):
     def _check(self) -> None:
         """Checks that lookups can go on: not if the VRF turned out to be another one."""
         self._check_open()
-        if isinstance(self._broken, OtherIndex):
-            raise self._needed() from self._broken
+        if isinstance(self._host.broken, OtherIndex):
+            raise self._needed(self._host.broken) from self._host.broken
 
-    def _needed(self) -> RestartNeeded:
-        return RestartNeeded(f"restart() is needed: {self._broken}")
+    @staticmethod
+    def _needed(broken: Exception) -> RestartNeeded:
+        return RestartNeeded(f"restart() is needed: {broken}")
 
     def _change(self, work: Callable[[], Result]) -> Result:
         """Makes a call in the thread that changes the directory, one after another."""
@@ -92,18 +101,6 @@ class Directory(Closing):
 
         return self._compacting.call(begun)
 
-    def _swap(self, new: Engine) -> None:
-        """Puts an engine that was restored from a snapshot in the place of this one, once it has replayed the same lines and has
-        the same. Lookups go on meanwhile."""
-        for _ in range(_ROUNDS):
-            new.follow(self._host.known.position)
-        with self._host.changing:
-            engine = self._host.sound()
-            new.follow(engine.position)
-            new.check_same(engine)
-            old = self._host.swap(new)
-        self._host.leave(old)
-
     def _check_thread(self) -> None:
         if self._work.is_this_thread() or self._compacting.is_this_thread():
             raise ProviderError("the signer called the provider that waits for it: call it after commit returned")
@@ -116,8 +113,8 @@ class Directory(Closing):
         record: Record = Record(),
         prepare: Callable[[Engine], object] = lambda engine: None,
     ) -> None:
-        """Replays the log in another child, which gets the place of this one if it shows the same directory, with this head and
-        this record of the signer. Until then this one answers lookups."""
+        """Replays the log in other children, which get the place of these if they show the same directory, with this head and this
+        record of the signer. Until then these answer lookups."""
         with self._host.changing:
             try:
                 engine = start()
@@ -132,13 +129,13 @@ class Directory(Closing):
                     self._host.end(engine)
                     raise
                 self._host.exchange(engine)
-            except (LogForked, NoDirectory, OtherIndex) as error:
-                self._broken = error
+            except (ChildrenDiffer, LogForked, NoDirectory, OtherIndex) as error:
+                self._host.broken = error
                 raise
             except ReplayDiffers as error:
-                self._broken = self._host.forked(error) if self._host.engine else error
+                self._host.broken = self._host.forked(error) if self._host.engine else error
                 raise
-            self._broken = None
+            self._host.broken = None
 
     def _restarted(self) -> Engine:
         self._host.begin_anew()
@@ -146,9 +143,10 @@ class Directory(Closing):
 
     def _ready(self) -> Engine:
         """The engine, if no restart is needed."""
-        if self._broken:
-            raise self._needed() from self._broken
-        return self._host.known
+        engine = self._host.known
+        if broken := self._host.broken or engine.children.differing:
+            raise self._needed(broken) from broken
+        return engine
 
     def lookup(self, name: str, epoch: Optional[int] = None) -> Lookup:
         """A name's proof at an epoch, the latest if none is given."""
@@ -232,13 +230,18 @@ class Directory(Closing):
         """Drops the evidence. If the log still lacks what this process has seen, the next `restart` takes it as it is. `link` is
         that of the latest epoch, so that no script does it for another directory. Keep the evidence first: clients may have seen
         it too."""
-        is_forked = isinstance(self._broken, (LogForked, ReplayDiffers))
+        is_forked = isinstance(self._host.broken, (LogForked, ReplayDiffers))
         self._change(lambda: self._host.forget(sized(link, 32, "a link"), is_forked))
 
     @property
     def pid(self) -> Optional[int]:
-        """The child's process number."""
-        return self._host.engine.child.pid if self._host.engine else None
+        """The process number of the first child that runs."""
+        return self._host.engine.children.pid if self._host.engine else None
+
+    @property
+    def pids(self) -> list[int]:
+        """The process numbers of the children that run. One that has ended is missing until its place is filled."""
+        return self._host.engine.children.pids if self._host.engine else []
 
     def close(self, seconds: float = 5) -> None:
         """Ends the child. Waits for a change that is under way, at most some seconds, and for an append in any case. What the
@@ -276,3 +279,10 @@ def digest_of(policy: Union[bytes, Policy]) -> bytes:
 def clock_of(policy: Union[bytes, Policy]) -> Optional[Policy]:
     """The policy if it has a clock."""
     return policy if isinstance(policy, Policy) and policy.epoch_period is not None else None
+
+
+def counted(children: int) -> int:
+    """How many children a directory has."""
+    if type(children) is not int or children not in (1, 2):
+        raise ValueError(f"a directory has 1 or 2 children, not {children!r}")
+    return children

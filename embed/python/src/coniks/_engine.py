@@ -1,137 +1,27 @@
-"""The program `provider` as a child process, and how far a log was replayed into it."""
+"""The children of a directory, and how far a log was replayed into them."""
 
 from __future__ import annotations
 
-import fcntl
 import math
-import os
 import random
 import secrets
-import select
-import subprocess
-import threading
-import time
 from dataclasses import dataclass
 from hashlib import sha256
 from itertools import islice
 from typing import Any, Callable, Iterable, Iterator, Mapping, NamedTuple, Optional, Sequence, Tuple
 
 from . import BODY_LENGTH, ENTRY_LENGTH, Head
-from ._lines import SIGNATURE_LENGTH, Epoch, Index, Latest, Pending, answer, digits, encoded, install_line, lookup_line
-from ._lines import grouped, latest_of, members_of, number, with_member
+from ._children import Children
+from ._lines import SIGNATURE_LENGTH, Epoch, Index, Latest, Pending, digits, encoded, install_line, lookup_line
+from ._lines import latest_of, members_of, number, with_member
 from ._restoring import Restoring, link_of
 from ._snapshot_lines import OPENING, Point, lines_of, snapshot_in
-from .faults import Fault, LogBehind, LogFailed, LogForked, OtherIndex, ProgramFailed, ProviderError, ReplayDiffers
+from .faults import ChildrenDiffer, Fault, LogBehind, LogFailed, LogForked, OtherIndex, ProgramFailed, ProviderError, ReplayDiffers
 from .faults import SnapshotDiffers, UnknownEpoch
 from .log import Log
 
-_GET_PIPE_SIZE = 1032  # fcntl.F_GETPIPE_SZ, from Python 3.10 on
 # In a log of this format a `prepare` line that follows another one without `install` abandons that update by name.
 _FORMAT = 2
-
-
-class Child:
-    """The program as a child process: lines go in and come out. It is in a session of its own, so that a terminal's interrupt
-    doesn't end it, and it ends with its parent, because its input does. After an error it isn't asked again."""
-
-    def __init__(self, words: Sequence[str], timeout: Optional[float]):
-        try:
-            pipe = subprocess.PIPE
-            self._process = subprocess.Popen(words, stdin=pipe, stdout=pipe, bufsize=0, start_new_session=True)
-        except OSError as error:
-            raise ProgramFailed(f"the program {words[0]} can't be started: {error.strerror}. Look at its path") from error
-        assert self._process.stdin and self._process.stdout
-        self._in, self._out = self._process.stdin.fileno(), self._process.stdout.fileno()
-        self._timeout, self.is_sound = timeout, True
-        self._held, self._at = b"", 0
-        # Lines of this size in all are written before their answers are read. The pipe has room for them, so that the child
-        # and its parent never both wait for the other to read.
-        self.at_once = fcntl.fcntl(self._in, _GET_PIPE_SIZE) // 2
-        self._can_write, self._can_read = select.poll(), select.poll()
-        self._can_write.register(self._in, select.POLLOUT)
-        self._can_read.register(self._out, select.POLLIN)
-        if timeout is not None:
-            os.set_blocking(self._in, False)
-
-    @property
-    def pid(self) -> int:
-        return self._process.pid
-
-    def send(self, lines: Iterable[bytes]) -> None:
-        """Writes lines with their newlines. Each gets an answer."""
-        if not self.is_sound:
-            raise ProgramFailed("the program isn't asked after an error, or once another one took its place: ask again")
-        try:
-            self._send(b"".join(lines))
-        except BaseException:
-            self.is_sound = False
-            raise
-
-    def receive(self, count: int, times: int = 1) -> list[bytes]:
-        """Reads the next answers, each of which may take the timeout so many times."""
-        try:
-            return [self._receive(times) for _ in range(count)]
-        except BaseException:
-            self.is_sound = False
-            raise
-
-    def _wait(self, pipe: select.poll, until: float) -> None:
-        """Waits for a pipe to be ready, if there is a timeout."""
-        if self._timeout is not None and not pipe.poll(max(0, until - time.monotonic()) * 1000):
-            raise ProgramFailed(f"the program didn't answer in {self._timeout} seconds, and is started again")
-
-    def _send(self, data: bytes) -> None:
-        until, rest = time.monotonic() + (self._timeout or 0), memoryview(data)
-        while rest:
-            try:
-                rest = rest[os.write(self._in, rest) :]
-            except BlockingIOError:
-                self._wait(self._can_write, until)
-            except OSError:
-                raise self._ended() from None
-
-    def _receive(self, times: int) -> bytes:
-        end = self._held.find(b"\n", self._at)
-        if end < 0:
-            until = time.monotonic() + (self._timeout or 0) * times
-            while end < 0:
-                self._wait(self._can_read, until)
-                more = os.read(self._out, 65536)
-                if not more:
-                    raise self._ended()
-                held = self._held[self._at :]
-                self._held, self._at = held + more, 0
-                end = self._held.find(b"\n", len(held))
-        line = self._held[self._at : end]
-        self._at = end + 1
-        return line
-
-    def _ended(self) -> ProgramFailed:
-        try:
-            return ProgramFailed(f"the program ended with status {self._process.wait(5)}: see its standard error")
-        except subprocess.TimeoutExpired:
-            return ProgramFailed("the program closed its streams, and is started again")
-
-    def is_usable(self) -> bool:
-        """Whether the program runs and was never out of step."""
-        self.is_sound = self.is_sound and self._process.poll() is None
-        return self.is_sound
-
-    def kill(self) -> None:
-        """Ends the program at once. Whoever waits for its answer gets an error."""
-        self.is_sound = False
-        self._process.kill()
-
-    def stop(self, seconds: float) -> None:
-        """Ends the program: its input ends, and after some seconds it is killed. The log has all that matters."""
-        assert self._process.stdin and self._process.stdout
-        self._process.stdin.close()
-        try:
-            self._process.wait(seconds)
-        except subprocess.TimeoutExpired:
-            self._process.kill()
-            self._process.wait()
-        self._process.stdout.close()
 
 
 Place = Tuple[str, str]
@@ -185,6 +75,7 @@ class Setting:
     nonce: Optional[bytes] = None
     vrf_public_key: Optional[bytes] = None
     verify: Optional[Callable[[bytes, bytes], bool]] = None
+    children: int = 1
 
 
 class Update(NamedTuple):
@@ -211,19 +102,19 @@ class Record(NamedTuple):
 
 
 class Engine:
-    """A child, and how far the log was replayed into it: the position of the next line, the latest epoch that the log has, and
-    the pending update. The child answers for these also if it has installed an epoch that the log doesn't have, `unlogged`,
-    since each lookup names its epoch."""
+    """The children, and how far the log was replayed into them: the position of the next line, the latest epoch that the log has,
+    and the pending update. The children answer for these also if they have installed an epoch that the log doesn't have,
+    `unlogged`, since each lookup names its epoch."""
 
     def __init__(self, setting: Setting):
-        """Starts a child. `replay` replays the log."""
-        self._setting, self.log, self.asking, self.verify = setting, setting.log, threading.Lock(), setting.verify
+        """Starts the children. `replay` replays the log."""
+        self._setting, self.log, self.verify = setting, setting.log, setting.verify
         # The position of the snapshot that the replay begins with, 0 if there is none.
         self.begin = 0
         self.position, self.latest = 0, Epoch(0, bytes(32), bytes(32), b"")
         self.size = Latest(0, bytes(32), 0, 0)
         self.chain: list[bytes] = []
-        # The epochs that the child has, with those of the latest entries of the chain, and what the `open` line said.
+        # The epochs that the children have, with those of the latest entries of the chain, and what the `open` line said.
         self.points: list[Point] = []
         self._opening: Mapping[str, Any] = {}
         self.update: Optional[Update] = None
@@ -233,18 +124,11 @@ class Engine:
         self._sample = Sample()
         # Whether the log says of each update that is replaced that it was abandoned. Logs of the first format don't.
         self._is_strict = False
-        self.child = Child(setting.words, setting.timeout)
+        self.children = Children(setting.words, setting.children, setting.timeout)
 
     def ask(self, line: bytes, times: int = 1) -> Mapping[str, Any]:
-        """What the child answers to a line. It may take the timeout so many times."""
-        with self.asking:
-            self.child.send([line, b"\n"])
-            [said] = self.child.receive(1, times)
-        try:
-            return answer(said)
-        except ProgramFailed:
-            self.child.is_sound = False
-            raise
+        """What each child answers to a line. It may take the timeout so many times."""
+        return self.children.ask(line, times)
 
     def open(self) -> None:
         """Opens a directory, in a log without a line."""
@@ -261,13 +145,15 @@ class Engine:
         self.append(line)
         self.compare_opening(members)
 
-    def replay(self) -> None:
-        """Restores the snapshot of the log, if there is one, and replays the lines from its position on."""
+    def replay(self, end: Optional[int] = None) -> None:
+        """Restores the snapshot of the log, if there is one, and replays the lines from its position on, to another one if that is
+        given."""
         try:
             if found := snapshot_in(self.log):
                 self.begin = found[0]
                 Restoring(self, self.begin).take_all(found[1])
-            for line in self.log.read(self.position):
+            count = None if end is None else max(0, end - self.position)
+            for line in islice(self.log.read(self.position), count):
                 self.take(line)
         except ProviderError:
             raise
@@ -358,34 +244,25 @@ class Engine:
         return lines_of(ask, self._opening, point, chain, self.replaced[: point.replaced], link_of(chain[-1]))
 
     def check_same(self, other: Engine) -> None:
-        """Raises `SnapshotDiffers` if the child of this engine hasn't what that of another one has, which has replayed the same
+        """Raises `SnapshotDiffers` if the children of this engine haven't what those of another one have, which has replayed the same
         lines: what the `open` line said, the latest entry, the names, the pending update, and the proofs of some names."""
         told = latest_of(self.ask(b'{"cmd":"latest"}'))
         if self._compared() != other._compared() or told != self.size:
             raise SnapshotDiffers(_SECOND)
         lines = [lookup_line(name, bytes.fromhex(index), self.latest.epoch) for name, index in self._sample.all()]
-        if self.answers(lines) != other.answers(lines):
+        if self.children.answers(lines) != other.children.answers(lines):
             raise SnapshotDiffers(_SECOND)
 
     def _compared(self) -> tuple[object, ...]:
         update = self.update and self.update[:4]
         return self._opening, self.position, self.latest, self.size.names, self.replaced, update
 
-    def answers(self, lines: Iterable[bytes]) -> list[bytes]:
-        """What the child prints for lines with their newlines."""
-        answers: list[bytes] = []
-        for group in grouped(lines, self.child.at_once):
-            with self.asking:
-                self.child.send(group)
-                answers += self.child.receive(len(group))
-        return answers
-
     def _pending(self, epoch: int, told: Mapping[str, Any]) -> Pending:
         """The update that the child has prepared. Its body is one of this epoch, after the latest one."""
         body, root = digits(told, "body", BODY_LENGTH), digits(told, "root", 32)
         numbers = epoch.to_bytes(8, "big") + self.latest.epoch.to_bytes(8, "big")
         if body[1:81] != numbers + root + self.latest.link or body[113:] != self._setting.policy:
-            self.child.is_sound = False
+            self.children.distrust()
             raise ProgramFailed(f"the body of epoch {epoch} doesn't follow the entry of epoch {self.latest.epoch}")
         return Pending(epoch, root, body)
 
@@ -417,10 +294,14 @@ class Engine:
     def _withdraw(self) -> None:
         if self.update:
             try:
-                told = self.ask(self.update.line)
-                self.child.is_sound = self.child.is_sound and told.get("body") == self.update.pending.body.hex()
+                is_same = self.ask(self.update.line).get("body") == self.update.pending.body.hex()
+            except ChildrenDiffer:
+                # They note it, and lookups go on.
+                return
             except ProviderError:
-                self.child.is_sound = False
+                is_same = False
+            if not is_same:
+                self.children.distrust()
 
     def install(self, signature: bytes) -> None:
         """Has the child install the pending update. Its epoch is `unlogged` until `log_installed` returns."""
@@ -428,7 +309,7 @@ class Engine:
         try:
             told = self.ask(line)
         except Fault as fault:
-            self.child.is_sound = False
+            self.children.distrust()
             raise ProgramFailed(f"the program refuses a pending update: {fault}. Retry") from fault
         epoch = self._installed(signature, told)
         self.unlogged = with_member(line, "link", epoch.link), epoch
@@ -456,7 +337,7 @@ class Engine:
         root, link, entry = (digits(told, it, size) for it, size in [("root", 32), ("link", 32), ("entry", ENTRY_LENGTH)])
         epoch = Epoch(number(told, "epoch"), root, link, entry)
         if not pending or (epoch.epoch, root, entry) != (pending.epoch, pending.root, pending.body + signature):
-            self.child.is_sound = False
+            self.children.distrust()
             raise ProgramFailed(f"the entry of epoch {epoch.epoch} isn't what was signed")
         return epoch
 

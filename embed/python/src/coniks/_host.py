@@ -1,7 +1,8 @@
-"""Keeps a child that answers lookups, and starts another one if it ends."""
+"""Keeps children that answer lookups, and starts others if they end."""
 
 from __future__ import annotations
 
+import math
 import threading
 import time
 from collections import deque
@@ -11,13 +12,17 @@ from queue import Empty, SimpleQueue
 from typing import Any, Callable, Iterable, Iterator, Optional, Sequence
 
 from . import BODY_LENGTH
+from ._children import DIFFER
 from ._engine import Engine, Record, Setting, two_bodies
 from ._snapshot_lines import entries_in, snapshot_in
 from ._threads import Worker
-from .faults import Closed, LinesDropped, LogForked, NoDirectory, ProgramFailed, ProviderError
+from .faults import ChildrenDiffer, Closed, LinesDropped, LogForked, NoDirectory, ProgramFailed, ProviderError, ReplayDiffers
+from .faults import SnapshotDiffers
 
 # The most starts of a child that ended, and the seconds in which they are counted.
 _STARTS, _SECONDS = 5, 60
+# How often another child reads on before changes wait for it.
+_ROUNDS = 3
 Verify = Callable[[bytes, bytes], bool]
 
 # How often a start begins anew because the snapshot was replaced meanwhile.
@@ -49,10 +54,10 @@ class Evidence:
 
 
 class Host:
-    """Keeps an engine, and sends lookups to its child in a thread of its own.
+    """Keeps an engine, and sends lookups to its children in a thread of its own.
 
-    `changing` is held while the child and the log may differ: by the thread that changes the directory, and while another child
-    is started. Lookups need only the engine's own lock, which is held while the child answers.
+    `changing` is held while the children and the log may differ: by the thread that changes the directory, and while others are
+    started because none is left. Lookups need only a child's own lock, which is held while it answers.
     """
 
     def __init__(self, setting: Setting):
@@ -61,8 +66,12 @@ class Host:
         self.engine: Optional[Engine] = None
         self._begun: list[Engine] = []
         self.is_closed, self._is_forgetful = False, False
+        # Why the directory can't be changed before a restart.
+        self.broken: Optional[Exception] = None
         self.evidence: Optional[Evidence] = None
         self._starts: deque[float] = deque(maxlen=_STARTS)
+        # When the place of a child that ended was last to be filled.
+        self._filled = -math.inf
         # Groups of lookups that wait for the thread, each with where its answers go.
         self._asked: SimpleQueue[Any] = SimpleQueue()
         self._thread = Worker(self._look_after)
@@ -81,7 +90,7 @@ class Host:
     @property
     def group_size(self) -> int:
         """The bytes of a group of lookups. The pipe to the child has room for at least two groups."""
-        return min(_GROUP, self.known.child.at_once)
+        return min(_GROUP, self.known.children.at_once)
 
     def serve(self, groups: Iterable[Sequence[bytes]]) -> Iterator[list[bytes]]:
         """The child's answers to groups of lookups, one group after another. Some groups are sent ahead, so that the child works
@@ -111,9 +120,9 @@ class Host:
         """Sends the groups that wait, and answers them. Those that a child which ends leaves are sent to another one."""
         asked = self._taken()
         failure: BaseException = ProgramFailed("the program ended while it was asked: ask again, since it is started again")
-        for is_again in (False, True):
+        for tries in range(1 + self._setting.children):
             try:
-                self._serve_groups(asked, self.known if not is_again else self._revived())
+                self._serve_groups(asked, self._revived() if tries else self.known)
             except BaseException as error:
                 failure = error
             if not asked:
@@ -122,23 +131,26 @@ class Host:
             asked.popleft()[1].put((False, failure))
 
     def _serve_groups(self, asked: deque[Any], engine: Engine) -> None:
-        with engine.asking:
-            if not engine.child.is_sound:
+        with engine.children.lent() as child:
+            if not child.is_sound:
                 return
-            engine.child.send(line for lines, _ in asked for line in lines)
+            child.send(line for lines, _ in asked for line in lines)
             while asked:
                 lines, reply = asked[0]
-                reply.put((True, engine.child.receive(len(lines))))
+                reply.put((True, child.receive(len(lines))))
                 asked.popleft()
 
     def _revived(self) -> Engine:
+        engine = self.known
+        if engine.children.is_usable():
+            return engine
         with self.changing:
             return self.sound()
 
     def _taken(self) -> deque[Any]:
         """The groups that wait, as many as the pipe to the child has room for."""
         taken: deque[Any] = deque()
-        room = self.known.child.at_once
+        room = self.known.children.at_once
         with suppress(Empty):
             while room > 0:
                 taken.append(self._asked.get_nowait())
@@ -146,35 +158,68 @@ class Host:
         return taken
 
     def distrust(self) -> None:
-        """Notes that the child printed what isn't defined."""
-        self.known.child.is_sound = False
+        """Notes that a child printed what isn't defined."""
+        self.known.children.distrust()
 
     def _look_after(self) -> None:
-        """Starts another child if this one ended. If that fails, the next lookup or change returns the error."""
-        if self.engine and not self.engine.child.is_usable():
+        """Starts other children if none is left. If that fails, the next lookup or change returns the error."""
+        if self.engine and not self.engine.children.is_usable():
             with self.changing:
                 self.sound()
 
+    def fill(self) -> None:
+        """Starts others in the place of two children of which one has ended. Lookups and changes go on meanwhile, by the one that
+        is left. If that one or the log is another one than what was replayed, nothing is changed before a restart."""
+        engine, now = self.engine, time.monotonic()
+        if engine is None or not self._is_to_fill(engine) or self._filled > now - _SECONDS / _STARTS:
+            return
+        self._filled = now
+        try:
+            self._fill(engine)
+        except (ChildrenDiffer, LogForked, NoDirectory) as error:
+            self.broken = error
+        except ReplayDiffers as error:
+            self.broken = self.forked(error)
+
+    def _fill(self, engine: Engine) -> None:
+        new = self.started(end=engine.position)
+        try:
+            # A snapshot may be one of later lines.
+            if new.position <= engine.position:
+                self.replace(new, engine)
+        except SnapshotDiffers as error:
+            raise ChildrenDiffer(DIFFER) from error
+        finally:
+            if self.engine is not new:
+                self.end(new)
+
+    def _is_to_fill(self, engine: Engine) -> bool:
+        """Whether one of two children has ended, and what the log has is known."""
+        children = engine.children
+        return not (self.broken or children.differing or children.is_whole()) and children.is_usable()
+
     def sound(self) -> Engine:
-        """The engine, whose child is started again if it ended. The caller holds `changing`."""
+        """The engine, whose children are started again if all have ended. The caller holds `changing`."""
         engine = self.known
         if self.is_closed:
             raise Closed("the directory is closed")
-        if engine.child.is_usable():
+        if engine.children.is_usable():
             return engine
+        if engine.children.differing:
+            raise engine.children.differing
         now = time.monotonic()
         if len(self._starts) == _STARTS and self._starts[0] > now - _SECONDS:
             raise ProgramFailed(f"the program ended {_STARTS} times in {_SECONDS} seconds: see its standard error, then restart")
         self._starts.append(now)
         return self.exchange(self.started())
 
-    def started(self, may_create: bool = False) -> Engine:
-        """Another engine, which has replayed the log. One that is missing or has no line raises `NoDirectory`, unless a directory
-        may be made there."""
+    def started(self, may_create: bool = False, end: Optional[int] = None) -> Engine:
+        """Another engine, which has replayed the log, or the lines below a position. A log that is missing or has no line raises
+        `NoDirectory`, unless a directory may be made there."""
         for left in reversed(range(_TRIES)):
             engine = self.begun()
             try:
-                self._replay(engine, may_create)
+                self._replay(engine, may_create, end)
                 return engine
             except LinesDropped:
                 # Another process may have stored a snapshot meanwhile, and dropped the lines below it.
@@ -187,9 +232,9 @@ class Host:
                 raise
         raise AssertionError
 
-    def _replay(self, engine: Engine, may_create: bool) -> None:
+    def _replay(self, engine: Engine, may_create: bool, end: Optional[int]) -> None:
         try:
-            engine.replay()
+            engine.replay(end)
         except NoDirectory:
             if not may_create:
                 raise
@@ -208,9 +253,8 @@ class Host:
         return engine
 
     def end(self, engine: Engine) -> None:
-        """Ends the child of an engine that isn't in use."""
-        engine.child.kill()
-        engine.child.stop(0)
+        """Ends the children of an engine that isn't in use."""
+        engine.children.end()
         self._forget(engine)
 
     def _forget(self, engine: Engine) -> None:
@@ -228,33 +272,37 @@ class Host:
         except BaseException:
             self.end(new)
             raise
-        self.engine, self._is_forgetful = new, False
-        self._forget(new)
+        self._is_forgetful = False
+        self._use(new)
         if old:
-            # It may hang in an answer.
-            old.child.kill()
-            with old.asking:
-                old.child.stop(0)
+            old.children.replace()
         return new
 
-    def swap(self, new: Engine) -> Engine:
-        """Puts an engine that has the same epochs, or forgot some, in the place of this one, and returns this one, which may be
-        answering lookups. The caller holds `changing`, and then calls `leave`."""
-        old = self.known
-        if self.is_closed:
-            raise Closed("the directory is closed")
+    def _use(self, new: Engine) -> None:
+        new.children.is_used = True
         self.engine = new
         self._forget(new)
-        return old
 
-    @staticmethod
-    def leave(old: Engine) -> None:
-        """Ends the child of an engine that another one took the place of, after the lookups that it is answering."""
-        with old.asking:
-            # Lookups that wait for it go to the other one, and not until this one's memory is gone.
-            old.child.is_sound = False
-        old.child.kill()
-        old.child.stop(0)
+    def replace(self, new: Engine, old: Optional[Engine] = None) -> None:
+        """Puts an engine that has the same epochs, or forgot some, in the place of this one, once it has replayed the same lines.
+        If an old one is given, it must still be this one, and the log must be its log. Lookups go on meanwhile."""
+        for _ in range(_ROUNDS):
+            new.follow(self.known.position)
+        with self.changing:
+            engine = self.sound()
+            if old not in (None, engine):
+                return
+            new.follow(engine.position)
+            if old and not new.follows(old):
+                raise self.forked(LogForked(_FORKED), new)
+            new.check_same(engine)
+            if self.is_closed:
+                raise Closed("the directory is closed")
+            self._use(new)
+            # If the directory is closed meanwhile.
+            self._begun.append(engine)
+        engine.children.leave()
+        self._forget(engine)
 
     def forked(self, error: ProviderError, new: Optional[Engine] = None) -> ProviderError:
         """Keeps the evidence of an error, and returns it. Without another engine the log's entries are read from the log."""
@@ -300,24 +348,25 @@ class Host:
         self.evidence, self._is_forgetful = None, is_forked
 
     def begin_anew(self) -> None:
-        """Forgets how often the child ended."""
+        """Forgets how often children ended."""
         self._starts.clear()
+        self._filled = -math.inf
 
     def drop(self) -> None:
-        """Ends the thread and the child without waiting for either."""
+        """Ends the thread and the children without waiting for them."""
         self.is_closed = True
         self._thread.stop()
         if self.engine:
-            self.engine.child.kill()
+            self.engine.children.kill()
 
     def close(self) -> None:
         """Ends the thread and the children."""
         self.is_closed = True
         self._thread.stop()
         self._thread.join(0.2)
-        children = {it.child for it in (self.engine, *self._begun) if it}
-        for child in children:
-            child.kill()
+        ended = [it.children for it in (self.engine, *self._begun) if it]
+        for children in ended:
+            children.kill()
         self._thread.join(1)
-        for child in children:
-            child.stop(1)
+        for children in ended:
+            children.end(1)

@@ -9,6 +9,7 @@ __all__ = [
     "AlreadyOpen",
     "BatchTooLong",
     "BoardFull",
+    "ChildrenDiffer",
     "Closed",
     "Command",
     "DirectoryExists",
@@ -261,6 +262,11 @@ class LogBehind(LogForked):
 
 class ReplayDiffers(ProviderError):
     """The program answers a line of the log otherwise than it did when the line was appended."""
+
+
+class ChildrenDiffer(ProviderError):
+    """Two children answer a line differently, so one of them is wrong. Neither the log nor the signer has seen what they answered,
+    unless it was logged before. Lookups go on; nothing is changed before `restart`."""
 
 
 class SnapshotDiffers(ProviderError):

@@ -54,7 +54,7 @@ import time
 from typing import Callable, Iterable, Iterator, Optional, Sequence, TypeVar, Union
 
 from . import ENTRY_LENGTH, BODY_LENGTH, Head, _number, faults
-from ._directory import Directory, check_writable, digest_of
+from ._directory import Directory, check_writable, counted, digest_of
 from ._engine import Engine, Record, Setting
 from ._host import Evidence, Host
 from ._lines import SIGNATURE_LENGTH, Change, Epoch, Index, Latest, Lookup, Operation, Pending, Register, command, prepare_line
@@ -127,13 +127,15 @@ class Provider(Directory):
         workers: Optional[int] = None,
         depth: Optional[int] = None,
         timeout: Optional[float] = None,
+        children: int = 1,
         create: bool = False,
         head: Optional[Head] = None,
         check_indices: bool = True,
         sign_pending: bool = True,
     ):
         first = None if nonce is None else sized(nonce, 32, "the nonce")
-        setting = Setting(command(program, workers, depth), timeout, log, digest_of(policy), first, vrf_public_key, verify)
+        words, digest = command(program, workers, depth), digest_of(policy)
+        setting = Setting(words, timeout, log, digest, first, vrf_public_key, verify, counted(children))
         super().__init__(Host(setting), index, log, check_indices, policy)
         self._set_signer(sign, verify)
         try:
@@ -315,7 +317,7 @@ class Provider(Directory):
             return append()
         except BaseException as error:
             if not isinstance(error, (LogRefused, Closed)):
-                self._broken = error if isinstance(error, Exception) else ProviderError("a call was interrupted")
+                self._host.broken = error if isinstance(error, Exception) else ProviderError("a call was interrupted")
             raise
         finally:
             self._is_logging = False
@@ -352,10 +354,10 @@ class Provider(Directory):
             # The refusal is what is known.
             return
         if count > position:
-            self._broken = Overtaken(
+            self._host.broken = Overtaken(
                 f"another provider has appended to {self._log}, and gone on: close this one, or open a replica"
             )
-            raise self._broken from refusal
+            raise self._host.broken from refusal
 
     def retry(self) -> Epoch:
         """Has the pending update signed, and installs it. Raises `NotPrepared` if there is none, and `SignerFailed` if it is
@@ -419,7 +421,7 @@ class Provider(Directory):
         with self._host.changing:
             engine = self._host.sound()
             point = self._chosen(engine, epoch)
-            lines = engine.snapshot(point, lambda line: self._host.known.ask(line))
+            lines = engine.snapshot(point, lambda line: self._host.known.children.look(line))
         new = self._host.begun()
         try:
             self._log.compact(point.position, self._restoring(new, point, lines))
@@ -441,7 +443,7 @@ class Provider(Directory):
         for line in lines:
             restoring.take(line)
             if new.points:
-                self._swap(new)
+                self._host.replace(new)
             yield line
 
     def _chosen(self, engine: Engine, epoch: Optional[int]) -> Point:

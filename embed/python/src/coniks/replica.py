@@ -17,7 +17,7 @@ from dataclasses import dataclass
 from typing import Optional, Sequence, Union
 
 from . import Head
-from ._directory import Directory, check_writable, digest_of
+from ._directory import Directory, check_writable, counted, digest_of
 from ._engine import Setting
 from ._host import Host
 from ._lines import Index, command
@@ -61,11 +61,13 @@ class Replica(Directory):
         workers: Optional[int] = None,
         depth: Optional[int] = None,
         timeout: Optional[float] = None,
+        children: int = 1,
         head: Optional[Head] = None,
         check_indices: bool = True,
         verify: Optional[Verify] = None,
     ):
-        setting = Setting(command(program, workers, depth), timeout, log, digest_of(policy), None, vrf_public_key, verify)
+        words, digest = command(program, workers, depth), digest_of(policy)
+        setting = Setting(words, timeout, log, digest, None, vrf_public_key, verify, counted(children))
         super().__init__(Host(setting), index, log, check_indices, policy)
         self._shared, self._lines, self._since = log, 0, time.monotonic()
         self._error: Optional[Exception] = None
@@ -104,9 +106,9 @@ class Replica(Directory):
 
     def _note_loss(self, position: int) -> None:
         """Notes that the log has fewer lines than were replayed. Until a restart nothing is taken from it."""
-        if not self._broken and position == self._host.known.position:
+        if not self._host.broken and position == self._host.known.position:
             lost = f"the log has {self._lines} lines, of which {position} were replayed: it lost some. Restore it, then restart"
-            self._broken = self._host.forked(LogForked(lost))
+            self._host.broken = self._host.forked(LogForked(lost))
 
     def follow(self, *, head: Optional[Head] = None) -> None:
         """Replays the lines that the log has now. A replica does it by itself, soon after they were appended. Raises `LogForked`
@@ -129,10 +131,10 @@ class Replica(Directory):
             # The snapshot has their effect.
             return self._restart(head)
         except OtherIndex as error:
-            self._broken = error
+            self._host.broken = error
             raise
         except ReplayDiffers as error:
-            self._broken = self._host.forked(error)
+            self._host.broken = self._host.forked(error)
             raise
         self._since = start
         if head:
@@ -159,7 +161,7 @@ class Replica(Directory):
             # It may have replayed lines that this child hasn't.
             if self._host.known.position < new.position:
                 self._work.call(lambda: self._follow(None))
-            self._swap(new)
+            self._host.replace(new)
         finally:
             if self._host.engine is not new:
                 self._host.end(new)
@@ -167,7 +169,7 @@ class Replica(Directory):
     def lag(self) -> Lag:
         """How far the replica is behind."""
         lines = max(0, self._lines - self._host.known.position)
-        return Lag(lines, time.monotonic() - self._since, self._broken or self._error)
+        return Lag(lines, time.monotonic() - self._since, self._host.broken or self._error)
 
     def promote(
         self, sign: Sign, *, verify: Optional[Verify] = None, sign_pending: bool = True, head: Optional[Head] = None
@@ -203,7 +205,6 @@ class Replica(Directory):
             provider._unused.detach()
             provider._work.stop()
             provider._compacting.stop()
-            self._broken = provider._broken
             if not isinstance(error, SignerFailed):
                 # What the child has installed may not be what the log will have.
                 self._host.distrust()
