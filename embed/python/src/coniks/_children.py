@@ -18,6 +18,9 @@ _GET_PIPE_SIZE = 1032  # fcntl.F_GETPIPE_SZ, from Python 3.10 on
 # After so many seconds lookups that wait for a child look whether the other one is free.
 _LOOK_AGAIN = 0.005
 DIFFER = "two children answer one line differently: the machine or the program is at fault. Look for that, then restart"
+# What follows a line that one of two children takes. Once it has answered a batch it frees memory, which takes milliseconds: lookups
+# go to it again after the answer to this.
+_LATEST = b'{"cmd":"latest"}\n'
 _NOT_ASKED = "the program isn't asked after an error, or once another one took its place: ask again"
 
 
@@ -68,13 +71,12 @@ class Child:
             self.is_sound = False
             raise
 
-    def ask(self, line: bytes, times: int, is_sent: bool) -> bytes:
-        """What the program answers to a line, which may have been sent."""
+    def ask(self, lines: bytes, times: int, is_sent: bool) -> list[bytes]:
+        """What the program answers to lines, which may have been sent."""
         with self.turn, self.asking:
             if not is_sent:
-                self.send([line, b"\n"])
-            [said] = self.receive(1, times)
-        return said
+                self.send([lines])
+            return self.receive(lines.count(b"\n"), times)
 
     def read(self, said: bytes) -> Mapping[str, Any]:
         """What an answer says. After one that isn't defined the program isn't asked again."""
@@ -194,21 +196,22 @@ class Children:
         if self.differing:
             raise self.differing
         children, is_sent = self._sound(), not self.is_used
+        lines = line + b"\n" + (b"" if is_sent or len(self._all) == 1 else _LATEST)
         if is_sent:
             for child in children:
                 # One that fails here fails again below.
                 with suppress(ProgramFailed):
-                    child.send([line, b"\n"])
+                    child.send([lines])
         failure = ProgramFailed(_NOT_ASKED)
-        first, told = b"", None
+        first, told = list[bytes](), None
         for child in children:
             try:
-                said = child.ask(line, times, is_sent)
+                said = child.ask(lines, times, is_sent)
             except ProgramFailed as error:
                 failure = error
                 continue
             if told is None:
-                first, told = said, child.read(said)
+                first, told = said, child.read(said[0])
             self._compare(first, said)
         if told is None:
             raise failure

@@ -11,6 +11,7 @@ from typing import Any, Callable, Iterable, Iterator, Mapping, Optional, Sequenc
 
 from . import BODY_LENGTH, ENTRY_LENGTH, _bytes, _number, faults
 from ._files import Path
+from ._threads import Turn
 from .faults import LogFailed, NotText, ProgramFailed, ProviderError
 
 SIGNATURE_LENGTH = 64
@@ -108,15 +109,21 @@ def install_line(signature: bytes) -> bytes:
 
 
 def prepare_line(epoch: int, operations: Iterable[Operation], nonce: Optional[bytes], index_of: Index) -> bytes:
-    listed: list[dict[str, Any]] = []
+    listed, turn = list[str](), Turn()
     for it in operations:
         if not isinstance(it, (Register, Change)):
             raise TypeError(f"an operation is Register or Change, not {type(it).__name__}")
-        kind, index = type(it).__name__.lower(), index_of(it.name).hex()
-        key, opening = base64.b64encode(_bytes(it.key, "a key")).decode(), sized(it.opening, 32, "an opening").hex()
-        listed.append({"op": kind, "name": it.name, "index": index, "key": key, "opening": opening})
-    new_nonce = {} if nonce is None else {"nonce": sized(nonce, 32, "the nonce").hex()}
-    return encoded({"cmd": "prepare", "epoch": _number(epoch, 64, "the epoch"), **new_nonce, "ops": listed})
+        listed.append(_operation(it, index_of(it.name).hex()))
+        turn.pause()
+    new_nonce = "" if nonce is None else f',"nonce":"{sized(nonce, 32, "the nonce").hex()}"'
+    return f'{{"cmd":"prepare","epoch":{_number(epoch, 64, "the epoch")}{new_nonce},"ops":[{",".join(listed)}]}}'.encode()
+
+
+def _operation(it: Operation, index: str) -> str:
+    """An operation in a line. Each is encoded by itself: one call for all would keep other threads waiting until it returns."""
+    kind, name = type(it).__name__.lower(), _ENCODER.encode(it.name)
+    key, opening = base64.b64encode(_bytes(it.key, "a key")).decode(), sized(it.opening, 32, "an opening").hex()
+    return f'{{"op":"{kind}","name":{name},"index":"{index}","key":"{key}","opening":"{opening}"}}'
 
 
 def members_of(line: bytes, error: type[ProviderError], what: str) -> Any:

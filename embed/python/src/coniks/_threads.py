@@ -3,6 +3,7 @@
 from __future__ import annotations
 
 import threading
+import time
 from contextlib import suppress
 from queue import Empty, SimpleQueue
 from typing import Any, Callable, Optional, TypeVar
@@ -10,6 +11,8 @@ from typing import Any, Callable, Optional, TypeVar
 from .faults import Closed
 
 Result = TypeVar("Result")
+# How many seconds of Python a thread runs before it lets others run, and how long it sleeps then: any sleep lets one run that waits.
+_TURN, _SLEEP = 0.0005, 0.00001
 
 
 class Worker:
@@ -87,3 +90,17 @@ class Worker:
                 return
             if job is not None:
                 job[1].put((False, Closed("the directory is closed")))
+
+
+class Turn:
+    """Lets other threads run from time to time during a long computation. Otherwise each of them waits 5 ms whenever it needs
+    Python, and a lookup needs it several times."""
+
+    def __init__(self) -> None:
+        self._end = time.monotonic() + _TURN
+
+    def pause(self) -> None:
+        """Sleeps for a moment if the turn is over."""
+        if time.monotonic() >= self._end:
+            time.sleep(_SLEEP)
+            self._end = time.monotonic() + _TURN
