@@ -109,7 +109,7 @@ def drive(folder: str, disk: str, program: str, kind: str, seed: int) -> None:
         while True:
             try:
                 # A process that was killed may have made the directory or not.
-                provider = opened(program, log, signer, guarded(signer), create=is_new(log))
+                provider = opened(program, log, signer, guarded(signer), create=is_new(log), children=1 + chance.randrange(2))
                 break
             except (SignerFailed, ProgramFailed, LogRefused):
                 pass

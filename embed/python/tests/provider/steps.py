@@ -45,11 +45,11 @@ class HookedLog:
 class Stage:
     """A directory with one epoch, whose next commit is stopped."""
 
-    def __init__(self, room: str, program: str) -> None:
-        self.room, self.program = Path(room), program
+    def __init__(self, room: str, program: str, children: int = 1) -> None:
+        self.room, self.program, self.children = Path(room), program, children
         self.file = FileLog(self.room / "log")
         self.log, self.signer = HookedLog(self.file), Signer(room, Salted())
-        self.provider = opened(program, self.log, self.signer, create=True)
+        self.provider = opened(program, self.log, self.signer, create=True, children=children)
         self.first = self.provider.commit(1, [Register("first", b"key")])
 
     def kill_child(self, *_: object) -> None:
@@ -68,7 +68,7 @@ class Stage:
         self.close()
         self.file = FileLog(self.room / "log")
         self.log = HookedLog(self.file)
-        self.provider = opened(self.program, self.log, self.signer)
+        self.provider = opened(self.program, self.log, self.signer, children=self.children)
 
     def close(self) -> None:
         self.provider.close()

@@ -49,10 +49,10 @@ def ends(call: Callable[[], object]) -> bool:
 class Stage:
     """A directory whose calls are interrupted."""
 
-    def __init__(self, room: str, program: str) -> None:
+    def __init__(self, room: str, program: str, children: int = 1) -> None:
         self.path, self.program, self.signer = Path(room) / "log", program, Signer(room, Salted())
-        self.log = FileLog(self.path)
-        self.own = opened(program, self.log, self.signer, guarded(self.signer), create=True)
+        self.log, self.children = FileLog(self.path), children
+        self.own = opened(program, self.log, self.signer, guarded(self.signer), create=True, children=children)
         self.epoch, self.there, self.position = 0, list[bytes](), 0
 
     def compact(self) -> None:
@@ -79,7 +79,8 @@ class Stage:
     def is_whole(self) -> bool:
         """Whether a start from the file has what was acknowledged, and one body was signed for each epoch."""
         self.close()
-        with FileLog(self.path) as self.log, opened(self.program, self.log, self.signer, guarded(self.signer)) as self.own:
+        guard, more = guarded(self.signer), {"children": self.children}
+        with FileLog(self.path) as self.log, opened(self.program, self.log, self.signer, guard, **more) as self.own:
             return {*self.there} <= {*self.own.chain()} == {*entries(self.log)} and self.signer.is_asked_once()
 
     def close(self) -> None:
@@ -101,13 +102,14 @@ CALLS: dict[str, Callable[[Stage], object]] = {
 }
 
 
+@pytest.mark.parametrize("children", [1, 2])
 @pytest.mark.parametrize("is_twice", [False, True])
 @pytest.mark.parametrize("what", CALLS)
-def test_call(program: str, what: str, is_twice: bool) -> None:
+def test_call(program: str, what: str, is_twice: bool, children: int) -> None:
     """Interrupts a call at each of its bytecodes in turn, once or again soon after, and then goes on."""
     chance, number = random.Random(f"{SEED} {what}"), 0
     with tempfile.TemporaryDirectory() as room:
-        stage = Stage(room, program)
+        stage = Stage(room, program, children)
         stage.commit()
         call = partial(CALLS[what], stage)
         while True:
@@ -162,11 +164,12 @@ def test_append(fails: bool, times: int) -> None:
         assert number > 50, "at each of its bytecodes"
 
 
-def test_timers(program: str, rounds: int = 300) -> None:
+@pytest.mark.parametrize("children", [1, 2])
+def test_timers(program: str, children: int, rounds: int = 300) -> None:
     """A timer's handler raises at random moments of calls, once or again and again."""
     chance = random.Random(SEED)
     with tempfile.TemporaryDirectory() as room:
-        stage, was = Stage(room, program), signal.getsignal(signal.SIGALRM)
+        stage, was = Stage(room, program, children), signal.getsignal(signal.SIGALRM)
         stage.commit()
         count, is_well = 0, True
 

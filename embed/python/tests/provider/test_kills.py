@@ -77,16 +77,19 @@ def is_abandoned(provider: Provider) -> bool:
 
 
 def one_kill(chance: random.Random, room: Path, disk: Path, program: str, kind: str) -> tuple[str, bool]:
-    """Starts the process, and kills it or its child, and then it: some time after its start, or after it has replayed the log."""
+    """Starts the process, and kills it, or its children or one of them, and then it: some time after its start, or after it has
+    replayed the log."""
     words = [sys.executable, str(HERE / "kills.py"), str(room), str(disk), program, kind, str(chance.randrange(1 << 30))]
     with open(room / "said", "ab") as said, subprocess.Popen(words, stdout=subprocess.PIPE, stderr=said) as process:
         assert process.stdout
         if chance.randrange(3):
             process.stdout.readline()
         time.sleep(chance.uniform(0, 0.5))
-        turn = chance.choice(["process", "child", "both", "child first"])
-        if turn == "child":
-            for it in children_of(process.pid):
+        turn = chance.choice(["process", "child", "one child", "both", "child first"])
+        if turn in ("child", "one child"):
+            # There may be two, or more while a snapshot is taken.
+            there = children_of(process.pid)
+            for it in chance.sample(there, min(1, len(there))) if turn == "one child" else there:
                 kill(it)
             time.sleep(chance.uniform(0, 0.4))
         children = children_of(process.pid)

@@ -82,11 +82,12 @@ def commit_stopped(stage: Stage, error: Optional[type[BaseException]]) -> Option
     return None
 
 
+@pytest.mark.parametrize("children", [1, 2])
 @pytest.mark.parametrize("what, how", starts("new", "restart", "next"))
-def test_stop(program: str, what: str, how: str) -> None:
+def test_stop(program: str, what: str, how: str, children: int) -> None:
     set_up, error, is_logged = STOPS[what]
     with tempfile.TemporaryDirectory() as room:
-        stage = Stage(room, program)
+        stage = Stage(room, program, children)
         set_up(stage)
         told = commit_stopped(stage, error)
         assert told is None
