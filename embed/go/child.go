@@ -141,6 +141,11 @@ func (it *child) ask(ctx context.Context, line []byte, command string) (*answer,
 	if err != nil {
 		return nil, err
 	}
+	return it.parse(told, command)
+}
+
+// parse returns what an answer to a command says. After one that isn't defined the program isn't asked again.
+func (it *child) parse(told []byte, command string) (*answer, error) {
 	read, err := answerOf(told, command)
 	if errors.Is(err, ErrProgramFailed) {
 		it.fail(err)

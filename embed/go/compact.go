@@ -99,7 +99,7 @@ var errNoSnapshots = errors.New("the log stores no snapshots: add the calls of S
 // asLogError returns an error of Compact as ErrLogFailed if it is the log's own.
 func asLogError(err error) error {
 	for _, kind := range []error{ErrSnapshotDiffers, ErrProgramFailed, ErrReplayDiffers, ErrRestartNeeded, ErrClosed, errReplaced,
-		context.Canceled, context.DeadlineExceeded} {
+		ErrChildrenDiffer, context.Canceled, context.DeadlineExceeded} {
 		if errors.Is(err, kind) {
 			return err
 		}
@@ -132,7 +132,7 @@ func (it *host) restoring(ctx context.Context, second *engine, made *snapshot, s
 		}
 		err := restorer.take(line)
 		if err == nil && restorer.isDone() {
-			err = it.swap(ctx, second)
+			err = it.swap(ctx, second, nil)
 		}
 		if err == nil {
 			err = store(line)
@@ -142,16 +142,24 @@ func (it *host) restoring(ctx context.Context, second *engine, made *snapshot, s
 }
 
 // swap puts an engine that was restored from a snapshot in the place of this one, once it has replayed the same lines and has
-// the same. Lookups go on meanwhile.
-func (it *host) swap(ctx context.Context, second *engine) error {
+// the same. If an old one is given, this one must still be that, and the log must be its log. Lookups go on meanwhile.
+func (it *host) swap(ctx context.Context, second, old *engine) error {
 	for round := 0; round < swapRounds; round++ {
 		if err := second.follow(ctx, it.current().end()); err != nil {
 			return err
 		}
 	}
 	return it.step(ctx, func(first *engine) error {
+		if old != nil && first != old {
+			return errReplaced
+		}
 		if err := second.follow(ctx, first.position); err != nil {
 			return err
+		}
+		if old != nil {
+			if err := it.compare(second); err != nil {
+				return err
+			}
 		}
 		if err := second.measure(ctx); err != nil {
 			return err
@@ -182,21 +190,15 @@ func (it *engine) checkSame(ctx context.Context, other *engine) error {
 		return errSecond
 	}
 	lines := it.sample.lookupLines(mine.latest.Epoch)
-	questions, wanted := it.child.send(lines...), other.child.send(lines...)
-	for at := range lines {
-		told, err := questions[at].wait(ctx)
-		if err != nil {
-			return err
-		}
-		said, err := wanted[at].wait(ctx)
-		if err != nil {
-			return err
-		}
-		if !bytes.Equal(told, said) {
-			return errSecond
-		}
+	told, err := it.children.answers(ctx, lines)
+	if err != nil {
+		return err
 	}
-	return nil
+	said, err := other.children.answers(ctx, lines)
+	if err == nil && !bytes.Equal(bytes.Join(told, nil), bytes.Join(said, nil)) {
+		err = errSecond
+	}
+	return err
 }
 
 var errSecond = failed(ErrSnapshotDiffers, "what a second child has restored isn't what the first one has: the program or the log was "+

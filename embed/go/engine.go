@@ -45,17 +45,17 @@ type view struct {
 	latest Epoch
 	size   Latest
 	chain  [][]byte // is only appended to
-	points []point  // the epochs that the child has, those of the last entries of the chain; is only appended to
+	points []point  // the epochs that the children have, those of the last entries of the chain; is only appended to
 	update *update
 }
 
-// engine is a child, and how far the log was replayed into it. The child also answers for the epochs that the log has if it has
+// engine is the children, and how far the log was replayed into them. They also answer for the epochs that the log has if they have
 // installed one more, since each lookup names its epoch.
 //
 // Whoever holds the steps of the host changes it. Others read its view.
 type engine struct {
 	settings *Settings
-	child    *child
+	children *children
 	position int    // how many lines the log has
 	opening  string // what the log's first line says
 	isStrict bool   // the log says of each update that is replaced that it was abandoned
@@ -112,10 +112,8 @@ func (it *engine) restored(epoch Epoch, point point, chain, replaced [][]byte) {
 // replay restores the snapshot of the log, if there is one, and replays the lines from its position on. If it must be new, the
 // log must have no line.
 func (it *engine) replay(ctx context.Context, mustBeNew bool) error {
-	if stored := snapshotOf(it.settings.Log); stored != nil {
-		if err := it.restore(ctx, stored, mustBeNew); err != nil {
-			return err
-		}
+	if err := it.restoreStored(ctx, mustBeNew); err != nil {
+		return err
 	}
 	replayer := &replayer{engine: it, ctx: ctx, count: it.position}
 	err := it.read(it.position, func(line []byte) error {
@@ -130,12 +128,29 @@ func (it *engine) replay(ctx context.Context, mustBeNew bool) error {
 	return replayer.takeTo(0, 0)
 }
 
+// replayTo is replay for the lines below a position.
+func (it *engine) replayTo(ctx context.Context, until int) error {
+	if err := it.restoreStored(ctx, false); err != nil {
+		return err
+	}
+	return it.follow(ctx, until)
+}
+
+// restoreStored has the children restored from the snapshot of the log, if there is one.
+func (it *engine) restoreStored(ctx context.Context, mustBeNew bool) error {
+	stored := snapshotOf(it.settings.Log)
+	if stored == nil {
+		return nil
+	}
+	return it.restore(ctx, stored, mustBeNew)
+}
+
 func (it *engine) exists() error {
 	return failed(ErrDirectoryExists, "there is a directory in %s: start without Create, or check that it is the right log",
 		nameOf(it.settings.Log))
 }
 
-// restore has the child restored from the snapshot of a log, if there is one.
+// restore has the children restored from the snapshot of a log, if it has one.
 func (it *engine) restore(ctx context.Context, log SnapshotLog, mustBeNew bool) error {
 	restorer := &restorer{engine: it, ctx: ctx}
 	position := 0
@@ -168,8 +183,8 @@ type replayer struct {
 }
 
 type sentLine struct {
-	said     *logged
-	question *question
+	said  *logged
+	asked *asked
 }
 
 func (it *replayer) send(line []byte) error {
@@ -181,7 +196,7 @@ func (it *replayer) send(line []byte) error {
 		}
 		return err
 	}
-	it.sent = append(it.sent, sentLine{said, it.engine.child.send(line)[0]})
+	it.sent = append(it.sent, sentLine{said, it.engine.children.sendAll(1, line)})
 	it.size, it.count = it.size+len(line), it.count+1
 	return it.takeTo(replayBytes, replayLines)
 }
@@ -190,7 +205,7 @@ func (it *replayer) send(line []byte) error {
 func (it *replayer) takeTo(size, lines int) error {
 	for len(it.sent) > lines || it.size > size && len(it.sent) > 0 {
 		first := it.sent[0]
-		told, err := first.question.wait(it.ctx)
+		told, err := first.asked.wait(it.ctx)
 		if err != nil {
 			return err
 		}
@@ -246,7 +261,7 @@ func (it *engine) take(said *logged, told []byte) error {
 		return failed(ErrReplayDiffers, "line %d of the log is refused, %s: %w", it.position, checkReplay, err)
 	}
 	if err != nil {
-		it.child.fail(err)
+		it.children.fail(err)
 		return err
 	}
 	switch said.command {
@@ -334,7 +349,7 @@ func (it *engine) takeInstall(said *logged, answer *answer) error {
 
 // measure asks how large the directory is at the latest epoch.
 func (it *engine) measure(ctx context.Context) error {
-	told, err := it.child.ask(ctx, latestLine, "latest")
+	told, err := it.children.ask(ctx, latestLine, "latest")
 	if err != nil {
 		return err
 	}
@@ -348,10 +363,10 @@ func (it *engine) measure(ctx context.Context) error {
 	return nil
 }
 
-// distrust ends a child that printed something wrong. Another one is started.
+// distrust ends children that printed something wrong. Others are started.
 func (it *engine) distrust(format string, arguments ...any) error {
 	err := failed(ErrProgramFailed, format+": check that it is the program provider", arguments...)
-	it.child.fail(err)
+	it.children.fail(err)
 	return err
 }
 
@@ -395,7 +410,7 @@ func (it *engine) open(ctx context.Context) error {
 		vrf = key[:]
 	}
 	line := openLine(nonce, it.settings.Policy, vrf)
-	_, err := it.child.ask(ctx, line, "open")
+	_, err := it.children.ask(ctx, line, "open")
 	if fault := (*Fault)(nil); errors.As(err, &fault) {
 		return it.distrust("the program refuses to open a directory, %v", err)
 	}
@@ -415,7 +430,7 @@ func (it *engine) open(ctx context.Context) error {
 // prepare has the child prepare an update, which the log doesn't have yet. Its line abandons the pending one, if there is one:
 // the caller knows that the signer has. The *Fault of a refused line changes nothing.
 func (it *engine) prepare(ctx context.Context, epoch uint64, line []byte, names uint64) (*update, error) {
-	told, err := it.child.ask(ctx, line, "prepare")
+	told, err := it.children.ask(ctx, line, "prepare")
 	if err != nil {
 		return nil, err
 	}
@@ -433,7 +448,11 @@ func (it *engine) prepare(ctx context.Context, epoch uint64, line []byte, names 
 // withdraw makes the log's update pending in the child again, after the log has refused another one.
 func (it *engine) withdraw(ctx context.Context) {
 	if before := it.seen.update; before != nil {
-		told, err := it.child.ask(ctx, before.line, "prepare")
+		told, err := it.children.ask(ctx, before.line, "prepare")
+		if errors.Is(err, ErrChildrenDiffer) {
+			// They keep the error, and lookups go on.
+			return
+		}
 		if err != nil || !bytes.Equal(told.Body, before.pending.Body) {
 			it.distrust("the program prepares a logged update otherwise than before")
 		}
@@ -443,8 +462,7 @@ func (it *engine) withdraw(ctx context.Context) {
 // install has the child install the pending update. Its epoch is unlogged until its line is appended.
 func (it *engine) install(ctx context.Context, signature []byte) error {
 	line := installLine(signature)
-	questions := it.child.send(line, latestLine)
-	told, err := it.told(ctx, questions[0], "install")
+	told, err := it.told(ctx, line, "install")
 	if err != nil {
 		return err
 	}
@@ -452,7 +470,7 @@ func (it *engine) install(ctx context.Context, signature []byte) error {
 	if err != nil {
 		return err
 	}
-	if told, err = it.told(ctx, questions[1], "latest"); err != nil {
+	if told, err = it.told(ctx, latestLine, "latest"); err != nil {
 		return err
 	}
 	size, err := it.sizeOf(told, epoch)
@@ -463,17 +481,10 @@ func (it *engine) install(ctx context.Context, signature []byte) error {
 }
 
 // told returns the answer to a line that the program must accept.
-func (it *engine) told(ctx context.Context, question *question, command string) (*answer, error) {
-	line, err := question.wait(ctx)
-	if err != nil {
-		return nil, err
-	}
-	told, err := answerOf(line, command)
+func (it *engine) told(ctx context.Context, line []byte, command string) (*answer, error) {
+	told, err := it.children.ask(ctx, line, command)
 	if fault := (*Fault)(nil); errors.As(err, &fault) {
 		return nil, it.distrust("the program refuses a pending update, %v", err)
-	}
-	if err != nil {
-		it.child.fail(err)
 	}
 	return told, err
 }

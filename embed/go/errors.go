@@ -34,6 +34,9 @@ var (
 	ErrLogBehind error = behind("the log ends before what it is to have")
 	// ErrReplayDiffers: the program answers a line of the log otherwise than it did when the line was appended.
 	ErrReplayDiffers = errors.New("the program answers a line of the log otherwise than when it was appended")
+	// ErrChildrenDiffer: two children answer a line differently, so one of them is wrong. Neither the log nor the signer has seen
+	// what they answered, unless it was logged before. Lookups go on; nothing is changed before Restart.
+	ErrChildrenDiffer = errors.New("two children answer one line differently")
 	// ErrSnapshotDiffers: the snapshot isn't whole, isn't one of this directory, or was changed. Or what a second child restored
 	// from a new one isn't what the first child has: then the first one goes on, and the snapshot that was stored before stays.
 	ErrSnapshotDiffers = errors.New("the snapshot isn't whole, isn't one of this directory, or was changed")

@@ -45,13 +45,13 @@ type host struct {
 	steps gate
 
 	mutex       sync.Mutex
-	children    sync.WaitGroup
+	running     sync.WaitGroup
 	isClosed    bool
 	engine      *engine
-	begun       map[*child]none // those that aren't the engine's
-	changed     chan none       // closed when something of this changes
-	down        error           // why no child answers and none is being started
-	broken      error           // why nothing can be added before a restart
+	begun       map[*children]none // those that aren't the engine's
+	changed     chan none          // closed when something of this changes
+	down        error              // why no child answers and none is being started
+	broken      error              // why nothing can be added before a restart
 	evidence    *Evidence
 	isForgetful bool
 	starts      []time.Time
@@ -79,7 +79,7 @@ func (it gate) lock(ctx context.Context) error {
 }
 
 func newHost(settings *Settings) *host {
-	it := &host{settings: settings, steps: make(gate, 1), begun: map[*child]none{}, changed: make(chan none)}
+	it := &host{settings: settings, steps: make(gate, 1), begun: map[*children]none{}, changed: make(chan none)}
 	it.life, it.end = context.WithCancel(context.Background())
 	return it
 }
@@ -109,7 +109,7 @@ func (it *host) ready(ctx context.Context) (*engine, error) {
 		switch {
 		case isClosed:
 			return nil, ErrClosed
-		case engine.child.isUsable():
+		case engine.children.isUsable():
 			return engine, nil
 		case down != nil:
 			return nil, down
@@ -151,13 +151,17 @@ func (it *host) stepOf(ctx context.Context, engine *engine, call func(*engine) e
 		return true, err
 	}
 	defer it.steps.Unlock()
-	if it.current() != engine || !engine.child.isUsable() {
+	if it.current() != engine || !engine.children.isUsable() {
 		return false, nil
 	}
 	if err := it.needed(); err != nil {
 		return true, err
 	}
-	return true, call(engine)
+	err := call(engine)
+	if differing := engine.children.differing(); differing != nil {
+		it.set(func() { it.broken = differing })
+	}
+	return true, err
 }
 
 // needed returns ErrRestartNeeded after an error that left open what the log has.
@@ -212,18 +216,24 @@ func (it *host) orClosed(err error) error {
 	return err
 }
 
-// ask asks the child that there is. One that ends meanwhile is asked once more.
+// ask asks a child that there is. If it ends meanwhile, another one is asked.
 func (it *host) ask(ctx context.Context, line []byte, command string) (*answer, error) {
 	for tries := 0; ; {
 		engine, err := it.ready(ctx)
 		if err != nil {
 			return nil, err
 		}
-		told, err := engine.child.ask(ctx, line, command)
+		child, question := engine.children.look(line)
+		told, err := (*answer)(nil), error(nil)
+		if line, failure := question.wait(ctx); failure != nil {
+			err = failure
+		} else {
+			told, err = child.parse(line, command)
+		}
 		if errors.Is(err, ErrProgramFailed) {
 			tries++
 		}
-		if tries > 1 || !errors.Is(err, ErrProgramFailed) && !errors.Is(err, errReplaced) {
+		if tries > it.settings.children() || !errors.Is(err, ErrProgramFailed) && !errors.Is(err, errReplaced) {
 			return told, err
 		}
 	}
@@ -250,23 +260,23 @@ func (it *host) build(mayCreate, mustBeNew bool) (*engine, error) {
 
 // begin returns another engine, which has replayed nothing.
 func (it *host) begin() (*engine, error) {
-	child, err := startChild(it.settings.Program, it.settings.Timeout)
+	children, err := startChildren(it.settings.Program, it.settings.children(), it.settings.Timeout)
 	if err != nil {
 		return nil, err
 	}
 	isClosed := false
 	it.set(func() {
 		if isClosed = it.isClosed; !isClosed {
-			it.begun[child] = none{}
-			it.children.Add(1)
-			go func() { <-child.ended; it.children.Done() }()
+			it.begun[children] = none{}
+			it.running.Add(1)
+			go func() { children.await(); it.running.Done() }()
 		}
 	})
 	if isClosed {
-		child.stop(0)
+		children.stop(0)
 		return nil, ErrClosed
 	}
-	return &engine{settings: it.settings, child: child}, nil
+	return &engine{settings: it.settings, children: children}, nil
 }
 
 func (it *host) replay(engine *engine, mayCreate, mustBeNew bool) error {
@@ -283,10 +293,10 @@ func (it *host) replay(engine *engine, mayCreate, mustBeNew bool) error {
 	return err
 }
 
-// discard ends the child of an engine that isn't used.
+// discard ends the children of an engine that isn't used.
 func (it *host) discard(engine *engine) {
-	engine.child.stop(0)
-	it.set(func() { delete(it.begun, engine.child) })
+	engine.children.stop(0)
+	it.set(func() { delete(it.begun, engine.children) })
 }
 
 // exchange puts an engine in the place of this one. The caller has the steps.
@@ -299,7 +309,7 @@ func (it *host) exchange(engine *engine, more func()) error {
 			return
 		}
 		it.engine, it.down = engine, nil
-		delete(it.begun, engine.child)
+		delete(it.begun, engine.children)
 		more()
 	})
 	if err != nil {
@@ -308,9 +318,12 @@ func (it *host) exchange(engine *engine, more func()) error {
 	}
 	if old != nil {
 		// What was sent to it is still answered.
-		go old.child.stop(endTime)
+		go old.children.stop(endTime)
 	}
 	go it.watch(engine)
+	if len(engine.children.all) > 1 {
+		go it.watchFirst(engine)
+	}
 	return nil
 }
 
@@ -411,7 +424,7 @@ func (it *host) note(err error) {
 	if errors.Is(err, ErrReplayDiffers) && it.current() != nil {
 		it.keepEvidence(err, nil)
 	}
-	for _, kind := range []error{ErrLogForked, ErrNoDirectory, ErrReplayDiffers, OtherIndex} {
+	for _, kind := range []error{ErrLogForked, ErrNoDirectory, ErrReplayDiffers, ErrChildrenDiffer, OtherIndex} {
 		if errors.Is(err, kind) {
 			it.set(func() { it.broken = err })
 		}
@@ -477,9 +490,61 @@ func copies(entries [][]byte) [][]byte {
 	return out
 }
 
-// watch starts another child if that of this engine ends by itself.
+// watchFirst starts others once one of two children has ended by itself.
+func (it *host) watchFirst(engine *engine) {
+	engine.children.awaitFirst()
+	var last error
+	for failures := 0; it.pause(engine, failures, last) && engine.children.isUsable(); failures++ {
+		if last = it.fill(engine); last == nil {
+			return
+		}
+	}
+}
+
+// fill puts others in the place of two children of which one has ended. Lookups and changes go on meanwhile, by the one that is
+// left. It returns nil if no other try makes sense.
+func (it *host) fill(engine *engine) error {
+	if it.needed() != nil {
+		return nil
+	}
+	it.noteStart()
+	another, err := it.begin()
+	if err != nil {
+		return err
+	}
+	until := engine.end()
+	if err = another.replayTo(it.life, until); err == nil && another.position > until {
+		err = failed(ErrLinesDropped, "the snapshot is one of later lines")
+	}
+	if err == nil {
+		err = it.swap(it.life, another, engine)
+		if errors.Is(err, ErrSnapshotDiffers) {
+			err = errDiffer
+		}
+	}
+	if it.current() != another {
+		it.discard(another)
+	}
+	it.note(err)
+	if errors.Is(err, errReplaced) {
+		return nil
+	}
+	return err
+}
+
+// noteStart counts the start of children that ended.
+func (it *host) noteStart() {
+	it.set(func() {
+		it.starts, it.down = append(it.starts, time.Now()), nil
+		if len(it.starts) > mostStarts {
+			it.starts = it.starts[1:]
+		}
+	})
+}
+
+// watch starts others if all children of this engine have ended by themselves.
 func (it *host) watch(engine *engine) {
-	<-engine.child.ended
+	engine.children.await()
 	var last error
 	for failures := 0; it.pause(engine, failures, last); failures++ {
 		if last = it.revive(engine); last == nil {
@@ -538,16 +603,12 @@ func (it *host) revive(engine *engine) error {
 	if it.current() != engine {
 		return nil
 	}
-	if broken := it.needed(); errors.Is(broken, ErrLogForked) || errors.Is(broken, ErrReplayDiffers) {
+	broken := it.needed()
+	if errors.Is(broken, ErrLogForked) || errors.Is(broken, ErrReplayDiffers) || errors.Is(broken, ErrChildrenDiffer) {
 		it.set(func() { it.down = broken })
 		return nil
 	}
-	it.set(func() {
-		it.starts, it.down = append(it.starts, time.Now()), nil
-		if len(it.starts) > mostStarts {
-			it.starts = it.starts[1:]
-		}
-	})
+	it.noteStart()
 	another, err := it.build(false, false)
 	if err == nil {
 		if err = it.compare(another); err != nil {
@@ -571,22 +632,19 @@ func (it *host) forget() {
 
 // close ends the children.
 func (it *host) close() {
-	var children []*child
+	var last *engine
 	it.set(func() {
-		it.isClosed = true
-		if it.engine != nil {
-			children = append(children, it.engine.child)
-		}
-		for child := range it.begun {
-			child.fail(ErrClosed)
+		it.isClosed, last = true, it.engine
+		for children := range it.begun {
+			children.fail(ErrClosed)
 		}
 	})
 	it.end()
-	for _, child := range children {
-		child.stop(endTime)
+	if last != nil {
+		last.children.stop(endTime)
 	}
 	done := make(chan none)
-	go func() { it.children.Wait(); close(done) }()
+	go func() { it.running.Wait(); close(done) }()
 	select {
 	case <-done:
 	case <-time.After(endTime):

@@ -106,7 +106,7 @@ func (it *lookups) begin(name string) (*lookup, error) {
 	return one, one.ask()
 }
 
-// ask sends a lookup to the child. The child may have one more epoch than the log.
+// ask sends a lookup to a child. The children may have one more epoch than the log.
 func (it *lookup) ask() error {
 	host := it.of.provider.host
 	if err := host.canLookUp(); err != nil {
@@ -124,7 +124,7 @@ func (it *lookup) ask() error {
 		it.err = &Fault{Name: UnknownEpoch}
 		return nil
 	}
-	it.child, it.question = engine.child, engine.child.send(lookupLine(it.name, it.index, it.of.epoch))[0]
+	it.child, it.question = engine.children.look(lookupLine(it.name, it.index, it.of.epoch))
 	return nil
 }
 
@@ -143,7 +143,7 @@ func (it *lookup) end() (found Found, err error) {
 			it.child.fail(err)
 			tries++
 		}
-		if err == nil || tries > 1 || !errors.Is(err, ErrProgramFailed) && !errors.Is(err, errReplaced) {
+		if err == nil || tries > it.of.provider.settings.children() || !errors.Is(err, ErrProgramFailed) && !errors.Is(err, errReplaced) {
 			return found, err
 		}
 		if it.of.isLatest {

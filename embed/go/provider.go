@@ -39,6 +39,11 @@ type Settings struct {
 	// Verify, if not nil, is called before a signature is installed, and for the entry of a snapshot: the program verifies none.
 	Verify  func(body, signature []byte) bool
 	Timeout time.Duration // how long the program may take for one answer, and for each 4,096 names of a snapshot; no limit if 0
+	// Children is how many children there are, 1 or 2; 0 is 1. Two take each line one after another, and lookups go to the one that
+	// isn't taking it, so that they don't wait while a batch is built. Two take twice the memory, and a commit twice the time of the
+	// program. If one ends, the other one goes on, and others are started beside it. If both answer a line differently, that is
+	// ErrChildrenDiffer.
+	Children int
 	// Document, if not nil, is the policy whose digest is in each entry, so that Policy needn't be set. If it has a clock, Commit
 	// refuses each epoch number but EpochNow.
 	Document *Policy
@@ -65,8 +70,18 @@ func (it *Settings) check() error {
 		return errors.New("Index or Log is missing: set each of them")
 	case (it.Sign == nil) == (it.Signer == nil):
 		return errors.New("Sign and Signer are both missing or both set: set one of them")
+	case it.Children < 0 || it.Children > mostChildren:
+		return fmt.Errorf("a directory has 1 or 2 children, not %d: set Children to one of these", it.Children)
 	}
 	return nil
+}
+
+// children returns how many children there are.
+func (it *Settings) children() int {
+	if it.Children == 0 {
+		return 1
+	}
+	return it.Children
 }
 
 // complete takes the policy digest from the document, and the function that signs from the signer.
@@ -551,8 +566,11 @@ func (it *Provider) Chain(first int) [][]byte {
 	return copies(chain[first:])
 }
 
-// Pid returns the process number of the child.
-func (it *Provider) Pid() int { return it.host.current().child.pid }
+// Pid returns the process number of the first child that runs.
+func (it *Provider) Pid() int { return it.host.current().children.pid() }
+
+// Pids returns the process numbers of the children that run. One that has ended is missing until its place is filled.
+func (it *Provider) Pids() []int { return it.host.current().children.pids() }
 
 // Evidence returns what this process has seen and what the log had, after ErrLogForked or ErrReplayDiffers, until
 // DiscardEvidence; nil if no log was another one. A log that lacks a head is no evidence, since a head has no entry.

@@ -351,14 +351,14 @@ func TestChildThatMisbehaves(t *testing.T) {
 		it.start()
 		first := it.commit(1, Register("alice", []byte("key")))
 		if how == "hang" {
-			it.provider.host.current().child.setTimeout(300 * time.Millisecond)
+			it.provider.host.current().children.all[0].setTimeout(300 * time.Millisecond)
 		}
 		it.tell("lookup " + how)
 		it.shows("alice", first)
 		for _, kind := range []string{"prepare", "install", "latest"} {
 			pid := it.provider.Pid()
 			if how == "hang" {
-				it.provider.host.current().child.setTimeout(300 * time.Millisecond)
+				it.provider.host.current().children.all[0].setTimeout(300 * time.Millisecond)
 			}
 			it.tell(kind + " " + how)
 			epoch := it.provider.Latest().Epoch + 1

@@ -40,9 +40,9 @@ type restorer struct {
 
 // sentBindings is a line of bindings: how many bytes it has, and how many bindings there are with it.
 type sentBindings struct {
-	question *question
-	size     int
-	names    uint64
+	asked *asked
+	size  int
+	names uint64
 }
 
 // isDone reports whether the engine is restored.
@@ -77,7 +77,7 @@ func (it *restorer) take(line []byte) error {
 		err = it.addReplaced(members[kind])
 	case kind == "restore":
 		if err = it.checkEntry(members["entry"]); err == nil {
-			_, err = it.answer(kind, it.engine.child.send(line)[0])
+			_, err = it.answer(kind, it.engine.children.sendAll(1, line))
 		}
 	case kind == "restoring":
 		err = it.addBindings(line, members["bindings"])
@@ -181,8 +181,8 @@ func (it *restorer) checkEntry(text json.RawMessage) error {
 }
 
 // answer returns the child's answer to a line that is one of its own.
-func (it *restorer) answer(kind string, question *question) (*answer, error) {
-	told, err := question.wait(it.ctx)
+func (it *restorer) answer(kind string, asked *asked) (*answer, error) {
+	told, err := asked.wait(it.ctx)
 	if err != nil {
 		return nil, err
 	}
@@ -195,7 +195,7 @@ func (it *restorer) answer(kind string, question *question) (*answer, error) {
 			"remove it if the log still has all its lines: %w", nameOf(it.engine.settings.Log), kind, err)
 	}
 	if err != nil {
-		it.engine.child.fail(err)
+		it.engine.children.fail(err)
 	}
 	return read, err
 }
@@ -208,7 +208,7 @@ func (it *restorer) addBindings(line []byte, text json.RawMessage) error {
 	}
 	it.engine.sample.add(bindings)
 	it.counted, it.size = it.counted+uint64(len(bindings)), it.size+len(line)
-	it.sent = append(it.sent, sentBindings{it.engine.child.send(line)[0], len(line), it.counted})
+	it.sent = append(it.sent, sentBindings{it.engine.children.sendAll(1, line), len(line), it.counted})
 	return it.takeTo(replayBytes, replayLines)
 }
 
@@ -217,7 +217,7 @@ func (it *restorer) takeTo(size, lines int) error {
 	for len(it.sent) > lines || it.size > size && len(it.sent) > 0 {
 		first := it.sent[0]
 		it.sent, it.size = it.sent[1:], it.size-first.size
-		told, err := it.answer("restoring", first.question)
+		told, err := it.answer("restoring", first.asked)
 		if err != nil {
 			return err
 		}
@@ -232,7 +232,7 @@ func (it *restorer) takeTo(size, lines int) error {
 func (it *restorer) finish(line []byte, text json.RawMessage) error {
 	// The tree is built for all names at once.
 	times := 1 + int(it.counted/restoreBatch)
-	told, err := it.answer("restored", it.engine.child.sendFor(times, line)[0])
+	told, err := it.answer("restored", it.engine.children.sendAll(times, line))
 	if err != nil {
 		return err
 	}

@@ -424,7 +424,7 @@ func (it *room) awaitChild(pid int) {
 	it.t.Helper()
 	it.within("another child runs", func() bool {
 		engine := it.provider.host.current()
-		return engine.child.pid != pid && engine.child.isUsable()
+		return engine.children.pid() != pid && engine.children.isUsable()
 	})
 }
 

@@ -41,11 +41,11 @@ func FuzzSnapshot(f *testing.F) {
 	} {
 		f.Add([]byte(strings.Join(lines, "\n")))
 	}
-	child, err := startChild([]string{"/bin/sh", "-c", `while read -r line; do echo '{"fault":"Json"}'; done`}, 0)
+	one, err := startChild([]string{"/bin/sh", "-c", `while read -r line; do echo '{"fault":"Json"}'; done`}, 0)
 	if err != nil {
 		f.Fatal(err)
 	}
-	f.Cleanup(func() { child.stop(0) })
+	f.Cleanup(func() { one.stop(0) })
 	f.Fuzz(func(t *testing.T, text []byte) {
 		log := storedLines{listed{head, "{}", "{}"}, 3, bytes.Split(text, []byte("\n"))}
 		err := Entries(log, func(entry []byte) error {
@@ -58,7 +58,8 @@ func FuzzSnapshot(f *testing.F) {
 			t.Error(err)
 		}
 		positionOf(log.lines[0], log)
-		engine := &engine{settings: &Settings{Log: log, Verify: func(body, signature []byte) bool { return true }}, child: child}
+		settings := &Settings{Log: log, Verify: func(body, signature []byte) bool { return true }}
+		engine := &engine{settings: settings, children: &children{all: []*child{one}}}
 		err = engine.replay(background, false)
 		if !errors.Is(err, ErrSnapshotDiffers) && !errors.Is(err, ErrLogFailed) || len(engine.seen.points) > 0 {
 			t.Error(err)

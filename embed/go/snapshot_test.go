@@ -467,7 +467,7 @@ func TestChildrenThatDiffer(t *testing.T) {
 		"the pending line":    func(other *engine) { other.seen.update = &update{line: []byte("{}"), names: first.seen.update.names} },
 		"the pending names":   func(other *engine) { other.seen.update = &update{line: first.seen.update.line} },
 	} {
-		other := &engine{settings: first.settings, child: first.child, position: first.position, opening: first.opening,
+		other := &engine{settings: first.settings, children: first.children, position: first.position, opening: first.opening,
 			isStrict: first.isStrict, replaced: first.replaced, seen: first.view()}
 		change(other)
 		wanted := error(errSecond)
@@ -633,7 +633,7 @@ func TestLookupThatASnapshotOvertakes(t *testing.T) {
 		return &lookup{of: &lookups{it.provider, background, 1, true, isLatest}, name: "user-1-0", index: index}
 	}
 	one, other := begun(true), begun(false)
-	first := it.provider.host.current().child
+	first := it.provider.host.current().children.all[0]
 	made := it.commit(2)
 	it.compact(0)
 	for _, one := range []*lookup{one, other} {

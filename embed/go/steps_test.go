@@ -320,7 +320,7 @@ func TestCommitThatWaitsForAChild(t *testing.T) {
 		done <- err
 	}()
 	time.Sleep(50 * time.Millisecond)
-	child := it.provider.host.current().child
+	child := it.provider.host.current().children.all[0]
 	it.kill()
 	<-child.ended
 	it.provider.host.steps.Unlock()
@@ -341,9 +341,9 @@ func TestAnswersThatDontFollow(t *testing.T) {
 	it := newDirectory(t)
 	first := it.commit(1)
 	second := it.commit(2)
-	child, err := startChild([]string{"/bin/sh", "-c", "sleep 600"}, 0)
+	one, err := startChild([]string{"/bin/sh", "-c", "sleep 600"}, 0)
 	it.good(err)
-	engine := &engine{settings: &it.settings, child: child}
+	engine := &engine{settings: &it.settings, children: &children{all: []*child{one}}}
 	engine.seen.latest, engine.seen.update = first, &update{pending: Pending{Epoch: 2, Root: second.Root, Body: second.Entry[:145]}}
 	prepared := func() *answer { return &answer{Root: copied(second.Root[:]), Body: copied(second.Entry[:145])} }
 	installed := func() *answer {
