@@ -504,7 +504,11 @@ func (it *host) watchFirst(engine *engine) {
 // fill puts others in the place of two children of which one has ended. Lookups and changes go on meanwhile, by the one that is
 // left. It returns nil if no other try makes sense.
 func (it *host) fill(engine *engine) error {
-	if it.needed() != nil {
+	// No append is under way then.
+	it.steps.Lock()
+	broken := it.needed()
+	it.steps.Unlock()
+	if broken != nil {
 		return nil
 	}
 	it.noteStart()

@@ -47,7 +47,7 @@ func committer(path, list string, program []string) int {
 		fmt.Fprintf(given, "%-511x\n", append(append([]byte(nil), body...), signature...))
 		return ed25519.Verify(key.Public().(ed25519.PublicKey), body, signature)
 	}
-	settings := Settings{Program: program, Index: indexOf, Signer: guard, Verify: verify, Log: log, Policy: [32]byte{7}}
+	settings := Settings{Program: program, Index: indexOf, Signer: guard, Verify: verify, Log: log, Policy: [32]byte{7}, Children: 1 + rand.Intn(2)}
 	provider, err := StartProvider(background, settings)
 	until := time.Now().Add(patience)
 	for ; errors.Is(err, ErrSignerFailed) && time.Now().Before(until); provider, err = StartProvider(background, settings) {

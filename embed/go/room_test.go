@@ -47,7 +47,8 @@ func TestMain(m *testing.M) {
 }
 
 // standIn passes lines to the program and back, until a file tells it otherwise for the next line that has a word in it: `WORD
-// hang`, `WORD die`, `WORD wait SECONDS`, `WORD print TEXT`. The file is removed then.
+// hang`, `WORD die`, `WORD die-after`, `WORD wait SECONDS`, `WORD print TEXT`, `WORD alter`, `WORD refuse`, and `WORD hold`, which waits until the
+// file FILE.held is gone. The file is removed then. FILE.PID is for one stand-in alone. Its lines are listed in FILE.PID.seen.
 func standIn(file string, program []string) int {
 	child := exec.Command(program[0], program[1:]...)
 	child.Stderr = os.Stderr
@@ -57,6 +58,8 @@ func standIn(file string, program []string) int {
 		return 2
 	}
 	lines, answers := bufio.NewReader(os.Stdin), bufio.NewReader(out)
+	mine := fmt.Sprintf("%s.%d", file, os.Getpid())
+	seen, _ := os.OpenFile(mine+".seen", os.O_WRONLY|os.O_CREATE|os.O_APPEND, 0o600)
 	for {
 		line, err := lines.ReadString('\n')
 		if err != nil {
@@ -64,11 +67,12 @@ func standIn(file string, program []string) int {
 			child.Wait()
 			return 0
 		}
-		text, _ := os.ReadFile(file)
-		words := strings.SplitN(string(text), " ", 3)
-		// Of several stand-ins the one that removes the file does it.
-		if len(words) > 1 && strings.Contains(line, words[0]) && os.Remove(file) == nil {
-			switch words[1] {
+		io.WriteString(seen, line)
+		what := ""
+		if words := toldAt(mine, line); words != nil {
+			what = words[1]
+		} else if words := toldAt(file, line); words != nil {
+			switch what = words[1]; what {
 			case "hang":
 				time.Sleep(patience)
 				return 1
@@ -82,10 +86,44 @@ func standIn(file string, program []string) int {
 				continue
 			}
 		}
+		switch what {
+		case "die":
+			return 7
+		case "hold":
+			for held := file + ".held"; ; time.Sleep(time.Millisecond) {
+				if _, err := os.Stat(held); err != nil {
+					break
+				}
+			}
+		}
 		io.WriteString(in, line)
 		answer, _ := answers.ReadString('\n')
+		switch what {
+		case "die-after":
+			return 7
+		case "alter":
+			answer = strings.Map(func(it rune) rune {
+				if it == '7' {
+					return '8'
+				}
+				return it
+			}, answer)
+		case "refuse":
+			answer = `{"fault":"NotOpen"}` + "\n"
+		}
 		fmt.Print(answer)
 	}
+}
+
+// toldAt returns the words of a file, which it removes, if the first one is in a line. Of several stand-ins that are told by one
+// file, the one that removes it gets them.
+func toldAt(file, line string) []string {
+	text, _ := os.ReadFile(file)
+	words := strings.SplitN(string(text), " ", 3)
+	if len(words) > 1 && strings.Contains(line, words[0]) && os.Remove(file) == nil {
+		return words
+	}
+	return nil
 }
 
 // room is a directory over the program, whose signer lists the bodies that it is asked for.
