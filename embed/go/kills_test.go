@@ -157,13 +157,13 @@ func (it *room) commitAndKill(list string, returned map[uint64][]byte) {
 	}
 }
 
-// killChildren kills the children that a process has at the moment.
+// killChildren kills some of the children that a process has at the moment.
 func killChildren(pid int) {
 	lists, _ := filepath.Glob(fmt.Sprintf("/proc/%d/task/*/children", pid))
 	for _, list := range lists {
 		text, _ := os.ReadFile(list)
 		for _, child := range strings.Fields(string(text)) {
-			if number, err := strconv.Atoi(child); err == nil {
+			if number, err := strconv.Atoi(child); err == nil && rand.Intn(3) > 0 {
 				syscall.Kill(number, syscall.SIGKILL)
 			}
 		}

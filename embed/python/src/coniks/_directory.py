@@ -244,7 +244,7 @@ class Directory(Closing):
         return self._host.engine.children.pids if self._host.engine else []
 
     def close(self, seconds: float = 5) -> None:
-        """Ends the child. Waits for a change that is under way, at most some seconds, and for an append in any case. What the
+        """Ends the children. Waits for a change that is under way, at most some seconds, and for an append in any case. What the
         signer returns later is not installed, and a start asks for the same body again. The log stays open, since the caller
         opened it."""
         self._check_thread()

@@ -45,7 +45,8 @@ With `coniks.postgres.PostgresLog` several machines share a log, and a `coniks.r
 Each error is a `ProviderError`. A `Fault` is the program's, one class for each of docs/FORMATS.md, and changes nothing. After
 `LogFailed` or `Overtaken` the log may have a line that the child hasn't, or the other way round: `commit` and `retry` raise
 `RestartNeeded` until `restart` returns. `LogRefused` is a `LogFailed` that leaves nothing open. Lookups go on in each case, at
-the latest epoch that the log is known to have. A child that ends is started again without a call.
+the latest epoch that the log is known to have. A child that ends is started again without a call. So they do after `ChildrenDiffer`,
+after which nothing is started and nothing changed before `restart`.
 """
 
 from __future__ import annotations
@@ -102,6 +103,10 @@ class Provider(Directory):
     `verify(body, signature)` returns whether a signature is valid, and is called before one is installed, and for the entry of a
     snapshot: the program verifies none. `workers` and `depth` are the program's options. `timeout` is how many seconds the
     program may take for one answer; without it there is no limit. A snapshot may take it for each 4,096 names.
+
+    `children` is how many children there are, 1 or 2. Two take each line one after another, and lookups go to the one that isn't
+    taking it, so that they don't wait while a batch is built. Two take twice the memory, and a commit twice the program's time. If
+    one ends, the other one goes on, and others are started beside it. If two answers to a line differ, `ChildrenDiffer` is raised.
 
     `head` is one that an auditor, a client or a replica saw. A log that ends before it raises `LogBehind`, one with another entry
     `LogForked`: pass it after a log was restored. A log that lacks what the signer's record has raises the same errors, whose

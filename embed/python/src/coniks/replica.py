@@ -43,7 +43,7 @@ class Lag:
 class Replica(Directory):
     """A directory that follows a log. Starting replays the log; then a thread follows it.
 
-    The arguments are those of `Provider` without the signer. `verify` is called for the entry of a snapshot. If the child's answer
+    The arguments are those of `Provider` without the signer, `children` too. `verify` is called for the entry of a snapshot. If the child's answer
     isn't the logged one, or the log lost lines, the replica stays at the epoch that it has: lookups go on, `lag().error` is the
     cause, `evidence` has both chains, and `follow` and `promote` raise `RestartNeeded` until `restart` returns. If the log can't be
     read, or has a line that no provider writes, the replica follows again once it can. If the lines that it needs were dropped, it
