@@ -12,6 +12,8 @@ import (
 	"time"
 )
 
+var both, kinds = []int{0, 1}, []string{"prepare", "install"}
+
 // newPair is a room with a directory of one epoch, whose two children are started by the stand-in.
 func newPair(t *testing.T) (*room, Epoch) {
 	it := newRoom(t)
@@ -89,9 +91,6 @@ func (it *room) begin(epoch uint64, operations ...Operation) chan error {
 	}()
 	return done
 }
-
-var both = []int{0, 1}
-var kinds = []string{"prepare", "install"}
 
 // While a child takes a line and doesn't come to its end, lookups are answered by the other one, at the epoch before.
 func TestLookupsBesideALine(t *testing.T) {
@@ -301,6 +300,33 @@ func TestFilledPlaceDiffers(t *testing.T) {
 	it.good(it.provider.Restart(background))
 	it.commit(2)
 	it.areAlike()
+}
+
+// A child ends, and the log isn't the one that this process has seen: nothing is changed, and lookups go on.
+func TestChildEndsOverAnotherLog(t *testing.T) {
+	for _, isShorter := range []bool{true, false} {
+		it, _ := newPair(t)
+		made := it.commit(2, Register("bob", []byte("key")))
+		whole, lines := it.text(), it.lines()
+		if isShorter {
+			it.rewrite(strings.Join(lines[:3], ""))
+		} else {
+			it.rewrite(strings.Join(lines[:3], "") + strings.Replace(lines[3], "bob", "rob", 1) + lines[4] + "\n")
+		}
+		it.kill()
+		it.within("it is noticed", func() bool { return it.provider.host.needed() != nil })
+		_, err := it.provider.Commit(background, 3, nil, nil)
+		it.wants(err, ErrRestartNeeded)
+		it.shows("bob", made)
+		if it.provider.Evidence() == nil {
+			t.Error("no evidence")
+		}
+		it.rewrite(whole)
+		it.good(it.provider.Restart(background))
+		it.commit(3)
+		it.areAlike()
+		it.check(1, 2, 3)
+	}
 }
 
 // What the first child refuses isn't asked of the second one. What the second one alone refuses is an error.

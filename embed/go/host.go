@@ -520,19 +520,23 @@ func (it *host) fill(engine *engine) error {
 	if err = another.replayTo(it.life, until); err == nil && another.position > until {
 		err = failed(ErrLinesDropped, "the snapshot is one of later lines")
 	}
-	if err == nil {
-		err = it.swap(it.life, another, engine)
-		if errors.Is(err, ErrSnapshotDiffers) {
+	switch {
+	case err == nil:
+		if err = it.swap(it.life, another, engine); errors.Is(err, ErrSnapshotDiffers) {
 			err = errDiffer
 		}
+	case errors.Is(err, errLostLines):
+		it.steps.Lock()
+		err = it.compare(another)
+		it.steps.Unlock()
 	}
 	if it.current() != another {
 		it.discard(another)
 	}
-	it.note(err)
-	if errors.Is(err, errReplaced) {
+	if it.current() != engine {
 		return nil
 	}
+	it.note(err)
 	return err
 }
 

@@ -260,7 +260,9 @@ func (it *engine) follow(ctx context.Context, until int) error {
 		return err
 	}
 	if it.position < until {
-		return failed(ErrLogFailed, "%s lost lines: compare it with a backup, and call Restart", nameOf(it.settings.Log))
+		return failed(ErrLogFailed, "%s %w: compare it with a backup, and call Restart", nameOf(it.settings.Log), errLostLines)
 	}
 	return nil
 }
+
+var errLostLines = errors.New("lost lines")

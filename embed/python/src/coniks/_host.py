@@ -176,14 +176,17 @@ class Host:
         self._filled = now
         try:
             self._fill(engine)
-        except (ChildrenDiffer, LogForked, NoDirectory) as error:
-            self.broken = error
-        except ReplayDiffers as error:
-            self.broken = self.forked(error)
+        except (ChildrenDiffer, LogForked, NoDirectory, ReplayDiffers) as error:
+            # A restart may have put another engine there.
+            if self.engine is engine:
+                self.broken = self.forked(error) if isinstance(error, ReplayDiffers) else error
 
     def _fill(self, engine: Engine) -> None:
-        new = self.started(end=engine.position)
+        end = engine.position
+        new = self.started(end=end)
         try:
+            if new.position < end:
+                raise self.forked(LogForked(_FORKED), new)
             # A snapshot may be one of later lines.
             if new.position <= engine.position:
                 self.replace(new, engine)

@@ -287,6 +287,46 @@ def test_differ_at_start(program: str) -> None:
         assert it.own.latest().epoch == 2 and it.is_alike()
 
 
+def test_differ_in_restore(program: str) -> None:
+    """Two children that are restored from a new snapshot differ: the old ones go on, and no snapshot is stored."""
+    with none_left(), staged(program) as it:
+        it.own.close()
+        it.log = it.file
+        it.own = it.opened()
+        pids = it.own.pids
+        (it.room / "restored differs").touch()
+        raises("a snapshot", ChildrenDiffer, it.own.compact)
+        assert it.own.pids == pids and not (it.room / "log.snapshot").exists(), "nothing is changed"
+        it.commit(2)
+        it.own.compact()
+        assert it.is_alike() and (it.room / "log.snapshot").exists()
+
+
+def test_other_log(program: str) -> None:
+    """A child ends, and the log isn't the one that this process has seen, or is gone: nothing is changed, and lookups go on."""
+    for what in ("shorter", "other", "gone"):
+        with none_left(), staged(program) as it:
+            made = it.commit(2)
+            whole = [*it.file.read(0)]
+            others = {"shorter": whole[:3], "other": [*whole[:3], whole[3].replace(b"user-2", b"user-3"), whole[4]]}
+
+            def read(position: int, there: Any = others.get(what)) -> Iterator[bytes]:
+                if there is None:
+                    raise NoDirectory("told to be gone: look for it")
+                return iter(there[position:])
+
+            it.log.read = read
+            kill(it.own.pids[0])
+            assert soon(lambda: it.own._host.broken is not None), f"{what}: it is noticed"
+            raises(f"{what}: a commit", RestartNeeded, lambda: it.commit(3))
+            assert it.own.lookup("user-2").entry == made.entry, f"{what}: lookups go on"
+            assert bool(it.own.evidence()) == (what != "gone"), f"{what}: the evidence is kept"
+            del it.log.read
+            it.own.restart()
+            it.commit(3)
+            assert it.is_alike(), what
+
+
 def test_refused(program: str) -> None:
     """What the first child refuses isn't asked of the second one. What the second one alone refuses is an error."""
     with none_left(), staged(program) as it:
