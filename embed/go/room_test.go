@@ -90,8 +90,8 @@ func standIn(file string, program []string) int {
 		case "die":
 			return 7
 		case "hold":
-			for held := file + ".held"; ; time.Sleep(time.Millisecond) {
-				if _, err := os.Stat(held); err != nil {
+			for until := time.Now().Add(patience); time.Now().Before(until); time.Sleep(time.Millisecond) {
+				if _, err := os.Stat(file + ".held"); err != nil {
 					break
 				}
 			}

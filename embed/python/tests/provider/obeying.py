@@ -19,6 +19,10 @@ from pathlib import Path
 from typing import Any, Optional
 
 
+# The longest wait, if nobody is left who removes the file.
+SECONDS = 60
+
+
 def told(folder: Path, kind: str) -> Optional[str]:
     """What a file tells at a line. The file is taken, unless it says how long to wait."""
     if (folder / f"{os.getpid()} {kind} waits").exists():
@@ -56,7 +60,8 @@ def main(folder: Path, program: str) -> int:
                 return 1
             if what == "waits":
                 note(folder, f"{kind} waits")
-                while (folder / f"{os.getpid()} {kind} waits").exists():
+                until = time.monotonic() + SECONDS
+                while (folder / f"{os.getpid()} {kind} waits").exists() and time.monotonic() < until:
                     time.sleep(0.002)
             real.stdin.write(line)
             real.stdin.flush()
