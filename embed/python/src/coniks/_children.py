@@ -15,7 +15,7 @@ from ._lines import answer, grouped
 from .faults import ChildrenDiffer, ProgramFailed, ProviderError
 
 _GET_PIPE_SIZE = 1032  # fcntl.F_GETPIPE_SZ, from Python 3.10 on
-# After so many seconds lookups that wait for a child look whether the other one is free.
+# The seconds after which a lookup that waits for a child checks whether the other one is free.
 _LOOK_AGAIN = 0.005
 DIFFER = "two children answer one line differently: the machine or the program is at fault. Look for that, then restart"
 # What follows a line that one of two children takes. Once it has answered a batch it frees memory, which takes milliseconds: lookups
