@@ -1,3 +1,5 @@
-mod MajorityLemmas
-mod WordLemmas
+mod ChoiceLemmas
+mod FillLemmas
 mod PaddingLemmas
+mod RotationLemmas
+mod WordLemmas

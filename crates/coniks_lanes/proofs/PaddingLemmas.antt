@@ -1,12 +1,12 @@
 -- The padding and the hash of a message of two blocks (FIPS 180-4, sections 5.1.1 and 6.2).
-use Rattle.std.proofs.Common.{get_or, flat_map, add-one, ◌<◌, ◌≡◌, ℕ, ◌+◌, ◌-◌, ◌*◌, ◌/◌, ◌%◌, ◌^◌, ◌≤◌, List, [], ◌∷◌, ◌++◌, length, take, drop, replicate, slice_set, refl, sym, ap, ◌∙◌, arith, length-append, length-drop}
-use Rattle.std.proofs.lemmas.List.{take_all, take_at, drop_at, set_at, append_assoc, append-nil, drop-drop, drop-replicate, take-append-drop, length-replicate, replicate-append-replicate}
+use Rattle.std.proofs.Common.{zero, suc, map, get_or, flat_map, add-one, ◌<◌, ◌≡◌, ℕ, ◌+◌, ◌-◌, ◌*◌, ◌/◌, ◌%◌, ◌^◌, ◌≤◌, List, [], ◌∷◌, ◌++◌, length, take, drop, replicate, slice_set, refl, sym, ap, ◌∙◌, arith, length-append}
+use Rattle.std.proofs.lemmas.List.{take_at, drop_at, set_at, append_assoc, append-nil, drop-drop, drop-replicate, take-append-drop, length-replicate, replicate-append-replicate}
 use Rattle.std.proofs.lemmas.List.Folds.{length-flat_map-take}
 use Rattle.std.proofs.lemmas.Grind.{flat_map-append}
 use Rattle.std.proofs.Math.Seq.{take-suc}
 use Rattle.std.proofs.lemmas.Slice.{take-put_mid, drop-put_mid}
 use Rattle.std.specs.Int.{w64, to_be_bytes}
-use Rattle.coniks_lanes.specs.Messages.{BeginWith}
+use Rattle.coniks_lanes.specs.Messages.{BeginWith, block}
 use Rattle.sha2.specs.Sha256.{compress, digest_bytes, hash_after, initial_hash_256, padded_message, sha256}
 use borrow.Rule.Slice.PartMut.{put_mid}
 
@@ -37,17 +37,28 @@ padded_from bytes m bs size low begins eb =
     ∙ append_assoc m (0x80 ∷ zeros) (to_be_bytes w64 (n * 8 % 2 ^ 64))
     ∙ ap (λ (k : ℕ). m ++ (0x80 ∷ (replicate k 0 ++ to_be_bytes w64 (n * 8 % 2 ^ 64)))) count
 
--- the hash of a message, by the hash value after its first block and after its second
-pub hash_of_two : (m f s h0 h1 h2 l r : List ℕ) → f ≡ take 64 (padded_message m) → s ≡ drop 64 (padded_message m) → length s ≡ 64
-    → h0 ≡ initial_hash_256 → h1 ≡ compress h0 f → h2 ≡ compress h1 s → l ≡ h2 → r ≡ digest_bytes l 8 → r ≡ sha256 m
+-- the hash of a message of two blocks, by the hash value after its second
+hash_of_two : (m : List ℕ) → length (padded_message m) ≡ 128 → digest_bytes (compress (compress initial_hash_256 (block 0 m)) (block 1 m)) 8 ≡ sha256 m
 unfolding sha256 hash_after
-hash_of_two m f s h0 h1 h2 l r ef es long e0 e1 e2 el er =
-    let p : List ℕ = padded_message m in
-    let two : 2 ≡ length p / 64 = omega (arith, long, ap length es, length-drop 64 p) in
-    let last : s ≡ take 64 (drop 64 p) = es ∙ sym (take_all 64 (drop 64 p) (omega (arith, long, ap length es))) in
-    let first : h1 ≡ compress initial_hash_256 (take 64 p) = e1 ∙ (λ i. compress (e0 i) (ef i)) in
-    let both : l ≡ hash_after initial_hash_256 p 2 = el ∙ e2 ∙ (λ i. compress (first i) (last i)) in
-    er ∙ ap (λ (h : List ℕ). digest_bytes h 8) (both ∙ ap (λ (n : ℕ). hash_after initial_hash_256 p n) two)
+hash_of_two m long =
+    let two : 2 ≡ length (padded_message m) / 64 = omega (arith, long) in
+    ap (λ (n : ℕ). digest_bytes (hash_after initial_hash_256 (padded_message m) n) 8) two
+
+-- the hashes of messages of two blocks, by the hash values before, between and after their blocks
+pub hash_of_blocks : {M : Type 0} (f : M → List ℕ) (ms : List M) (h0 h1 h2 : ℕ → List ℕ) (n : ℕ) → length ms ≡ n
+    → ((j : ℕ) → j < n → h0 j ≡ initial_hash_256)
+    → ((j : ℕ) → j < n → h1 j ≡ compress (h0 j) (get_or (map (λ m. block 0 (f m)) ms) j []))
+    → ((j : ℕ) → j < n → h2 j ≡ compress (h1 j) (get_or (map (λ m. block 1 (f m)) ms) j []))
+    → ((j : ℕ) → j < n → length (get_or (map (λ m. padded_message (f m)) ms) j []) ≡ 128)
+    → (j : ℕ) → j < n → digest_bytes (h2 j) 8 ≡ get_or (map (λ m. sha256 (f m)) ms) j []
+hash_of_blocks f [] h0 h1 h2 n count first second third long j lt = absurd (omega arith)
+hash_of_blocks f (m ∷ ms) h0 h1 h2 n count first second third long zero lt =
+    ap (λ h. digest_bytes h 8) (third 0 lt ∙ ap (λ h. compress h (block 1 (f m))) (second 0 lt ∙ ap (λ h. compress h (block 0 (f m))) (first 0 lt)))
+    ∙ hash_of_two (f m) (long 0 lt)
+hash_of_blocks f (m ∷ ms) h0 h1 h2 n count first second third long (suc j) lt =
+    hash_of_blocks f ms (λ i. h0 (suc i)) (λ i. h1 (suc i)) (λ i. h2 (suc i)) (n - 1) (omega arith)
+    (λ i i_lt. first (suc i) (omega arith)) (λ i i_lt. second (suc i) (omega arith)) (λ i i_lt. third (suc i) (omega arith)) (λ i i_lt. long (suc i) (omega arith))
+    j (omega arith)
 
 begin_long : (bytes message : List ℕ) (size : ℕ) → BeginWith bytes message size → length bytes ≡ 128
 begin_long bytes message size begins =

@@ -2,7 +2,7 @@
 
 ghost use Rattle.std.specs.Prelude.{◌≡◌, ◌<◌, ◌≤◌, List, ℕ, length, flat_map, replicate, take, drop, MatchOption};
 ghost use Rattle.sha2.specs.Sha256.{padded_message};
-ghost use Rattle.coniks_lanes.specs.Messages.{BeginWith, IsTwoBlocks};
+ghost use Rattle.coniks_lanes.specs.Messages.{BeginWith, IsTwoBlocks, block};
 
 use std::marker::Model;
 
@@ -45,20 +45,14 @@ impl TwoBlocks {
         Some(TwoBlocks { padded, length })
     }
 
-    /// The first block.
-    pub(crate) fn first(&self) -> &[u8]
-        ensures is { result.now ≡ take 64 (padded_message self.now) }
+    /// The block of this number.
+    pub(crate) fn block(&self, number: usize) -> &[u8]
+        requires { number < 2 }
+        ensures is { result.now ≡ block number self.now }
         ensures long { length result.now ≡ 64 }
+        ensures two { length (padded_message self.now) ≡ 128 }
     {
-        &self.padded[..64]
-    }
-
-    /// The second block.
-    pub(crate) fn second(&self) -> &[u8]
-        ensures is { result.now ≡ drop 64 (padded_message self.now) }
-        ensures long { length result.now ≡ 64 }
-    {
-        &self.padded[64..]
+        &self.padded[64 * number..64 * number + 64]
     }
 }
 

@@ -1,6 +1,6 @@
 //! Published examples, and digests that Python's `hashlib` computed.
 
-use coniks_lanes::{MAX_TWO_BLOCKS, MIN_TWO_BLOCKS, TwoBlocks, hash_four};
+use coniks_lanes::{MAX_TWO_BLOCKS, MIN_TWO_BLOCKS, TwoBlocks, hash_eight, hash_four};
 use std::process::Abort;
 
 /// Returns the bytes 3, 10, 17 and so on, modulo 256.
@@ -81,6 +81,36 @@ fn lengths(rt: HostRuntime) {
             "9ce7368e4daf32341631b492e80359dc9f594b48453cd0dd5bf0b19279cc177e",
         ],
     );
+}
+
+/// `hash_eight` hashes published and counted messages, each in its lane.
+#[test]
+fn eight(rt: HostRuntime) {
+    let counted = counted();
+    let letters = b"abcdbcdecdefdefgefghfghighijhijkijkljklmklmnlmnomnopnopq";
+    let got = hash_eight(&[
+        &message(&rt, &[letters]),
+        &message(&rt, &[&[0; 56]]),
+        &message(&rt, &[&[0; 57]]),
+        &message(&rt, &[&[0; 64]]),
+        &message(&rt, &[part(&rt, &counted, 0, 56)]),
+        &message(&rt, &[part(&rt, &counted, 0, 65)]),
+        &message(&rt, &[part(&rt, &counted, 0, 99)]),
+        &message(&rt, &[&counted]),
+    ]);
+    let want = [
+        "248d6a61d20638b8e5c026930c3e6039a33ce45964ff2167f6ecedd419db06c1",
+        "d4817aa5497628e7c77e6b606107042bbba3130888c5f47a375e6179be789fbb",
+        "65a16cb7861335d5ace3c60718b5052e44660726da4cd13bb745381b235a1785",
+        "f5a5fd42d16a20302798ef6ed309979b43003d2320d9f0e8ea9831a92759fb4b",
+        "4324d65f3c103567f5589c710bc08f8523f929a9272e3af36fc968e52abc6c27",
+        "aacca6ff74fdbb296d165a45cecfa04e5127bc008770fbbdd48006f2d2fae95e",
+        "5e4edd8413b312a4d85297f6e89146bacf0d9714495a1e83dc9f63c0037f0d30",
+        "9ce7368e4daf32341631b492e80359dc9f594b48453cd0dd5bf0b19279cc177e",
+    ];
+    for (hash, digits) in got.iter().zip(want) {
+        assert!(rt; *hash == digest(&rt, digits));
+    }
 }
 
 /// The digest of a message does not depend on its pieces, which differ in each lane and may be empty.

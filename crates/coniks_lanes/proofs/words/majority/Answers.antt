@@ -1,8 +1,8 @@
-use Rattle.std.proofs.Common.{slice_index}
-use Rattle.coniks_lanes.proofs.MajorityLemmas.{maj_short}
+use Rattle.coniks_lanes.proofs.ChoiceLemmas.{maj_short}
 use Rattle.coniks_lanes.proofs.words.majority.Goals as goal
 
 pub returns : goal.returns
-returns c = λ j lt.
+returns g c = λ j lt.
+    let lane = g.W.Words.lane j in
     rw (c.xor-3.ensures j lt, c.and.ensures j lt, c.xor.ensures j lt, c.xor-2.ensures j lt)
-    (maj_short (slice_index c.args.x j) (slice_index c.args.y j) (slice_index c.args.z j))
+    (maj_short (lane c.args.x) (lane c.args.y) (lane c.args.z))
