@@ -20,3 +20,4 @@ mod BatchLemmas
 mod WireLemmas
 mod BindingLemmas
 pub mod Lemmas
+mod EightLemmas

@@ -37,8 +37,8 @@ pub use bytes::{Binding, Bytes, Digests};
 pub use checker::{CheckFault, check, check_ref};
 pub use collision::{Collision, extract};
 pub use hashing::{
-    CommitmentPreimage, Flat, Hash32, Sha256Hash, commit_hash, commit_hash_four, empty_hash,
-    inner_hash, leaf_hash,
+    CommitmentPreimage, Flat, Hash32, Sha256Hash, commit_hash, commit_hash_eight, commit_hash_four,
+    empty_hash, inner_hash, leaf_hash,
 };
 pub use memory::OutOfMemory;
 pub use messages::{Message, empty_message, hash_all, leaf_message};

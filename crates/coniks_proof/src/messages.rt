@@ -1,7 +1,7 @@
-//! Messages that are hashed for nodes, four at a time.
+//! Messages that are hashed for nodes, eight or four at a time.
 
 ghost use Rattle.std.specs.Prelude.{◌≡◌, ◌++◌, ◌≤◌, flat_map, length, map, IfOk, OnOk};
-ghost use Rattle.coniks_proof.specs.Messages.{preimage_of};
+ghost use Rattle.coniks_proof.specs.Messages.{AreAppended, preimage_of};
 ghost use Rattle.coniks_proof.specs.Octets.{Octets};
 ghost use Rattle.coniks_proof.specs.Preimages.{empty_preimage, leaf_preimage};
 
@@ -53,16 +53,30 @@ pub fn leaf_message(index: &Index, level: usize, commitment: &Digest) -> Message
     Message::Leaf(*index, (level as u16).to_be_bytes(), *commitment)
 }
 
-/// Appends the hashes of four messages to a list.
-fn hash_next<H: Hash32>(
-    h: &H,
-    nonce: &Nonce,
-    four: &[Message],
-    hashes: &mut VecDeque<Digest>,
-) -> Result<(), AllocError>
+/// Returns the hashes of eight messages.
+fn eight_hashes<H: Hash32>(h: &H, nonce: &Nonce, eight: &[Message]) -> [Digest; 8]
+    requires { length eight.now ≡ 8 }
+    ensures { map (λ hash. hash.0) result ≡ map (λ message. H.digest_of h.now (preimage_of nonce.now.0 message)) eight.now }
+{
+    let [a, b, c, d, e, f, g, i] = eight else {
+        unreachable!()
+    };
+    h.hash_eight(&[
+        &a.pieces(nonce),
+        &b.pieces(nonce),
+        &c.pieces(nonce),
+        &d.pieces(nonce),
+        &e.pieces(nonce),
+        &f.pieces(nonce),
+        &g.pieces(nonce),
+        &i.pieces(nonce),
+    ])
+}
+
+/// Returns the hashes of four messages.
+fn four_hashes<H: Hash32>(h: &H, nonce: &Nonce, four: &[Message]) -> [Digest; 4]
     requires { length four.now ≡ 4 }
-    ensures { OnOk result (map (λ hash. hash.0) hashes.new.items
-        ≡ map (λ hash. hash.0) hashes.old.items ++ map (λ message. H.digest_of h.now (preimage_of nonce.now.0 message)) four.now) }
+    ensures { map (λ hash. hash.0) result ≡ map (λ message. H.digest_of h.now (preimage_of nonce.now.0 message)) four.now }
 {
     let [a, b, c, d] = four else { unreachable!() };
     let (a, b, c, d) = h.hash_four(
@@ -71,16 +85,57 @@ fn hash_next<H: Hash32>(
         &c.pieces(nonce),
         &d.pieces(nonce),
     );
-    hashes.push_back(a)?;
-    hashes.push_back(b)?;
-    hashes.push_back(c)?;
-    hashes.push_back(d)?;
+    [a, b, c, d]
+}
+
+/// Appends digests to a list.
+fn append(hashes: &mut VecDeque<Digest>, new: &[Digest]) -> Result<(), AllocError>
+    ensures { OnOk result (hashes.new.items ≡ hashes.old.items ++ new.now) }
+{
+    for hash in new {
+        hashes.push_back(*hash)?;
+    }
     Ok(())
+}
+
+/// Appends the hashes of eight messages as long as eight are left. Returns the rest.
+fn append_eights<'a, H: Hash32>(
+    h: &H,
+    nonce: &Nonce,
+    messages: &'a [Message],
+    hashes: &mut VecDeque<Digest>,
+) -> Result<&'a [Message], AllocError>
+    ensures { IfOk result (λ rest. AreAppended (λ message. H.digest_of h.now (preimage_of nonce.now.0 message)) hashes.old.items hashes.new.items messages.now rest.now) }
+{
+    let mut rest = messages;
+    while rest.len() >= 8 {
+        let (eight, others) = rest.split_at(8);
+        append(hashes, &eight_hashes(h, nonce, eight))?;
+        rest = others;
+    }
+    Ok(rest)
+}
+
+/// Appends the hashes of four messages if there are four. Returns the rest.
+fn append_four<'a, H: Hash32>(
+    h: &H,
+    nonce: &Nonce,
+    messages: &'a [Message],
+    hashes: &mut VecDeque<Digest>,
+) -> Result<&'a [Message], AllocError>
+    ensures { IfOk result (λ rest. AreAppended (λ message. H.digest_of h.now (preimage_of nonce.now.0 message)) hashes.old.items hashes.new.items messages.now rest.now) }
+{
+    if messages.len() < 4 {
+        return Ok(messages);
+    }
+    let (four, rest) = messages.split_at(4);
+    append(hashes, &four_hashes(h, nonce, four))?;
+    Ok(rest)
 }
 
 /// Returns the hashes of messages, in their order.
 ///
-/// Hashes four messages at once as long as four are left.
+/// Hashes eight messages at once as long as eight are left, and then four if four are left.
 ///
 /// # Errors
 ///
@@ -94,12 +149,8 @@ pub fn hash_all<H: Hash32>(
     ensures { IfOk result (λ hashes. map (λ hash. hash.0) hashes.items ≡ map (λ message. H.digest_of h.now (preimage_of nonce.now.0 message)) messages.now) }
 {
     let mut hashes = VecDeque::with_capacity(alloc, messages.len())?;
-    let mut rest = messages;
-    while rest.len() >= 4 {
-        let (four, others) = rest.split_at(4);
-        hash_next(h, nonce, four, &mut hashes)?;
-        rest = others;
-    }
+    let rest = append_eights(h, nonce, messages, &mut hashes)?;
+    let rest = append_four(h, nonce, rest, &mut hashes)?;
     for message in rest {
         hashes.push_back(h.hash(&message.pieces(nonce)))?;
     }

@@ -1,7 +1,7 @@
 //! Worked examples, whose digests were computed by other programs.
 
 mod collisions;
-mod fours;
+mod lanes;
 mod wire;
 
 use coniks_proof::{

@@ -1,4 +1,4 @@
-//! Joins many pairs of parts, and computes their hashes four at a time.
+//! Joins many pairs of parts, and computes their hashes several at a time.
 
 ghost use Rattle.std.specs.Prelude.{◌≡◌, ◌++◌, ◌∷◌, ◌<◌, ◌≤◌, ◌+◌, [], List, ℕ, length, map, IfOk, OnOk, Bool, false, true};
 ghost use Rattle.coniks_proof.specs.Bits.{child};
@@ -195,7 +195,7 @@ fn joined_all(
 
 /// Joins the parts of pairs, in their order, each pair to the part of the prefix above.
 ///
-/// The missing hashes of the sides are computed four at a time, and then those of the nodes above them.
+/// The missing hashes of the sides are computed several at a time, and then those of the nodes above them.
 pub(crate) fn join_all<H: Hash32>(
     base: &Base<'_, H>,
     pairs: Vec<Pair>,

@@ -1,9 +1,9 @@
-//! Four messages at once, of 55, 56, 119 and 120 bytes. If each has 56 to 119 bytes, they are hashed in lanes.
+//! Four and eight messages at once, of 55, 56, 119 and 120 bytes. If each has 56 to 119 bytes, they are hashed in lanes.
 
 use crate::tests::repeated;
 use coniks_proof::{
     CommitmentPreimage, Digest, Flat, Hash32, MAX_KEY, MAX_NAME, Message, Nonce, Sha256Hash,
-    commit_hash_four, hash_all,
+    commit_hash_eight, commit_hash_four, hash_all,
 };
 use coniks_test_support::{OPENING, digest};
 use std::alloc::Global;
@@ -76,6 +76,39 @@ fn hashes(rt: HostRuntime) {
     );
 }
 
+/// Lengths of eight messages: one group that is hashed in lanes, one whose last four are, and others.
+const EIGHTS: [[usize; 8]; 4] = [
+    [56, 119, 119, 56, 119, 56, 56, 119],
+    [55, 56, 119, 120, 119, 56, 119, 56],
+    [119, 56, 56, 119, 56, 119, 56, 120],
+    [120, 55, 120, 55, 56, 55, 119, 120],
+];
+
+#[test]
+fn hashes_of_eight(rt: HostRuntime) {
+    let bytes = counted();
+    let front = |length: usize| bytes.get(..length).expect(&rt, "within");
+    for lengths in EIGHTS {
+        let [a, b, c, d, e, f, g, h] = lengths;
+        let cut = &[front(10), front(a).get(10..).expect(&rt, "within")];
+        let got = Sha256Hash.hash_eight(&[
+            cut,
+            &[front(b)],
+            &[front(c), b""],
+            &[b"", front(d)],
+            &[front(e)],
+            &[front(f)],
+            &[front(g)],
+            &[front(h)],
+        ]);
+        for (hash, length) in got.iter().zip(lengths) {
+            assert!(rt; *hash == wanted(length).0);
+        }
+    }
+    let zeros = Flat.hash_eight(&[&[], &[b"a"], &[], &[], &[], &[], &[], &[]]);
+    assert!(rt; zeros == [Digest([0; 32]); 8]);
+}
+
 /// Returns a key of letters `k` with which the commitment to the name `n` has a message of `length` bytes.
 fn key(rt: &impl Abort, alloc: Global, length: usize) -> Vec<u8> {
     repeated(rt, alloc, b'k', length.saturating_sub(40))
@@ -105,6 +138,46 @@ fn commitments(rt: HostRuntime) {
     }
 }
 
+/// Returns the commitments to the name `n` and each of eight keys.
+fn committed(rt: &impl Abort, keys: &[Vec<u8>; 8]) -> [Digest; 8] {
+    let [a, b, c, d, e, f, g, h] = keys;
+    commit_hash_eight(
+        &Sha256Hash,
+        &[
+            preimage(rt, a),
+            preimage(rt, b),
+            preimage(rt, c),
+            preimage(rt, d),
+            preimage(rt, e),
+            preimage(rt, f),
+            preimage(rt, g),
+            preimage(rt, h),
+        ],
+    )
+}
+
+#[test]
+fn commitments_of_eight(rt: HostRuntime) {
+    let alloc = rt.alloc();
+    for lengths in EIGHTS {
+        let [a, b, c, d, e, f, g, h] = lengths;
+        let keys = [
+            key(&rt, alloc, a),
+            key(&rt, alloc, b),
+            key(&rt, alloc, c),
+            key(&rt, alloc, d),
+            key(&rt, alloc, e),
+            key(&rt, alloc, f),
+            key(&rt, alloc, g),
+            key(&rt, alloc, h),
+        ];
+        let got = committed(&rt, &keys);
+        for (hash, length) in got.iter().zip(lengths) {
+            assert!(rt; *hash == wanted(length).1);
+        }
+    }
+}
+
 /// Returns a digest that is a number followed by zeros.
 fn numbered(number: u16) -> Digest {
     let mut bytes = [0u8; 32];
@@ -114,11 +187,11 @@ fn numbered(number: u16) -> Digest {
     Digest(bytes)
 }
 
-/// `hash_all` hashes 4,099 interior nodes, each over a number and its double. All hashes are chained into one digest.
+/// `hash_all` hashes 4,103 interior nodes, by eights, four at once and alone, each over a number and its double. All hashes are chained into one digest.
 #[test]
 fn many_nodes(rt: HostRuntime) {
     let mut messages = Vec::new(rt.alloc());
-    for number in 0..4_099u16 {
+    for number in 0..4_103u16 {
         let message = Message::Inner(numbered(number), numbered(number.wrapping_mul(2)));
         messages.push(message).expect(&rt, "memory");
     }
@@ -127,6 +200,6 @@ fn many_nodes(rt: HostRuntime) {
     for hash in hashes.expect(&rt, "memory").iter() {
         all = Sha256Hash.hash(&[&all.0, &hash.0]);
     }
-    let wanted = digest("4c8371826fe1dfc11937dd91f5c3f74d9f6675cb7e39eaeed702d103140ae5bd");
+    let wanted = digest("08b7d31ee0c2fa983b8da620a3ec7bfd312259034a2827c8383b59957c8b4b59");
     assert!(rt; all == wanted);
 }
