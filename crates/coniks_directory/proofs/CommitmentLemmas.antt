@@ -1,9 +1,9 @@
 -- The records of a batch and their commitments.
 use Rattle.std.proofs.Common.{◌≡◌, ◌<◌, ◌≤◌, ◌+◌, ℕ, zero, suc, List, [], ◌∷◌, ◌++◌, length, map, take, drop, set, get_or, arith, length-append, take-append-drop, refl, sym, ap, subst, ◌∙◌, Some, slice_get}
-use Rattle.std.proofs.lemmas.List.{drop_all}
+use Rattle.std.proofs.lemmas.List.{drop_all, get_or-map}
 use Rattle.std.proofs.lemmas.List.Edits.{map_over_more}
 use Rattle.std.proofs.Math.Seq.{map-set_same}
-use Rattle.coniks_directory.proofs.Words.{ArePendingRecords, AreCommitted, AreCommittedTo, AreWithin, BTreeMap, Digest, IsPendingRecord, IsLength, MAX_KEY, MAX_NAME, Record, Registered}
+use Rattle.coniks_directory.proofs.Words.{ArePendingRecords, AreCommitmentsFrom, AreCommitted, AreCommittedTo, AreWithin, BTreeMap, Digest, IsCommitmentAt, IsPendingRecord, IsLength, MAX_KEY, MAX_NAME, Record, Registered}
 use Rattle.coniks_directory.proofs.Words.{append-nil, commitment_to, length-map, map-map, number_at, option_map, registered_of, committed_by}
 use Rattle.coniks_directory.proofs.Words.{slice_get-map, slice_get_read, take_all}
 
@@ -35,6 +35,47 @@ bound_at records n r b there is at = let found = found_at records n r there is i
 pub binds_still : (records : List Record) (place : ℕ) (r : Record) (c : Digest) → r ≡ get_or records place r
     → map registered_of (set records place (with_commitment r c)) ≡ map registered_of records
 binds_still records place r c is = map-set_same registered_of records place (with_commitment r c) r (ap registered_of is)
+
+-- the commitment of each of these records
+pub commitment_from : (hash : List ℕ → List ℕ) (records : List Record) (place : ℕ) (bytes : List (List ℕ)) (n : ℕ) → n < length bytes
+    → AreCommitmentsFrom hash records place bytes → IsCommitmentAt hash records (place + n) (get_or bytes n [])
+commitment_from hash records place [] n lt from = absurd (omega arith)
+commitment_from hash records place (x ∷ xs) zero lt from = subst (λ (k : ℕ). IsCommitmentAt hash records k x) (omega arith) from.0
+commitment_from hash records place (x ∷ xs) (suc n) lt from =
+    subst (λ (k : ℕ). IsCommitmentAt hash records k (get_or xs n [])) (omega arith) (commitment_from hash records (place + 1) xs n (omega arith) from.1)
+
+-- the commitments of eight records
+pub eight_from : (hash : List ℕ → List ℕ) (records : List Record) (place : ℕ) {a b c d e f g h : List ℕ}
+    → IsCommitmentAt hash records place a → IsCommitmentAt hash records (place + 1) b → IsCommitmentAt hash records (place + 2) c
+    → IsCommitmentAt hash records (place + 3) d → IsCommitmentAt hash records (place + 4) e → IsCommitmentAt hash records (place + 5) f
+    → IsCommitmentAt hash records (place + 6) g → IsCommitmentAt hash records (place + 7) h
+    → AreCommitmentsFrom hash records place (a ∷ b ∷ c ∷ d ∷ e ∷ f ∷ g ∷ h ∷ [])
+eight_from hash records place {c = c} {d = d} {e = e} {f = f} {g = g} {h = h} at_a at_b at_c at_d at_e at_f at_g at_h =
+    let at = λ (k : ℕ) (bytes : List ℕ). IsCommitmentAt hash records k bytes in (
+      at_a,
+      (
+        at_b,
+        (
+          subst (λ k. at k c) (omega arith) at_c,
+          (
+            subst (λ k. at k d) (omega arith) at_d,
+            (
+              subst (λ k. at k e) (omega arith) at_e,
+              (subst (λ k. at k f) (omega arith) at_f, (subst (λ k. at k g) (omega arith) at_g, (subst (λ k. at k h) (omega arith) at_h, tt))),
+            ),
+          ),
+        ),
+      ),
+    )
+
+-- the commitment of one of these records, whose bindings are unchanged
+pub commitment_still : (hash : List ℕ → List ℕ) (first records : List Record) (place n : ℕ) (commitments : List Digest) (c d : Digest) → n < length commitments
+    → c ≡ get_or commitments n d → map registered_of records ≡ map registered_of first → AreCommitmentsFrom hash first place (map (λ d. d.0) commitments)
+    → IsCommitmentAt hash records (place + n) c.0
+commitment_still hash first records place n commitments c d lt is same from = λ b at.
+    let many : n < length (map (λ d. d.0) commitments) = omega (arith, length-map commitments (λ d. d.0)) in
+    ap (λ x. x.0) is ∙ sym (get_or-map (λ x. x.0) commitments n d [] lt)
+    ∙ commitment_from hash first place (map (λ d. d.0) commitments) n many from b (subst (λ rs. slice_get rs (place + n) ≡ Some b) same at)
 
 module _ (hash : List ℕ → List ℕ) where
   as_many : (all records : List Record) (place : ℕ) → AreCommittedTo hash all place records → length records ≡ length all

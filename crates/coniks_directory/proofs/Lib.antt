@@ -5,6 +5,7 @@ mod MirrorLemmas
 mod HolderLemmas
 mod JudgeLemmas
 mod PendingLemmas
+mod ChunkLemmas
 mod CommitmentLemmas
 mod OrderLemmas
 mod OverlaidLemmas

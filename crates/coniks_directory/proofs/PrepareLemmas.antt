@@ -1,9 +1,9 @@
 -- An update of a batch on the state of a directory.
-use Rattle.std.proofs.Common.{◌≡◌, ◌≢◌, ℕ, zero, suc, ◌+◌, ◌*◌, ◌-◌, ◌≤◌, List, [], ◌∷◌, ◌++◌, length, map, arith, refl, sym, ap, ◌∙◌, Option, Some, None, Bool, true, false, is_some, slice_get}
+use Rattle.std.proofs.Common.{◌≡◌, ℕ, zero, suc, ◌+◌, ◌*◌, ◌-◌, ◌≤◌, List, [], ◌∷◌, ◌++◌, length, map, arith, refl, sym, ap, ◌∙◌, Option, Some, None, Bool, true, false, is_some, slice_get}
 use Rattle.coniks_tree.specs.Table.{table}
 use Rattle.coniks_directory.proofs.Words.{AddsFew, RotatesTo, Epoch, IsBuilt, IsLatestRoot, IsSmall, IsUpdateBy, Nonce, Op, Prepared, Registered, Registry, Root, Shown, State}
 use Rattle.coniks_directory.proofs.Words.{Whole, after, bound_by, history_of, latest_registry, length-map, map-append, nonce_after, option_map}
-use Rattle.coniks_directory.proofs.Words.{KeepsNone, most_anew, most_nodes, node_count, operation_of, operations, overlaid, registered_of, registry_after, shown_of}
+use Rattle.coniks_directory.proofs.Words.{most_nodes, node_count, operation_of, operations, overlaid, registered_of, registry_after, shown_of}
 use Rattle.coniks_directory.specs.Built.{IsCounted}
 use Rattle.coniks_directory.specs.Nodes.{epoch_nodes}
 use Rattle.coniks_proof.proofs.Lemmas.{overlaid-append}

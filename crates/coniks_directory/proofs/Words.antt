@@ -58,7 +58,7 @@ pub use Rattle.coniks_directory.specs.History.{AllHaveOwnIndices, AreRising, Are
 pub use Rattle.coniks_directory.specs.History.{latest_registry, latest_version, nonce_after, numbers_of, root_at, shown_at, version_after}
 pub use Rattle.coniks_directory.specs.Holders.{HolderIs, IsHeld, IsLatestRoot, ShowsLatest}
 pub use Rattle.coniks_directory.specs.Installed.{IsEntered, IsNext, IsSigned, Leaves}
-pub use Rattle.coniks_directory.specs.Judged.{AreChangesOf, ArePendingRecords, AreCommitted, AreCommittedTo, IsPendingRecord, IsJudged, IsJudgedFault, IsJudgedFaultAfter, number_at, committed_by}
+pub use Rattle.coniks_directory.specs.Judged.{AreChangesOf, ArePendingRecords, AreCommitmentsFrom, AreCommitted, AreCommittedTo, IsCommitmentAt, IsPendingRecord, IsJudged, IsJudgedFault, IsJudgedFaultAfter, number_at, committed_by}
 pub use Rattle.coniks_directory.specs.Lookups.{IsAcceptedAt, IsFound}
 pub use Rattle.coniks_directory.specs.Runs.{AreAccepted, AreAcceptedFrom, Batch, Run, defined, epochs_from, shown_by}
 pub use Rattle.coniks_directory.specs.State.{HoldsEpoch, IsEpochAt, IsInstalled, IsStored, Mirrors, ShowsRegistry, State, View, Whole, history_of, last_count, registered_of, shown_of, state_of}

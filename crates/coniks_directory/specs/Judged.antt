@@ -1,5 +1,5 @@
 -- The checked operations of a batch: their records, found by index.
-use Rattle.std.specs.Prelude.{◌≡◌, ◌+◌, ◌++◌, ℕ, List, [], length, map, take, drop, slice_get, Option, Some}
+use Rattle.std.specs.Prelude.{◌≡◌, ◌+◌, ◌∷◌, ◌++◌, ℕ, List, [], length, map, take, drop, slice_get, Option, Some}
 use Rattle.std.specs.Ordering.{nat_cmp}
 use Rattle.std.specs.Cmp.Lexicographic.{slice_cmp}
 use Rattle.std.specs.BTreeMap.{BTreeMap, btree_map_len, get, IsOrdered}
@@ -33,6 +33,11 @@ committed_by hash r = record r { commitment = record { 0 = commitment_to hash (r
 abbrev pub IsCommitmentAt : (Octets → Octets) → List Record → ℕ → Octets → Type 0
 IsCommitmentAt hash records place bytes = (b : Registered)
     → slice_get (map registered_of records) place ≡ Some b → bytes ≡ commitment_to hash b
+
+-- these bytes are the commitments to what the records bind, from a place on
+abbrev pub AreCommitmentsFrom : (Octets → Octets) → List Record → ℕ → List Octets → Type 0
+AreCommitmentsFrom hash records place [] = Unit {0}
+AreCommitmentsFrom hash records place (bytes ∷ rest) = IsCommitmentAt hash records place bytes × AreCommitmentsFrom hash records (place + 1) rest
 
 -- the records as they were, up to a place with the commitments to their bindings
 abbrev pub AreCommittedTo : (Octets → Octets) → List Record → ℕ → List Record → Type 0

@@ -7,14 +7,13 @@ ghost use Rattle.coniks_proof.specs.Registry.{Registered, Registry};
 ghost use Rattle.coniks_tree.specs.Trees.{table_of};
 ghost use Rattle.coniks_directory.specs.Batches.{fault_is, operation_of, operations};
 ghost use Rattle.coniks_directory.specs.Holders.{ShowsLatest};
-ghost use Rattle.coniks_directory.specs.Judged.{ArePendingRecords, AreCommitted, IsJudgedFault, IsJudgedFaultAfter, IsSamePending};
+ghost use Rattle.coniks_directory.specs.Judged.{ArePendingRecords, IsJudgedFault, IsJudgedFaultAfter, IsSamePending};
 
 use crate::batch::{BatchFault, Op, OpFault};
 use crate::conflicts::{holder_at, op_fault};
 use crate::lengths::length_fault;
 use crate::pending::{PendingRecords, record_of};
 use crate::source::IndexSource;
-use coniks_proof::Hash32;
 use coniks_tree::{Root, Tree};
 use std::alloc::{AllocError, Global};
 
@@ -98,34 +97,31 @@ pub(crate) fn judge_all<X: IndexSource>(
     Ok(())
 }
 
-/// Returns the records of a batch's operations, with their commitments after all are checked.
+/// Returns the records of a batch's operations, after all are checked. They have no commitments yet.
 ///
 /// # Errors
 ///
 /// The position of the first operation that has an error, and its first error, or `OutOfMemory` if an allocation fails.
-pub(crate) fn judged<H: Hash32, X: IndexSource>(
+pub(crate) fn judged<X: IndexSource>(
     alloc: Global,
-    h: &H,
     source: &X,
     tree: &Tree,
     root: Option<Root>,
     ops: &[Op],
 ) -> Result<PendingRecords, BatchFault>
     requires { IfSome root (λ r. r.0 < length tree.now.nodes) }
-    ensures pending { IfOk result (λ pending. ArePendingRecords (H.digest_of h.now)
-        (X.index_of source.now) (map bound_by (operations ops.now)) pending.records.items pending.numbers) }
-    ensures committed { IfOk result (λ pending. AreCommitted (H.digest_of h.now) pending.records.items) }
-    ensures faultless { OnOk result ((nonce : Octets) (registry : Registry)
-        → ShowsLatest (H.digest_of h.now) (X.index_of source.now) nonce (table_of tree.now) root registry
+    ensures pending { IfOk result (λ pending. (hash : Octets → Octets)
+        → ArePendingRecords hash (X.index_of source.now) (map bound_by (operations ops.now)) pending.records.items pending.numbers) }
+    ensures faultless { OnOk result ((hash : Octets → Octets) (nonce : Octets) (registry : Registry)
+        → ShowsLatest hash (X.index_of source.now) nonce (table_of tree.now) root registry
         → first_fault (X.index_of source.now) registry (operations ops.now) ≡ None) }
-    ensures fault { IfErr result (λ fault. (nonce : Octets) (registry : Registry)
-        → ShowsLatest (H.digest_of h.now) (X.index_of source.now) nonce (table_of tree.now) root registry
+    ensures fault { IfErr result (λ fault. (hash : Octets → Octets) (nonce : Octets) (registry : Registry)
+        → ShowsLatest hash (X.index_of source.now) nonce (table_of tree.now) root registry
         → IsJudgedFault (X.index_of source.now) registry (operations ops.now) fault) }
 {
     let Ok(mut pending) = PendingRecords::new(alloc, ops.len()) else {
         return Err(BatchFault::OutOfMemory);
     };
     judge_all(alloc, source, tree, root, &mut pending, ops)?;
-    pending.commit_records(h);
     Ok(pending)
 }

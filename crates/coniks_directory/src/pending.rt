@@ -10,12 +10,15 @@ ghost use Rattle.coniks_directory.specs.Judged.{ArePendingRecords, AreCommitted,
 ghost use Rattle.coniks_directory.specs.State.{registered_of};
 
 use crate::batch::Op;
-use crate::commitments::commit_all;
+use crate::commitments::commit_apart;
 use crate::conflicts::is_of;
+use crate::preparing::Build;
 use coniks_proof::{Binding, Bytes, Digest, Hash32, Index, MAX_KEY, MAX_NAME};
 use coniks_tree::Record;
+use coniks_work::Gate;
 use std::alloc::{AllocError, Global};
 use std::collections::BTreeMap;
+use std::thread::Threads;
 
 /// The commitment of a record until all operations of the batch are checked.
 const UNCOMMITTED: Digest = Digest([0; 32]);
@@ -118,15 +121,19 @@ impl PendingRecords {
         }
     }
 
-    /// Stores its commitment in each record.
-    pub(crate) fn commit_records<H: Hash32>(&mut self, h: &H)
-        requires { AreWithin (map registered_of self.old.records.items) }
+    /// Stores its commitment in each record, in worker threads if there are many records.
+    pub(crate) fn commit_records<H: Hash32 + Sync, G: Gate + Sync, R: Threads + Sync>(
+        &mut self,
+        build: &Build<'_, G, R>,
+        h: &H,
+    )
+        requires within { AreWithin (map registered_of self.old.records.items) }
         ensures committed { AreCommitted (H.digest_of h.now) self.new.records.items }
         ensures pending { (hash index_of : Octets → Octets) (bound : List Registered)
             → ArePendingRecords hash index_of bound self.old.records.items self.old.numbers
             → ArePendingRecords hash index_of bound self.new.records.items self.new.numbers }
     {
-        commit_all(h, &mut self.records);
+        commit_apart(build.rt, build.parallelism.workers(), h, &mut self.records);
     }
 }
 

@@ -134,6 +134,33 @@ pub(crate) fn update_of(
     })
 }
 
+/// Returns the records of a batch's operations, with their commitments after all are checked.
+///
+/// # Errors
+///
+/// The position of the first operation that has an error, and its first error, or `OutOfMemory` if an allocation fails.
+fn checked<H: Hash32 + Sync, X: IndexSource, G: Gate + Sync, R: Threads + Sync>(
+    build: &Build<'_, G, R>,
+    origin: &Origin<'_, H, X>,
+    root: Option<Root>,
+    ops: &[Op],
+) -> Result<PendingRecords, BatchFault>
+    requires root { IfSome root (λ r. r.0 < length origin.now.held.now.tree.nodes) }
+    ensures pending { IfOk result (λ pending. ArePendingRecords (H.digest_of origin.now.h.now)
+        (X.index_of origin.now.source.now) (map bound_by (operations ops.now)) pending.records.items pending.numbers) }
+    ensures committed { IfOk result (λ pending. AreCommitted (H.digest_of origin.now.h.now) pending.records.items) }
+    ensures faultless { OnOk result ((nonce : Octets) (registry : Registry)
+        → ShowsLatest (H.digest_of origin.now.h.now) (X.index_of origin.now.source.now) nonce (table_of origin.now.held.now.tree) root registry
+        → first_fault (X.index_of origin.now.source.now) registry (operations ops.now) ≡ None) }
+    ensures fault { IfErr result (λ fault. (nonce : Octets) (registry : Registry)
+        → ShowsLatest (H.digest_of origin.now.h.now) (X.index_of origin.now.source.now) nonce (table_of origin.now.held.now.tree) root registry
+        → IsJudgedFault (X.index_of origin.now.source.now) registry (operations ops.now) fault) }
+{
+    let mut pending = judged(origin.alloc, origin.source, &origin.held.tree, root, ops)?;
+    pending.commit_records(build, origin.h);
+    Ok(pending)
+}
+
 /// Prepares the update of a batch, with a new nonce or under the latest one.
 ///
 /// The batch is checked before any node is made. Its length is within its limit.
@@ -151,16 +178,11 @@ pub(crate) fn update_on<H: Hash32 + Sync, X: IndexSource, G: Gate + Sync, R: Thr
     ensures fault { IfErr result (IsJudgedFault (X.index_of origin.now.source.now)
         (latest_registry (history_of (state_of origin.now.held.now))) (operations ops.now)) }
 {
-    let Origin {
-        alloc,
-        h,
-        source,
-        held,
-    } = *origin;
+    let held = origin.held;
     let root = held.latest_root();
     let version = version_after(new_nonce, held.latest_version());
     let nonce = nonce_after(new_nonce, held.latest_nonce());
-    let pending = judged(alloc, h, source, &held.tree, root, ops)?;
+    let pending = checked(build, origin, root, ops)?;
     let Ok(part) = part_of(build, origin, &pending, root, new_nonce.is_some(), &nonce) else {
         return Err(BatchFault::OutOfMemory);
     };

@@ -81,7 +81,7 @@ fn first_update<H: Hash32 + Sync, X: IndexSource, G: Gate + Sync, R: Threads + S
     ensures nodes { IfOk result (λ p. nodes_added p ≡ epoch_nodes (X.index_of origin.now.source.now) [] None (registrations pending.records.items)) }
 {
     let nonce = entry.body.nonce;
-    pending.commit_records(origin.h);
+    pending.commit_records(build, origin.h);
     let part = part_of(build, origin, &pending, None, false, &nonce)?;
     let update = update_of(origin.held, entry.body.version, nonce, part, pending)?;
     Ok(update)

@@ -269,7 +269,7 @@ impl<H: Hash32, X: IndexSource> Directory<H, X> {
         ensures { IsEarliest (given_index indices.now.fresh (X.index_of indices.now.source.now)) (registry self.now) (operations ops.now) place result }
     {
         let root = self.held.latest_root();
-        let Err(fault) = judged(self.alloc, &self.h, indices, &self.held.tree, root, ops) else {
+        let Err(fault) = judged(self.alloc, indices, &self.held.tree, root, ops) else {
             return SuppliedBatchFault::OtherIndex { position: place };
         };
         match fault {

@@ -1,4 +1,4 @@
-//! Batches whose commitments are hashed in a group of four, with one, two or three left over.
+//! Batches whose commitments are hashed in groups of eight and of four, with one, two or three left over.
 
 use crate::tests::clerk::committed;
 use crate::tests::largest::Hashed;
@@ -41,8 +41,8 @@ fn root_after<R: Threads + Sync + Abort>(rt: &R, alloc: Global, sizes: &[Sizes])
     committed(rt, alloc, Hashed, &ops, 1, (1, 2)).root_at(1)
 }
 
-/// Batches of five, six and seven names have the expected roots. The four messages of a group are hashed at once if
-/// each has 56 to 119 bytes.
+/// Batches of five, six, seven and fifteen names have the expected roots. The messages of a group are hashed at once if each
+/// has 56 to 119 bytes.
 #[test]
 fn left_over(rt: HostRuntime) {
     let five: &[Sizes] = &[(1, 16), (2, 32), (12, 32), (3, 77), (1, 15)];
@@ -56,6 +56,23 @@ fn left_over(rt: HostRuntime) {
         (4, 77),
         (255, 1),
     ];
+    let fifteen: &[Sizes] = &[
+        (2, 15),
+        (3, 77),
+        (2, 16),
+        (4, 76),
+        (1, 32),
+        (3, 33),
+        (5, 75),
+        (6, 40),
+        (7, 20),
+        (1, 79),
+        (8, 30),
+        (9, 31),
+        (10, 32),
+        (255, 1),
+        (11, 12),
+    ];
     for &(sizes, want) in &[
         (
             five,
@@ -68,6 +85,10 @@ fn left_over(rt: HostRuntime) {
         (
             seven,
             "45686213d16ff35e23e870e9cabb8518237122542cdd6a8d4fff37fdb2769d91",
+        ),
+        (
+            fifteen,
+            "8acf45e6d033ca3228b621d31cbddd4c5ad4d0189310580754e431971fee7e86",
         ),
     ] {
         let root = root_after(&rt, rt.alloc(), sizes);

@@ -8,8 +8,8 @@ use Rattle.coniks_directory.proofs.preparing.update_on.Goals.{In-Ok}
 use Rattle.coniks_directory.proofs.preparing.update_on.Given as given
 use Rattle.coniks_directory.proofs.preparing.update_on.Goals as goal
 
-pub judged-requires : goal.judged-requires
-judged-requires g c = (c.latest_root-root.ensures (g.H.Hash32.digest_of c.args.origin.now.h.now) (g.X.IndexSource.index_of c.args.origin.now.source.now) c.requires.whole).known
+pub checked-requires-clause-root : goal.checked-requires-clause-root
+checked-requires-clause-root g c κs within = (c.latest_root-root.ensures (g.H.Hash32.digest_of c.args.origin.now.h.now) (g.X.IndexSource.index_of c.args.origin.now.source.now) c.requires.whole).known
 
 pub returns-in_err-pending-clause-fault : goal.returns-in_err-pending-clause-fault
 returns-in_err-pending-clause-fault g c =

@@ -9,8 +9,8 @@ use Rattle.coniks_directory.proofs.restoring.first_update.Goals.{In_ok-part}
 use Rattle.coniks_directory.proofs.restoring.first_update.Given as given
 use Rattle.coniks_directory.proofs.restoring.first_update.Goals as goal
 
-pub commit_records-requires : goal.commit_records-requires
-commit_records-requires g c =
+pub commit_records-requires-clause-within : goal.commit_records-requires-clause-within
+commit_records-requires-clause-within g c κs within =
     drafts_within (g.H.Hash32.digest_of c.args.origin.now.h.now) (g.X.IndexSource.index_of c.args.origin.now.source.now) _ _ _ c.requires.restoring.pending
 
 pub part_of-requires-clause-numbered : goal.part_of-requires-clause-numbered

@@ -17,7 +17,7 @@ returns-in_default g c =
     let index = given_index it.fresh (g.X.IndexSource.index_of it.source.now) in
     let registry = latest_registry (history_of (state_of d.held)) in
     let shown = (c.latest_root-root.ensures (g.H.Hash32.digest_of d.h) index (rw (← c.self.view_is) at c.requires)).shows _ refl in
-    rw (← c.self.view_is) (ap (λ f. earliest f (Some c.args.place)) (c.in_default.ensures.faultless _ registry shown))
+    rw (← c.self.view_is) (ap (λ f. earliest f (Some c.args.place)) (c.in_default.ensures.faultless _ _ registry shown))
 
 pub returns-in-At : goal.returns-in-At
 returns-in-At g c =
@@ -26,7 +26,7 @@ returns-in-At g c =
     let index = given_index it.fresh (g.X.IndexSource.index_of it.source.now) in
     let registry = latest_registry (history_of (state_of d.held)) in
     let shown = (c.latest_root-root.ensures (g.H.Hash32.digest_of d.h) index (rw (← c.self.view_is) at c.requires)).shows _ refl in
-    let first = rw c.in-At.is at c.in-Err.ensures.fault _ registry shown in
+    let first = rw c.in-At.is at c.in-Err.ensures.fault _ _ registry shown in
     rw (← c.self.view_is) (told_earliest index registry (operations c.args.ops.now) c.args.place c.earlier_of.result _ c.earlier_of.ensures (ap (λ f. earliest f (Some c.args.place)) first))
 
 pub returns-in_default-fault : goal.returns-in_default-fault
@@ -40,4 +40,4 @@ returns-in_default-fault g c =
     let ops = operations c.args.ops.now in
     let shown = (c.latest_root-root.ensures (g.H.Hash32.digest_of d.h) index (rw (← c.self.view_is) at c.requires)).shows _ refl in
     other_judged index registry' ops c.args.place c.in-Err.fault c.in_default-fault.not-At
-    (subst (λ (r : Registry). IsJudgedFault index r ops c.in-Err.fault) same (c.in-Err.ensures.fault _ registry shown))
+    (subst (λ (r : Registry). IsJudgedFault index r ops c.in-Err.fault) same (c.in-Err.ensures.fault _ _ registry shown))
