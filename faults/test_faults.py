@@ -72,9 +72,11 @@ RUNS = [
     "provider/root-differs-by-another-key",
 ]
 
-# How many worker threads the programs are asked for, and the names of the one batch that they build: enough jobs for each.
+# How many worker threads the programs are asked for, the names of the one batch that they build, which has enough jobs for each,
+# and the fewest commitments for which a thread is started.
 WORKERS = [1, 2, 3, 8, 64]
 NAMES = 2000
+FEWEST = 512
 
 # While the command line is read one request is for room that reading can do without.
 SPARED = 1
@@ -222,15 +224,22 @@ def restore_lines() -> Lines:
     return [{"cmd": "restore", "entry": entry}, {"cmd": "restoring", "bindings": lines[-1]["ops"]}, {"cmd": "restored"}]
 
 
+def threads(workers: int) -> int:
+    """How many threads this number of workers starts for the names. The program's own thread is a worker too, once for their
+    commitments, of which each worker has at least `FEWEST`, and once for the tree."""
+    share = max(-(-NAMES // workers), FEWEST)
+    return -(-NAMES // share) - 1 + workers - 1
+
+
 def try_threads(library: str, program: str, options: Sequence[str], workers: int, lines: Callable[[], Lines]) -> str:
-    """Lets the start of each thread fail under lines that build one tree, all of which are accepted. That changes no answer, and
-    beside the program's own thread there are as many as it has workers."""
+    """Lets the start of each thread fail under lines that build one tree, all of which are accepted. That changes no answer, and as
+    many threads are started as its workers need."""
     words: Words = [CRATES / program / "out" / program, *(["run"] if program == "keydir" else []), *options]
     read = lines()
     given = "".join(f"{line_of(it)}\n" for it in read).encode()
     runs = [ran for _, ran in each(library, "thread", words, given)]
-    if len(runs) != workers:
-        raise Wrong(f"{len(runs) - 1} threads were started, and {workers} workers are wanted")
+    if len(runs) - 1 != threads(workers):
+        raise Wrong(f"{len(runs) - 1} threads were started, and {threads(workers)} are wanted")
     if any(it.status or it.errors or it.output != runs[-1].output for it in runs) or runs[-1].output.count(b"\n") != len(read):
         raise Wrong("a thread that can't be started changed an answer")
     return f"{len(runs) - 1} threads beside its own"

@@ -77,7 +77,8 @@ def saved_by(browser: Browser, link: str, file: Path) -> str:
     browser.call("Page.setDownloadBehavior", behavior="allow", downloadPath=str(file.parent))
     browser.value(f"document.querySelector('{link}').click(); 1")
     until = time.monotonic() + 20
-    while not file.is_file() and time.monotonic() < until:
+    # The browser makes the file before it has the bytes.
+    while time.monotonic() < until and not (file.is_file() and file.stat().st_size):
         time.sleep(0.05)
     return file.read_text("utf-8") if file.is_file() else ""
 
