@@ -1,5 +1,7 @@
 -- The errors of operations, and the operations in turn.
-use Rattle.std.proofs.Common.{◌<◌, ◌≤◌, get_or, ◌≡◌, ℕ, ◌+◌, List, [], ◌∷◌, ◌++◌, length, map, take, drop, Bool, true, false, sym, ap, ◌∙◌, ◌||◌, cond, refl, Option, Some, None, option_map, append_assoc, slice_get}
+use Rattle.std.proofs.Common.{arith, ◌<◌, ◌≤◌, get_or, ◌≡◌, ℕ, ◌+◌, List, [], ◌∷◌, ◌++◌, length, map, take, drop, Bool, true, false, sym, ap, ◌∙◌, ◌||◌, cond, refl, Option, Some, None, option_map, append_assoc, slice_get}
+use Rattle.std.specs.List.{enumerate_from}
+use Rattle.std.proofs.lemmas.List.FromFn.{get_or-enumerate_from, length-enumerate_from}
 use Rattle.coniks_directory.proofs.Words.{Fault, IsJudged, MAX_KEY, MAX_NAME, Operation, Registered, Registry, append-nil, at_drop_all, at_drop_more}
 use Rattle.coniks_directory.proofs.Words.{bound_by, clashes, fault_from, fault_of, fits, get_or_from_slice_get, has_name}
 use Rattle.coniks_directory.proofs.Words.{index_clash, kind_fault, map-append, operation_of, operations, placed, slice_get-map}
@@ -21,6 +23,15 @@ at_clash index_of registry before op named keyed a b clash once kind ha hb eithe
 -- an operation as the code reads it
 pub op_at : (ops : List Op) (i : ℕ) (op : Op) → i < length ops → op ≡ get_or ops i op → slice_get (operations ops) i ≡ Some (operation_of op)
 op_at ops i op below is = slice_get-map operation_of ops i ∙ ap (option_map operation_of) (slice_get_read ops (length ops) i op refl below is)
+
+-- an operation as an iterator over the operations yields it, with its position
+pub op_next : (ops : List Op) (n : ℕ) (x : ℕ × Op) → n < length (enumerate_from 0 ops) → x ≡ get_or (enumerate_from 0 ops) n x
+    → (x.0 ≡ n) × (slice_get (operations ops) n ≡ Some (operation_of x.1))
+op_next ops n x below is =
+    let within : n < length ops = omega (arith, below, length-enumerate_from 0 ops) in
+    let at : x ≡ (0 + n, get_or ops n x.1) = is ∙ get_or-enumerate_from 0 ops n x within in
+    let first : 0 + n ≡ n = omega arith in
+    (ap (λ (y : ℕ × Op). y.0) at ∙ first, op_at ops n x.1 within (ap (λ (y : ℕ × Op). y.1) at))
 
 -- the bindings of the operations up to the next one
 pub bound-next : (bound : List Registered) (ops : List Operation) (i : ℕ) (op : Operation) → slice_get ops i ≡ Some op

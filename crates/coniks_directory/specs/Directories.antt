@@ -8,12 +8,14 @@ use Rattle.coniks_chain.specs.declared.entry.Entry.{Entry}
 use Rattle.coniks_proof.specs.Registry.{Registry}
 use Rattle.coniks_proof.specs.declared.paths.Proof.{Proof}
 use Rattle.coniks_proof.specs.declared.values.Head.{Head}
+use Rattle.coniks_proof.specs.declared.values.Index.{Index}
 use Rattle.coniks_directory.specs.Chain.{body_of, heads_of}
 use Rattle.coniks_directory.specs.History.{Shown, latest_registry, root_at, shown_at}
 use Rattle.coniks_directory.specs.Lookups.{IsAcceptedAt, IsFound}
 use Rattle.coniks_directory.specs.State.{View, history_of}
 use Rattle.coniks_directory.specs.Supplied.{AgreeOn}
 use Rattle.coniks_directory.specs.SuppliedBatches.{index_in, indexed}
+use Rattle.coniks_directory.specs.declared.batch.Op.{Op}
 use Rattle.coniks_directory.specs.declared.supplied_batch.SuppliedBatch.{SuppliedBatch}
 
 -- the epochs of a directory, each with its registry
@@ -64,9 +66,13 @@ module _ {H X : Type 0} (digest : H → Octets → Octets) where
 abbrev pub NextBody : {H X : Type 0} → (H → Octets → Octets) → (X → Octets → Octets) → View H X → Shown → Body
 NextBody {H} {X} digest index d shown = NextBodyBy digest d (index d.index) shown
 
--- the indices that a batch is checked by: those that the source gives registered names, and those that come with the batch
+-- the indices that operations are checked by: those that the source gives registered names, and those that come with the operations
+abbrev pub index_with : {H X : Type 0} → (X → Octets → Octets) → View H X → List Op → List Index → Octets → Octets
+index_with {H} {X} index d ops indices = index_in (index d.index) (registry d) (indexed ops indices)
+
+-- the same of a batch
 abbrev pub batch_index : {H X : Type 0} → (X → Octets → Octets) → View H X → SuppliedBatch → Octets → Octets
-batch_index {H} {X} index d batch = index_in (index d.index) (registry d) (indexed batch.ops.now batch.indices.now)
+batch_index {H} {X} index d batch = index_with index d batch.ops.now batch.indices.now
 
 -- the hash and the source of indices are the same
 pub record IsAlike {H X : Type 0} (d e : View H X) : Type 0 where

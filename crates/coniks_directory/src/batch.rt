@@ -9,6 +9,7 @@ ghost use Rattle.coniks_directory.specs.declared.batch.BatchFault.TheVariants.{B
 
 use coniks_proof::{Bytes, MAX_KEY, MAX_NAME, MAX_OPERATIONS, Opening};
 use coniks_work::{MAX_DEPTH, MAX_WORKERS, Parallelism, ParallelismFault};
+use std::alloc::{AllocError, Global};
 use thiserror::Error;
 
 /// The kind of an operation: it registers a new name, or changes the key of a registered one.
@@ -28,6 +29,35 @@ pub struct Op {
     pub key: Bytes,
     /// The opening of the commitment to the name and the key.
     pub opening: Opening,
+}
+
+impl Op {
+    /// Copies the operation.
+    fn copied(&self, alloc: Global) -> Result<Op, AllocError>
+        ensures { IfOk result (λ copy. copy ≡ self.now) }
+    {
+        Ok(Op {
+            kind: self.kind,
+            name: Bytes::copy_of(alloc, self.name.as_slice())?,
+            key: Bytes::copy_of(alloc, self.key.as_slice())?,
+            opening: self.opening,
+        })
+    }
+}
+
+/// Copies operations.
+///
+/// # Errors
+///
+/// `AllocError` if an allocation fails.
+pub(crate) fn copies_of(alloc: Global, ops: &[Op]) -> Result<Vec<Op>, AllocError>
+    ensures { IfOk result (λ copies. copies.items ≡ ops.now) }
+{
+    let mut copies = Vec::with_capacity(alloc, ops.len())?;
+    for op in ops {
+        copies.push(op.copied(alloc)?)?;
+    }
+    Ok(copies)
 }
 
 /// The error of an operation. If several apply, the first in declaration order is returned.

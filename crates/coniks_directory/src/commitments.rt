@@ -14,7 +14,7 @@ use coniks_tree::Record;
 use std::thread;
 use std::thread::Threads;
 
-/// The fewest records for which a thread is started.
+/// The fewest records for each thread.
 const FEWEST: usize = 512;
 
 /// Returns the preimage of the commitment of the record at a position.
@@ -160,8 +160,8 @@ fn commit_all<H: Hash32>(h: &H, records: &mut [Record])
     commit_last(h, records, 8 * groups);
 }
 
-/// Stores its commitment in each record, by this number of worker threads, or fewer if a thread would have fewer than `FEWEST`
-/// records.
+/// Stores its commitment in each record, by at most this number of worker threads. Each has an even share, and there are
+/// fewer threads if a share were less than `FEWEST` records.
 pub(crate) fn commit_apart<H: Hash32 + Sync, R: Threads + Sync>(
     rt: &R,
     workers: usize,
@@ -172,7 +172,8 @@ pub(crate) fn commit_apart<H: Hash32 + Sync, R: Threads + Sync>(
     requires within { AreWithin (map registered_of records.old) }
     ensures { records.new ≡ map (committed_by (H.digest_of h.now)) records.old }
 {
-    let size = records.len().div_ceil(workers).max(FEWEST);
+    let threads = workers.min(records.len() / FEWEST).max(1);
+    let size = records.len().div_ceil(threads).max(1);
     thread::for_each_chunk_mut(
         rt,
         records,

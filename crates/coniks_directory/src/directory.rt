@@ -13,7 +13,7 @@ ghost use Rattle.coniks_directory.specs.Updates.{HasRefused, IsUpdate, IsUpdateO
 mod restoring;
 mod supplying;
 
-use crate::batch::{BatchFault, Op, check_length, parallelism_of};
+use crate::batch::{BatchFault, Op, check_length, copies_of, parallelism_of};
 use crate::bindings::{BindingsFault, IndexedBinding, bindings_of};
 use crate::conflicts::{holder_at, is_of};
 use crate::install::{enter, head_of, last_link, make_body, may_install, put_head, signed};
@@ -369,7 +369,7 @@ impl<H: Hash32 + Sync, X: IndexSource> Directory<H, X> {
             parallelism: parallelism_of(depth, workers)?,
             gate,
         };
-        self.prepared(&build, None, ops)
+        self.prepared_from(&build, None, ops)
     }
 
     /// Prepares an update as `prepare` does, with the epoch's tree rehashed under a new nonce.
@@ -399,11 +399,11 @@ impl<H: Hash32 + Sync, X: IndexSource> Directory<H, X> {
             parallelism: parallelism_of(depth, workers)?,
             gate,
         };
-        self.prepared(&build, Some(nonce), ops)
+        self.prepared_from(&build, Some(nonce), ops)
     }
 
-    /// Prepares the update of a batch, under a new nonce or under the latest one.
-    fn prepared<G: Gate + Sync, R: Threads + Sync>(
+    /// Prepares the update of a batch, under a new nonce or under the latest one, of copies of its operations.
+    fn prepared_from<G: Gate + Sync, R: Threads + Sync>(
         &self,
         build: &Build<'_, G, R>,
         nonce: Option<Nonce>,
@@ -414,6 +414,24 @@ impl<H: Hash32 + Sync, X: IndexSource> Directory<H, X> {
         ensures refused { IfErr result (IsBatchFault (X.index_of self.now.index) (registry self.now) (operations ops.now) build.now.parallelism.depth build.now.parallelism.workers) }
     {
         check_length(ops)?;
+        match copies_of(self.alloc, ops) {
+            Ok(copies) => self.prepared(build, nonce, copies),
+            Err(_) => Err(BatchFault::OutOfMemory),
+        }
+    }
+
+    /// Prepares the update of a batch, under a new nonce or under the latest one.
+    fn prepared<G: Gate + Sync, R: Threads + Sync>(
+        &self,
+        build: &Build<'_, G, R>,
+        nonce: Option<Nonce>,
+        ops: Vec<Op>,
+    ) -> Result<Prepared, BatchFault>
+        ensures update { IfOk result (IsUpdateBy (H.digest_of self.now.hash) (X.index_of self.now.index) self.now.state (nonce_bytes nonce) ops.items) }
+        ensures accepted { OnOk result (IsAccepted (X.index_of self.now.index) (registry self.now) (operations ops.items) build.now.parallelism.depth build.now.parallelism.workers) }
+        ensures refused { IfErr result (IsBatchFault (X.index_of self.now.index) (registry self.now) (operations ops.items) build.now.parallelism.depth build.now.parallelism.workers) }
+    {
+        check_length(&ops)?;
         let origin = Origin {
             alloc: self.alloc,
             h: &self.h,
@@ -481,7 +499,8 @@ impl<H: Hash32 + Sync, X: IndexSource> Directory<H, X> {
 
     /// Prepares a batch and installs its update, as `commit` does, with an optional new nonce.
     ///
-    /// If there is a nonce, the update is that of `prepare_with`, else that of `prepare`.
+    /// If there is a nonce, the update is that of `prepare_with`, else that of `prepare`. The call copies the names and the
+    /// keys; `commit_owned` takes them.
     ///
     /// # Errors
     ///
@@ -514,6 +533,54 @@ impl<H: Hash32 + Sync, X: IndexSource> Directory<H, X> {
         ensures unchanged { OnErr result ((self.new ≡ self.old) × (publisher.new ≡ publisher.old)) }
         ensures unsigned { IfErr result (λ fault. HasRefused S.made_of S.refused_of S.last_of signer.old signer.new (commit_refusals fault)) }
         ensures unasked { IfErr result (CommitLeavesSigner S.signs (batch_body H.digest_of X.index_of self.old nonce ops.now t) signer.old signer.new) }
+    {
+        let build = Build {
+            rt,
+            parallelism,
+            gate,
+        };
+        let update = in_prepare(self.prepared_from(&build, nonce, ops))?;
+        match self.install(update, t, signer, publisher, board) {
+            Ok(entry) => Ok(entry),
+            Err((fault, _)) => Err(in_install(fault)),
+        }
+    }
+
+    /// Prepares a batch and installs its update, as `commit_with` does, and copies no name and no key.
+    ///
+    /// The records of the update take the names and the keys of the operations.
+    ///
+    /// # Errors
+    ///
+    /// The errors of `commit`, in the same cases.
+    #[tactic(auto, using(crate::proofs::CommitLemmas::commits))]
+    pub fn commit_owned<S: Sign, G: Gate + Sync, R: Threads + Sync>(
+        &mut self,
+        rt: &R,
+        nonce: Option<Nonce>,
+        ops: Vec<Op>,
+        parallelism: Parallelism,
+        gate: &G,
+        t: u64,
+        signer: &mut S,
+        publisher: &mut Publisher,
+        board: &Board,
+    ) -> Result<Entry, CommitFault>
+        requires { IsReady H.digest_of S.made_of S.refused_of self.old signer.old publisher.old board.now }
+
+        // An entry.
+        ensures installed { IfOk result (AddsBatch H.digest_of X.index_of self.old self.new nonce ops.items t) }
+        ensures signed { IfOk result (HasSigned S.made_of S.refused_of S.last_of S.signs S.verdict_of signer.old signer.new) }
+
+        // An entry or an error.
+        ensures outcome { IsCommitResult X.index_of self.old ops.items parallelism.depth parallelism.workers t (length publisher.old.heads) board.now.capacity result }
+        ensures same { IsAlike self.new self.old }
+        ensures kept { Keeps H.digest_of S.verdict_of self.old self.new signer.old signer.new publisher.old publisher.new }
+
+        // An error.
+        ensures unchanged { OnErr result ((self.new ≡ self.old) × (publisher.new ≡ publisher.old)) }
+        ensures unsigned { IfErr result (λ fault. HasRefused S.made_of S.refused_of S.last_of signer.old signer.new (commit_refusals fault)) }
+        ensures unasked { IfErr result (CommitLeavesSigner S.signs (batch_body H.digest_of X.index_of self.old nonce ops.items t) signer.old signer.new) }
     {
         let build = Build {
             rt,

@@ -9,7 +9,7 @@ ghost use Rattle.coniks_directory.specs.Batches.{fault_is, operation_of, operati
 ghost use Rattle.coniks_directory.specs.Holders.{ShowsLatest};
 ghost use Rattle.coniks_directory.specs.Judged.{ArePendingRecords, IsJudgedFault, IsJudgedFaultAfter, IsSamePending};
 
-use crate::batch::{BatchFault, Op, OpFault};
+use crate::batch::{BatchFault, Op, OpFault, copies_of};
 use crate::conflicts::{holder_at, op_fault};
 use crate::lengths::length_fault;
 use crate::pending::{PendingRecords, record_of};
@@ -19,34 +19,32 @@ use std::alloc::{AllocError, Global};
 
 /// Adds the record of an operation to those of the earlier ones, or returns the operation's error and adds nothing.
 fn judge_one<X: IndexSource>(
-    alloc: Global,
     source: &X,
     tree: &Tree,
     root: Option<Root>,
     pending: &mut PendingRecords,
-    op: &Op,
+    op: Op,
 ) -> Result<Option<OpFault>, AllocError>
     requires { IfSome root (λ r. r.0 < length tree.now.nodes) }
     ensures fault { IfOk result (λ fault. (hash : Octets → Octets) (nonce : Octets) (registry : Registry) (bound : List Registered)
         → ShowsLatest hash (X.index_of source.now) nonce (table_of tree.now) root registry
         → ArePendingRecords hash (X.index_of source.now) bound pending.old.records.items pending.old.numbers
-        → option_map fault_is fault ≡ fault_of (X.index_of source.now) registry bound (operation_of op.now)) }
+        → option_map fault_is fault ≡ fault_of (X.index_of source.now) registry bound (operation_of op)) }
     ensures pending { result ≡ Ok None → (hash : Octets → Octets) (bound : List Registered)
         → ArePendingRecords hash (X.index_of source.now) bound pending.old.records.items pending.old.numbers
-        → ArePendingRecords hash (X.index_of source.now) (bound ++ bound_by (operation_of op.now) ∷ []) pending.new.records.items pending.new.numbers }
+        → ArePendingRecords hash (X.index_of source.now) (bound ++ bound_by (operation_of op) ∷ []) pending.new.records.items pending.new.numbers }
     ensures kept { result ≢ Ok None → IsSamePending pending.old pending.new }
 {
-    if let Some(fault) = length_fault(op) {
+    if let Some(fault) = length_fault(&op) {
         return Ok(Some(fault));
     }
     let index = source.index(op.name.as_slice());
     let present = holder_at(tree, root, &index);
     let earlier = pending.holder(&index);
-    if let Some(fault) = op_fault(op, present, earlier) {
+    if let Some(fault) = op_fault(&op, present, earlier) {
         return Ok(Some(fault));
     }
-    let made = record_of(alloc, index, op)?;
-    pending.add(made)?;
+    pending.add(record_of(index, op))?;
     Ok(None)
 }
 
@@ -57,6 +55,51 @@ fn judge_one<X: IndexSource>(
 /// The position of the first operation that has an error, and its first error, or `OutOfMemory` if an allocation fails.
 /// The records are then those of the earlier operations.
 pub(crate) fn judge_all<X: IndexSource>(
+    source: &X,
+    tree: &Tree,
+    root: Option<Root>,
+    pending: &mut PendingRecords,
+    ops: Vec<Op>,
+) -> Result<(), BatchFault>
+    requires { IfSome root (λ r. r.0 < length tree.now.nodes) }
+    ensures pending { OnOk result ((hash : Octets → Octets) (bound : List Registered)
+        → ArePendingRecords hash (X.index_of source.now) bound pending.old.records.items pending.old.numbers
+        → ArePendingRecords hash (X.index_of source.now) (bound ++ map bound_by (operations ops.items)) pending.new.records.items pending.new.numbers) }
+    ensures faultless { OnOk result ((hash : Octets → Octets) (nonce : Octets) (registry : Registry) (bound : List Registered)
+        → ShowsLatest hash (X.index_of source.now) nonce (table_of tree.now) root registry
+        → ArePendingRecords hash (X.index_of source.now) bound pending.old.records.items pending.old.numbers
+        → fault_from (X.index_of source.now) registry bound 0 (operations ops.items) ≡ None) }
+    ensures fault { IfErr result (λ fault. (hash : Octets → Octets) (nonce : Octets) (registry : Registry) (bound : List Registered)
+        → ShowsLatest hash (X.index_of source.now) nonce (table_of tree.now) root registry
+        → ArePendingRecords hash (X.index_of source.now) bound pending.old.records.items pending.old.numbers
+        → IsJudgedFaultAfter (X.index_of source.now) registry bound (operations ops.items) fault) }
+    ensures kept { OnErr result ((hash : Octets → Octets) (bound : List Registered)
+        → ArePendingRecords hash (X.index_of source.now) bound pending.old.records.items pending.old.numbers
+        → ArePendingRecords hash (X.index_of source.now) bound pending.new.records.items pending.new.numbers) }
+{
+    let earlier = pending.count();
+    for (position, op) in ops.into_iter().enumerate() {
+        match judge_one(source, tree, root, pending, op) {
+            Ok(None) => {}
+            Ok(Some(fault)) => {
+                pending.truncate(earlier);
+                return Err(BatchFault::At { position, fault });
+            }
+            Err(_) => {
+                pending.truncate(earlier);
+                return Err(BatchFault::OutOfMemory);
+            }
+        }
+    }
+    Ok(())
+}
+
+/// Adds the records of a batch's operations to those of earlier ones, as `judge_all` does, and copies the operations.
+///
+/// # Errors
+///
+/// The errors of `judge_all`.
+pub(crate) fn judge_copies<X: IndexSource>(
     alloc: Global,
     source: &X,
     tree: &Tree,
@@ -80,21 +123,10 @@ pub(crate) fn judge_all<X: IndexSource>(
         → ArePendingRecords hash (X.index_of source.now) bound pending.old.records.items pending.old.numbers
         → ArePendingRecords hash (X.index_of source.now) bound pending.new.records.items pending.new.numbers) }
 {
-    let earlier = pending.count();
-    for (position, op) in ops.iter().enumerate() {
-        match judge_one(alloc, source, tree, root, pending, op) {
-            Ok(None) => {}
-            Ok(Some(fault)) => {
-                pending.truncate(earlier);
-                return Err(BatchFault::At { position, fault });
-            }
-            Err(_) => {
-                pending.truncate(earlier);
-                return Err(BatchFault::OutOfMemory);
-            }
-        }
+    match copies_of(alloc, ops) {
+        Ok(copies) => judge_all(source, tree, root, pending, copies),
+        Err(_) => Err(BatchFault::OutOfMemory),
     }
-    Ok(())
 }
 
 /// Returns the records of a batch's operations, after all are checked. They have no commitments yet.
@@ -107,21 +139,21 @@ pub(crate) fn judged<X: IndexSource>(
     source: &X,
     tree: &Tree,
     root: Option<Root>,
-    ops: &[Op],
+    ops: Vec<Op>,
 ) -> Result<PendingRecords, BatchFault>
     requires { IfSome root (λ r. r.0 < length tree.now.nodes) }
     ensures pending { IfOk result (λ pending. (hash : Octets → Octets)
-        → ArePendingRecords hash (X.index_of source.now) (map bound_by (operations ops.now)) pending.records.items pending.numbers) }
+        → ArePendingRecords hash (X.index_of source.now) (map bound_by (operations ops.items)) pending.records.items pending.numbers) }
     ensures faultless { OnOk result ((hash : Octets → Octets) (nonce : Octets) (registry : Registry)
         → ShowsLatest hash (X.index_of source.now) nonce (table_of tree.now) root registry
-        → first_fault (X.index_of source.now) registry (operations ops.now) ≡ None) }
+        → first_fault (X.index_of source.now) registry (operations ops.items) ≡ None) }
     ensures fault { IfErr result (λ fault. (hash : Octets → Octets) (nonce : Octets) (registry : Registry)
         → ShowsLatest hash (X.index_of source.now) nonce (table_of tree.now) root registry
-        → IsJudgedFault (X.index_of source.now) registry (operations ops.now) fault) }
+        → IsJudgedFault (X.index_of source.now) registry (operations ops.items) fault) }
 {
     let Ok(mut pending) = PendingRecords::new(alloc, ops.len()) else {
         return Err(BatchFault::OutOfMemory);
     };
-    judge_all(alloc, source, tree, root, &mut pending, ops)?;
+    judge_all(source, tree, root, &mut pending, ops)?;
     Ok(pending)
 }

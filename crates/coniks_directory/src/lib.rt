@@ -92,5 +92,5 @@ pub use lookup::{LookupAtFault, LookupFault, SignedProof};
 pub use restoring::RestoreFault;
 pub use source::IndexSource;
 pub use supplied::{SuppliedIndices, SupplyFault, SupplyIndex};
-pub use supplied_batch::{SuppliedBatch, SuppliedBatchFault, SuppliedBindings};
+pub use supplied_batch::{OwnedBatch, SuppliedBatch, SuppliedBatchFault, SuppliedBindings};
 pub use update::{CommitFault, InstallFault, Prepared};

@@ -13,7 +13,7 @@ use crate::batch::Op;
 use crate::commitments::commit_apart;
 use crate::conflicts::is_of;
 use crate::preparing::Build;
-use coniks_proof::{Binding, Bytes, Digest, Hash32, Index, MAX_KEY, MAX_NAME};
+use coniks_proof::{Binding, Digest, Hash32, Index, MAX_KEY, MAX_NAME};
 use coniks_tree::Record;
 use coniks_work::Gate;
 use std::alloc::{AllocError, Global};
@@ -144,21 +144,26 @@ fn record_at(records: &[Record], number: usize) -> Option<&Record>
     records.get(number)
 }
 
-/// Returns the record of an operation, whose name has this index. Its commitment is added later.
-pub(crate) fn record_of(alloc: Global, index: Index, op: &Op) -> Result<Record, AllocError>
-    requires name { IsLength MAX_NAME op.now.name }
-    requires key { IsLength MAX_KEY op.now.key }
-    ensures binds { IfOk result (λ r. registered_of r ≡ bound_by (operation_of op.now)) }
-    ensures drafted { IfOk result (λ r. (index_of : Octets → Octets) → index.0 ≡ index_of op.now.name → IsPendingRecord index_of r) }
-    ensures indexed { IfOk result (λ r. r.index.0 ≡ index.0) }
+/// Returns the record of an operation, whose name has this index. It takes the operation's name and key, and its commitment
+/// is added later.
+pub(crate) fn record_of(index: Index, op: Op) -> Record
+    requires name { IsLength MAX_NAME op.name }
+    requires key { IsLength MAX_KEY op.key }
+    ensures binds { registered_of result ≡ bound_by (operation_of op) }
+    ensures drafted { (index_of : Octets → Octets) → index.0 ≡ index_of op.name → IsPendingRecord index_of result }
+    ensures indexed { result.index.0 ≡ index.0 }
 {
     index.known();
-    let name = Bytes::copy_of(alloc, op.name.as_slice())?;
-    let key = Bytes::copy_of(alloc, op.key.as_slice())?;
-    Ok(Record {
+    let Op {
+        name,
+        key,
+        opening,
+        ..
+    } = op;
+    Record {
         index,
         binding: Binding { name, key },
-        opening: op.opening,
+        opening,
         commitment: UNCOMMITTED,
-    })
+    }
 }

@@ -143,18 +143,18 @@ fn checked<H: Hash32 + Sync, X: IndexSource, G: Gate + Sync, R: Threads + Sync>(
     build: &Build<'_, G, R>,
     origin: &Origin<'_, H, X>,
     root: Option<Root>,
-    ops: &[Op],
+    ops: Vec<Op>,
 ) -> Result<PendingRecords, BatchFault>
     requires root { IfSome root (λ r. r.0 < length origin.now.held.now.tree.nodes) }
     ensures pending { IfOk result (λ pending. ArePendingRecords (H.digest_of origin.now.h.now)
-        (X.index_of origin.now.source.now) (map bound_by (operations ops.now)) pending.records.items pending.numbers) }
+        (X.index_of origin.now.source.now) (map bound_by (operations ops.items)) pending.records.items pending.numbers) }
     ensures committed { IfOk result (λ pending. AreCommitted (H.digest_of origin.now.h.now) pending.records.items) }
     ensures faultless { OnOk result ((nonce : Octets) (registry : Registry)
         → ShowsLatest (H.digest_of origin.now.h.now) (X.index_of origin.now.source.now) nonce (table_of origin.now.held.now.tree) root registry
-        → first_fault (X.index_of origin.now.source.now) registry (operations ops.now) ≡ None) }
+        → first_fault (X.index_of origin.now.source.now) registry (operations ops.items) ≡ None) }
     ensures fault { IfErr result (λ fault. (nonce : Octets) (registry : Registry)
         → ShowsLatest (H.digest_of origin.now.h.now) (X.index_of origin.now.source.now) nonce (table_of origin.now.held.now.tree) root registry
-        → IsJudgedFault (X.index_of origin.now.source.now) registry (operations ops.now) fault) }
+        → IsJudgedFault (X.index_of origin.now.source.now) registry (operations ops.items) fault) }
 {
     let mut pending = judged(origin.alloc, origin.source, &origin.held.tree, root, ops)?;
     pending.commit_records(build, origin.h);
@@ -168,15 +168,15 @@ pub(crate) fn update_on<H: Hash32 + Sync, X: IndexSource, G: Gate + Sync, R: Thr
     build: &Build<'_, G, R>,
     origin: &Origin<'_, H, X>,
     new_nonce: Option<Nonce>,
-    ops: &[Op],
+    ops: Vec<Op>,
 ) -> Result<Prepared, BatchFault>
     requires whole { Whole (H.digest_of origin.now.h.now) (X.index_of origin.now.source.now) (state_of origin.now.held.now) }
     ensures update { IfOk result (IsUpdateBy (H.digest_of origin.now.h.now)
-        (X.index_of origin.now.source.now) (state_of origin.now.held.now) (nonce_bytes new_nonce) ops.now) }
+        (X.index_of origin.now.source.now) (state_of origin.now.held.now) (nonce_bytes new_nonce) ops.items) }
     ensures faultless { OnOk result
-        (first_fault (X.index_of origin.now.source.now) (latest_registry (history_of (state_of origin.now.held.now))) (operations ops.now) ≡ None) }
+        (first_fault (X.index_of origin.now.source.now) (latest_registry (history_of (state_of origin.now.held.now))) (operations ops.items) ≡ None) }
     ensures fault { IfErr result (IsJudgedFault (X.index_of origin.now.source.now)
-        (latest_registry (history_of (state_of origin.now.held.now))) (operations ops.now)) }
+        (latest_registry (history_of (state_of origin.now.held.now))) (operations ops.items)) }
 {
     let held = origin.held;
     let root = held.latest_root();

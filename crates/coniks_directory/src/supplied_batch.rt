@@ -23,6 +23,17 @@ pub struct SuppliedBatch<'a> {
     pub indices: &'a [Index],
 }
 
+/// A batch as `SuppliedBatch` is, whose operations the call takes.
+#[derive(Drop)]
+pub struct OwnedBatch {
+    /// The nonce under which the epoch's tree is rehashed, if any.
+    pub nonce: Option<Nonce>,
+    /// At most `MAX_OPERATIONS` operations.
+    pub ops: Vec<Op>,
+    /// The index of each operation's name, in the order of the operations.
+    pub indices: Vec<Index>,
+}
+
 /// Bindings that come with the indices of their names, each a `Register` operation.
 #[derive(Clone, Copy)]
 pub struct SuppliedBindings<'a> {

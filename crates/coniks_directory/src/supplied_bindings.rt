@@ -11,7 +11,7 @@ ghost use Rattle.coniks_directory.specs.SuppliedBatches.{IsFresh, binding_index,
 ghost use Rattle.coniks_directory.specs.State.{registered_of};
 
 use crate::batch::BatchFault;
-use crate::judge::judge_all;
+use crate::judge::judge_copies;
 use crate::pending::PendingRecords;
 use crate::source::IndexSource;
 use crate::supplied::SuppliedIndices;
@@ -91,7 +91,7 @@ pub(crate) fn judge_bindings(
         return Err(BatchFault::OutOfMemory);
     };
     let indices = BatchIndices { source, fresh };
-    judge_all(alloc, &indices, tree, None, pending, batch.bindings)?;
+    judge_copies(alloc, &indices, tree, None, pending, batch.bindings)?;
     Ok(())
 }
 

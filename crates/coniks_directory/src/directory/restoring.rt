@@ -17,7 +17,7 @@ ghost use Rattle.coniks_directory.specs.Restored.{IsEntryFault, IsRestorable, Is
 use crate::batch::{BatchFault, Op};
 use crate::directory::Directory;
 use crate::install::{head_of, put_head};
-use crate::judge::judge_all;
+use crate::judge::judge_copies;
 use crate::pending::PendingRecords;
 use crate::preparing::Build;
 use crate::restoring::{RestoreFault, check_entry, restored};
@@ -103,7 +103,7 @@ impl<H: Hash32, X: IndexSource> Restoring<H, X> {
         ensures unchanged { OnErr result (self.new ≡ self.old) }
     {
         let (alloc, tree) = (self.alloc, &self.held.tree);
-        judge_all(alloc, &self.source, tree, None, &mut self.pending, bindings)?;
+        judge_copies(alloc, &self.source, tree, None, &mut self.pending, bindings)?;
         Ok(())
     }
 }

@@ -4,12 +4,12 @@ ghost use Rattle.std.specs.Prelude.{◌≡◌, ◌≢◌, ◌≤◌, ◌++◌, �
 ghost use Rattle.coniks_proof.specs.Octets.{Octets};
 ghost use Rattle.coniks_proof.specs.Registry.{has_name};
 ghost use Rattle.coniks_directory.specs.Batches.{IsAccepted, operations};
-ghost use Rattle.coniks_directory.specs.Directories.{FindsAt, ShowsAt, batch_index, entry, history, registry};
+ghost use Rattle.coniks_directory.specs.Directories.{FindsAt, ShowsAt, batch_index, entry, history, index_with, registry};
 ghost use Rattle.coniks_directory.specs.History.{nonce_bytes};
 ghost use Rattle.coniks_directory.specs.Supplied.{IsMissedAt, MaySupply};
 ghost use Rattle.coniks_directory.specs.Updates.{HasRefused, IsUpdateOf};
 
-use crate::batch::{BatchFault, Op, check_length};
+use crate::batch::{BatchFault, Op, check_length, copies_of};
 use crate::directory::Directory;
 use crate::install::may_install;
 use crate::judge::judged;
@@ -19,11 +19,11 @@ use crate::preparing::{Build, Origin, update_on};
 use crate::source::IndexSource;
 use crate::supplied::{SuppliedIndices, SupplyFault, SupplyIndex};
 use crate::supplied_batch::{
-    BatchIndices, SuppliedBatch, SuppliedBatchFault, earlier_of, supply_all,
+    BatchIndices, OwnedBatch, SuppliedBatch, SuppliedBatchFault, earlier_of, supply_all,
 };
 use crate::update::{InstallFault, Prepared};
 use coniks_chain::{Entry, Sign};
-use coniks_proof::{Hash32, Index, Proof};
+use coniks_proof::{Hash32, Index, Nonce, Proof};
 use coniks_shared::{Board, Publisher};
 use coniks_work::{Gate, Parallelism};
 use std::alloc::AllocError;
@@ -235,18 +235,19 @@ impl<H: Hash32, X: IndexSource> Directory<H, X> {
     /// index, and another name has the one that comes with it. If the batch has a name twice, its first index counts.
     fn indices_with(
         &self,
-        batch: &SuppliedBatch<'_>,
+        ops: &[Op],
+        indices: &[Index],
     ) -> Result<(BatchIndices<'_, X>, Option<usize>), AllocError>
-        requires { length batch.now.ops.now ≡ length batch.now.indices.now }
-        ensures indices { IfOk result (λ it. given_index it.0.fresh (X.index_of it.0.source.now) ≡ batch_index X.index_of self.now batch.now) }
-        ensures other { IfOk result (λ it. it.1 ≡ other_from (X.index_of self.now.index)
-            (registry self.now) 0 (indexed batch.now.ops.now batch.now.indices.now)) }
+        requires { length ops.now ≡ length indices.now }
+        ensures indices { IfOk result (λ it. given_index it.0.fresh (X.index_of it.0.source.now)
+            ≡ index_with X.index_of self.now ops.now indices.now) }
+        ensures other { IfOk result (λ it. it.1 ≡ other_from (X.index_of self.now.index) (registry self.now) 0 (indexed ops.now indices.now)) }
     {
         let mut fresh = SuppliedIndices::new(self.alloc);
         let mut other = None;
-        for place in 0..batch.ops.len() {
-            let index = batch.indices[place];
-            let is_other = self.add_fresh(&mut fresh, batch.ops[place].name.as_slice(), index)?;
+        for place in 0..ops.len() {
+            let index = indices[place];
+            let is_other = self.add_fresh(&mut fresh, ops[place].name.as_slice(), index)?;
             other = other.or(is_other.then_some(place));
         }
         let indices = BatchIndices {
@@ -262,11 +263,11 @@ impl<H: Hash32, X: IndexSource> Directory<H, X> {
     fn fault_or_other(
         &self,
         indices: &BatchIndices<'_, X>,
-        ops: &[Op],
+        ops: Vec<Op>,
         place: usize,
     ) -> SuppliedBatchFault
         requires { Whole (H.digest_of self.now.hash) (given_index indices.now.fresh (X.index_of indices.now.source.now)) self.now.state }
-        ensures { IsEarliest (given_index indices.now.fresh (X.index_of indices.now.source.now)) (registry self.now) (operations ops.now) place result }
+        ensures { IsEarliest (given_index indices.now.fresh (X.index_of indices.now.source.now)) (registry self.now) (operations ops.items) place result }
     {
         let root = self.held.latest_root();
         let Err(fault) = judged(self.alloc, indices, &self.held.tree, root, ops) else {
@@ -316,29 +317,102 @@ impl<H: Hash32 + Sync, X: IndexSource> Directory<H, X> {
         ensures refused { IfErr result
             (IsSuppliedFault (X.index_of self.now.index) (registry self.now) (indexed batch.now.ops.now batch.now.indices.now)) }
     {
-        // Read for the contract alone.
-        let _ = &self.held;
         if let Err(fault) = check_length(batch.ops) {
             return Err(SuppliedBatchFault::Batch(fault));
         }
-        let Ok((indices, other)) = self.indices_with(batch) else {
+        let Ok(ops) = copies_of(self.alloc, batch.ops) else {
             return Err(SuppliedBatchFault::Batch(BatchFault::OutOfMemory));
         };
-        if let Some(position) = other {
-            return Err(self.fault_or_other(&indices, batch.ops, position));
-        }
         let build = Build {
             rt,
             parallelism,
             gate,
         };
+        self.prepared_with(&build, batch.nonce, ops, batch.indices)
+    }
+
+    /// Prepares a batch as `prepare_supplied` does, and takes its operations.
+    ///
+    /// The records of the update take the names and the keys, so that the call copies no key, and a name only until it
+    /// returns. There are as many indices as operations.
+    ///
+    /// # Errors
+    ///
+    /// The errors of `prepare_supplied`, in the same cases.
+    pub fn prepare_owned<G: Gate + Sync, R: Threads + Sync>(
+        &self,
+        rt: &R,
+        batch: OwnedBatch,
+        parallelism: Parallelism,
+        gate: &G,
+    ) -> Result<Prepared, SuppliedBatchFault>
+        requires { length batch.ops.items ≡ length batch.indices.items }
+        ensures update { IfOk result
+            (IsUpdateBy (H.digest_of self.now.hash) (index_with X.index_of self.now batch.ops.items batch.indices.items) self.now.state (nonce_bytes batch.nonce) batch.ops.items) }
+        ensures installable { IfOk result
+            (λ p. IsSuppliedUpdate (H.digest_of self.now.hash) (X.index_of self.now.index) self.now.state p (index_with X.index_of self.now batch.ops.items batch.indices.items)) }
+        ensures indices { IfOk result (λ p. indices_of p ≡ indices_by (index_with X.index_of self.now batch.ops.items batch.indices.items) (operations batch.ops.items)) }
+        ensures accepted { OnOk result
+            (IsAccepted (index_with X.index_of self.now batch.ops.items batch.indices.items) (registry self.now) (operations batch.ops.items) parallelism.depth parallelism.workers) }
+        ensures within { OnOk result (IsWithin (indexed batch.ops.items batch.indices.items)) }
+        ensures faultless { OnOk result
+            (supplied_fault (X.index_of self.now.index) (registry self.now) (indexed batch.ops.items batch.indices.items) ≡ None) }
+        ensures refused { IfErr result
+            (IsSuppliedFault (X.index_of self.now.index) (registry self.now) (indexed batch.ops.items batch.indices.items)) }
+    {
+        let OwnedBatch {
+            nonce,
+            ops,
+            indices,
+        } = batch;
+        let build = Build {
+            rt,
+            parallelism,
+            gate,
+        };
+        self.prepared_with(&build, nonce, ops, &indices)
+    }
+
+    /// Prepares the update of operations that come with the indices of their names.
+    fn prepared_with<G: Gate + Sync, R: Threads + Sync>(
+        &self,
+        build: &Build<'_, G, R>,
+        nonce: Option<Nonce>,
+        ops: Vec<Op>,
+        supplied: &[Index],
+    ) -> Result<Prepared, SuppliedBatchFault>
+        requires { length ops.items ≡ length supplied.now }
+        ensures update { IfOk result
+            (IsUpdateBy (H.digest_of self.now.hash) (index_with X.index_of self.now ops.items supplied.now) self.now.state (nonce_bytes nonce) ops.items) }
+        ensures installable { IfOk result
+            (λ p. IsSuppliedUpdate (H.digest_of self.now.hash) (X.index_of self.now.index) self.now.state p (index_with X.index_of self.now ops.items supplied.now)) }
+        ensures indices { IfOk result (λ p. indices_of p ≡ indices_by (index_with X.index_of self.now ops.items supplied.now) (operations ops.items)) }
+        ensures accepted { OnOk result
+            (IsAccepted (index_with X.index_of self.now ops.items supplied.now) (registry self.now) (operations ops.items) build.now.parallelism.depth build.now.parallelism.workers) }
+        ensures within { OnOk result (IsWithin (indexed ops.items supplied.now)) }
+        ensures faultless { OnOk result
+            (supplied_fault (X.index_of self.now.index) (registry self.now) (indexed ops.items supplied.now) ≡ None) }
+        ensures refused { IfErr result
+            (IsSuppliedFault (X.index_of self.now.index) (registry self.now) (indexed ops.items supplied.now)) }
+    {
+        // Read for the contract alone.
+        let _ = &self.held;
+        if let Err(fault) = check_length(&ops) {
+            return Err(SuppliedBatchFault::Batch(fault));
+        }
+        let Ok((indices, other)) = self.indices_with(&ops, supplied) else {
+            return Err(SuppliedBatchFault::Batch(BatchFault::OutOfMemory));
+        };
+        if let Some(position) = other {
+            return Err(self.fault_or_other(&indices, ops, position));
+        }
         let origin = Origin {
             alloc: self.alloc,
             h: &self.h,
             source: &indices,
             held: &self.held,
         };
-        match update_on(&build, &origin, batch.nonce, batch.ops) {
+        match update_on(build, &origin, nonce, ops) {
             Ok(update) => Ok(update),
             Err(fault) => Err(SuppliedBatchFault::Batch(fault)),
         }

@@ -1,10 +1,13 @@
-//! Batches whose commitments are hashed in groups of eight and of four, with one, two or three left over.
+//! Batches whose commitments are hashed in groups of eight and of four, with one, two or three left over. Their operations are
+//! copied or taken.
 
-use crate::tests::clerk::committed;
+use crate::tests::clerk::{committed, refusing, two_workers};
 use crate::tests::largest::Hashed;
-use coniks_directory::{Op, OpKind};
-use coniks_proof::{Bytes, Digest};
-use coniks_test_support::{OPENING, digest};
+use coniks_directory::{Directory, Op, OpKind};
+use coniks_proof::{Bytes, Digest, Sha256Hash};
+use coniks_shared::Board;
+use coniks_test_support::{NONCE, OPENING, POLICY, digest};
+use coniks_work::Open;
 use std::alloc::Global;
 use std::process::Abort;
 use std::thread::Threads;
@@ -39,6 +42,30 @@ fn registering(rt: &impl Abort, alloc: Global, sizes: &[Sizes]) -> Vec<Op> {
 fn root_after<R: Threads + Sync + Abort>(rt: &R, alloc: Global, sizes: &[Sizes]) -> Option<Digest> {
     let ops = registering(rt, alloc, sizes);
     committed(rt, alloc, Hashed, &ops, 1, (1, 2)).root_at(1)
+}
+
+/// Returns the root of a new directory after a batch of names and keys of these lengths, whose operations it takes.
+fn root_after_taking<R: Threads + Sync + Abort>(
+    rt: &R,
+    alloc: Global,
+    sizes: &[Sizes],
+) -> Option<Digest> {
+    let (board, mut publisher) = Board::new(alloc, 1).expect(rt, "a board");
+    let mut directory = Directory::open(alloc, Sha256Hash, Hashed, NONCE, POLICY);
+    let mut signer = refusing(u64::MAX);
+    let entry = directory.commit_owned(
+        rt,
+        None,
+        registering(rt, alloc, sizes),
+        two_workers(rt),
+        &Open,
+        1,
+        &mut signer,
+        &mut publisher,
+        &board,
+    );
+    assert!(rt; entry.is_ok());
+    directory.root_at(1)
 }
 
 /// Batches of five, six, seven and fifteen names have the expected roots. The messages of a group are hashed at once if each
@@ -93,5 +120,11 @@ fn left_over(rt: HostRuntime) {
     ] {
         let root = root_after(&rt, rt.alloc(), sizes);
         assert!(rt; root == Some(digest(want)), "of {} names", sizes.len());
+        let root = root_after_taking(&rt, rt.alloc(), sizes);
+        assert!(rt;
+            root == Some(digest(want)),
+            "of {} names taken",
+            sizes.len()
+        );
     }
 }

@@ -10,11 +10,13 @@ use crate::tests::clerk::{Written, ops_of, refusing, two_workers};
 use crate::tests::runs::{install_supplied_next, prepare_supplied_next};
 use coniks_directory::OpKind::{Change, Register};
 use coniks_directory::{
-    BatchFault, Directory, OpFault, Prepared, SuppliedBatch, SuppliedBatchFault, SuppliedIndices,
+    BatchFault, Directory, OpFault, OwnedBatch, Prepared, SuppliedBatch, SuppliedBatchFault,
+    SuppliedIndices,
 };
 use coniks_proof::{Hash32, Index, Sha256Hash};
 use coniks_shared::Board;
 use coniks_test_support::{NONCE, POLICY, digest, index_of};
+use coniks_work::Open;
 use std::alloc::Global;
 use std::process::Abort;
 use std::thread::Threads;
@@ -41,6 +43,28 @@ fn prepare<R: Threads + Sync + Abort>(
         indices,
     };
     prepare_supplied_next(rt, directory, &batch, two_workers(rt))
+}
+
+/// Prepares operations with the indices of their names, by the call that takes them.
+fn prepare_taken<R: Threads + Sync + Abort>(
+    rt: &R,
+    alloc: Global,
+    directory: &Directory<Sha256Hash, SuppliedIndices>,
+    written: &[Written],
+    indices: &[Index],
+) -> Result<Prepared, SuppliedBatchFault>
+    ensures { IfOk result (λ p. (index : Octets → Octets)
+        × IsUpdate (⟦<Sha256Hash as Hash32>⟧.digest_of directory.now.hash) index directory.now.state p) }
+{
+    let ops = ops_of(alloc, written).expect(rt, "operations");
+    let indices = Vec::from_slice(alloc, indices).expect(rt, "indices");
+    assert!(rt; ops.len() == indices.len());
+    let batch = OwnedBatch {
+        nonce: None,
+        ops,
+        indices,
+    };
+    directory.prepare_owned(rt, batch, two_workers(rt), &Open)
 }
 
 /// Returns the error of the operation at a position.
@@ -114,4 +138,34 @@ fn batches_with_their_indices(rt: HostRuntime) {
     assert!(rt; directory.source().count() == 3);
     refuse(&rt, alloc, &directory);
     assert!(rt; directory.source().count() == 3 && !directory.source().has(b"d"));
+}
+
+/// A batch whose operations are taken has the root of a source that has the indices from the start, and the errors of one
+/// whose operations are copied.
+#[test]
+fn batches_that_are_taken(rt: HostRuntime) {
+    let alloc = rt.alloc();
+    let (_board, publisher) = Board::new(alloc, 1).expect(&rt, "a board");
+    let source = SuppliedIndices::new(alloc);
+    let directory = Directory::open(alloc, Sha256Hash, source, NONCE, POLICY);
+    let letters = [
+        (Register, b'a', b'k'),
+        (Register, b'b', b'k'),
+        (Register, b'c', b'k'),
+    ];
+    let (a, b, c) = (index_of(0, 0), index_of(0x80, 0), index_of(0x40, 0));
+    let update = prepare_taken(&rt, alloc, &directory, &letters, &[a, b, c])
+        .ok()
+        .expect(&rt, "an update");
+    let three = "9f0f0e3455b88ce5747710c5195756230f5f5a6810b4f76899e2d7d1293fd6ac";
+    assert!(rt; directory.next_body(&update, 3, &publisher).root == digest(three));
+    let twice = [(Register, b'a', b'k'), (Register, b'a', b'l')];
+    let made = prepare_taken(&rt, alloc, &directory, &twice, &[a, b]);
+    assert!(rt; made.err() == at(1, OpFault::NameTwice));
+    let clashing = [(Register, b'a', b'k'), (Register, b'b', b'k')];
+    let made = prepare_taken(&rt, alloc, &directory, &clashing, &[a, a]);
+    assert!(rt; made.err() == at(1, OpFault::IndexClash));
+    let unknown = [(Register, b'a', b'k'), (Change, b'b', b'k')];
+    let made = prepare_taken(&rt, alloc, &directory, &unknown, &[a, b]);
+    assert!(rt; made.err() == at(1, OpFault::NameUnknown));
 }

@@ -6,12 +6,12 @@ use Rattle.coniks_directory.proofs.preparing.checked.Goals as goal
 pub commit_records-requires-clause-within : goal.commit_records-requires-clause-within
 commit_records-requires-clause-within g c κs within =
     let hash = g.H.Hash32.digest_of c.args.origin.now.h.now in
-    drafts_within hash (g.X.IndexSource.index_of c.args.origin.now.source.now) (map bound_by (operations c.args.ops.now)) _ _ (c.in_ok-pending.ensures.pending hash)
+    drafts_within hash (g.X.IndexSource.index_of c.args.origin.now.source.now) (map bound_by (operations c.args.ops.items)) _ _ (c.in_ok-pending.ensures.pending hash)
 
 pub returns-clause-pending : goal.returns-clause-pending
 returns-clause-pending g c =
     let hash = g.H.Hash32.digest_of c.args.origin.now.h.now in
-    c.commit_records.ensures.pending hash (g.X.IndexSource.index_of c.args.origin.now.source.now) (map bound_by (operations c.args.ops.now)) (c.in_ok-pending.ensures.pending hash)
+    c.commit_records.ensures.pending hash (g.X.IndexSource.index_of c.args.origin.now.source.now) (map bound_by (operations c.args.ops.items)) (c.in_ok-pending.ensures.pending hash)
 
 pub returns-clause-faultless : goal.returns-clause-faultless
 returns-clause-faultless g c = c.in_ok-pending.ensures.faultless (g.H.Hash32.digest_of c.args.origin.now.h.now)

@@ -25,12 +25,12 @@ pub part_of-requires-clause-numbered : goal.part_of-requires-clause-numbered
 part_of-requires-clause-numbered g c κs within =
     let pending = c.in_ok-pending.pending in
     numbers_within (g.H.Hash32.digest_of c.args.origin.now.h.now) (g.X.IndexSource.index_of c.args.origin.now.source.now)
-    (map bound_by (operations c.args.ops.now)) pending.records.items pending.numbers c.in_ok-pending.ensures.pending
+    (map bound_by (operations c.args.ops.items)) pending.records.items pending.numbers c.in_ok-pending.ensures.pending
 
 -- the part is that of the batch on the latest registry
 built_in : (g : given.Over) (c : In-Ok g)
     → (let s = state_of c.args.origin.now.held.now in IsBuilt (g.H.Hash32.digest_of c.args.origin.now.h.now) (g.X.IndexSource.index_of c.args.origin.now.source.now) c.nonce_after-nonce.result.0
-    (table s.nodes s.records) c.latest_root-root.result (latest_registry (history_of s)) (operations c.args.ops.now) c.is_some.result c.in-Ok.part c.in_ok-pending.pending.records.items)
+    (table s.nodes s.records) c.latest_root-root.result (latest_registry (history_of s)) (operations c.args.ops.items) c.is_some.result c.in-Ok.part c.in_ok-pending.pending.records.items)
 built_in g c =
     let index_of = g.X.IndexSource.index_of c.args.origin.now.source.now in
     let s = state_of c.args.origin.now.held.now in
@@ -38,7 +38,7 @@ built_in g c =
     let shown = (c.latest_root-root.ensures (g.H.Hash32.digest_of c.args.origin.now.h.now) index_of c.requires.whole).shows _ refl in
     let under = latest_kept c.args.new_nonce c.is_some.result c.nonce_after-nonce.result.0 (latest_nonce s.nonce (history_of s)) c.is_some.ensures
     (rw c.latest_nonce.ensures at c.nonce_after-nonce.ensures) in
-    c.in-Ok.ensures index_of _ registry (operations c.args.ops.now) under shown c.in_ok-pending.ensures.pending c.in_ok-pending.ensures.committed (c.in_ok-pending.ensures.faultless _ registry shown)
+    c.in-Ok.ensures index_of _ registry (operations c.args.ops.items) under shown c.in_ok-pending.ensures.pending c.in_ok-pending.ensures.committed (c.in_ok-pending.ensures.faultless _ registry shown)
 
 pub update_of-requires : goal.update_of-requires
 update_of-requires g c = record { fits = (built_in g c).fits }
@@ -53,7 +53,7 @@ returns-in-Ok-update_of-clause-update g c =
       version = e.version ∙ rw c.latest_version.ensures at c.version_after-version.ensures;
       nonce = ap (λ (n : Nonce). n.0) e.nonce ∙ rw c.latest_nonce.ensures at c.nonce_after-nonce.ensures;
     } in
-    update_by hash index_of s c.requires.whole c.in-Ok-update_of.update c.args.ops.now c.latest_root-root.result (c.latest_root-root.ensures hash index_of c.requires.whole)
+    update_by hash index_of s c.requires.whole c.in-Ok-update_of.update c.args.ops.items c.latest_root-root.result (c.latest_root-root.ensures hash index_of c.requires.whole)
     (option_map (λ (n : Nonce). n.0) c.args.new_nonce) c.is_some.result (c.is_some.ensures ∙ sym (is_some-map (λ (n : Nonce). n.0) c.args.new_nonce)) e.base rotates
     (rw (e.nonce, e.part, e.records) (built_in g (goal.at.returns-in-Ok-update_of-clause-update g c).In-Ok))
 

@@ -27,7 +27,7 @@ returns-in-At g c =
     let registry = latest_registry (history_of (state_of d.held)) in
     let shown = (c.latest_root-root.ensures (g.H.Hash32.digest_of d.h) index (rw (← c.self.view_is) at c.requires)).shows _ refl in
     let first = rw c.in-At.is at c.in-Err.ensures.fault _ _ registry shown in
-    rw (← c.self.view_is) (told_earliest index registry (operations c.args.ops.now) c.args.place c.earlier_of.result _ c.earlier_of.ensures (ap (λ f. earliest f (Some c.args.place)) first))
+    rw (← c.self.view_is) (told_earliest index registry (operations c.args.ops.items) c.args.place c.earlier_of.result _ c.earlier_of.ensures (ap (λ f. earliest f (Some c.args.place)) first))
 
 pub returns-in_default-fault : goal.returns-in_default-fault
 returns-in_default-fault g c =
@@ -37,7 +37,7 @@ returns-in_default-fault g c =
     let registry = latest_registry (history_of (state_of d.held)) in
     let registry' = latest_registry (history_of c.args.self.now.state) in
     let same : registry ≡ registry' = ap (λ (v : View _ _). latest_registry (history_of v.state)) c.self.view_is in
-    let ops = operations c.args.ops.now in
+    let ops = operations c.args.ops.items in
     let shown = (c.latest_root-root.ensures (g.H.Hash32.digest_of d.h) index (rw (← c.self.view_is) at c.requires)).shows _ refl in
     other_judged index registry' ops c.args.place c.in-Err.fault c.in_default-fault.not-At
     (subst (λ (r : Registry). IsJudgedFault index r ops c.in-Err.fault) same (c.in-Err.ensures.fault _ _ registry shown))

@@ -15,15 +15,15 @@ pub loop-place-preserved : goal.loop-place-preserved
 loop-place-preserved g c =
     let index_of = g.X.IndexSource.index_of c.args.self.now.index in
     let registry = latest_registry (history_of c.args.self.now.state) in
-    let ops = c.args.batch.now.ops.now in
-    let indices = c.args.batch.now.indices.now in
+    let ops = c.args.ops.now in
+    let indices = c.args.indices.now in
     let i = c.loop-place.place in
-    let op = c.index-batch-place.result in
+    let op = c.index-ops-place.result in
     let missing : Index = record { 0 = [] } in
     let index = get_or indices i missing in
     let x : Indexed = record { op = operation_of op; index = index.0 } in
-    let at = indexed_here ops indices i op missing c.requires c.loop-place-test.true c.index-batch-place.is in
-    let named : c.as_slice.result.now ≡ op.name = c.as_slice.ensures ∙ ap (λ (o : Op). o.name) (sym c.index-batch-place.is) in
+    let at = indexed_here ops indices i op missing c.requires c.loop-place-test.true c.index-ops-place.is in
+    let named : c.as_slice.result.now ≡ op.name = c.as_slice.ensures ∙ ap (λ (o : Op). o.name) (sym c.index-ops-place.is) in
     let before = named_in (take i (indexed ops indices)) in
     let fresh = c.in_ok-is_other.ensures.fresh before c.loop-place.invariant.fresh in
     let other = c.loop-place.other in
@@ -39,8 +39,8 @@ returns-clause-indices g c =
     let d = c.self.inside in
     let index_of = g.X.IndexSource.index_of d.source in
     let registry = latest_registry (history_of (state_of d.held)) in
-    let ops = c.args.batch.now.ops.now in
-    let indices = c.args.batch.now.indices.now in
+    let ops = c.args.ops.now in
+    let indices = c.args.indices.now in
     let long = indexed_length ops indices c.requires in
     let past : length (indexed ops indices) ≤ c.loop-place.place = (let end = c.loop-place-test.false in omega (arith, long, end)) in
     let all = rw (take_all c.loop-place.place (indexed ops indices) past) at c.loop-place.invariant.fresh in
@@ -50,8 +50,8 @@ pub returns-clause-other : goal.returns-clause-other
 returns-clause-other g c =
     let index_of = g.X.IndexSource.index_of c.args.self.now.index in
     let registry = latest_registry (history_of c.args.self.now.state) in
-    let ops = c.args.batch.now.ops.now in
-    let indices = c.args.batch.now.indices.now in
+    let ops = c.args.ops.now in
+    let indices = c.args.indices.now in
     let long = indexed_length ops indices c.requires in
     let past : length (indexed ops indices) ≤ c.loop-place.place = (let end = c.loop-place-test.false in omega (arith, long, end)) in
     other-all index_of registry (indexed ops indices) c.loop-place.place c.loop-place.other past c.loop-place.invariant.other
